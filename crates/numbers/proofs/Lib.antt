@@ -1,0 +1,6 @@
+-- The laws of numbers, what is written is read, the shortest spelling, numbers in pieces, and what a writer leaves.
+pub mod Laws
+pub mod RoundTrip
+pub mod Shortest
+pub mod Pieces
+pub mod Output

@@ -1,0 +1,46 @@
+-- `numbers::clear` meets its contract: before `i` the buffer is what it shall be, from `i` on what it was.
+use Prim.Native.Nat.{ℕ, suc, _+_, _-_, _≤_, _<_}
+use mathlib.Core.Path.{_≡_, refl, sym, ap, _∙_}
+use mathlib.Core.List.{List, [], _∷_, _++_, append-nil}
+use native.Mathlib.Omega.{arith}
+use borrow.Author.Needs.{needs}
+use lib.ListN.{length, take, drop, replicate, length-set}
+use Rattle.numbers.proofs.Output.{zeros-none, zeros-more, zeros-all}
+use Rattle.numbers.proofs.clear.Statement.{statement}
+use Rattle.numbers.proofs.clear.Tie as tie
+
+abbrev Inv-loop : tie.InvT-loop
+Inv-loop out₀ from i₀ out i = (from ≤ i) × (i ≤ length out₀) × (out ≡ take from out₀ ++ (replicate (i - from) 0 ++ drop i out₀)) × (length out ≡ length out₀)
+
+abbrev μ-loop : tie.MeasureT-loop
+μ-loop out₀ from i₀ out i = length out₀ - i
+
+loop-holds : tie.Need-loop-holds Inv-loop μ-loop
+loop-holds c = (omega arith, c .pre, zeros-none (c .args .out .now) (c .args .from), refl)
+
+slice-write-out : tie.Need-slice-write-out Inv-loop μ-loop
+slice-write-out c = search needs
+
+add-i : tie.Need-add-i Inv-loop μ-loop
+add-i c = search needs
+
+loop-less : tie.Need-loop-less Inv-loop μ-loop
+loop-less c = search needs
+
+loop-again : tie.Need-loop-again Inv-loop μ-loop
+loop-again c =
+    let l = c .before .loop in
+    let a = c .before .before .args in
+    (omega arith, omega arith, rw (l .inv .2) (zeros-more (a .out .now) (a .from) (l .i) (l .inv .0) (omega arith)), simp length-set (l .inv .3))
+
+same-length : tie.Need-same-length Inv-loop μ-loop
+same-length c = c .before .loop .inv .3
+
+returns : tie.Need-returns Inv-loop μ-loop
+returns c =
+    let l = c .before .loop in
+    let a = c .before .before .args in
+    l .inv .2 ∙ zeros-all (a .out .now) (a .from) (l .i) (omega arith)
+
+pub clear-spec : {M : Type 1} → statement M
+clear-spec = tie.close (tie.spec Inv-loop μ-loop loop-holds slice-write-out add-i loop-less loop-again same-length returns)
