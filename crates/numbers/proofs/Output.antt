@@ -8,9 +8,9 @@ use native.Mathlib.Numerals.{add-one}
 use native.Mathlib.Omega.{arith}
 use lib.Dec.{leb, eqb}
 use lib.ListN.{length, take, drop, set, replicate, length-append, length-replicate, length-set, take-append-drop, drop-of-length-le}
-use lib.Seq.{sets, sets-eq, length-sets, length-take-le, drop-cons, set-at, take-append-seam}
+use lib.Seq.{sets, sets-eq, length-take-le, drop-cons, set-at, take-at}
 use borrow.Author.Tests.{le-leb, lt-leb, eq-eqb, ne-eqb}
-use Rattle.numbers.specs.Output.{padded, verdict, kept, written, put}
+use Rattle.numbers.specs.Output.{padded, verdict, kept, refusal, done, written, put}
 
 -- stores after stores
 pub sets-append : (a b l : List ℕ) (i : ℕ) → sets l i (a ++ b) ≡ sets (sets l i a) (i + length a) b
@@ -48,13 +48,19 @@ pub padded-none : (e : List ℕ) → take 0 e ++ replicate (length e - 0) 0 ≡ 
 unfolding padded
 padded-none e = refl
 
--- what stands in a buffer after a writer that began at 0 and cleared the rest
-pub padded-some : (e b : List ℕ) → length b ≤ length e → take (length b) (sets e 0 b) ++ replicate (length (sets e 0 b) - length b) 0 ≡ padded (length e) b
+-- what stands before a place, where the rest is cleared
+pub padded-some : (e : List ℕ) (from : ℕ) → from ≤ length e → take from e ++ replicate (length e - from) 0 ≡ padded (length e) (take from e)
 unfolding padded
-padded-some e b h = rw (length-sets, front)
-  where
-    front : take (length b) (sets e 0 b) ≡ b
-    front = ap (take (length b)) (sets-eq b e 0 (rw zero-add h)) ∙ take-append-seam b (drop (0 + length b) e)
+padded-some e from h = rw (length-take-le from e h)
+
+-- bytes stored at a place, and what stood before them
+pub take-sets : (e b : List ℕ) (at : ℕ) → at + length b ≤ length e → take (at + length b) (sets e at b) ≡ take at e ++ b
+take-sets e b at h =
+    let front = take at e ++ b in
+    let back = drop (at + length b) e in
+    let split : sets e at b ≡ front ++ back = sets-eq b e at h in
+    let size : length front ≡ at + length b = length-append (take at e) b ∙ rw (length-take-le at e (omega arith)) in
+    ap (take (at + length b)) split ∙ take-at front back (at + length b) size
 
 -- ---- the answer's cases
 
@@ -72,7 +78,7 @@ module _ (why n : ℕ) (b : List ℕ) where
   verdict-done h l = rw (eq-eqb why 0 h, le-leb (length b) n l)
 
   -- a refusal: its number, no bytes, zeros
-  pub refused-answer : (v : ℕ) → verdict why n b ≡ v → (v ≡ 0 → ⊥) → record { number = v; bytes = 0 } ≡ written why n b
+  pub refused-answer : (v : ℕ) → verdict why n b ≡ v → (v ≡ 0 → ⊥) → refusal v ≡ written why n b
   unfolding written kept
   refused-answer v e h = rw (e, ne-eqb v 0 h)
 
@@ -80,7 +86,7 @@ module _ (why n : ℕ) (b : List ℕ) where
   unfolding put kept
   refused-bytes v e h = rw (e, ne-eqb v 0 h)
 
-  pub done-answer : verdict why n b ≡ 0 → record { number = 0; bytes = length b } ≡ written why n b
+  pub done-answer : verdict why n b ≡ 0 → done (length b) ≡ written why n b
   unfolding written kept
   done-answer e = rw e
 

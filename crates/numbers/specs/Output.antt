@@ -19,6 +19,12 @@ verdict why n b = pick (eqb why 0) (pick (leb (length b) n) 0 10) why
 unfoldable pub kept : ℕ → List ℕ → List ℕ
 kept v b = pick (eqb v 0) b []
 
+abbrev pub refusal : ℕ → Written
+refusal v = record { number = v; bytes = 0 }
+
+abbrev pub done : ℕ → Written
+done n = record { number = 0; bytes = n }
+
 -- the answer, and what the n bytes lent hold then
 unfoldable pub written : ℕ → ℕ → List ℕ → Written
 written why n b = record { number = verdict why n b; bytes = length (kept (verdict why n b) b) }

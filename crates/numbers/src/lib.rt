@@ -3,9 +3,10 @@
 ghost use mathlib.Core.Path.{_≡_};
 ghost use Prim.Native.Nat.{_+_, _-_, _*_, _^_, _≤_, _<_};
 ghost use mathlib.Core.Bool.{Bool};
-ghost use mathlib.Core.List.{_++_};
+ghost use mathlib.Core.List.{[], _++_};
 ghost use lib.ListN.{drop, take, length, replicate};
 ghost use lib.Seq.{sets};
+ghost use Rattle.numbers.specs.Output.{padded, refusal, done};
 ghost use Rattle.numbers.specs.Number.{after, spelt, placed, pick, bits, readUnsigned, readSigned, whyRead, whySigned, unsigned, signed};
 
 // The limits of document 01: client ids and values, clocks and lengths, stored run counts, and what nine bytes spell.
@@ -214,4 +215,21 @@ pub fn clear(out: &mut [u8], from: usize)
         out[i] = 0;
         i += 1;
     }
+}
+
+// The answer of a writer that refuses: zeros everywhere.
+pub fn refuse(out: &mut [u8], number: u8) -> Written
+    ensures { λ r. ⌜ (r ≡ refusal number) × (now (out .exit) ≡ padded (length (now (out .entry))) []) ⌝ }
+{
+    clear(out, 0);
+    Written { number, bytes: 0 }
+}
+
+// The answer of a writer that is done, with zeros past the bytes written.
+pub fn finish(out: &mut [u8], bytes: usize) -> Written
+    requires { ⌜ bytes ≤ length (now out) ⌝ }
+    ensures { λ r. ⌜ (r ≡ done bytes) × (now (out .exit) ≡ padded (length (now (out .entry))) (take bytes (now (out .entry)))) ⌝ }
+{
+    clear(out, bytes);
+    Written { number: 0, bytes }
 }

@@ -1,0 +1,15 @@
+-- `writer::judge_none` meets its contract.
+use mathlib.Core.Path.{_≡_, refl, sym, ap, _∙_}
+use Rattle.columns.specs.Writer.{unjudged}
+use borrow.Author.Needs.{needs}
+use Rattle.columns.proofs.writer.judge_none.Statement.{statement}
+use Rattle.columns.proofs.writer.judge_none.Tie as tie
+
+begin-requires : tie.Need-begin-requires
+begin-requires c κs = search needs
+
+returns : tie.Need-returns
+returns c = rw (c .begin .ensures)
+
+pub judge-none-spec : {M : Type 1} → statement M
+judge-none-spec = tie.close (tie.spec begin-requires returns)

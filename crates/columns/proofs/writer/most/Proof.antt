@@ -1,0 +1,30 @@
+-- `writer::most` meets its contract, column by column.
+use Rattle.columns.specs.Runs.{coding}
+use Rattle.columns.specs.Writer.{keyMost}
+use borrow.Author.Needs.{needs}
+use Rattle.columns.proofs.writer.most.Statement.{statement}
+use Rattle.columns.proofs.writer.most.Tie as tie
+
+enum-told : tie.Need-enum-told
+enum-told c = search needs
+
+enum-told-2 : tie.Need-enum-told-2
+enum-told-2 c = search needs
+
+enum-told-3 : tie.Need-enum-told-3
+enum-told-3 c = search needs
+
+returns : tie.Need-returns
+unfolding coding
+returns c = rw (c .enum-told .given .1)
+
+returns-2 : tie.Need-returns-2
+unfolding coding
+returns-2 c = rw (c .enum-told2 .given .1)
+
+returns-3 : tie.Need-returns-3
+unfolding coding
+returns-3 c = rw (c .enum-told3 .given .1)
+
+pub most-spec : {M : Type 1} → statement M
+most-spec = tie.close (tie.spec enum-told enum-told-2 enum-told-3 returns returns-2 returns-3)

@@ -1,0 +1,164 @@
+// The byte column: a byte, then how often it stands, less one; with no byte left after it, it stands without end. 04 01 00 is 4, 4, then 0.
+use crate::writer::Column;
+use numbers::Read;
+use numbers::Refusal;
+use numbers::Written;
+ghost use mathlib.Core.Path.{_≡_};
+ghost use Prim.Native.Nat.{_+_, _≤_, _<_};
+ghost use mathlib.Core.List.{[], _∷_};
+ghost use lib.ListN.{length};
+ghost use lib.Seq.{sets};
+ghost use Rattle.numbers.specs.Output.{written, put};
+ghost use Rattle.columns.specs.Runs.{columnOf, whyOf};
+ghost use Rattle.columns.specs.Byte.{startAt, begun, nextByte, whyByte, runBytes};
+
+// The next byte, the run's first byte, its value, and how often that still stands, or that it stands without end.
+pub struct Place {
+    pub at: usize,
+    pub from: usize,
+    pub last: u8,
+    pub count: u32,
+    pub endless: bool,
+}
+
+pub enum Answer {
+    Next(u8, Place),
+    Bad(Refusal),
+}
+
+// The place before a column's first value.
+pub fn start(at: usize) -> Place
+    ensures { λ r. ⌜ r ≡ startAt at ⌝ }
+{
+    Place {
+        at,
+        from: at,
+        last: 0,
+        count: 0,
+        endless: false,
+    }
+}
+
+// The run that begins at `at`, with its first value drawn.
+fn next_run(column: &[u8], at: usize) -> Answer
+    ensures { λ r. ⌜ r ≡ begun (now (column .entry)) at ⌝ }
+{
+    if column.len() <= at {
+        return Answer::Bad(Refusal {
+            number: 1,
+            place: column.len(),
+        });
+    }
+    let b = column[at];
+    let e = at + 1;
+    if column.len() <= e {
+        return Answer::Next(
+            b,
+            Place {
+                at: e,
+                from: at,
+                last: b,
+                count: 0,
+                endless: true,
+            },
+        );
+    }
+    let k = numbers::read_unsigned(column, e);
+    let Read::Number(c, f) = k else {
+        return Answer::Bad(numbers::why_read(k));
+    };
+    if numbers::MAX_COUNT < c {
+        return Answer::Bad(Refusal {
+            number: 3,
+            place: e,
+        });
+    }
+    let left = c as u32;
+    Answer::Next(
+        b,
+        Place {
+            at: f,
+            from: at,
+            last: b,
+            count: left,
+            endless: false,
+        },
+    )
+}
+
+pub fn next(column: &[u8], place: Place) -> Answer
+    ensures { λ r. ⌜ r ≡ nextByte (now (column .entry)) place ⌝ }
+{
+    let at = place.at;
+    let from = place.from;
+    let last = place.last;
+    let count = place.count;
+    if place.endless {
+        return Answer::Next(last, place);
+    }
+    if 0 < count {
+        let left = count - 1;
+        return Answer::Next(
+            last,
+            Place {
+                at,
+                from,
+                last,
+                count: left,
+                endless: false,
+            },
+        );
+    }
+    next_run(column, at)
+}
+
+// Why a read was refused, for the `else` of a `let .. else`.
+pub fn why(r: Answer) -> Refusal
+    ensures { λ w. ⌜ w ≡ whyByte r ⌝ }
+{
+    match r {
+        Answer::Next(_, _) => Refusal {
+            number: 0,
+            place: 0,
+        },
+        Answer::Bad(w) => w,
+    }
+}
+
+// ---- writing
+
+// The size of a run: k, n + 1 times.
+pub fn run_size(k: u64, n: u64) -> usize
+    ensures { λ r. ⌜ (r ≡ length (runBytes k n)) × (r ≤ 20) ⌝ }
+{
+    1 + numbers::size_unsigned(n)
+}
+
+pub fn put_run(out: &mut [u8], at: usize, k: u64, n: u64) -> usize
+    requires { ⌜ (at + length (runBytes k n) ≤ length (now out)) × (k < 256) ⌝ }
+    ensures { λ r. ⌜ (r ≡ at + length (runBytes k n)) × (now (out .exit) ≡ sets (now (out .entry)) at (runBytes k n)) ⌝ }
+{
+    out[at] = k as u8;
+    let mid = at + 1;
+    numbers::write_unsigned(out, mid, n)
+}
+
+// The last run has no count.
+pub fn put_last(out: &mut [u8], at: usize, k: u64) -> usize
+    requires { ⌜ (at + 1 ≤ length (now out)) × (k < 256) ⌝ }
+    ensures { λ r. ⌜ (r ≡ at + 1) × (now (out .exit) ≡ sets (now (out .entry)) at (k ∷ [])) ⌝ }
+{
+    out[at] = k as u8;
+    at + 1
+}
+
+// The writer: 3, then 10.
+pub fn write(out: &mut [u8], values: &[u8]) -> Written
+    ensures { λ r. ⌜ (r ≡ written (whyOf Column.Byte (now (values .entry))) (length (now (out .entry))) (columnOf Column.Byte (now (values .entry)))) × (now (out .exit) ≡ put (whyOf Column.Byte (now (values .entry))) (length (now (out .entry))) (columnOf Column.Byte (now (values .entry)))) ⌝ }
+{
+    let number = crate::writer::judge_bytes(values);
+    if number != 0 {
+        return numbers::refuse(out, number);
+    }
+    crate::writer::put_bytes(out, values)
+}

@@ -1,0 +1,147 @@
+// The number column: a signed number, and for minus (minus zero too) how often it stands, less two. 45 00 is 5, 5; 40 03 is five zeros.
+use crate::writer::Column;
+use numbers::Read;
+use numbers::Refusal;
+use numbers::Signed;
+use numbers::Written;
+ghost use mathlib.Core.Path.{_≡_};
+ghost use Prim.Native.Nat.{_+_, _≤_};
+ghost use lib.ListN.{length};
+ghost use lib.Seq.{sets};
+ghost use Rattle.numbers.specs.Output.{written, put};
+ghost use Rattle.columns.specs.Runs.{columnOf, whyOf};
+ghost use Rattle.numbers.specs.Number.{readSigned};
+ghost use Rattle.columns.specs.Number.{startAt, drawn, begun, nextNumber, whyNumber, runBytes};
+
+// The next byte, the run's first byte, its value, and how often that still stands.
+pub struct Place {
+    pub at: usize,
+    pub from: usize,
+    pub last: u64,
+    pub count: u32,
+}
+
+pub enum Answer {
+    Next(u64, Place),
+    Bad(Refusal),
+}
+
+// The place before a column's first value.
+pub fn start(at: usize) -> Place
+    ensures { λ r. ⌜ r ≡ startAt at ⌝ }
+{
+    Place {
+        at,
+        from: at,
+        last: 0,
+        count: 0,
+    }
+}
+
+// The value of the run under way, of which some are left; its limit is tested now.
+fn draw(c: Place) -> Answer
+    requires { ⌜ 1 ≤ c .count ⌝ }
+    ensures { λ r. ⌜ r ≡ drawn c ⌝ }
+{
+    let at = c.at;
+    let from = c.from;
+    let last = c.last;
+    if numbers::MAX_VALUE < last {
+        return Answer::Bad(Refusal {
+            number: 3,
+            place: from,
+        });
+    }
+    let left = c.count - 1;
+    Answer::Next(
+        last,
+        Place {
+            at,
+            from,
+            last,
+            count: left,
+        },
+    )
+}
+
+// The run that begins at `at`. It stands apart, so that `next` is small.
+fn next_run(column: &[u8], at: usize) -> Answer
+    ensures { λ r. ⌜ r ≡ begun (now (column .entry)) at (readSigned (now (column .entry)) at) ⌝ }
+{
+    let r = numbers::read_signed(column, at);
+    let Signed::Value(minus, x, e) = r else {
+        return Answer::Bad(numbers::why_signed(r));
+    };
+    if !minus {
+        return draw(Place {
+            at: e,
+            from: at,
+            last: x,
+            count: 1,
+        });
+    }
+    let k = numbers::read_unsigned(column, e);
+    let Read::Number(c, f) = k else {
+        return Answer::Bad(numbers::why_read(k));
+    };
+    if numbers::MAX_COUNT < c {
+        return Answer::Bad(Refusal {
+            number: 3,
+            place: e,
+        });
+    }
+    let times = (c + 2) as u32;
+    draw(Place {
+        at: f,
+        from: at,
+        last: x,
+        count: times,
+    })
+}
+
+pub fn next(column: &[u8], place: Place) -> Answer
+    ensures { λ r. ⌜ r ≡ nextNumber (now (column .entry)) place ⌝ }
+{
+    let at = place.at;
+    if 0 < place.count {
+        return draw(place);
+    }
+    next_run(column, at)
+}
+
+// Why a read was refused, for the `else` of a `let .. else`.
+pub fn why(r: Answer) -> Refusal
+    ensures { λ w. ⌜ w ≡ whyNumber r ⌝ }
+{
+    match r {
+        Answer::Next(_, _) => Refusal {
+            number: 0,
+            place: 0,
+        },
+        Answer::Bad(w) => w,
+    }
+}
+
+// ---- writing
+
+// The size of a run: v, n + 1 times.
+pub fn run_size(v: u64, n: u64) -> usize
+    ensures { λ r. ⌜ (r ≡ length (runBytes v n)) × (r ≤ 20) ⌝ }
+{
+    crate::writer::counted_size(v, n)
+}
+
+pub fn put_run(out: &mut [u8], at: usize, v: u64, n: u64) -> usize
+    requires { ⌜ at + length (runBytes v n) ≤ length (now out) ⌝ }
+    ensures { λ r. ⌜ (r ≡ at + length (runBytes v n)) × (now (out .exit) ≡ sets (now (out .entry)) at (runBytes v n)) ⌝ }
+{
+    let minus = 0 < n;
+    crate::writer::put_counted(out, at, minus, v, n)
+}
+
+// The writer: 3, then 10.
+pub fn write(out: &mut [u8], values: &[u64]) -> Written
+    ensures { λ r. ⌜ (r ≡ written (whyOf Column.Number (now (values .entry))) (length (now (out .entry))) (columnOf Column.Number (now (values .entry)))) × (now (out .exit) ≡ put (whyOf Column.Number (now (values .entry))) (length (now (out .entry))) (columnOf Column.Number (now (values .entry)))) ⌝ }
+{
+    crate::writer::write_all(out, Column::Number, values)
+}

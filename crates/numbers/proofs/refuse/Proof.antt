@@ -1,0 +1,18 @@
+-- `numbers::refuse` meets its contract: all is cleared.
+use mathlib.Core.Path.{_≡_, refl, sym, ap, _∙_}
+use Rattle.numbers.proofs.Output.{padded-none}
+use borrow.Author.Needs.{needs}
+use Rattle.numbers.proofs.refuse.Statement.{statement}
+use Rattle.numbers.proofs.refuse.Tie as tie
+
+clear-requires : tie.Need-clear-requires
+clear-requires c κs = search needs
+
+same-length : tie.Need-same-length
+same-length c = search needs
+
+returns : tie.Need-returns
+returns c = (refl, c .before .before .clear .ensures ∙ padded-none (c .before .before .before .before .before .args .out .now))
+
+pub refuse-spec : {M : Type 1} → statement M
+refuse-spec = tie.close (tie.spec clear-requires same-length returns)
