@@ -1,18 +1,19 @@
 -- Draws stay inside: the place after a draw is within the bytes and not before the place drawn from, and a refusal blames a place within them.
 -- So it is with each number read, and a column's place moves only to the end of one.
-use Prim.Native.Nat.{ℕ, zero, suc, _+_, _-_, _%_, _≤_, _<_}
+use Prim.Native.Nat.{ℕ, _+_, _-_, _%_, _≤_, _<_}
 use mathlib.Core.Path.{_≡_, refl}
 use mathlib.Core.Bool.{Bool, true, false}
 use mathlib.Core.List.{List, [], _∷_}
 use native.Mathlib.Omega.{arith}
 use lib.Dec.{ltb, leb, eqb}
-use lib.ListN.{length, getD, drop, length-drop}
+use lib.ListN.{length, getD}
 use borrow.Author.Tests.{leb-false}
 use Rattle.numbers.specs.declared.Read.{Read}
 use Rattle.numbers.specs.declared.Read.the-variants.{Number, Refused}
 use Rattle.numbers.specs.declared.Signed.{Signed}
 use Rattle.numbers.specs.declared.Signed.the-variants.{Value, Wrong}
-use Rattle.numbers.specs.Number.{pick, Spelt, got, short, long, after, spelt, speltSigned, placed, withSign, minusOf, readUnsigned, readSigned}
+use Rattle.numbers.specs.Number.{pick, readUnsigned, readSigned}
+use Rattle.numbers.proofs.Inside.{Reads, ReadsSigned, unsigned-inside, signed-inside}
 use Rattle.numbers.specs.Limits.{maxValue, maxClock, maxCount}
 use Rattle.columns.specs.declared.number.Answer as number-answer
 use Rattle.columns.specs.declared.difference.Answer as difference-answer
@@ -26,68 +27,6 @@ use Rattle.columns.specs.Difference as difference
 use Rattle.columns.specs.Difference.{zeroKey}
 use Rattle.columns.specs.Byte as byte
 use Rattle.columns.specs.Reading.{Draw, drew, stop, numberDraw, differenceDraw, byteDraw}
-
--- ---- a number
-
--- what begins at i ends after i, and at n at most
-abbrev Spans : ℕ → ℕ → Spelt → Type 0
-Spans i n (got x e) = (i < e) × (e ≤ n)
-Spans i n short = Unit {0}
-Spans i n long = Unit {0}
-
-spans-after : (w v i n : ℕ) (r : Spelt) → Spans (i + 1) n r → Spans i n (after w v r)
-unfolding after
-spans-after w v i n (got x e) h = (omega arith, h .1)
-spans-after w v i n short h = tt
-spans-after w v i n long h = tt
-
--- a first byte that is all, or before r
-spans-first : (b : Bool) (x i : ℕ) (t : List ℕ) (r : Spelt) → Spans i (i + suc (length t)) r → Spans i (i + suc (length t)) (pick b (got x (i + 1)) r)
-spans-first true x i t r h = (omega arith, omega arith)
-spans-first false x i t r h = h
-
-spans : (k i : ℕ) (t : List ℕ) → Spans i (i + length t) (spelt k i t)
-unfolding spelt
-spans zero i t = tt
-spans (suc k) i [] = tt
-spans (suc k) i (b ∷ t) =
-    let e : i + 1 + length t ≡ i + suc (length t) = omega arith in
-    spans-first (ltb b 128) b i t _ (spans-after 128 (b - 128) i (i + suc (length t)) (spelt k (i + 1) t) (rw e at (spans k (i + 1) t)))
-
-spans-signed : (i : ℕ) (t : List ℕ) → Spans i (i + length t) (speltSigned i t)
-unfolding speltSigned
-spans-signed i [] = tt
-spans-signed i (b ∷ t) =
-    let e : i + 1 + length t ≡ i + suc (length t) = omega arith in
-    spans-first (ltb b 128) (b % 64) i t _ (spans-after 64 (b % 64) i (i + suc (length t)) (spelt 8 (i + 1) t) (rw e at (spans 8 (i + 1) t)))
-
-abbrev Reads : List ℕ → ℕ → Read → Type 0
-Reads s at (Number x e) = (at < e) × (e ≤ length s)
-Reads s at (Refused w) = w .place ≤ length s
-
-abbrev ReadsSigned : List ℕ → ℕ → Signed → Type 0
-ReadsSigned s at (Value m x e) = (at < e) × (e ≤ length s)
-ReadsSigned s at (Wrong w) = w .place ≤ length s
-
-module _ (s : List ℕ) (at : ℕ) (h : at ≤ length s) where
-  reads-placed : (r : Spelt) → Spans at (at + length (drop at s)) r → Reads s at (placed s at r)
-  unfolding placed
-  reads-placed (got x e) p = (p .0, omega (arith, length-drop at s, p .1))
-  reads-placed short p = omega arith
-  reads-placed long p = h
-
-  unsigned-inside : Reads s at (readUnsigned s at)
-  unfolding readUnsigned
-  unsigned-inside = reads-placed (spelt 9 at (drop at s)) (spans 9 at (drop at s))
-
-  with-sign : (m : Bool) (r : Read) → Reads s at r → ReadsSigned s at (withSign m r)
-  unfolding withSign
-  with-sign m (Number x e) p = p
-  with-sign m (Refused w) p = p
-
-  signed-inside : ReadsSigned s at (readSigned s at)
-  unfolding readSigned
-  signed-inside = with-sign (minusOf (drop at s)) _ (reads-placed (speltSigned at (drop at s)) (spans-signed at (drop at s)))
 
 -- ---- a draw
 

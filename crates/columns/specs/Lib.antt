@@ -4,4 +4,5 @@ pub mod Difference
 pub mod Byte
 pub mod Runs
 pub mod Reading
+pub mod String
 pub mod Writer

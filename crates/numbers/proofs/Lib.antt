@@ -3,4 +3,5 @@ pub mod Laws
 pub mod RoundTrip
 pub mod Shortest
 pub mod Pieces
+pub mod Inside
 pub mod Output

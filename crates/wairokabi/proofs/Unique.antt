@@ -1,0 +1,92 @@
+-- No other answer fits: of each public call, two answers that keep its promise for the same inputs are the same, and so is what is lent back.
+use Prim.Native.Nat.{ℕ}
+use mathlib.Core.Path.{_≡_, sym, _∙_}
+use mathlib.Core.List.{List}
+use mathlib.Core.Bool.{Bool}
+use Rattle.numbers.specs.declared.Written.{Written}
+use Rattle.text.specs.declared.Units.{Units}
+use Rattle.columns.specs.declared.number.Place as number
+use Rattle.columns.specs.declared.difference.Place as difference
+use Rattle.columns.specs.declared.byte.Place as byte
+use Rattle.columns.specs.declared.string.Place as string
+use Rattle.wairokabi.specs.declared.Unsigned.{Unsigned}
+use Rattle.wairokabi.specs.declared.Signed.{Signed}
+use Rattle.wairokabi.specs.declared.Counted.{Counted}
+use Rattle.wairokabi.specs.declared.Cut.{Cut}
+use Rattle.wairokabi.specs.declared.NumberNext.{NumberNext}
+use Rattle.wairokabi.specs.declared.DifferenceNext.{DifferenceNext}
+use Rattle.wairokabi.specs.declared.ByteNext.{ByteNext}
+use Rattle.wairokabi.specs.declared.TextOpened.{TextOpened}
+use Rattle.wairokabi.specs.declared.TextNext.{TextNext}
+use Rattle.wairokabi.specs.Promises.{ReadUnsigned, ReadSigned, Writes, WriteUnsigned, WriteSigned, CountUnits, TakeText, CutText, OpenNumbers, NextNumber, OpenDifferences, NextDifference, OpenBytes, NextByte, OpenText, NextText, WriteNumbers, WriteDifferences, WriteBytes, WriteTexts}
+
+-- at most one value has a property
+abbrev pub Only : {A : Type 0} → (A → Type 0) → Type 0
+Only {A = A} F = (r r′ : A) → F r → F r′ → r ≡ r′
+
+-- at most one answer, with one final content of what was lent
+abbrev pub OnlyBoth : (Written → List ℕ → Type 0) → Type 0
+OnlyBoth F = (r r′ : Written) (x x′ : List ℕ) → F r x → F r′ x′ → (r ≡ r′) × (x ≡ x′)
+
+one : {A : Type 0} (a : A) → Only (λ (r : A). r ≡ a)
+one a r r′ p q = p ∙ sym q
+
+both : (why : ℕ) (b lent : List ℕ) → OnlyBoth (Writes why b lent)
+both why b lent r r′ x x′ p q = (p .0 ∙ sym (q .0), p .1 ∙ sym (q .1))
+
+pub only-read-unsigned : (s : List ℕ) (at : ℕ) → Only (ReadUnsigned s at)
+only-read-unsigned s at = one _
+
+pub only-read-signed : (s : List ℕ) (at : ℕ) → Only (ReadSigned s at)
+only-read-signed s at = one _
+
+pub only-write-unsigned : (lent : List ℕ) (v : ℕ) → OnlyBoth (WriteUnsigned lent v)
+only-write-unsigned lent v = both _ _ lent
+
+pub only-write-signed : (lent : List ℕ) (m : Bool) (v : ℕ) → OnlyBoth (WriteSigned lent m v)
+only-write-signed lent m v = both _ _ lent
+
+pub only-count-units : (t : List ℕ) → Only (CountUnits t)
+only-count-units t = one _
+
+pub only-take-text : (t : List ℕ) (at : ℕ) (u : Units) → Only (TakeText t at u)
+only-take-text t at u = one _
+
+pub only-cut-text : (t : List ℕ) (u : Units) → Only (CutText t u)
+only-cut-text t u = one _
+
+pub only-open-numbers : (at : ℕ) → Only (OpenNumbers at)
+only-open-numbers at = one _
+
+pub only-next-number : (s : List ℕ) (c : number.Place) → Only (NextNumber s c)
+only-next-number s c = one _
+
+pub only-open-differences : (at : ℕ) → Only (OpenDifferences at)
+only-open-differences at = one _
+
+pub only-next-difference : (s : List ℕ) (c : difference.Place) → Only (NextDifference s c)
+only-next-difference s c = one _
+
+pub only-open-bytes : (at : ℕ) → Only (OpenBytes at)
+only-open-bytes at = one _
+
+pub only-next-byte : (s : List ℕ) (c : byte.Place) → Only (NextByte s c)
+only-next-byte s c = one _
+
+pub only-open-text : (s : List ℕ) (at : ℕ) → Only (OpenText s at)
+only-open-text s at = one _
+
+pub only-next-text : (s : List ℕ) (c : string.Place) → Only (NextText s c)
+only-next-text s c = one _
+
+pub only-write-numbers : (lent vs : List ℕ) → OnlyBoth (WriteNumbers lent vs)
+only-write-numbers lent vs = both _ _ lent
+
+pub only-write-differences : (lent vs : List ℕ) → OnlyBoth (WriteDifferences lent vs)
+only-write-differences lent vs = both _ _ lent
+
+pub only-write-bytes : (lent vs : List ℕ) → OnlyBoth (WriteBytes lent vs)
+only-write-bytes lent vs = both _ _ lent
+
+pub only-write-texts : (lent t us : List ℕ) → OnlyBoth (WriteTexts lent t us)
+only-write-texts lent t us = both _ _ lent

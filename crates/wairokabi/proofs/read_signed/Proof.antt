@@ -1,0 +1,27 @@
+-- `read_signed` meets its contract, by the cases of the answer.
+use mathlib.Core.Path.{_≡_, refl, sym, ap, _∙_}
+use Rattle.wairokabi.specs.Promises.{signedAnswer}
+use borrow.Author.Needs.{needs}
+use Rattle.wairokabi.proofs.read_signed.Statement.{statement}
+use Rattle.wairokabi.proofs.read_signed.Tie as tie
+
+read-signed-requires : tie.Need-read-signed-requires
+read-signed-requires c κs = search needs
+
+enum-known-minus : tie.Need-enum-known-minus
+enum-known-minus c = search needs
+
+enum-known-why : tie.Need-enum-known-why
+enum-known-why c = search needs
+
+returns : tie.Need-returns
+unfolding signedAnswer
+returns c = let r = c .before .before .before .read-signed .ensures in sym (ap signedAnswer (sym r ∙ c .before .minus .given .1))
+
+returns-2 : tie.Need-returns-2
+unfolding signedAnswer
+returns-2 c = let r = c .before .before .before .read-signed .ensures in sym (ap signedAnswer (sym r ∙ c .before .why .given .1))
+
+pub read-signed-spec : {M : Type 1} → statement M
+read-signed-spec =
+    tie.close (tie.spec read-signed-requires enum-known-minus enum-known-why returns returns-2)

@@ -1,0 +1,99 @@
+-- `write_signed` meets its contract: the limit, the room, then the shortest spelling and zeros.
+use Prim.Native.Nat.{ℕ, _+_, _≤_, _<_}
+use native.Mathlib.Nat.{zero-add}
+use mathlib.Core.List.{List}
+use native.Mathlib.Omega.{arith}
+use mathlib.Core.Path.{_≡_, refl, sym, ap, _∙_}
+use borrow.Author.Tests.{not-true, not-false, lt-ltb, le-ltb}
+use lib.ListN.{length}
+use lib.Seq.{length-sets}
+use Rattle.numbers.specs.Number.{signed}
+use Rattle.numbers.specs.Limits.{maxSigned}
+use Rattle.numbers.specs.Output.{verdict, done}
+use Rattle.numbers.proofs.Output.{verdict-why, verdict-room, verdict-done, refused-answer, refused-bytes, done-answer, done-bytes, take-sets}
+use Rattle.wairokabi.specs.Promises.{over}
+use borrow.Author.Needs.{needs}
+use Rattle.wairokabi.proofs.write_signed.Statement.{statement}
+use Rattle.wairokabi.proofs.write_signed.Tie as tie
+
+refuse-requires : tie.Need-refuse-requires
+refuse-requires c κs = search needs
+
+same-length : tie.Need-same-length
+same-length c = search needs
+
+returns : tie.Need-returns
+unfolding over
+returns c =
+    let a = c .before .before .before .before .before .before .args in
+    let n = length (a .out .now) in
+    let b = signed (a .minus) (a .magnitude) in
+    let ne : _≡_ {A = ℕ} 3 0 → ⊥ = λ z. omega arith in
+    let v = verdict-why 3 n b ne in
+    let r = c .before .before .refuse .ensures in
+    rw (lt-ltb maxSigned (a .magnitude) (c .before .before .before .before .if1 .taken)) (r .0 ∙ refused-answer 3 n b 3 v ne, r .1 ∙ refused-bytes 3 n b 3 v ne)
+
+size-signed-requires : tie.Need-size-signed-requires
+size-signed-requires c κs = search needs
+
+refuse-requires-2 : tie.Need-refuse-requires-2
+refuse-requires-2 c κs = search needs
+
+same-length-2 : tie.Need-same-length-2
+same-length-2 c = search needs
+
+returns-2 : tie.Need-returns-2
+unfolding over
+returns-2 c =
+    let a = c .before .before .before .before .before .before .before .before .args in
+    let n = length (a .out .now) in
+    let b = signed (a .minus) (a .magnitude) in
+    let ne : _≡_ {A = ℕ} 10 0 → ⊥ = λ z. omega arith in
+    let v = verdict-room 0 n b refl (omega (arith, c .before .before .before .before .before .size-signed .ensures .0 (a .minus), c .before .before .before .before .if2 .taken)) in
+    let r = c .before .before .refuse2 .ensures in
+    rw (le-ltb maxSigned (a .magnitude) (c .before .before .before .before .before .before .if1 .left)) (r .0 ∙ refused-answer 0 n b 10 v ne, r .1 ∙ refused-bytes 0 n b 10 v ne)
+
+write-signed-requires : tie.Need-write-signed-requires
+write-signed-requires c κs =
+    let a = c .before .before .before .before .before .args in
+    omega (arith, c .before .before .size-signed .ensures .0 (a .minus), c .before .if2 .left)
+
+finish-requires : tie.Need-finish-requires
+finish-requires c κs =
+    let a = c .before .before .before .before .before .before .before .before .before .args in
+    let w = c .before .before .before .write-signed in
+    omega (arith, w .ensures .0, w .kept .0, c .before .before .before .before .before .before .size-signed .ensures .0 (a .minus), c .before .before .before .before .before .if2 .left)
+
+same-length-3 : tie.Need-same-length-3
+same-length-3 c = search needs
+
+returns-3 : tie.Need-returns-3
+unfolding over
+returns-3 c =
+    let a = c .before .before .before .before .before .before .before .before .before .before .before .before .args in
+    let e = a .out .now in
+    let b = signed (a .minus) (a .magnitude) in
+    let fits : length b ≤ length e = omega (arith, c .before .before .before .before .before .before .before .before .before .size-signed .ensures .0 (a .minus), c .before .before .before .before .before .before .before .before .if2 .left) in
+    let v = verdict-done 0 (length e) b refl fits in
+    let w = c .before .before .before .before .before .before .write-signed in
+    let g = c .before .before .finish in
+    let end : w .result ≡ length b = w .ensures .0 ∙ zero-add (length b) in
+    let front = take-sets e b 0 (omega arith) in
+    rw (le-ltb maxSigned (a .magnitude) (c .before .before .before .before .before .before .before .before .before .before .if1 .left))
+    (g .ensures .0 ∙ ap done end ∙ done-answer 0 (length e) b v, g .ensures .1 ∙ rw (w .ensures .1, w .ensures .0, length-sets, front) (done-bytes 0 (length e) b v))
+
+pub write-signed-spec : {M : Type 1} → statement M
+write-signed-spec =
+    tie.close
+    (tie.spec
+    refuse-requires
+    same-length
+    returns
+    size-signed-requires
+    refuse-requires-2
+    same-length-2
+    returns-2
+    write-signed-requires
+    finish-requires
+    same-length-3
+    returns-3)
