@@ -9,7 +9,7 @@ use lib.Dec.{eqb, leb}
 use lib.ListN.{length, getD}
 use borrow.Author.Tests.{leb-true, eqb-true}
 use Rattle.numbers.specs.Number.{pick}
-use Rattle.columns.specs.Runs.{Coding, over, opened, column, within, overFits, storable, spellable, why}
+use Rattle.runs.specs.Runs.{Coding, over, opened, column, within, overFits, storable, spellable, why}
 use Rattle.columns.specs.Reading.{Draw, drew, stop, Reading, andThen, reads}
 
 -- the value v comes after p with the key k, both within the column's limit

@@ -24,7 +24,7 @@ use Rattle.columns.specs.declared.difference.Place as difference-place
 use Rattle.columns.specs.declared.byte.Place as byte-place
 use Rattle.columns.specs.Number as number
 use Rattle.columns.specs.Difference as difference
-use Rattle.columns.specs.Difference.{zeroKey}
+use Rattle.runs.specs.Difference.{zeroKey}
 use Rattle.columns.specs.Byte as byte
 use Rattle.columns.specs.Reading.{Draw, drew, stop, numberDraw, differenceDraw, byteDraw}
 

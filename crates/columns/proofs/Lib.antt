@@ -1,7 +1,4 @@
--- The laws of the columns: the writers (Writing, Standing, Slices), and reading what was written (Back, RoundTrip, Inside).
-pub mod Writing
-pub mod Standing
-pub mod Slices
+-- Reading what was written (Back, RoundTrip), and that draws stay inside the bytes (Inside).
 pub mod Back
 pub mod RoundTrip
 pub mod Inside

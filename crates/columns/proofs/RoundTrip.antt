@@ -21,12 +21,15 @@ use Rattle.columns.specs.declared.byte.Answer.the-variants as byte-answe
 use Rattle.columns.specs.declared.number.Place as number-place
 use Rattle.columns.specs.declared.difference.Place as difference-place
 use Rattle.columns.specs.declared.byte.Place as byte-place
-use Rattle.columns.specs.declared.writer.Column.the-variants as columns
+use Rattle.runs.specs.declared.Column.the-variants as columns
 use Rattle.columns.specs.Number as number
+use Rattle.runs.specs.Number as number-run
 use Rattle.columns.specs.Difference as difference
-use Rattle.columns.specs.Difference.{zeroKey}
+use Rattle.runs.specs.Difference as difference-run
+use Rattle.runs.specs.Difference.{zeroKey}
 use Rattle.columns.specs.Byte as byte
-use Rattle.columns.specs.Runs.{column, why, coding, fitsLessTwo, fitsLessOne, nearKey}
+use Rattle.runs.specs.Byte as byte-run
+use Rattle.runs.specs.Runs.{column, why, coding, fitsLessTwo, fitsLessOne, nearKey}
 use Rattle.columns.specs.Reading.{Draw, drew, stop, andThen, reads, numberDraw, differenceDraw, byteDraw, readNumbers, readDifferences, readBytes}
 use Rattle.columns.proofs.Back.{both, Step, Follows, nothing, others, spelled, stored, Reader, some, reads-back, reads-none, reads-end}
 
@@ -53,12 +56,12 @@ less-two e n h = leb-true n (maxCount + 1) (rw (alike e (leb n (maxCount + 1))) 
 
 -- ---- the number column
 
-number-one : (v : ℕ) → number.runBytes v 0 ≡ signed false v
-unfolding number.runBytes
+number-one : (v : ℕ) → number-run.runBytes v 0 ≡ signed false v
+unfolding number-run.runBytes
 number-one v = refl
 
-number-many : (v n : ℕ) → number.runBytes v (suc n) ≡ signed true v ++ unsigned n
-unfolding number.runBytes
+number-many : (v n : ℕ) → number-run.runBytes v (suc n) ≡ signed true v ++ unsigned n
+unfolding number-run.runBytes
 number-many v n =
     let less : suc n - 1 ≡ n = omega arith in
     rw (ne-eqb (suc n) 0 (omega arith), less)
@@ -71,8 +74,8 @@ number-drawn at from p v k n st =
     rw (le-ltb maxValue k (omega (arith, st .high, st .key)), less, st .key)
 
 number-first : (p q : List ℕ) (from l k n : ℕ) → k ≤ maxValue → n ≤ maxCount + 1
-    → number.nextNumber (p ++ (number.runBytes k n ++ q)) (number.placeAt (length p) from l 0)
-    ≡ number.drawn (number.placeAt (length (p ++ number.runBytes k n)) (length p) k (suc n))
+    → number.nextNumber (p ++ (number-run.runBytes k n ++ q)) (number.placeAt (length p) from l 0)
+    ≡ number.drawn (number.placeAt (length (p ++ number-run.runBytes k n)) (length p) k (suc n))
 unfolding number.nextNumber number.begun number.counted
 number-first p q from l k zero v h = rw (number-one k, read-signed-back p q false k (omega arith), length-append p (signed false k))
 number-first p q from l k (suc n) v h =
@@ -98,7 +101,7 @@ number-reader = record {
   goes = λ s e at from p v k n st. rw (lt-ltb 0 (suc n) (omega arith), number-drawn at from p v k n st);
   begins = λ pre q e from p l v k n f st near fits.
       let h : k ≤ maxValue = omega (arith, st .high, st .key) in
-      let b : List ℕ = number.runBytes k n in
+      let b : List ℕ = number-run.runBytes k n in
       rw (alike e b, number-first pre q from l k n h (less-two e n fits), number-drawn (length (pre ++ b)) (length pre) p v k n st);
 }
 
@@ -117,12 +120,12 @@ module _ (p vs : List ℕ) (h : why (coding columns.Number) vs ≡ 0) where
 
 -- ---- the difference column
 
-difference-one : (k : ℕ) → difference.runBytes k 0 ≡ signed (ltb k zeroKey) (difference.magnitude k 0)
-unfolding difference.runBytes
+difference-one : (k : ℕ) → difference-run.runBytes k 0 ≡ signed (ltb k zeroKey) (difference-run.magnitude k 0)
+unfolding difference-run.runBytes
 difference-one k = refl
 
-difference-many : (k n : ℕ) → difference.runBytes k (suc n) ≡ signed (ltb k zeroKey) (difference.magnitude k 1) ++ unsigned n
-unfolding difference.runBytes
+difference-many : (k n : ℕ) → difference-run.runBytes k (suc n) ≡ signed (ltb k zeroKey) (difference-run.magnitude k 1) ++ unsigned n
+unfolding difference-run.runBytes
 difference-many k n =
     let less : suc n - 1 ≡ n = omega arith in
     rw (ne-eqb (suc n) 0 (omega arith), less)
@@ -139,8 +142,8 @@ module _ (k odd : ℕ) (near : Near k) (o : odd ≤ 1) where
   abbrev Spells : Bool → ℕ → Type 0
   Spells m x = (difference.outside m x ≡ false) × (difference.keyRead m x ≡ k) × (x % 2 ≡ odd) × (x < 2 ^ 62)
 
-  spells : Spells (ltb k zeroKey) (difference.magnitude k odd)
-  unfolding difference.magnitude difference.outside difference.keyRead
+  spells : Spells (ltb k zeroKey) (difference-run.magnitude k odd)
+  unfolding difference-run.magnitude difference.outside difference.keyRead
   spells = ⊎-elim
       (λ l. rw (lt-ltb k zeroKey l) (le-ltb 2147483648 (2 * (zeroKey - k) - odd) (omega arith), omega arith, omega arith, omega arith))
       (λ g. rw (le-ltb k zeroKey g) (lt-leb 2147483648 (2 * (k - zeroKey) + odd) (omega arith), omega arith, omega arith, omega arith))
@@ -156,12 +159,12 @@ difference-drawn at from p v k n st =
     rw (sum, le-ltb (v + zeroKey) zeroKey (omega arith), back, le-ltb maxClock v (st .high), less)
 
 difference-first : (p q : List ℕ) (from b l k n : ℕ) → Near k → n ≤ maxCount + 1
-    → difference.nextDifference (p ++ (difference.runBytes k n ++ q)) (difference.placeAt (length p) from b l 0)
-    ≡ difference.drawn (difference.placeAt (length (p ++ difference.runBytes k n)) (length p) b k (suc n))
+    → difference.nextDifference (p ++ (difference-run.runBytes k n ++ q)) (difference.placeAt (length p) from b l 0)
+    ≡ difference.drawn (difference.placeAt (length (p ++ difference-run.runBytes k n)) (length p) b k (suc n))
 unfolding difference.nextDifference difference.begun difference.counted
 difference-first p q from b l k zero near h =
     let m : Bool = ltb k zeroKey in
-    let x : ℕ = difference.magnitude k 0 in
+    let x : ℕ = difference-run.magnitude k 0 in
     let y = spells k 0 near (omega arith) in
     rw (
       difference-one k,
@@ -173,7 +176,7 @@ difference-first p q from b l k zero near h =
     )
 difference-first p q from b l k (suc n) near h =
     let m : Bool = ltb k zeroKey in
-    let x : ℕ = difference.magnitude k 1 in
+    let x : ℕ = difference-run.magnitude k 1 in
     let y = spells k 1 near (omega arith) in
     let s : List ℕ = signed m x in
     let u : List ℕ = unsigned n in
@@ -199,7 +202,7 @@ difference-reader = record {
   place = λ e at from p k n. difference.placeAt at from p k n;
   goes = λ s e at from p v k n st. rw (lt-ltb 0 (suc n) (omega arith), difference-drawn at from p v k n st);
   begins = λ pre q e from p l v k n f st near fits.
-      let b : List ℕ = difference.runBytes k n in
+      let b : List ℕ = difference-run.runBytes k n in
       rw (alike e b, difference-first pre q from p l k n (near-says k near) (less-two e n fits), difference-drawn (length (pre ++ b)) (length pre) p v k n st);
 }
 
@@ -226,9 +229,9 @@ less-one n h = leb-true n maxCount h
 
 -- a run that others follow, and the last one
 byte-first : (p q : List ℕ) (from l k n : ℕ) → n ≤ maxCount
-    → byte.nextByte (p ++ (byte.runBytes k n ++ q)) (byte.placeAt (length p) from l 0)
-    ≡ byte-answer.Next k (byte.placeAt (length (p ++ byte.runBytes k n)) (length p) k n)
-unfolding byte.nextByte byte.begun byte.counted byte.runBytes
+    → byte.nextByte (p ++ (byte-run.runBytes k n ++ q)) (byte.placeAt (length p) from l 0)
+    ≡ byte-answer.Next k (byte.placeAt (length (p ++ byte-run.runBytes k n)) (length p) k n)
+unfolding byte.nextByte byte.begun byte.counted byte-run.runBytes
 byte-first p q from l k n h =
     let u : List ℕ = unsigned n in
     let size : length (p ++ (k ∷ (u ++ q))) ≡ length p + suc (length u + length q) = length-append p (k ∷ (u ++ q)) ∙ ap (λ i. length p + suc i) (length-append u q) in

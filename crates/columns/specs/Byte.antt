@@ -47,9 +47,3 @@ nextByte s c =
 abbrev pub whyByte : Answer → Refusal
 whyByte (Next v c) = none
 whyByte (Bad why) = why
-
--- ---- writing
-
--- a run: k, n + 1 times
-unfoldable pub runBytes : ℕ → ℕ → List ℕ
-runBytes k n = k ∷ unsigned n

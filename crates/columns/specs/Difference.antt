@@ -12,13 +12,10 @@ use Rattle.numbers.specs.declared.Signed.{Signed}
 use Rattle.numbers.specs.declared.Signed.the-variants.{Value, Wrong}
 use Rattle.numbers.specs.Number.{pick, none, readUnsigned, readSigned, unsigned, signed}
 use Rattle.numbers.specs.Limits.{maxClock, maxCount}
+use Rattle.runs.specs.Difference.{zeroKey}
 use Rattle.columns.specs.declared.difference.Place.{Place}
 use Rattle.columns.specs.declared.difference.Answer.{Answer}
 use Rattle.columns.specs.declared.difference.Answer.the-variants.{Next, Bad}
-
--- the key of no difference
-abbrev pub zeroKey : ℕ
-zeroKey = 2147483648
 
 -- the next byte at `at`, in a run whose first byte is at `from`; the value before is `last`, and the difference of `key` still applies n times
 abbrev pub placeAt : ℕ → ℕ → ℕ → ℕ → ℕ → Place
@@ -62,20 +59,3 @@ nextDifference s c = pick (ltb 0 (c .count)) (drawn c) (begun s (c .at) (c .last
 abbrev pub whyDifference : Answer → Refusal
 whyDifference (Next v c) = none
 whyDifference (Bad why) = why
-
--- ---- writing
-
--- the key of the difference from p to v; the size of e, twice the difference and `odd`
-abbrev pub keyBetween : ℕ → ℕ → ℕ
-keyBetween p v = v + zeroKey - p
-
-unfoldable pub magnitude : ℕ → ℕ → ℕ
-magnitude k odd = pick (ltb k zeroKey) (2 * (zeroKey - k) - odd) (2 * (k - zeroKey) + odd)
-
--- e is odd where a count follows
-unfoldable pub odd : ℕ → ℕ
-odd n = pick (eqb n 0) 0 1
-
--- a run: the difference of k, n + 1 times
-unfoldable pub runBytes : ℕ → ℕ → List ℕ
-runBytes k n = pick (eqb n 0) (signed (ltb k zeroKey) (magnitude k 0)) (signed (ltb k zeroKey) (magnitude k 1) ++ unsigned (n - 1))

@@ -1,8 +1,6 @@
--- What the four columns mean: reading from a place, and the bytes of values.
+-- What the four columns mean: reading from a place on, and the text column's bytes.
 pub mod Number
 pub mod Difference
 pub mod Byte
-pub mod Runs
 pub mod Reading
 pub mod String
-pub mod Writer

@@ -44,9 +44,3 @@ nextNumber s c = pick (ltb 0 (c .count)) (drawn c) (begun s (c .at) (readSigned 
 abbrev pub whyNumber : Answer → Refusal
 whyNumber (Next v c) = none
 whyNumber (Bad why) = why
-
--- ---- writing
-
--- a run: v, n + 1 times
-unfoldable pub runBytes : ℕ → ℕ → List ℕ
-runBytes v n = pick (eqb n 0) (signed false v) (signed true v ++ unsigned (n - 1))

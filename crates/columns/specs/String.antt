@@ -20,9 +20,9 @@ use Rattle.columns.specs.declared.string.Opened.{Opened}
 use Rattle.columns.specs.declared.string.Opened.the-variants.{At, Not}
 use Rattle.columns.specs.declared.string.Answer.{Answer}
 use Rattle.columns.specs.declared.string.Answer.the-variants.{Next, Bad}
-use Rattle.columns.specs.declared.writer.Column.the-variants.{Number}
+use Rattle.runs.specs.declared.Column.the-variants.{Number}
 use Rattle.columns.specs.Number.{startAt, nextNumber}
-use Rattle.columns.specs.Runs.{columnOf, whyOf}
+use Rattle.runs.specs.Runs.{columnOf, whyOf}
 
 -- the next text begins at `at`, all texts end at `end`, and the next unit length is at `units`
 abbrev pub placeAt : ℕ → ℕ → number-place.Place → Place

@@ -1,16 +1,13 @@
 // The byte column: a byte, then how often it stands, less one; with no byte left after it, it stands without end. 04 01 00 is 4, 4, then 0.
-use crate::writer::Column;
 use numbers::Read;
 use numbers::Refusal;
 use numbers::Written;
+use runs::Column;
 ghost use mathlib.Core.Path.{_≡_};
-ghost use Prim.Native.Nat.{_+_, _≤_, _<_};
-ghost use mathlib.Core.List.{[], _∷_};
 ghost use lib.ListN.{length};
-ghost use lib.Seq.{sets};
 ghost use Rattle.numbers.specs.Output.{written, put};
-ghost use Rattle.columns.specs.Runs.{columnOf, whyOf};
-ghost use Rattle.columns.specs.Byte.{startAt, begun, nextByte, whyByte, runBytes};
+ghost use Rattle.runs.specs.Runs.{columnOf, whyOf};
+ghost use Rattle.columns.specs.Byte.{startAt, begun, nextByte, whyByte};
 
 // The next byte, the run's first byte, its value, and how often that still stands, or that it stands without end.
 pub struct Place {
@@ -125,40 +122,9 @@ pub fn why(r: Answer) -> Refusal
     }
 }
 
-// ---- writing
-
-// The size of a run: k, n + 1 times.
-pub fn run_size(k: u64, n: u64) -> usize
-    ensures { λ r. ⌜ (r ≡ length (runBytes k n)) × (r ≤ 20) ⌝ }
-{
-    1 + numbers::size_unsigned(n)
-}
-
-pub fn put_run(out: &mut [u8], at: usize, k: u64, n: u64) -> usize
-    requires { ⌜ (at + length (runBytes k n) ≤ length (now out)) × (k < 256) ⌝ }
-    ensures { λ r. ⌜ (r ≡ at + length (runBytes k n)) × (now (out .exit) ≡ sets (now (out .entry)) at (runBytes k n)) ⌝ }
-{
-    out[at] = k as u8;
-    let mid = at + 1;
-    numbers::write_unsigned(out, mid, n)
-}
-
-// The last run has no count.
-pub fn put_last(out: &mut [u8], at: usize, k: u64) -> usize
-    requires { ⌜ (at + 1 ≤ length (now out)) × (k < 256) ⌝ }
-    ensures { λ r. ⌜ (r ≡ at + 1) × (now (out .exit) ≡ sets (now (out .entry)) at (k ∷ [])) ⌝ }
-{
-    out[at] = k as u8;
-    at + 1
-}
-
 // The writer: 3, then 10.
 pub fn write(out: &mut [u8], values: &[u8]) -> Written
     ensures { λ r. ⌜ (r ≡ written (whyOf Column.Byte (now (values .entry))) (length (now (out .entry))) (columnOf Column.Byte (now (values .entry)))) × (now (out .exit) ≡ put (whyOf Column.Byte (now (values .entry))) (length (now (out .entry))) (columnOf Column.Byte (now (values .entry)))) ⌝ }
 {
-    let number = crate::writer::judge_bytes(values);
-    if number != 0 {
-        return numbers::refuse(out, number);
-    }
-    crate::writer::put_bytes(out, values)
+    runs::slice::write_bytes(out, values)
 }

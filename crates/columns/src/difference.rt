@@ -1,19 +1,17 @@
 // The difference column: a signed e whose half, rounded down, is added to the value before; an odd e is followed by how often, less two.
 // 03 01 is 1, 2, 3; 0a 41 00 is 5, 4, 3. A difference d is kept as d + 2^31, so that it is a natural number: its key.
-use crate::writer::Column;
 use numbers::Read;
 use numbers::Refusal;
 use numbers::Signed;
 use numbers::Written;
+use runs::Column;
 ghost use mathlib.Core.Path.{_≡_};
-ghost use Prim.Native.Nat.{_+_, _≤_, _<_};
+ghost use Prim.Native.Nat.{_≤_};
 ghost use lib.ListN.{length};
-ghost use lib.Seq.{sets};
 ghost use Rattle.numbers.specs.Output.{written, put};
-ghost use Rattle.columns.specs.Runs.{columnOf, whyOf};
+ghost use Rattle.runs.specs.Runs.{columnOf, whyOf};
 ghost use Rattle.numbers.specs.Number.{readSigned};
-ghost use Rattle.numbers.specs.Limits.{maxClock};
-ghost use Rattle.columns.specs.Difference.{startAt, drawn, outside, keyRead, begun, nextDifference, whyDifference, keyBetween, magnitude, odd, runBytes};
+ghost use Rattle.columns.specs.Difference.{startAt, drawn, outside, keyRead, begun, nextDifference, whyDifference};
 
 // The next byte, the run's first byte, the value before, the difference's key, and how often it still applies.
 pub struct Place {
@@ -167,58 +165,9 @@ pub fn why(r: Answer) -> Refusal
     }
 }
 
-// ---- writing
-
-// The key of the difference from one clock to the next.
-pub fn key_between(p: u64, v: u64) -> u64
-    requires { ⌜ (p ≤ maxClock) × (v ≤ maxClock) ⌝ }
-    ensures { λ r. ⌜ r ≡ keyBetween p v ⌝ }
-{
-    v + 2147483648 - p
-}
-
-// The size of e: twice the difference, and one more where a count follows.
-fn magnitude_of(k: u64, n: u64) -> u64
-    requires { ⌜ k < 4294967296 ⌝ }
-    ensures { λ r. ⌜ r ≡ magnitude k (odd n) ⌝ }
-{
-    let one = odd_of(n);
-    if k < 2147483648 {
-        return 2 * (2147483648 - k) - one;
-    }
-    2 * (k - 2147483648) + one
-}
-
-fn odd_of(n: u64) -> u64
-    ensures { λ r. ⌜ (r ≡ odd n) × (r ≤ 1) ⌝ }
-{
-    if n == 0 {
-        return 0;
-    }
-    1
-}
-
-// The size of a run: the difference of k, n + 1 times.
-pub fn run_size(k: u64, n: u64) -> usize
-    requires { ⌜ k < 4294967296 ⌝ }
-    ensures { λ r. ⌜ (r ≡ length (runBytes k n)) × (r ≤ 20) ⌝ }
-{
-    let x = magnitude_of(k, n);
-    crate::writer::counted_size(x, n)
-}
-
-pub fn put_run(out: &mut [u8], at: usize, k: u64, n: u64) -> usize
-    requires { ⌜ (at + length (runBytes k n) ≤ length (now out)) × (k < 4294967296) ⌝ }
-    ensures { λ r. ⌜ (r ≡ at + length (runBytes k n)) × (now (out .exit) ≡ sets (now (out .entry)) at (runBytes k n)) ⌝ }
-{
-    let minus = k < 2147483648;
-    let x = magnitude_of(k, n);
-    crate::writer::put_counted(out, at, minus, x, n)
-}
-
 // The writer: 3, 13, then 10.
 pub fn write(out: &mut [u8], values: &[u64]) -> Written
     ensures { λ r. ⌜ (r ≡ written (whyOf Column.Difference (now (values .entry))) (length (now (out .entry))) (columnOf Column.Difference (now (values .entry)))) × (now (out .exit) ≡ put (whyOf Column.Difference (now (values .entry))) (length (now (out .entry))) (columnOf Column.Difference (now (values .entry)))) ⌝ }
 {
-    crate::writer::write_all(out, Column::Difference, values)
+    runs::slice::write_all(out, Column::Difference, values)
 }

@@ -4,4 +4,3 @@ pub mod byte;
 pub mod difference;
 pub mod number;
 pub mod string;
-pub mod writer;

@@ -1,17 +1,16 @@
 // The number column: a signed number, and for minus (minus zero too) how often it stands, less two. 45 00 is 5, 5; 40 03 is five zeros.
-use crate::writer::Column;
 use numbers::Read;
 use numbers::Refusal;
 use numbers::Signed;
 use numbers::Written;
+use runs::Column;
 ghost use mathlib.Core.Path.{_≡_};
-ghost use Prim.Native.Nat.{_+_, _≤_};
+ghost use Prim.Native.Nat.{_≤_};
 ghost use lib.ListN.{length};
-ghost use lib.Seq.{sets};
 ghost use Rattle.numbers.specs.Output.{written, put};
-ghost use Rattle.columns.specs.Runs.{columnOf, whyOf};
+ghost use Rattle.runs.specs.Runs.{columnOf, whyOf};
 ghost use Rattle.numbers.specs.Number.{readSigned};
-ghost use Rattle.columns.specs.Number.{startAt, drawn, begun, nextNumber, whyNumber, runBytes};
+ghost use Rattle.columns.specs.Number.{startAt, drawn, begun, nextNumber, whyNumber};
 
 // The next byte, the run's first byte, its value, and how often that still stands.
 pub struct Place {
@@ -122,26 +121,9 @@ pub fn why(r: Answer) -> Refusal
     }
 }
 
-// ---- writing
-
-// The size of a run: v, n + 1 times.
-pub fn run_size(v: u64, n: u64) -> usize
-    ensures { λ r. ⌜ (r ≡ length (runBytes v n)) × (r ≤ 20) ⌝ }
-{
-    crate::writer::counted_size(v, n)
-}
-
-pub fn put_run(out: &mut [u8], at: usize, v: u64, n: u64) -> usize
-    requires { ⌜ at + length (runBytes v n) ≤ length (now out) ⌝ }
-    ensures { λ r. ⌜ (r ≡ at + length (runBytes v n)) × (now (out .exit) ≡ sets (now (out .entry)) at (runBytes v n)) ⌝ }
-{
-    let minus = 0 < n;
-    crate::writer::put_counted(out, at, minus, v, n)
-}
-
 // The writer: 3, then 10.
 pub fn write(out: &mut [u8], values: &[u64]) -> Written
     ensures { λ r. ⌜ (r ≡ written (whyOf Column.Number (now (values .entry))) (length (now (out .entry))) (columnOf Column.Number (now (values .entry)))) × (now (out .exit) ≡ put (whyOf Column.Number (now (values .entry))) (length (now (out .entry))) (columnOf Column.Number (now (values .entry)))) ⌝ }
 {
-    crate::writer::write_all(out, Column::Number, values)
+    runs::slice::write_all(out, Column::Number, values)
 }

@@ -1,10 +1,10 @@
 // The text column: byte length, UTF-8 bytes, then a number column of unit lengths; a text takes whole characters until its units are used.
 // 03 74 68 69 01 02 is "t", "hi".
 use crate::number;
-use crate::writer::Column;
 use numbers::Read;
 use numbers::Refusal;
 use numbers::Written;
+use runs::Column;
 use text::Bytes;
 use text::Part;
 use text::Taken;
@@ -162,7 +162,7 @@ pub fn write(out: &mut [u8], text: &[u8], units: &[u64]) -> Written
     if !text::check(text, 0, text.len()) {
         return numbers::refuse(out, 6);
     }
-    if crate::writer::judge_all(Column::Number, units) != 0 {
+    if runs::slice::judge_all(Column::Number, units) != 0 {
         return numbers::refuse(out, 3);
     }
     if !all_taken(text, units) {
@@ -176,5 +176,5 @@ pub fn write(out: &mut [u8], text: &[u8], units: &[u64]) -> Written
         return numbers::refuse(out, 10);
     }
     let at = put_text(out, text);
-    crate::writer::put_all(out, at, Column::Number, units)
+    runs::slice::put_all(out, at, Column::Number, units)
 }

@@ -6,11 +6,12 @@ use lib.ListN.{length, replicate}
 use Rattle.numbers.specs.Number.{after, spelt, placed, readUnsigned, readSigned, speltSigned, minusOf, withSign, spell, unsigned}
 use Rattle.text.specs.declared.Taken.the-variants.{Refused}
 use Rattle.text.specs.Utf8.{lead, next, width, gain, takeFrom, takeUnits, took}
-use Rattle.columns.specs.declared.writer.Column.the-variants.{Byte}
+use Rattle.runs.specs.declared.Column.the-variants.{Byte}
 use Rattle.columns.specs.Number as number
 use Rattle.columns.specs.Difference as difference
 use Rattle.columns.specs.Byte as byte
-use Rattle.columns.specs.Runs as runs
+use Rattle.runs.specs.Byte as byte-run
+use Rattle.runs.specs.Runs as runs
 use Rattle.columns.specs.Reading.{Reading, andThen, reads, numberDraw, differenceDraw, byteDraw, readNumbers, readDifferences, readBytes}
 use Rattle.columns.proofs.RoundTrip.{byte-on}
 
@@ -37,7 +38,7 @@ pub record Starred : Type 0 where
   pub L3 : takeUnits 7 3 (0xf0 ∷ 0x9f ∷ 0x98 ∷ 0x80 ∷ []) ≡ Refused 7
 
 pub starred : Starred
-unfolding after spelt placed readUnsigned readSigned speltSigned minusOf withSign spell unsigned number.drawn number.counted number.begun number.nextNumber difference.drawn difference.outside difference.keyRead difference.counted difference.begun difference.nextDifference byte.counted byte.begun byte.nextByte byte.runBytes runs.over runs.opened runs.column runs.coding runs.why runs.within runs.overFits runs.storable runs.spellable runs.fitsLessOne andThen reads numberDraw differenceDraw byteDraw lead next width gain takeFrom takeUnits
+unfolding after spelt placed readUnsigned readSigned speltSigned minusOf withSign spell unsigned number.drawn number.counted number.begun number.nextNumber difference.drawn difference.outside difference.keyRead difference.counted difference.begun difference.nextDifference byte.counted byte.begun byte.nextByte byte-run.runBytes runs.over runs.opened runs.column runs.coding runs.why runs.within runs.overFits runs.storable runs.spellable runs.fitsLessOne andThen reads numberDraw differenceDraw byteDraw lead next width gain takeFrom takeUnits
 starred = record {
   F = refl;
   G = refl;

@@ -17,8 +17,8 @@ use Rattle.text.specs.declared.Units.{Units}
 use Rattle.text.specs.declared.Taken.{Taken}
 use Rattle.text.specs.declared.Taken.the-variants as taken
 use Rattle.text.specs.Utf8.{wellFormed, unitsIn, takeUnits}
-use Rattle.columns.specs.declared.writer.Column.the-variants as column
-use Rattle.columns.specs.Runs.{columnOf, whyOf}
+use Rattle.runs.specs.declared.Column.the-variants as column
+use Rattle.runs.specs.Runs.{columnOf, whyOf}
 use Rattle.columns.specs.declared.number.Place as number-place
 use Rattle.columns.specs.declared.number.Answer as number-answer
 use Rattle.columns.specs.declared.number.Answer.the-variants as number

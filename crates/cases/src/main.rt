@@ -1,0 +1,80 @@
+// Runs calls of the public library from standard input, a case at a time, and prints a line a case: what the call answered.
+mod column_cases;
+mod input;
+mod lent;
+mod line;
+mod number_cases;
+
+use column_cases::Column;
+use input::Place;
+use lent::Writer;
+
+// After a case: the stream's place, not good if the case was none, and how much of the output's buffer is used.
+pub struct Done {
+    pub place: Place,
+    pub used: usize,
+}
+
+// The operation's case: its arguments taken from the stream, its call made, its line printed. The longest argument is taken into `bytes`.
+fn case(
+    operation: u8,
+    source: &mut [u8],
+    place: Place,
+    bytes: &mut [u8],
+    sink: &mut [u8],
+    used: usize,
+) -> Done {
+    match operation {
+        1 => number_cases::read(false, source, place, bytes, sink, used),
+        2 => number_cases::read(true, source, place, bytes, sink, used),
+        3 => number_cases::write_unsigned(source, place, sink, used),
+        4 => number_cases::write_signed(source, place, sink, used),
+        5 => column_cases::read(Column::Numbers, source, place, sink, used),
+        6 => column_cases::read(Column::Differences, source, place, sink, used),
+        7 => column_cases::read(Column::Bytes, source, place, sink, used),
+        8 => column_cases::read_texts(source, place, sink, used),
+        9 => column_cases::write(Writer::Numbers, source, place, sink, used),
+        10 => column_cases::write(Writer::Differences, source, place, sink, used),
+        11 => column_cases::write_bytes(source, place, bytes, sink, used),
+        12 => column_cases::write_texts(source, place, sink, used),
+        _ => {
+            let place = input::spoiled(place);
+            Done { place, used }
+        }
+    }
+}
+
+// Cases up to the stream's end or the first that is none. Nothing says that a stream ends, so the loop counts down from a number
+// that no stream uses up.
+fn run(source: &mut [u8], bytes: &mut [u8], sink: &mut [u8]) -> usize {
+    let mut place = Place {
+        at: 0,
+        end: 0,
+        good: true,
+    };
+    let mut used: usize = 0;
+    let mut turns = u64::MAX;
+    while 0 < turns {
+        turns -= 1;
+        let operation = input::byte(source, place);
+        let begun = operation.place;
+        if !begun.good {
+            return used;
+        }
+        let done = case(operation.value, source, begun, bytes, sink, used);
+        place = done.place;
+        used = done.used;
+        if !place.good {
+            return line::bad(sink, used);
+        }
+    }
+    used
+}
+
+fn main() {
+    let mut source = [0u8; 65536];
+    let mut bytes = [0u8; 524288];
+    let mut sink = [0u8; 65536];
+    let used = run(&mut source, &mut bytes, &mut sink);
+    line::flush(&sink, used);
+}

@@ -1,0 +1,26 @@
+-- `difference::run_size` meets its contract: the run as a signed number and its count.
+use lib.Dec.{ltb}
+use lib.ListN.{length}
+use native.Mathlib.Omega.{arith}
+use mathlib.Core.Path.{_≡_, refl, sym, ap, _∙_}
+use Rattle.runs.specs.Difference.{zeroKey}
+use Rattle.runs.specs.Runs.{signedRun}
+use Rattle.runs.proofs.Writing.{difference-run}
+use borrow.Author.Needs.{needs}
+use Rattle.runs.proofs.difference.run_size.Statement.{statement}
+use Rattle.runs.proofs.difference.run_size.Tie as tie
+
+magnitude-of-requires : tie.Need-magnitude-of-requires
+magnitude-of-requires c κs = search needs
+
+counted-size-requires : tie.Need-counted-size-requires
+counted-size-requires c κs = search needs
+
+returns : tie.Need-returns
+returns c =
+    let a = c .before .before .args in
+    let e = c .counted-size .ensures .0 (ltb (a .k) zeroKey) in
+    (e ∙ rw (c .before .magnitude-of .ensures) (ap length (sym (difference-run (a .k) (a .n)))), c .counted-size .ensures .1)
+
+pub run-size-spec : {M : Type 1} → statement M
+run-size-spec = tie.close (tie.spec magnitude-of-requires counted-size-requires returns)

@@ -1,0 +1,60 @@
+-- `judge::judge_next` meets its contract, test by test.
+use Prim.Native.Nat.{ℕ, _+_, _-_, _≤_, _<_}
+use native.Mathlib.Omega.{arith}
+use mathlib.Core.Path.{_≡_, refl, sym, ap, _∙_}
+use mathlib.Core.Bool.{Bool, true, false}
+use borrow.Author.Tests.{eq-eqb, ne-eqb, lt-ltb, le-ltb, not-true, not-false}
+use Rattle.runs.specs.Writer.{ends, keyAfter, emitted, finished, moved, pushed, runFits, lastFitsIn, judged, sentence}
+use Rattle.runs.specs.Runs.{coding}
+use borrow.Author.Needs.{needs}
+use Rattle.runs.proofs.judge.judge_next.Statement.{statement}
+use Rattle.runs.proofs.judge.judge_next.Tie as tie
+
+returns : tie.Need-returns
+unfolding judged
+returns c = rw (c .if1 .taken)
+
+most-requires : tie.Need-most-requires
+most-requires c κs = search needs
+
+returns-2 : tie.Need-returns-2
+unfolding judged
+returns-2 c = rw (c .before .before .if1 .left, ← c .before .most .ensures, lt-ltb _ _ (c .if2 .taken))
+
+key-of-requires : tie.Need-key-of-requires
+key-of-requires c κs = search needs
+
+run-fits-requires : tie.Need-run-fits-requires
+run-fits-requires c κs = search needs
+
+returns-3 : tie.Need-returns-3
+unfolding judged keyAfter
+returns-3 c =
+    let r = c .before .run-fits in
+    rw (c .before .before .before .before .before .if1 .left, ← c .before .before .before .before .most .ensures, le-ltb _ _ (c .before .before .before .if2 .left), ← c .before .before .key-of .ensures .0, sym (r .ensures) ∙ not-true (r .result) (c .if3 .taken))
+
+far-with-requires : tie.Need-far-with-requires
+far-with-requires c κs = search needs
+
+go-on-requires : tie.Need-go-on-requires
+go-on-requires c κs = search needs
+
+returns-4 : tie.Need-returns-4
+unfolding judged keyAfter
+returns-4 c =
+    let r = c .before .before .before .run-fits in
+    rw (c .before .before .before .before .before .before .before .if1 .left, ← c .before .before .before .before .before .before .most .ensures, le-ltb _ _ (c .before .before .before .before .before .if2 .left), ← c .before .before .before .before .key-of .ensures .0, sym (r .ensures) ∙ not-false (r .result) (c .before .before .if3 .left), c .go-on .ensures, c .before .far-with .ensures)
+
+pub judge-next-spec : {M : Type 1} → statement M
+judge-next-spec =
+    tie.close
+    (tie.spec
+    returns
+    most-requires
+    returns-2
+    key-of-requires
+    run-fits-requires
+    returns-3
+    far-with-requires
+    go-on-requires
+    returns-4)

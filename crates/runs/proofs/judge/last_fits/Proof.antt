@@ -1,0 +1,60 @@
+-- `judge::last_fits` meets its contract, column by column.
+use Prim.Native.Nat.{ℕ, _+_, _-_, _≤_, _<_}
+use native.Mathlib.Omega.{arith}
+use mathlib.Core.Path.{_≡_, refl, sym, ap, _∙_}
+use mathlib.Core.Bool.{Bool, true, false}
+use borrow.Author.Tests.{eq-eqb, ne-eqb, lt-ltb, le-ltb, not-true, not-false}
+use Rattle.runs.specs.Writer.{ends, keyAfter, emitted, finished, moved, pushed, runFits, lastFitsIn, judged, sentence}
+use Rattle.runs.specs.Runs.{coding, fitsLessTwo, fitsLessOne, nearKey}
+use borrow.Author.Needs.{needs}
+use Rattle.runs.proofs.judge.last_fits.Statement.{statement}
+use Rattle.runs.proofs.judge.last_fits.Tie as tie
+
+returns : tie.Need-returns
+unfolding lastFitsIn
+returns c = rw (eq-eqb _ 0 (c .if1 .taken))
+
+sub-n : tie.Need-sub-n
+sub-n c = search needs
+
+enum-told : tie.Need-enum-told
+enum-told c = search needs
+
+add-result : tie.Need-add-result
+add-result c = search needs
+
+enum-told-2 : tie.Need-enum-told-2
+enum-told-2 c = search needs
+
+add-result-2 : tie.Need-add-result-2
+add-result-2 c = search needs
+
+enum-told-3 : tie.Need-enum-told-3
+enum-told-3 c = search needs
+
+returns-2 : tie.Need-returns-2
+unfolding lastFitsIn coding fitsLessTwo fitsLessOne
+returns-2 c = rw (ne-eqb _ 0 (c .before .before .before .if1 .left), c .enum-told .given .1)
+
+returns-3 : tie.Need-returns-3
+unfolding lastFitsIn coding fitsLessTwo fitsLessOne
+returns-3 c = rw (ne-eqb _ 0 (c .before .before .before .if1 .left), c .enum-told2 .given .1)
+
+returns-4 : tie.Need-returns-4
+unfolding lastFitsIn coding fitsLessTwo fitsLessOne
+returns-4 c = rw (ne-eqb _ 0 (c .before .before .before .if1 .left), c .enum-told3 .given .1)
+
+pub last-fits-spec : {M : Type 1} → statement M
+last-fits-spec =
+    tie.close
+    (tie.spec
+    returns
+    sub-n
+    enum-told
+    add-result
+    enum-told-2
+    add-result-2
+    enum-told-3
+    returns-2
+    returns-3
+    returns-4)

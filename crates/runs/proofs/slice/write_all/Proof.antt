@@ -1,0 +1,56 @@
+-- `slice::write_all` meets its contract: the refusal, or the column.
+use Prim.Native.Nat.{ℕ, _+_, _-_, _≤_, _<_}
+use native.Mathlib.Omega.{arith}
+use mathlib.Core.Path.{_≡_, refl, sym, ap, _∙_}
+use mathlib.Core.List.{List, [], _++_}
+use lib.ListN.{length, take, drop, getD}
+use Rattle.numbers.specs.Output.{verdict, written, put}
+use Rattle.numbers.proofs.Output.{verdict-why, refused-answer, refused-bytes}
+use Rattle.runs.specs.Runs.{columnOf, whyOf}
+use borrow.Author.Needs.{needs}
+use Rattle.runs.proofs.slice.write_all.Statement.{statement}
+use Rattle.runs.proofs.slice.write_all.Tie as tie
+
+judge-all-requires : tie.Need-judge-all-requires
+judge-all-requires c κs = search needs
+
+refuse-requires : tie.Need-refuse-requires
+refuse-requires c κs = search needs
+
+same-length : tie.Need-same-length
+same-length c = search needs
+
+returns : tie.Need-returns
+returns c =
+    let a = c .before .before .before .before .before .before .before .before .args in
+    let j = c .before .before .before .before .before .judge-all in
+    let e = a .out .now in
+    let b = columnOf (a .column) (a .values .now) in
+    let y = whyOf (a .column) (a .values .now) in
+    let ne : y ≡ 0 → ⊥ = λ z. c .before .before .before .before .if1 .taken (j .ensures ∙ z) in
+    let v = verdict-why y (length e) b ne in
+    let r = c .before .before .refuse .ensures in
+    (r .0 ∙ rw (j .ensures) (refused-answer y (length e) b y v ne), r .1 ∙ refused-bytes y (length e) b y v ne)
+
+put-all-requires : tie.Need-put-all-requires
+put-all-requires c κs = (omega arith, sym (c .before .before .judge-all .ensures) ∙ c .before .if1 .left)
+
+same-length-2 : tie.Need-same-length-2
+same-length-2 c = search needs
+
+returns-2 : tie.Need-returns-2
+returns-2 c =
+    let z = sym (c .before .before .before .before .before .judge-all .ensures) ∙ c .before .before .before .before .if1 .left in
+    rw z (c .before .before .put-all .ensures)
+
+pub write-all-spec : {M : Type 1} → statement M
+write-all-spec =
+    tie.close
+    (tie.spec
+    judge-all-requires
+    refuse-requires
+    same-length
+    returns
+    put-all-requires
+    same-length-2
+    returns-2)

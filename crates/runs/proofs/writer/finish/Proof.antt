@@ -1,0 +1,27 @@
+-- `writer::finish` meets its contract: nothing, or the last run.
+use Prim.Native.Nat.{ℕ, _+_, _-_, _≤_, _<_}
+use native.Mathlib.Omega.{arith}
+use mathlib.Core.Path.{_≡_, refl, sym, ap, _∙_}
+use lib.ListN.{length, length-append, length-set}
+use Rattle.runs.proofs.Writing.{finished-none, finished-some}
+use borrow.Author.Needs.{needs}
+use Rattle.runs.proofs.writer.finish.Statement.{statement}
+use Rattle.runs.proofs.writer.finish.Tie as tie
+
+returns : tie.Need-returns
+returns c = let e = finished-none (c .before .before .before .args .w) (c .if1 .taken) in rw e (omega arith, refl)
+
+sub-n : tie.Need-sub-n
+sub-n c = search needs
+
+put-last-requires : tie.Need-put-last-requires
+put-last-requires c κs = (omega (arith, ap length (finished-some (c .before .before .before .before .before .args .w) (c .before .before .if1 .left))), c .before .before .before .before .before .pre .1 .1)
+
+same-length : tie.Need-same-length
+same-length c = search needs
+
+returns-2 : tie.Need-returns-2
+returns-2 c = rw (finished-some (c .before .before .before .before .before .before .before .before .args .w) (c .before .before .before .before .before .if1 .left)) (c .before .before .put-last .ensures)
+
+pub finish-spec : {M : Type 1} → statement M
+finish-spec = tie.close (tie.spec returns sub-n put-last-requires same-length returns-2)

@@ -1,0 +1,262 @@
+// What document 01 and docs/DECISIONS.md say of numbers and columns, in plain JavaScript with BigInt: the expectation, made without our Rattle code.
+'use strict'
+
+const LIMIT = 2n ** 53n - 1n // a client, a number column's value, a unit length
+const CLOCK = 2n ** 31n - 1n
+const COUNT = 2147483645n // a stored run count
+const HALF = 2n ** 30n
+
+// ---- numbers
+
+// The bytes of a number from `at`: the first has `low` value bits under its flags, the others seven; at most nine.
+const spelt = (s, at, low) => {
+  let value = 0n
+  let weight = 0n
+  for (let k = 0; k < 9; k++) {
+    if (at + BigInt(k) >= BigInt(s.length)) return { number: 1 }
+    const b = s[Number(at) + k]
+    const bits = k === 0 ? low : 7
+    value += BigInt(b & ((1 << bits) - 1)) << weight
+    weight += BigInt(bits)
+    if (b < 128) return { number: 0, value, next: at + BigInt(k) + 1n }
+  }
+  return { number: 2 }
+}
+
+const readUnsigned = (s, at) => spelt(s, at, 7)
+
+const readSigned = (s, at) => {
+  const r = spelt(s, at, 6)
+  return r.number !== 0 ? r : { number: 0, minus: (s[Number(at)] & 64) !== 0, magnitude: r.value, next: r.next }
+}
+
+const unsigned = x => {
+  const out = []
+  while (x > 127n) {
+    out.push(Number(x & 127n) | 128)
+    x >>= 7n
+  }
+  out.push(Number(x))
+  return out
+}
+
+const signed = (minus, x) => {
+  const first = Number(x & 63n) | (minus ? 64 : 0)
+  return x > 63n ? [first | 128, ...unsigned(x >> 6n)] : [first]
+}
+
+// ---- what a writer answers: its refusals in their order, then the room
+const written = (bytes, room) => BigInt(bytes.length) > room ? { number: 10 } : { number: 0, bytes }
+
+const writeUnsigned = (value, room) => value >= 2n ** 63n ? { number: 3 } : written(unsigned(value), room)
+const writeSigned = (minus, x, room) => x >= 2n ** 62n ? { number: 3 } : written(signed(minus, x), room)
+
+// ---- columns, read: a generator-like object with `draw`, which gives { number } or { number: 0, value }
+
+const readCount = (s, at) => {
+  const c = readUnsigned(s, at)
+  return c.number === 0 && c.value > COUNT ? { number: 3 } : c
+}
+
+// A signed number, then its count if minus, and only then the value's limit.
+const numbers = (s, from = 0n) => {
+  let at = from
+  let left = 0n
+  let value = 0n
+  return () => {
+    if (left === 0n) {
+      const r = readSigned(s, at)
+      if (r.number !== 0) return { number: r.number }
+      let times = 1n
+      let next = r.next
+      if (r.minus) {
+        const c = readCount(s, next)
+        if (c.number !== 0) return { number: c.number }
+        times = c.value + 2n
+        next = c.next
+      }
+      if (r.magnitude > LIMIT) return { number: 3 }
+      at = next
+      left = times
+      value = r.magnitude
+    }
+    left--
+    return { number: 0, value }
+  }
+}
+
+// e is tested when read, before its count; the clock that it leads to when drawn.
+const differences = s => {
+  let at = 0n
+  let left = 0n
+  let difference = 0n
+  let last = 0n
+  return () => {
+    let [nextAt, nextLeft, nextDifference] = [at, left, difference]
+    if (left === 0n) {
+      const r = readSigned(s, at)
+      if (r.number !== 0) return { number: r.number }
+      const e = r.minus ? -r.magnitude : r.magnitude
+      if (e < -(2n ** 31n) || e > 2n ** 31n - 1n) return { number: 3 }
+      nextAt = r.next
+      nextLeft = 1n
+      nextDifference = e >> 1n // rounds down, also below zero
+      if ((e & 1n) === 1n) {
+        const c = readCount(s, nextAt)
+        if (c.number !== 0) return { number: c.number }
+        nextAt = c.next
+        nextLeft = c.value + 2n
+      }
+    }
+    const value = last + nextDifference
+    if (value < 0n || value > CLOCK) return { number: 3 }
+    at = nextAt
+    left = nextLeft - 1n
+    difference = nextDifference
+    last = value
+    return { number: 0, value }
+  }
+}
+
+const bytes = s => {
+  let at = 0
+  let left = 0n
+  let value = 0n
+  let endless = false
+  return () => {
+    if (!endless && left === 0n) {
+      if (at >= s.length) return { number: 1 }
+      if (at + 1 === s.length) {
+        endless = true
+        value = BigInt(s[at])
+      } else {
+        const c = readCount(s, BigInt(at) + 1n)
+        if (c.number !== 0) return { number: c.number }
+        value = BigInt(s[at])
+        left = c.value + 1n
+        at = Number(c.next)
+      }
+    }
+    if (!endless) left--
+    return { number: 0, value }
+  }
+}
+
+const draws = (draw, times) => {
+  const values = []
+  for (let k = 0n; k < times; k++) {
+    const r = draw()
+    if (r.number !== 0) return { number: r.number, values }
+    values.push(r.value)
+  }
+  return { number: 0, values }
+}
+
+// ---- text
+
+// The characters of UTF-8 bytes as [place, bytes, units], or null: the Unicode Standard's table 3-7.
+const characters = s => {
+  const out = []
+  let i = 0
+  const between = (k, low, high) => k < s.length && s[k] >= low && s[k] <= high
+  while (i < s.length) {
+    const b = s[i]
+    let size = 0
+    if (b <= 0x7f) size = 1
+    else if (b >= 0xc2 && b <= 0xdf) size = between(i + 1, 0x80, 0xbf) ? 2 : 0
+    else if (b >= 0xe0 && b <= 0xef) {
+      const low = b === 0xe0 ? 0xa0 : 0x80
+      const high = b === 0xed ? 0x9f : 0xbf
+      size = between(i + 1, low, high) && between(i + 2, 0x80, 0xbf) ? 3 : 0
+    } else if (b >= 0xf0 && b <= 0xf4) {
+      const low = b === 0xf0 ? 0x90 : 0x80
+      const high = b === 0xf4 ? 0x8f : 0xbf
+      size = between(i + 1, low, high) && between(i + 2, 0x80, 0xbf) && between(i + 3, 0x80, 0xbf) ? 4 : 0
+    }
+    if (size === 0) return null
+    out.push([i, size, size === 4 ? 2n : 1n])
+    i += size
+  }
+  return out
+}
+
+// Takes whole characters from the k-th on until the units are used: the character after them, or null.
+const take = (chars, k, units) => {
+  while (units > 0n) {
+    if (k >= chars.length || chars[k][2] > units) return null
+    units -= chars[k][2]
+    k++
+  }
+  return k
+}
+
+const readTexts = (s, times) => {
+  const length = readUnsigned(s, 0n)
+  if (length.number !== 0) return { number: length.number, values: [] }
+  if (length.next + length.value > BigInt(s.length)) return { number: 1, values: [] }
+  const start = Number(length.next)
+  const end = start + Number(length.value)
+  const text = s.slice(start, end)
+  const chars = characters(text)
+  if (chars === null) return { number: 6, values: [] }
+  const unit = numbers(s, BigInt(end))
+  const placeOf = k => k < chars.length ? chars[k][0] : text.length
+  let k = 0
+  return draws(() => {
+    const u = unit()
+    if (u.number !== 0) return u
+    const next = take(chars, k, u.value)
+    if (next === null) return { number: 7 }
+    const value = text.slice(placeOf(k), placeOf(next))
+    k = next
+    return { number: 0, value }
+  }, times)
+}
+
+// ---- columns, written
+
+const runs = values => {
+  const out = []
+  for (const v of values) {
+    if (out.length > 0 && out[out.length - 1][0] === v) out[out.length - 1][1]++
+    else out.push([v, 1n])
+  }
+  return out
+}
+
+const numberBytes = values => runs(values).flatMap(([v, n]) => n === 1n ? signed(false, v) : [...signed(true, v), ...unsigned(n - 2n)])
+
+const writeNumbers = (values, room) => values.some(v => v > LIMIT) ? { number: 3 } : written(numberBytes(values), room)
+
+const writeDifferences = (values, room) => {
+  if (values.some(v => v > CLOCK)) return { number: 3 }
+  const steps = values.map((v, k) => k === 0 ? v : v - values[k - 1])
+  if (steps.some(d => d < -HALF || d > HALF - 1n)) return { number: 13 }
+  const size = d => d < 0n ? -d : d
+  return written(runs(steps).flatMap(([d, n]) => {
+    const e = 2n * d + (n === 1n ? 0n : 1n)
+    return [...signed(e < 0n, size(e)), ...(n === 1n ? [] : unsigned(n - 2n))]
+  }), room)
+}
+
+const writeBytes = (values, room) => {
+  const all = runs([...values])
+  return written(all.flatMap(([v, n], k) => k === all.length - 1 ? [v] : [v, ...unsigned(n - 1n)]), room)
+}
+
+const writeTexts = (text, units, room) => {
+  const chars = characters(text)
+  if (chars === null) return { number: 6 }
+  if (units.some(u => u > LIMIT)) return { number: 3 }
+  let k = 0
+  for (const u of units) {
+    k = take(chars, k, u)
+    if (k === null) return { number: 7 }
+  }
+  return written([...unsigned(BigInt(text.length)), ...text, ...numberBytes(units)], room)
+}
+
+module.exports = {
+  readUnsigned, readSigned, unsigned, signed, writeUnsigned, writeSigned, numbers, differences, bytes, draws, characters, readTexts,
+  writeNumbers, writeDifferences, writeBytes, writeTexts
+}
