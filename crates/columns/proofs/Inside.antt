@@ -1,9 +1,9 @@
 -- Draws stay inside: the place after a draw is within the bytes and not before the place drawn from, and a refusal blames a place within them.
 -- So it is with each number read, and a column's place moves only to the end of one.
-use Prim.Native.Nat.{ℕ, _+_, _-_, _%_, _≤_, _<_}
+use Prim.Native.Nat.{ℕ, _+_, _-_, _%_, _≤_}
 use mathlib.Core.Path.{_≡_, refl}
 use mathlib.Core.Bool.{Bool, true, false}
-use mathlib.Core.List.{List, [], _∷_}
+use mathlib.Core.List.{List}
 use native.Mathlib.Omega.{arith}
 use lib.Dec.{ltb, leb, eqb}
 use lib.ListN.{length, getD}
@@ -12,7 +12,7 @@ use Rattle.numbers.specs.declared.Read.{Read}
 use Rattle.numbers.specs.declared.Read.the-variants.{Number, Refused}
 use Rattle.numbers.specs.declared.Signed.{Signed}
 use Rattle.numbers.specs.declared.Signed.the-variants.{Value, Wrong}
-use Rattle.numbers.specs.Number.{pick, readUnsigned, readSigned}
+use Rattle.numbers.specs.Number.{pick, readUnsigned}
 use Rattle.numbers.proofs.Inside.{Reads, ReadsSigned, unsigned-inside, signed-inside}
 use Rattle.numbers.specs.Limits.{maxValue, maxClock, maxCount}
 use Rattle.columns.specs.declared.number.Answer as number-answer

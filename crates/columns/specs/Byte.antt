@@ -1,13 +1,13 @@
 -- The byte column: a value, then c, and it stands c + 1 times. If no byte is left after the value, it stands without end.
-use Prim.Native.Nat.{ℕ, zero, suc, _+_, _-_}
-use mathlib.Core.List.{List, [], _∷_, _++_}
-use mathlib.Core.Bool.{Bool, true, false}
+use Prim.Native.Nat.{ℕ, _+_, _-_}
+use mathlib.Core.List.{List}
+use mathlib.Core.Bool.{true, false}
 use lib.Dec.{ltb, leb}
 use lib.ListN.{length, getD}
 use Rattle.numbers.specs.declared.Refusal.{Refusal}
 use Rattle.numbers.specs.declared.Read.{Read}
 use Rattle.numbers.specs.declared.Read.the-variants.{Number, Refused}
-use Rattle.numbers.specs.Number.{pick, none, readUnsigned, unsigned}
+use Rattle.numbers.specs.Number.{pick, none, readUnsigned}
 use Rattle.numbers.specs.Limits.{maxCount}
 use Rattle.columns.specs.declared.byte.Place.{Place}
 use Rattle.columns.specs.declared.byte.Answer.{Answer}

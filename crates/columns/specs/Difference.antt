@@ -1,16 +1,16 @@
 -- The difference column: a signed e from -2^31 to 2^31-1. The difference is e/2 rounded down; odd e: an unsigned c follows and it applies c + 2 times;
 -- even e, minus zero too: once. The base is the value before, starting at 0; each value must be a legal clock.
 -- A difference d is kept as its key d + 2^31, so that it is a natural number.
-use Prim.Native.Nat.{ℕ, zero, suc, _+_, _-_, _*_, _/_, _%_}
-use mathlib.Core.List.{List, [], _∷_, _++_}
-use mathlib.Core.Bool.{Bool, true, false}
+use Prim.Native.Nat.{ℕ, _+_, _-_, _/_, _%_}
+use mathlib.Core.List.{List}
+use mathlib.Core.Bool.{Bool}
 use lib.Dec.{ltb, leb, eqb}
 use Rattle.numbers.specs.declared.Refusal.{Refusal}
 use Rattle.numbers.specs.declared.Read.{Read}
 use Rattle.numbers.specs.declared.Read.the-variants.{Number, Refused}
 use Rattle.numbers.specs.declared.Signed.{Signed}
 use Rattle.numbers.specs.declared.Signed.the-variants.{Value, Wrong}
-use Rattle.numbers.specs.Number.{pick, none, readUnsigned, readSigned, unsigned, signed}
+use Rattle.numbers.specs.Number.{pick, none, readUnsigned, readSigned}
 use Rattle.numbers.specs.Limits.{maxClock, maxCount}
 use Rattle.runs.specs.Difference.{zeroKey}
 use Rattle.columns.specs.declared.difference.Place.{Place}

@@ -1,14 +1,13 @@
 -- The number column: a signed number. Plus or plain zero: one value. Minus, minus zero too: an unsigned c follows and the magnitude stands c + 2 times.
-use Prim.Native.Nat.{ℕ, zero, suc, _+_, _-_}
-use mathlib.Core.List.{List, [], _∷_, _++_}
-use mathlib.Core.Bool.{Bool, true, false}
-use lib.Dec.{ltb, eqb}
+use Prim.Native.Nat.{ℕ, _+_, _-_}
+use mathlib.Core.List.{List}
+use lib.Dec.{ltb}
 use Rattle.numbers.specs.declared.Refusal.{Refusal}
 use Rattle.numbers.specs.declared.Read.{Read}
 use Rattle.numbers.specs.declared.Read.the-variants.{Number, Refused}
 use Rattle.numbers.specs.declared.Signed.{Signed}
 use Rattle.numbers.specs.declared.Signed.the-variants.{Value, Wrong}
-use Rattle.numbers.specs.Number.{pick, none, readUnsigned, readSigned, unsigned, signed}
+use Rattle.numbers.specs.Number.{pick, none, readUnsigned, readSigned}
 use Rattle.numbers.specs.Limits.{maxValue, maxCount}
 use Rattle.columns.specs.declared.number.Place.{Place}
 use Rattle.columns.specs.declared.number.Answer.{Answer}

@@ -1,17 +1,16 @@
 -- The laws of `spelt` that the proofs go by.
-use Prim.Native.Nat.{ℕ, zero, suc, _+_, _-_, _*_, _/_, _%_, _^_, _≤_, _<_, suc-le-suc}
+use Prim.Native.Nat.{ℕ, zero, suc, _+_, _-_, _*_, _/_, _%_, _^_, _≤_, _<_}
 use mathlib.Core.Path.{_≡_, refl, sym, ap, ap₂, _∙_}
 use mathlib.Core.List.{List, [], _∷_, _++_}
-use native.Mathlib.Nat.{mul-add, mul-assoc, add-assoc, mul-le-mul-left, mul-one, div-lt-iff-lt-mul, le-div-iff-mul-le, le-of-suc-le-suc, lt-of-lt-of-le, le-trans, pow-suc}
+use native.Mathlib.Nat.{mul-add, mul-assoc, add-assoc, mul-le-mul-left, mul-one, div-lt-iff-lt-mul, le-div-iff-mul-le, lt-of-lt-of-le, le-trans, pow-suc}
 use native.Mathlib.Numerals.{add-one}
 use native.Mathlib.Omega.{arith}
 use lib.ListN.{length, getD, drop, drop-of-length-le}
 use lib.Seq.{drop-cons}
 use mathlib.Core.Bool.{Bool, true, false}
 use mathlib.Core.Logic.{_⊎_, inl, inr, ⊎-elim}
-use native.Mathlib.Decide.{decLe}
 use lib.Dec.{ltb, leb, eqb, lit<}
-use lib.Count.{leadingZeros, leading-length, leading-le}
+use lib.Count.{leadingZeros, leading-length}
 use lib.Arith.{le-zero}
 use lib.Pow.{pow-pos, pow-add, pow-mono}
 use borrow.Author.Tests.{lt-ltb, le-ltb, leb-true, leb-false}

@@ -4,7 +4,7 @@ use mathlib.Core.Path.{_≡_, refl, sym, ap, _∙_}
 use mathlib.Core.Bool.{Bool, true, false}
 use mathlib.Core.List.{List, [], _∷_, _++_}
 use lib.Dec.{ltb}
-use Rattle.numbers.specs.Number.{pick, Spelt, got, short, long, after, spelt}
+use Rattle.numbers.specs.Number.{pick, Spelt, got, long, after, spelt}
 use Rattle.numbers.specs.Pieces.{Way, under, over, onward, onwards, outcome}
 use Rattle.numbers.proofs.Laws.{after-after, after-one}
 

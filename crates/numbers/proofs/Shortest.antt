@@ -1,18 +1,18 @@
 -- What is written is the shortest: any bytes that are read as a number are at least as many as its spelling.
 use Prim.Native.Nat.{ℕ, zero, suc, _+_, _-_, _*_, _/_, _%_, _^_, _≤_, _<_}
-use mathlib.Core.Path.{_≡_, refl, sym, ap, _∙_}
+use mathlib.Core.Path.{_≡_, refl, sym, ap}
 use mathlib.Core.Bool.{Bool, true, false}
-use mathlib.Core.List.{List, [], _∷_, _++_}
+use mathlib.Core.List.{List, [], _∷_}
 use native.Mathlib.Omega.{arith}
 use lib.Dec.{ltb}
-use mathlib.Core.Logic.{_⊎_, inl, inr, ⊎-elim}
+use mathlib.Core.Logic.{_⊎_, ⊎-elim}
 use lib.ListN.{length, drop, getD}
 use lib.Seq.{getD-drop}
 use borrow.Author.Tests.{ltb-true}
 use Rattle.numbers.specs.declared.Read.{Read}
 use Rattle.numbers.specs.declared.Read.the-variants.{Number, Refused}
-use Rattle.numbers.specs.declared.Signed.the-variants.{Value, Wrong}
-use Rattle.numbers.specs.Number.{pick, Spelt, got, short, long, after, spelt, placed, readUnsigned, readSigned, speltSigned, withSign, minusOf, spell, unsigned, signed}
+use Rattle.numbers.specs.declared.Signed.the-variants.{Value}
+use Rattle.numbers.specs.Number.{pick, Spelt, got, short, long, after, spelt, placed, readUnsigned, readSigned, speltSigned, withSign, spell, unsigned, signed}
 use Rattle.numbers.proofs.Laws.{pow7, spell-within, below-or, signed-one, signed-many}
 
 abbrev pub Bytes : List ℕ → Type 0

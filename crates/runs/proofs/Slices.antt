@@ -1,5 +1,5 @@
 -- What the loops over slices keep: the refusal of all values, judged so far; and the state that holds the values put so far.
-use Prim.Native.Nat.{ℕ, zero, suc, _+_, _-_, _^_, _≤_, _<_}
+use Prim.Native.Nat.{ℕ, zero, suc, _+_, _-_, _≤_, _<_}
 use mathlib.Core.Path.{_≡_, refl, sym, ap, _∙_}
 use mathlib.Core.List.{List, [], _∷_, _++_, append-assoc}
 use mathlib.Core.Bool.{Bool, true, false}
@@ -20,7 +20,7 @@ use Rattle.runs.specs.declared.slice.Pushed.the-variants.{On, Full}
 use Rattle.runs.specs.Runs.{coding, within, storable, spellable, columnOf, whyOf, why}
 use Rattle.runs.specs.Writer.{fresh, keyAfter, emitted, finished, moved, pushed, Sound, Holds, unjudged, runFits, overLimit, goesOn, judged, sentence, whyAhead, pushedWithin, outWithin}
 use Rattle.runs.proofs.Writing.{key-most}
-use Rattle.runs.proofs.Standing.{moved-count, pushed-at, why-start, why-push, why-end, holds-fresh, holds-push, holds-end, holds-size, holds-room, stands-end}
+use Rattle.runs.proofs.Standing.{moved-count, pushed-at, why-start, why-push, why-end, holds-fresh, holds-push, holds-room, stands-end}
 
 -- ---- judging
 

@@ -1,21 +1,20 @@
 -- What a writer's state stands for: pushed on, ended, measured, in a buffer; and the refusals judged a value at a time.
-use Prim.Native.Nat.{ℕ, zero, suc, _+_, _-_, _*_, _^_, _≤_, _<_}
+use Prim.Native.Nat.{ℕ, zero, suc, _+_, _-_, _≤_}
 use mathlib.Core.Path.{_≡_, refl, sym, ap, _∙_, subst}
 use mathlib.Core.List.{List, [], _∷_, _++_, append-nil, append-assoc}
 use mathlib.Core.Bool.{Bool, true, false}
 use native.Mathlib.Nat.{add-zero, add-assoc, suc-add}
 use native.Mathlib.Omega.{arith}
-use lib.Dec.{ltb, leb, eqb}
+use lib.Dec.{ltb, eqb}
 use lib.ListN.{length, length-append}
 use lib.Seq.{sets}
-use borrow.Author.Tests.{eq-eqb, ne-eqb, eqb-true, eqb-false, ltb-true, ltb-false, lt-leb, le-leb}
+use borrow.Author.Tests.{ne-eqb, eqb-true, ltb-true, ltb-false, lt-leb, le-leb}
 use Rattle.numbers.specs.Number.{pick}
 use Rattle.numbers.proofs.Output.{sets-append}
 use Rattle.runs.specs.declared.Column.{Column}
-use Rattle.runs.specs.declared.Column.the-variants.{Number, Difference, Byte}
 use Rattle.runs.specs.declared.writer.Writer.{Writer}
 use Rattle.runs.specs.declared.judge.Judge.{Judge}
-use Rattle.runs.specs.Runs.{keyMost, Coding, coding, over, opened, column, within, overFits, storable, spellable, why}
+use Rattle.runs.specs.Runs.{coding, over, opened, column, within, overFits, storable, spellable, why}
 use Rattle.runs.specs.Writer.{fresh, ends, keyAfter, emitted, finished, moved, pushed, Sound, ahead, lastOf, Stands, Holds, unjudged, runFits, lastFitsIn, overLimit, goesOn, judged, sentence, fitsAhead, whyAhead}
 use Rattle.runs.proofs.Writing.{key-most}
 

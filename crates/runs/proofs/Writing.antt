@@ -1,25 +1,22 @@
 -- The laws that the writers go by: how a run is spelled, one value more, and what a state stands for.
-use Prim.Native.Nat.{ℕ, zero, suc, _+_, _-_, _*_, _^_, _≤_, _<_}
+use Prim.Native.Nat.{ℕ, zero, suc, _+_, _-_, _≤_, _<_}
 use mathlib.Core.Path.{_≡_, refl, sym, ap, _∙_}
-use mathlib.Core.List.{List, [], _∷_, _++_, append-nil, append-assoc}
+use mathlib.Core.List.{[], _++_, append-nil}
 use mathlib.Core.Bool.{Bool, true, false}
-use native.Mathlib.Nat.{add-zero, add-assoc, suc-add}
+use native.Mathlib.Nat.{add-zero}
 use native.Mathlib.Omega.{arith}
 use lib.Dec.{ltb, eqb}
 use lib.ListN.{length, length-append}
-use lib.Seq.{sets}
-use borrow.Author.Tests.{eq-eqb, ne-eqb, eqb-true, eqb-false, lt-ltb, le-ltb}
+use borrow.Author.Tests.{eq-eqb, ne-eqb, eqb-false, lt-ltb}
 use Rattle.numbers.specs.Number.{pick, unsigned, signed}
-use Rattle.numbers.specs.Limits.{maxClock}
-use Rattle.numbers.proofs.Output.{sets-append}
 use Rattle.runs.specs.declared.Column.{Column}
 use Rattle.runs.specs.declared.Column.the-variants.{Number, Difference, Byte}
 use Rattle.runs.specs.declared.writer.Writer.{Writer}
 use Rattle.runs.specs.Number as number
 use Rattle.runs.specs.Difference as difference
 use Rattle.runs.specs.Byte as byte
-use Rattle.runs.specs.Runs.{keyMost, Coding, coding, over, opened, column, signedRun}
-use Rattle.runs.specs.Writer.{fresh, ends, keyAfter, emitted, finished, moved, pushed, Sound, ahead, lastOf, Stands, Holds}
+use Rattle.runs.specs.Runs.{keyMost, coding, column, signedRun}
+use Rattle.runs.specs.Writer.{ends, keyAfter, emitted, finished, moved, pushed}
 
 -- ---- how a run is spelled
 

@@ -1,9 +1,7 @@
 -- How the byte column spells a run: the byte, and how often less one.
-use Prim.Native.Nat.{ℕ, _+_, _-_, _*_}
-use mathlib.Core.List.{List, [], _∷_, _++_}
-use mathlib.Core.Bool.{Bool, true, false}
-use lib.Dec.{ltb, eqb}
-use Rattle.numbers.specs.Number.{pick, unsigned, signed}
+use Prim.Native.Nat.{ℕ}
+use mathlib.Core.List.{List, _∷_}
+use Rattle.numbers.specs.Number.{unsigned}
 
 -- a run: k, n + 1 times
 unfoldable pub runBytes : ℕ → ℕ → List ℕ

@@ -1,7 +1,6 @@
 -- How the difference column spells a run: e is twice the difference; odd, and how often less two, where it applies more than once.
 use Prim.Native.Nat.{ℕ, _+_, _-_, _*_}
-use mathlib.Core.List.{List, [], _∷_, _++_}
-use mathlib.Core.Bool.{Bool, true, false}
+use mathlib.Core.List.{List, _++_}
 use lib.Dec.{ltb, eqb}
 use Rattle.numbers.specs.Number.{pick, unsigned, signed}
 

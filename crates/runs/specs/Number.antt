@@ -1,8 +1,8 @@
 -- How the number column spells a run: a signed number; minus, and how often less two, where it stands more than once.
-use Prim.Native.Nat.{ℕ, _+_, _-_, _*_}
-use mathlib.Core.List.{List, [], _∷_, _++_}
-use mathlib.Core.Bool.{Bool, true, false}
-use lib.Dec.{ltb, eqb}
+use Prim.Native.Nat.{ℕ, _+_, _-_}
+use mathlib.Core.List.{List, _++_}
+use mathlib.Core.Bool.{true, false}
+use lib.Dec.{eqb}
 use Rattle.numbers.specs.Number.{pick, unsigned, signed}
 
 -- a run: v, n + 1 times

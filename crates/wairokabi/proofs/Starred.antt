@@ -1,12 +1,11 @@
 -- The starred cases of document 01, "Numbers worked by hand", as one table under one theorem about the definitions.
-use Prim.Native.Nat.{ℕ, suc, _+_}
-use mathlib.Core.Path.{_≡_, refl, _∙_}
-use mathlib.Core.List.{List, [], _∷_, _++_}
-use lib.ListN.{length, replicate}
+use Prim.Native.Nat.{ℕ, _+_}
+use mathlib.Core.Path.{_≡_, refl}
+use mathlib.Core.List.{List, [], _∷_}
+use lib.ListN.{replicate}
 use Rattle.numbers.specs.Number.{after, spelt, placed, readUnsigned, readSigned, speltSigned, minusOf, withSign, spell, unsigned}
 use Rattle.text.specs.declared.Taken.the-variants.{Refused}
 use Rattle.text.specs.Utf8.{lead, next, width, gain, takeFrom, takeUnits, took}
-use Rattle.runs.specs.declared.Column.the-variants.{Byte}
 use Rattle.columns.specs.Number as number
 use Rattle.columns.specs.Difference as difference
 use Rattle.columns.specs.Byte as byte

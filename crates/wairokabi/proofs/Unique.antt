@@ -9,15 +9,6 @@ use Rattle.columns.specs.declared.number.Place as number
 use Rattle.columns.specs.declared.difference.Place as difference
 use Rattle.columns.specs.declared.byte.Place as byte
 use Rattle.columns.specs.declared.string.Place as string
-use Rattle.wairokabi.specs.declared.Unsigned.{Unsigned}
-use Rattle.wairokabi.specs.declared.Signed.{Signed}
-use Rattle.wairokabi.specs.declared.Counted.{Counted}
-use Rattle.wairokabi.specs.declared.Cut.{Cut}
-use Rattle.wairokabi.specs.declared.NumberNext.{NumberNext}
-use Rattle.wairokabi.specs.declared.DifferenceNext.{DifferenceNext}
-use Rattle.wairokabi.specs.declared.ByteNext.{ByteNext}
-use Rattle.wairokabi.specs.declared.TextOpened.{TextOpened}
-use Rattle.wairokabi.specs.declared.TextNext.{TextNext}
 use Rattle.wairokabi.specs.Promises.{ReadUnsigned, ReadSigned, Writes, WriteUnsigned, WriteSigned, CountUnits, TakeText, CutText, OpenNumbers, NextNumber, OpenDifferences, NextDifference, OpenBytes, NextByte, OpenText, NextText, WriteNumbers, WriteDifferences, WriteBytes, WriteTexts}
 
 -- at most one value has a property

@@ -1,25 +1,19 @@
 -- `columns::why_signed` meets its contract.
-use mathlib.Core.Path.{_≡_, refl, sym, ap, _∙_}
+use mathlib.Core.Path.{sym, ap}
 use Rattle.numbers.specs.Number.{whySigned}
 use borrow.Author.Needs.{needs}
 use Rattle.numbers.proofs.why_signed.Statement.{statement}
 use Rattle.numbers.proofs.why_signed.Tie as tie
-use Rattle.numbers.proofs.why_signed.Reads as reads
-use Rattle.numbers.proofs.why_signed.Lts as lts
 
--- src/lib.rt:27:35
 enum-told : tie.Need-enum-told
 enum-told c = search needs
 
--- src/lib.rt:28:23
 enum-known-r : tie.Need-enum-known-r
 enum-known-r c = search needs
 
--- src/lib.rt:23:1
 returns : tie.Need-returns
 returns c = ap whySigned (sym (c .enum-told .given .1))
 
--- src/lib.rt:23:1
 returns-2 : tie.Need-returns-2
 returns-2 c = search needs
 

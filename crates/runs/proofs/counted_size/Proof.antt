@@ -1,7 +1,6 @@
 -- `counted_size` meets its contract: the head, and the count where there is one.
-use mathlib.Core.Bool.{Bool}
 use native.Mathlib.Omega.{arith}
-use mathlib.Core.Path.{_≡_, refl, sym, ap, _∙_}
+use mathlib.Core.Path.{sym, ap, _∙_}
 use lib.ListN.{length}
 use Rattle.runs.proofs.Writing.{run-one, run-many-length}
 use borrow.Author.Needs.{needs}

@@ -1,7 +1,6 @@
 -- `key_of` meets its contract, column by column.
-use native.Mathlib.Omega.{arith}
-use mathlib.Core.Path.{_≡_, refl, sym, ap, _∙_}
-use Rattle.runs.specs.Runs.{keyMost, coding}
+use mathlib.Core.Path.{_≡_}
+use Rattle.runs.specs.Runs.{coding}
 use Rattle.runs.proofs.Writing.{key-most}
 use borrow.Author.Needs.{needs}
 use Rattle.runs.proofs.key_of.Statement.{statement}

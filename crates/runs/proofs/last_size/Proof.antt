@@ -1,6 +1,6 @@
 -- `last_size` meets its contract, column by column.
 use native.Mathlib.Omega.{arith}
-use mathlib.Core.Path.{_≡_, refl, sym, ap, _∙_}
+use mathlib.Core.Path.{refl}
 use Rattle.runs.specs.Runs.{keyMost, coding}
 use borrow.Author.Needs.{needs}
 use Rattle.runs.proofs.last_size.Statement.{statement}

@@ -1,5 +1,5 @@
 -- `most` meets its contract, column by column.
-use Rattle.runs.specs.Runs.{keyMost, coding}
+use Rattle.runs.specs.Runs.{coding}
 use borrow.Author.Needs.{needs}
 use Rattle.runs.proofs.most.Statement.{statement}
 use Rattle.runs.proofs.most.Tie as tie

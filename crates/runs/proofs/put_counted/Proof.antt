@@ -1,9 +1,7 @@
 -- `put_counted` meets its contract: the head, and the count where there is one.
-use Prim.Native.Nat.{ℕ, _+_, _-_, _≤_, _<_}
+use Prim.Native.Nat.{_-_}
 use native.Mathlib.Omega.{arith}
-use mathlib.Core.Path.{_≡_, refl, sym, ap, _∙_}
-use lib.ListN.{length, length-append, length-set}
-use lib.Seq.{sets}
+use lib.ListN.{length-append}
 use Rattle.numbers.proofs.Output.{sets-append}
 use Rattle.runs.proofs.Writing.{run-one, run-many, run-many-length, run-head}
 use borrow.Author.Needs.{needs}

@@ -1,8 +1,6 @@
 -- `put_run` meets its contract, column by column.
-use Prim.Native.Nat.{ℕ, _+_, _-_, _≤_, _<_}
+use Prim.Native.Nat.{_-_}
 use native.Mathlib.Omega.{arith}
-use mathlib.Core.Path.{_≡_, refl, sym, ap, _∙_}
-use lib.ListN.{length, length-append, length-set}
 use Rattle.runs.specs.Runs.{keyMost, coding}
 use borrow.Author.Needs.{needs}
 use Rattle.runs.proofs.put_run.Statement.{statement}

@@ -1,5 +1,5 @@
 -- `cut_of` meets its contract, by the cases of what was taken.
-use mathlib.Core.Path.{_≡_, refl, sym, ap, _∙_}
+use mathlib.Core.Path.{sym, ap}
 use Rattle.wairokabi.specs.Promises.{cutAnswer}
 use borrow.Author.Needs.{needs}
 use Rattle.wairokabi.proofs.cut_of.Statement.{statement}

@@ -1,10 +1,10 @@
 -- `cut_text` meets its contract: the check, then the cut.
-use mathlib.Core.Path.{_≡_, refl, sym, ap, _∙_}
-use mathlib.Core.Bool.{Bool, true, false}
-use borrow.Author.Tests.{not-true, not-false, lt-ltb, le-ltb}
-use Rattle.text.specs.Utf8.{wellFormed, takeUnits, unitsIn}
+use mathlib.Core.Path.{_≡_, sym, ap, _∙_}
+use mathlib.Core.Bool.{true, false}
+use borrow.Author.Tests.{not-true, not-false}
+use Rattle.text.specs.Utf8.{wellFormed, takeUnits}
 use Rattle.wairokabi.specs.Promises.{cutAnswer}
-use Rattle.wairokabi.proofs.Laws.{slice-whole, slice-from, slice-end}
+use Rattle.wairokabi.proofs.Laws.{slice-whole}
 use borrow.Author.Needs.{needs}
 use Rattle.wairokabi.proofs.cut_text.Statement.{statement}
 use Rattle.wairokabi.proofs.cut_text.Tie as tie

@@ -1,5 +1,5 @@
 -- `next_number` meets its contract, by the cases of the answer.
-use mathlib.Core.Path.{_≡_, refl, sym, ap, _∙_}
+use mathlib.Core.Path.{sym, ap, _∙_}
 use Rattle.wairokabi.specs.Promises.{numberAnswer}
 use borrow.Author.Needs.{needs}
 use Rattle.wairokabi.proofs.next_number.Statement.{statement}

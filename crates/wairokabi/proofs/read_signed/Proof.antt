@@ -1,5 +1,5 @@
 -- `read_signed` meets its contract, by the cases of the answer.
-use mathlib.Core.Path.{_≡_, refl, sym, ap, _∙_}
+use mathlib.Core.Path.{sym, ap, _∙_}
 use Rattle.wairokabi.specs.Promises.{signedAnswer}
 use borrow.Author.Needs.{needs}
 use Rattle.wairokabi.proofs.read_signed.Statement.{statement}

@@ -1,8 +1,8 @@
 -- `take_text` meets its contract: from the place on, or from the end where the place is past it.
-use mathlib.Core.Path.{_≡_, refl, sym, ap, _∙_}
-use Rattle.text.specs.Utf8.{wellFormed, takeUnits, unitsIn}
+use mathlib.Core.Path.{ap, _∙_}
+use Rattle.text.specs.Utf8.{takeUnits}
 use Rattle.wairokabi.specs.Promises.{cutAnswer}
-use Rattle.wairokabi.proofs.Laws.{slice-whole, slice-from, slice-end}
+use Rattle.wairokabi.proofs.Laws.{slice-from, slice-end}
 use borrow.Author.Needs.{needs}
 use Rattle.wairokabi.proofs.take_text.Statement.{statement}
 use Rattle.wairokabi.proofs.take_text.Tie as tie

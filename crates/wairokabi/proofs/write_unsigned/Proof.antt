@@ -1,15 +1,14 @@
 -- `write_unsigned` meets its contract: the limit, the room, then the shortest spelling and zeros.
-use Prim.Native.Nat.{ℕ, _+_, _≤_, _<_}
+use Prim.Native.Nat.{ℕ, _≤_}
 use native.Mathlib.Nat.{zero-add}
-use mathlib.Core.List.{List}
 use native.Mathlib.Omega.{arith}
-use mathlib.Core.Path.{_≡_, refl, sym, ap, _∙_}
-use borrow.Author.Tests.{not-true, not-false, lt-ltb, le-ltb}
+use mathlib.Core.Path.{_≡_, refl, ap, _∙_}
+use borrow.Author.Tests.{lt-ltb, le-ltb}
 use lib.ListN.{length}
 use lib.Seq.{length-sets}
 use Rattle.numbers.specs.Number.{unsigned}
 use Rattle.numbers.specs.Limits.{maxUnsigned}
-use Rattle.numbers.specs.Output.{verdict, done}
+use Rattle.numbers.specs.Output.{done}
 use Rattle.numbers.proofs.Output.{verdict-why, verdict-room, verdict-done, refused-answer, refused-bytes, done-answer, done-bytes, take-sets}
 use Rattle.wairokabi.specs.Promises.{over}
 use borrow.Author.Needs.{needs}

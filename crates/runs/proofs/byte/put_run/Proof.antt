@@ -1,8 +1,8 @@
 -- `byte::put_run` meets its contract: the byte, then its count.
 use native.Mathlib.Omega.{arith}
-use mathlib.Core.Path.{_≡_, refl, sym, ap, _∙_}
+use mathlib.Core.Path.{_∙_}
 use native.Mathlib.Numerals.{add-one}
-use lib.ListN.{length, length-append, length-set}
+use lib.ListN.{length-set}
 use Rattle.runs.specs.Byte.{runBytes}
 use Rattle.runs.proofs.Writing.{byte-length}
 use borrow.Author.Needs.{needs}

@@ -1,7 +1,5 @@
 -- `difference::magnitude_of` meets its contract, by the sign.
-use native.Mathlib.Omega.{arith}
-use mathlib.Core.Path.{_≡_, refl, sym, ap, _∙_}
-use borrow.Author.Tests.{eq-eqb, ne-eqb, lt-ltb, le-ltb, not-true, not-false}
+use borrow.Author.Tests.{lt-ltb, le-ltb}
 use Rattle.runs.specs.Difference.{magnitude}
 use borrow.Author.Needs.{needs}
 use Rattle.runs.proofs.difference.magnitude_of.Statement.{statement}

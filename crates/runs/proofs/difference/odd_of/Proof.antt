@@ -1,6 +1,6 @@
 -- `difference::odd_of` meets its contract: a test of n.
 use native.Mathlib.Omega.{arith}
-use borrow.Author.Tests.{eq-eqb, ne-eqb, lt-ltb, le-ltb, not-true, not-false}
+use borrow.Author.Tests.{eq-eqb, ne-eqb}
 use Rattle.runs.specs.Difference.{odd}
 use Rattle.runs.proofs.difference.odd_of.Statement.{statement}
 use Rattle.runs.proofs.difference.odd_of.Tie as tie

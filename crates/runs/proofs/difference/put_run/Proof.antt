@@ -1,9 +1,9 @@
 -- `difference::put_run` meets its contract: the run as a signed number and its count.
-use Prim.Native.Nat.{ℕ, _+_, _-_, _≤_, _<_}
+use Prim.Native.Nat.{ℕ, _-_}
 use native.Mathlib.Omega.{arith}
-use mathlib.Core.Path.{_≡_, refl, sym, ap, _∙_}
+use mathlib.Core.Path.{ap}
 use lib.Dec.{ltb}
-use lib.ListN.{length, length-append, length-set}
+use lib.ListN.{length}
 use Rattle.runs.specs.Difference.{zeroKey}
 use Rattle.runs.specs.Runs.{signedRun}
 use Rattle.runs.proofs.Writing.{difference-run}

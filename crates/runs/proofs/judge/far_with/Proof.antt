@@ -1,9 +1,7 @@
 -- `judge::far_with` meets its contract, column by column.
-use Prim.Native.Nat.{ℕ, _+_, _-_, _≤_, _<_}
-use native.Mathlib.Omega.{arith}
-use mathlib.Core.Path.{_≡_, refl, sym, ap, _∙_}
+use Prim.Native.Nat.{_-_}
 use borrow.Author.Tests.{le-leb, lt-leb, lt-ltb, le-ltb}
-use Rattle.runs.specs.Runs.{coding, fitsLessTwo, fitsLessOne, nearKey}
+use Rattle.runs.specs.Runs.{coding, nearKey}
 use borrow.Author.Needs.{needs}
 use Rattle.runs.proofs.judge.far_with.Statement.{statement}
 use Rattle.runs.proofs.judge.far_with.Tie as tie

@@ -1,11 +1,8 @@
 -- `judge::judge_next` meets its contract, test by test.
-use Prim.Native.Nat.{ℕ, _+_, _-_, _≤_, _<_}
-use native.Mathlib.Omega.{arith}
-use mathlib.Core.Path.{_≡_, refl, sym, ap, _∙_}
-use mathlib.Core.Bool.{Bool, true, false}
-use borrow.Author.Tests.{eq-eqb, ne-eqb, lt-ltb, le-ltb, not-true, not-false}
-use Rattle.runs.specs.Writer.{ends, keyAfter, emitted, finished, moved, pushed, runFits, lastFitsIn, judged, sentence}
-use Rattle.runs.specs.Runs.{coding}
+use Prim.Native.Nat.{_-_}
+use mathlib.Core.Path.{sym, _∙_}
+use borrow.Author.Tests.{lt-ltb, le-ltb, not-true, not-false}
+use Rattle.runs.specs.Writer.{keyAfter, judged}
 use borrow.Author.Needs.{needs}
 use Rattle.runs.proofs.judge.judge_next.Statement.{statement}
 use Rattle.runs.proofs.judge.judge_next.Tie as tie

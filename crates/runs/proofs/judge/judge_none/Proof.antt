@@ -1,6 +1,4 @@
 -- `judge::judge_none` meets its contract.
-use mathlib.Core.Path.{_≡_, refl, sym, ap, _∙_}
-use Rattle.runs.specs.Writer.{unjudged}
 use borrow.Author.Needs.{needs}
 use Rattle.runs.proofs.judge.judge_none.Statement.{statement}
 use Rattle.runs.proofs.judge.judge_none.Tie as tie

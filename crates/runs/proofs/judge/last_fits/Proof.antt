@@ -1,11 +1,8 @@
 -- `judge::last_fits` meets its contract, column by column.
-use Prim.Native.Nat.{ℕ, _+_, _-_, _≤_, _<_}
-use native.Mathlib.Omega.{arith}
-use mathlib.Core.Path.{_≡_, refl, sym, ap, _∙_}
-use mathlib.Core.Bool.{Bool, true, false}
-use borrow.Author.Tests.{eq-eqb, ne-eqb, lt-ltb, le-ltb, not-true, not-false}
-use Rattle.runs.specs.Writer.{ends, keyAfter, emitted, finished, moved, pushed, runFits, lastFitsIn, judged, sentence}
-use Rattle.runs.specs.Runs.{coding, fitsLessTwo, fitsLessOne, nearKey}
+use Prim.Native.Nat.{_-_}
+use borrow.Author.Tests.{eq-eqb, ne-eqb}
+use Rattle.runs.specs.Writer.{lastFitsIn}
+use Rattle.runs.specs.Runs.{coding, fitsLessTwo, fitsLessOne}
 use borrow.Author.Needs.{needs}
 use Rattle.runs.proofs.judge.last_fits.Statement.{statement}
 use Rattle.runs.proofs.judge.last_fits.Tie as tie

@@ -1,9 +1,8 @@
 -- `number::put_run` meets its contract: the run as a signed number and its count.
-use Prim.Native.Nat.{ℕ, _+_, _-_, _≤_, _<_}
+use Prim.Native.Nat.{_-_}
 use native.Mathlib.Omega.{arith}
-use mathlib.Core.Path.{_≡_, refl, sym, ap, _∙_}
-use lib.Dec.{ltb}
-use lib.ListN.{length, length-append, length-set}
+use mathlib.Core.Path.{ap}
+use lib.ListN.{length}
 use Rattle.runs.proofs.Writing.{number-run}
 use borrow.Author.Needs.{needs}
 use Rattle.runs.proofs.number.put_run.Statement.{statement}

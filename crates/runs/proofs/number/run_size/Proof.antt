@@ -1,8 +1,7 @@
 -- `number::run_size` meets its contract: the run as a signed number and its count.
 use lib.Dec.{ltb}
 use lib.ListN.{length}
-use native.Mathlib.Omega.{arith}
-use mathlib.Core.Path.{_≡_, refl, sym, ap, _∙_}
+use mathlib.Core.Path.{sym, ap, _∙_}
 use Rattle.runs.proofs.Writing.{number-run}
 use borrow.Author.Needs.{needs}
 use Rattle.runs.proofs.number.run_size.Statement.{statement}

@@ -1,12 +1,12 @@
 -- `slice::close` meets its contract: the last run where there is room, and zeros.
-use Prim.Native.Nat.{ℕ, _+_, _-_, _≤_, _<_}
+use Prim.Native.Nat.{_+_, _-_, _≤_}
 use native.Mathlib.Omega.{arith}
 use mathlib.Core.Path.{_≡_, refl, sym, ap, _∙_}
-use mathlib.Core.List.{List, [], _++_}
+use mathlib.Core.List.{_++_}
 use lib.ListN.{length, take, length-append}
 use lib.Seq.{length-take-le, length-sets}
 use Rattle.runs.specs.Writer.{finished}
-use Rattle.numbers.specs.Output.{verdict, padded, done}
+use Rattle.numbers.specs.Output.{verdict, done}
 use Rattle.numbers.proofs.Output.{verdict-room, verdict-done, refused-answer, refused-bytes, done-answer, done-bytes, take-sets}
 use borrow.Author.Needs.{needs}
 use Rattle.runs.proofs.slice.close.Statement.{statement}

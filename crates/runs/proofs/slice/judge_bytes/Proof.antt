@@ -1,8 +1,8 @@
 -- `slice::judge_bytes` meets its contract: the refusal of all values is what it was at the start.
-use Prim.Native.Nat.{ℕ, _+_, _-_, _≤_, _<_}
+use Prim.Native.Nat.{_-_}
 use native.Mathlib.Omega.{arith}
-use mathlib.Core.Path.{_≡_, refl, sym, ap, _∙_}
-use lib.ListN.{length, take, drop, getD}
+use mathlib.Core.Path.{_∙_}
+use lib.ListN.{length}
 use Rattle.runs.specs.declared.Column.the-variants.{Byte}
 use Rattle.runs.proofs.Slices.{JudgedTo, judge-begin, judge-on, judge-over}
 use borrow.Author.Needs.{needs}

@@ -1,10 +1,8 @@
 -- `slice::push_within` meets its contract: the room is what the size asks.
-use Prim.Native.Nat.{ℕ, _+_, _-_, _≤_, _<_}
+use Prim.Native.Nat.{_-_}
 use native.Mathlib.Omega.{arith}
-use mathlib.Core.Path.{_≡_, refl, sym, ap, _∙_}
-use lib.ListN.{length, take, drop, getD}
+use mathlib.Core.Path.{sym, ap, _∙_}
 use Rattle.runs.proofs.Slices.{within-on, within-full}
-use Rattle.runs.specs.Writer.{emitted}
 use Rattle.runs.specs.declared.slice.Pushed.the-variants.{On}
 use borrow.Author.Needs.{needs}
 use Rattle.runs.proofs.slice.push_within.Statement.{statement}

@@ -1,15 +1,12 @@
 -- `slice::put_all` meets its contract: the state holds the values put so far, and room that is short for them is short for all.
-use Prim.Native.Nat.{ℕ, _+_, _-_, _≤_, _<_}
+use Prim.Native.Nat.{_+_, _-_}
 use native.Mathlib.Omega.{arith}
-use mathlib.Core.Path.{_≡_, refl, sym, ap, _∙_}
-use Rattle.runs.proofs.Slices.{length-take-most}
-use mathlib.Core.List.{List, [], _++_}
-use lib.ListN.{length, take, drop, getD}
-use Rattle.numbers.specs.Output.{written, put}
+use mathlib.Core.Path.{_≡_, sym, ap, _∙_}
+use Rattle.runs.proofs.Slices.{length-take-most, PutTo, put-begin, put-on, put-full, put-over, legal-at}
+use mathlib.Core.List.{_++_}
+use lib.ListN.{length, take}
 use Rattle.numbers.proofs.Output.{refused-answer, refused-bytes}
 use Rattle.runs.specs.Runs.{coding, columnOf}
-use Rattle.runs.specs.Writer.{finished}
-use Rattle.runs.proofs.Slices.{PutTo, put-begin, put-kind, put-on, put-full, put-over, legal-at}
 use borrow.Author.Needs.{needs}
 use Rattle.runs.proofs.slice.put_all.Statement.{statement}
 use Rattle.runs.proofs.slice.put_all.Tie as tie

@@ -1,10 +1,8 @@
 -- `slice::write_all` meets its contract: the refusal, or the column.
-use Prim.Native.Nat.{ℕ, _+_, _-_, _≤_, _<_}
+use Prim.Native.Nat.{_-_}
 use native.Mathlib.Omega.{arith}
-use mathlib.Core.Path.{_≡_, refl, sym, ap, _∙_}
-use mathlib.Core.List.{List, [], _++_}
-use lib.ListN.{length, take, drop, getD}
-use Rattle.numbers.specs.Output.{verdict, written, put}
+use mathlib.Core.Path.{_≡_, sym, _∙_}
+use lib.ListN.{length}
 use Rattle.numbers.proofs.Output.{verdict-why, refused-answer, refused-bytes}
 use Rattle.runs.specs.Runs.{columnOf, whyOf}
 use borrow.Author.Needs.{needs}

@@ -1,7 +1,6 @@
 -- `slice::write_bytes` meets its contract: the refusal, or the column.
-use Prim.Native.Nat.{ℕ, _+_, _-_, _≤_, _<_}
-use native.Mathlib.Omega.{arith}
-use mathlib.Core.Path.{_≡_, refl, sym, ap, _∙_}
+use Prim.Native.Nat.{_-_}
+use mathlib.Core.Path.{_≡_, sym, _∙_}
 use lib.ListN.{length}
 use Rattle.runs.specs.declared.Column.the-variants.{Byte}
 use Rattle.numbers.proofs.Output.{verdict-why, refused-answer, refused-bytes}

@@ -1,5 +1,5 @@
 -- `writer::ends_run` meets its contract, case by case.
-use mathlib.Core.Path.{_≡_, refl, sym, ap, _∙_}
+use mathlib.Core.Path.{sym}
 use Rattle.runs.proofs.Writing.{ends-none, ends-same, ends-other}
 use Rattle.runs.proofs.writer.ends_run.Statement.{statement}
 use Rattle.runs.proofs.writer.ends_run.Tie as tie

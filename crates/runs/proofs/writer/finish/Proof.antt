@@ -1,8 +1,8 @@
 -- `writer::finish` meets its contract: nothing, or the last run.
-use Prim.Native.Nat.{ℕ, _+_, _-_, _≤_, _<_}
+use Prim.Native.Nat.{_-_}
 use native.Mathlib.Omega.{arith}
-use mathlib.Core.Path.{_≡_, refl, sym, ap, _∙_}
-use lib.ListN.{length, length-append, length-set}
+use mathlib.Core.Path.{refl, ap}
+use lib.ListN.{length}
 use Rattle.runs.proofs.Writing.{finished-none, finished-some}
 use borrow.Author.Needs.{needs}
 use Rattle.runs.proofs.writer.finish.Statement.{statement}

@@ -1,9 +1,7 @@
 -- `writer::measure` meets its contract: it goes on as `push` does.
-use Prim.Native.Nat.{ℕ, _+_, _-_, _≤_, _<_}
-use native.Mathlib.Omega.{arith}
-use mathlib.Core.Path.{_≡_, refl, sym, ap, _∙_}
-use lib.ListN.{length, length-append, length-set}
-use Rattle.runs.specs.Writer.{ends, keyAfter, emitted, finished, moved, pushed, runFits, lastFitsIn, judged, sentence}
+use Prim.Native.Nat.{ℕ, _+_, _-_}
+use mathlib.Core.Path.{ap, _∙_}
+use Rattle.runs.specs.Writer.{keyAfter}
 use Rattle.runs.proofs.Writing.{pushed-some}
 use borrow.Author.Needs.{needs}
 use Rattle.runs.proofs.writer.measure.Statement.{statement}

@@ -1,11 +1,11 @@
 -- `writer::push` meets its contract: a run is written where the value ends it.
-use Prim.Native.Nat.{ℕ, _+_, _-_, _≤_, _<_}
+use Prim.Native.Nat.{_-_}
 use native.Mathlib.Omega.{arith}
-use mathlib.Core.Path.{_≡_, refl, sym, ap, _∙_}
-use mathlib.Core.Bool.{Bool, true, false}
-use borrow.Author.Tests.{eq-eqb, ne-eqb, lt-ltb, le-ltb, not-true, not-false}
-use lib.ListN.{length, length-append, length-set}
-use Rattle.runs.specs.Writer.{ends, keyAfter, emitted, finished, moved, pushed}
+use mathlib.Core.Path.{_≡_, sym, ap, _∙_}
+use mathlib.Core.Bool.{true, false}
+use borrow.Author.Tests.{not-true, not-false}
+use lib.ListN.{length}
+use Rattle.runs.specs.Writer.{ends, keyAfter}
 use Rattle.runs.proofs.Writing.{ends-some, emitted-none, emitted-some, pushed-none, pushed-some}
 use borrow.Author.Needs.{needs}
 use Rattle.runs.proofs.writer.push.Statement.{statement}
