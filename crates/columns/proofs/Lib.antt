@@ -1,4 +1,6 @@
--- Reading what was written (Back, RoundTrip), and that draws stay inside the bytes (Inside).
+-- Reading what was written (Back, RoundTrip, TextTrip), that draws stay inside the bytes (Inside), and the laws of the text column (Texts).
 pub mod Back
 pub mod RoundTrip
 pub mod Inside
+pub mod Texts
+pub mod TextTrip

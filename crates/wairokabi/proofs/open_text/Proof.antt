@@ -1,0 +1,31 @@
+-- `open_text` meets its contract, by the cases of the answer.
+use mathlib.Core.Path.{_≡_, refl, sym, ap, _∙_}
+use Rattle.wairokabi.specs.Promises.{openAnswer}
+use borrow.Author.Needs.{needs}
+use Rattle.wairokabi.proofs.open_text.Statement.{statement}
+use Rattle.wairokabi.proofs.open_text.Tie as tie
+
+open-requires : tie.Need-open-requires
+open-requires c κs = search needs
+
+enum-known-place : tie.Need-enum-known-place
+enum-known-place c = search needs
+
+enum-known-why : tie.Need-enum-known-why
+enum-known-why c = search needs
+
+start-requires : tie.Need-start-requires
+start-requires c κs = search needs
+
+returns : tie.Need-returns
+unfolding openAnswer
+returns c = let r = c .before .before .before .«open» .ensures in sym (ap openAnswer (sym r ∙ c .before .place .given .1))
+
+returns-2 : tie.Need-returns-2
+unfolding openAnswer
+returns-2 c = let r = c .before .before .before .before .«open» .ensures in rw (c .start .ensures) (sym (ap openAnswer (sym r ∙ c .before .before .why .given .1)))
+
+pub open-text-spec : {M : Type 1} → statement M
+open-text-spec =
+    tie.close
+    (tie.spec open-requires enum-known-place enum-known-why start-requires returns returns-2)
