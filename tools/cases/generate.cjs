@@ -69,6 +69,12 @@ w(c.readUnsigned(bytes('80 80 80 80 80 80 80 80 80'), 0), '2')
 w(c.readUnsigned(bytes('80 80 80 80 80 80 80 80'), 0), '1')
 w(c.readUnsigned(bytes('ff ff ff ff ff ff ff ff 7f 05'), 0), '0 9223372036854775807 9')
 w(c.readSigned(bytes('ff ff ff ff ff ff ff ff 7f'), 0), '0 1 4611686018427387903 9')
+// Where lib0 goes on and document 01 does not (docs/DIFFERENCES.md): ten bytes, a value of 2^53, a count over its limit, e of 2^31, a difference of 2^30.
+w(c.readUnsigned(bytes('80 80 80 80 80 80 80 80 80 00'), 0), '2')
+w(c.readNumbers(bytes('80 80 80 80 80 80 80 20'), 1), '3')
+w(c.readNumbers(bytes('42 fe ff ff ff 07'), 1), '3')
+w(c.readDifferences(bytes('80 80 80 80 10'), 1), '3')
+w(c.writeDifferences([0, p(30)], 9), '13 zero')
 // Minus zero keeps its sign, in a longer spelling too.
 w(c.readSigned(bytes('40'), 0), '0 1 0 1')
 w(c.readSigned(bytes('05 c0 80 00'), 1), '0 1 0 4')
