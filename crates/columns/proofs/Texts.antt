@@ -1,6 +1,6 @@
 -- The laws of the text column's functions: a number read ends within the bytes, a place anywhere is brought within them, texts are taken
 -- one after the other, and the writer's refusals come in their order.
-use Prim.Native.Nat.{ℕ, _+_, _≤_, _<_}
+use Prim.Native.Nat.{ℕ, suc, _+_, _≤_, _<_}
 use mathlib.Core.Path.{_≡_, refl, sym, ap, subst, _∙_}
 use mathlib.Core.Logic.{_⊎_, inl, inr, ⊎-elim}
 use mathlib.Core.List.{List, [], _∷_}
@@ -9,8 +9,8 @@ use native.Mathlib.Nat.{zero-add}
 use native.Mathlib.Numerals.{add-one}
 use native.Mathlib.Omega.{arith}
 use lib.Dec.{eqb}
-use lib.ListN.{length, take, drop, getD, set, length-append, drop-of-length-le}
-use lib.Seq.{sets, slice, slice-empty, take-all, take-length, take-suc, drop-cons, drop-drop, length-take-le}
+use lib.ListN.{length, take, drop, getD, set, length-append, length-drop, drop-of-length-le}
+use lib.Seq.{sets, slice, slice-empty, take-all, take-suc, drop-cons, drop-drop, length-take-le}
 use borrow.Author.Tests.{eq-eqb, ne-eqb, eqb-true}
 use Rattle.numbers.specs.declared.Read.the-variants.{Number, Refused}
 use Rattle.numbers.specs.Number.{pick, unsigned, readUnsigned, placed}
@@ -18,12 +18,14 @@ use Rattle.numbers.specs.Output.{verdict, padded, refusal, written, put}
 use Rattle.numbers.proofs.Laws.{below-or, at-end}
 use Rattle.numbers.proofs.Inside.{Reads, unsigned-inside}
 use Rattle.numbers.proofs.Output.{sets-append, verdict-why, verdict-room, refused-answer, refused-bytes, take-sets}
+use Rattle.text.specs.declared.Taken.{Taken}
 use Rattle.text.specs.declared.Taken.the-variants as units
 use Rattle.text.specs.Utf8.{wellFormed, took, takeUnits}
-use Rattle.text.proofs.Cutting.{cut-at}
+use Rattle.text.proofs.Cutting.{cut, cut-at}
 use Rattle.runs.specs.declared.Column.the-variants as columns
+use Rattle.columns.specs.declared.string.Taking.{Taking}
 use Rattle.runs.specs.Runs.{coding, within, storable, spellable, why, columnOf, whyOf}
-use Rattle.columns.specs.String.{takesMore, takesAll, textHead, textColumn, whyTexts}
+use Rattle.columns.specs.String.{takesMore, takesAll, tookText, takeNext, textHead, textColumn, whyTexts}
 
 -- ---- opening
 
@@ -59,21 +61,44 @@ module _ (s : List ℕ) (at end from to : ℕ) (tl : to ≤ length s) (te : to �
 
 -- ---- taking all
 
-module _ (t us : List ℕ) (at i : ℕ) (l : i < length us) where
-  whole : slice at (length t) t ≡ drop at t
-  whole = ap (drop at) (take-length t)
+-- the loop that takes them: what is to be taken from here on, and what is still to be checked
+pub record TakenTo (s us : List ℕ) (i : ℕ) (t : Taking) : Type 0 where
+  pub same : pick (t .found) (takesAll (drop (t .at) s) (drop i us)) false ≡ takesAll s us
+  pub rest : wellFormed (drop (t .at) s) ≡ wellFormed s
+  pub room : t .at ≤ length s
 
-  pub takes-on : (k : ℕ) → takeUnits 7 (getD us i 0) (slice at (length t) t) ≡ took k → takesAll (drop (at + k) t) (drop (i + 1) us) ≡ takesAll (drop at t) (drop i us)
-  unfolding takesAll takesMore
-  takes-on k p = rw (drop-cons us i 0 l, rw whole at p, ← drop-drop k at t, add-one)
+pub taking-begin : (s us : List ℕ) → TakenTo s us 0 (record { at = 0; found = true })
+taking-begin s us = record { same = refl; rest = refl; room = omega arith }
 
-  pub takes-not : (w : ℕ) → takeUnits 7 (getD us i 0) (slice at (length t) t) ≡ units.Refused w → takesAll (drop at t) (drop i us) ≡ false
-  unfolding takesAll takesMore
-  takes-not w p = rw (drop-cons us i 0 l, rw whole at p)
+module _ (s us : List ℕ) (i : ℕ) (t : Taking) (h : TakenTo s us i t) where
+  pub taking-on : i < length us → TakenTo s us (i + 1) (takeNext s t (getD us i 0))
+  unfolding takeNext tookText takesAll takesMore
+  taking-on l = go (t .found) refl
+    where
+      more : t .found ≡ true → takesMore (takeUnits 7 (getD us i 0) (drop (t .at) s)) (λ k. takesAll (drop k (drop (t .at) s)) (drop (suc i) us)) ≡ takesAll s us
+      more f = ap (takesAll (drop (t .at) s)) (sym (drop-cons us i 0 l)) ∙ rw f at (h .same)
 
-pub takes-over : (t us : List ℕ) (i : ℕ) → length us ≤ i → takesAll t (drop i us) ≡ true
-unfolding takesAll
-takes-over t us i h = rw (drop-of-length-le us {i = i} h)
+      taken : (r : Taken) → takeUnits 7 (getD us i 0) (drop (t .at) s) ≡ r → takesMore r (λ k. takesAll (drop k (drop (t .at) s)) (drop (suc i) us)) ≡ takesAll s us → TakenTo s us (i + 1) (tookText t r)
+      taken (units.Took b) e p =
+          let c = cut 7 (getD us i 0) (b .0) (drop (t .at) s) e in
+          record {
+            same = rw (add-one, ← drop-drop (b .0) (t .at) s) p;
+            rest = rw (← drop-drop (b .0) (t .at) s) (c .back ∙ h .rest);
+            room = omega (arith, c .within, length-drop (t .at) s, h .room);
+          }
+      taken (units.Refused w) e p = record { same = p; rest = h .rest; room = h .room }
+
+      go : (b : Bool) → t .found ≡ b → TakenTo s us (i + 1) (pick b (tookText t (takeUnits 7 (getD us i 0) (drop (t .at) s))) t)
+      go true f = taken (takeUnits 7 (getD us i 0) (drop (t .at) s)) refl (more f)
+      go false f = record { same = rw f (rw f at (h .same)); rest = h .rest; room = h .room }
+
+  pub taking-over : length us ≤ i → takesAll s us ≡ t .found
+  unfolding takesAll
+  taking-over l = sym (h .same) ∙ rw (drop-of-length-le us l) (found (t .found))
+    where
+      found : (b : Bool) → pick b true false ≡ b
+      found true = refl
+      found false = refl
 
 -- ---- the text's bytes behind its length
 

@@ -16,6 +16,7 @@ use Rattle.columns.specs.declared.number.Place as number-place
 use Rattle.columns.specs.declared.number.Answer as number-answer
 use Rattle.columns.specs.declared.number.Answer.the-variants as number
 use Rattle.columns.specs.declared.string.Place.{Place}
+use Rattle.columns.specs.declared.string.Taking.{Taking}
 use Rattle.columns.specs.declared.string.Opened.{Opened}
 use Rattle.columns.specs.declared.string.Opened.the-variants.{At, Not}
 use Rattle.columns.specs.declared.string.Answer.{Answer}
@@ -97,3 +98,11 @@ textColumn t us = textHead t ++ columnOf Number us
 -- 6, 3, 7
 unfoldable pub whyTexts : List ℕ → List ℕ → ℕ
 whyTexts t us = pick (wellFormed t) (pick (eqb (whyOf Number us) 0) (pick (takesAll t us) 0 7) 3) 6
+
+-- one text more, for the loop that takes them
+unfoldable pub tookText : Taking → Taken → Taking
+tookText t (units.Took b) = record { at = t .at + b .0; found = true }
+tookText t (units.Refused why) = record { at = t .at; found = false }
+
+unfoldable pub takeNext : List ℕ → Taking → ℕ → Taking
+takeNext s t u = pick (t .found) (tookText t (takeUnits 7 u (drop (t .at) s))) t

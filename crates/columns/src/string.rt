@@ -16,7 +16,7 @@ ghost use Prim.Native.Nat.{_+_, _≤_};
 ghost use lib.ListN.{length};
 ghost use lib.Seq.{sets, slice};
 ghost use Rattle.numbers.specs.Output.{written, put};
-ghost use Rattle.columns.specs.String.{openText, taken, nextText, whyText, takesAll, textHead, textColumn, whyTexts};
+ghost use Rattle.columns.specs.String.{openText, taken, nextText, whyText, takeNext, textHead, textColumn, whyTexts};
 
 // The next text's first byte, the end of all texts, and the place of the next unit length.
 pub struct Place {
@@ -121,22 +121,56 @@ pub fn why(r: Answer) -> Refusal
 
 // ---- writing
 
-// Whether the texts of these units are there, one after the other; what is left over is kept.
-fn all_taken(text: &[u8], units: &[u64]) -> bool
-    ensures { λ r. ⌜ r ≡ takesAll (now (text .entry)) (now (units .entry)) ⌝ }
+// Where the texts taken so far end, and whether the next was there.
+pub struct Taking {
+    pub at: usize,
+    pub found: bool,
+}
+
+fn take_next(text: &[u8], t: Taking, u: u64) -> Taking
+    requires { ⌜ t .at ≤ length (now text) ⌝ }
+    ensures { λ r. ⌜ (r ≡ takeNext (now (text .entry)) t u) × (r .at ≤ length (now (text .entry))) ⌝ }
 {
-    let mut at: usize = 0;
+    let at = t.at;
+    if !t.found {
+        return t;
+    }
+    match text::take_units(text, at, text.len(), Units(u), 7) {
+        Taken::Took(bytes) => {
+            let past = at + bytes.0;
+            Taking {
+                at: past,
+                found: true,
+            }
+        }
+        Taken::Refused(_) => Taking { at, found: false },
+    }
+}
+
+// The refusal of a text and its unit lengths: 6, 3, 7; 0 for none. What was taken is UTF-8, so only what follows it is checked.
+fn judge_texts(text: &[u8], units: &[u64]) -> u8
+    ensures { λ r. ⌜ r ≡ whyTexts (now (text .entry)) (now (units .entry)) ⌝ }
+{
+    let mut j = runs::judge::judge_none(Column::Number);
+    let mut t = Taking { at: 0, found: true };
     let mut i = 0;
     while i < units.len() {
         let u = units[i];
         i += 1;
-        let t = text::take_units(text, at, text.len(), Units(u), 7);
-        let Taken::Took(bytes) = t else {
-            return false;
-        };
-        at += bytes.0;
+        j = runs::judge::judge_next(j, u);
+        t = take_next(text, t, u);
     }
-    true
+    let at = t.at;
+    if !text::check(text, at, text.len()) {
+        return 6;
+    }
+    if runs::judge::judge_end(j) != 0 {
+        return 3;
+    }
+    if t.found {
+        return 0;
+    }
+    7
 }
 
 // The text's length and bytes, at the start; the caller has room for them.
@@ -159,14 +193,9 @@ fn put_text(out: &mut [u8], text: &[u8]) -> usize
 pub fn write(out: &mut [u8], text: &[u8], units: &[u64]) -> Written
     ensures { λ r. ⌜ (r ≡ written (whyTexts (now (text .entry)) (now (units .entry))) (length (now (out .entry))) (textColumn (now (text .entry)) (now (units .entry)))) × (now (out .exit) ≡ put (whyTexts (now (text .entry)) (now (units .entry))) (length (now (out .entry))) (textColumn (now (text .entry)) (now (units .entry)))) ⌝ }
 {
-    if !text::check(text, 0, text.len()) {
-        return numbers::refuse(out, 6);
-    }
-    if runs::slice::judge_all(Column::Number, units) != 0 {
-        return numbers::refuse(out, 3);
-    }
-    if !all_taken(text, units) {
-        return numbers::refuse(out, 7);
+    let number = judge_texts(text, units);
+    if number != 0 {
+        return numbers::refuse(out, number);
     }
     let size = numbers::size_unsigned(text.len() as u64);
     if out.len() < size {
