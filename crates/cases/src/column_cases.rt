@@ -1,15 +1,15 @@
 // Operations 5 to 12: the four columns, read and written.
 ghost use Rattle.io.specs.Counts.{Counts};
 use crate::Done;
-use crate::input;
-use crate::input::Place;
 use crate::lent;
 use crate::lent::Writer;
-use crate::line;
 use columns::byte;
 use columns::difference;
 use columns::number;
 use columns::string;
+use stream::input;
+use stream::input::Place;
+use stream::line;
 
 // A column of numbers.
 pub enum Column {

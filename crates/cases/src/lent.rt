@@ -1,9 +1,9 @@
 // What is lent to a writer: filled with something before the call, looked at after it. The last argument of every writer is how much.
 use crate::Done;
-use crate::input;
-use crate::input::Place;
-use crate::line;
 use numbers::Written;
+use stream::input;
+use stream::input::Place;
+use stream::line;
 
 // Which writer is asked, and the number it writes; the columns' writers take the bytes and the list beside.
 pub enum Writer {

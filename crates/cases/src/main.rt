@@ -1,13 +1,13 @@
 // Runs calls of the public library from standard input, a case at a time, and prints a line a case: what the call answered.
 mod column_cases;
-mod input;
 mod lent;
-mod line;
 mod number_cases;
 
 use column_cases::Column;
-use input::Place;
 use lent::Writer;
+use stream::input;
+use stream::input::Place;
+use stream::line;
 
 // After a case: the stream's place, not good if the case was none, and how much of the output's buffer is used.
 pub struct Done {

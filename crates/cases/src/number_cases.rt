@@ -1,10 +1,10 @@
 // Operations 1 to 4: numbers on the line, read and written.
 use crate::Done;
-use crate::input;
-use crate::input::Place;
 use crate::lent;
 use crate::lent::Writer;
-use crate::line;
+use stream::input;
+use stream::input::Place;
+use stream::line;
 use wairokabi::Signed;
 
 // The answer of either reader; an unsigned number has no minus.

@@ -1,18 +1,18 @@
--- `cases::input::list` counts numbers of what is lent: a store keeps its length, and the numbers still to come fall.
+-- `cases::input::bytes` counts bytes of what is lent: a store keeps its length, and the bytes still to come fall.
 use Prim.Native.Nat.{_≤_, _-_}
 use mathlib.Core.Path.{_≡_}
 use native.Mathlib.Omega.{arith}
 use lib.Seq.{length-take-le}
 use lib.ListN.{length, length-set}
 use borrow.Author.Needs.{needs}
-use Rattle.cases.proofs.input.list.Statement.{statement}
-use Rattle.cases.proofs.input.list.Tie as tie
+use Rattle.stream.proofs.input.bytes.Statement.{statement}
+use Rattle.stream.proofs.input.bytes.Tie as tie
 
 abbrev Inv-loop : tie.InvT-loop
-Inv-loop buffer₀ lent₀ size count place₀ i₀ buffer lent place i = (i ≤ count) × (count ≤ length lent) × (length lent ≡ length lent₀) × (length buffer ≡ length buffer₀)
+Inv-loop buffer₀ lent₀ count place₀ i₀ buffer lent place i = (i ≤ count) × (count ≤ length lent) × (length lent ≡ length lent₀) × (length buffer ≡ length buffer₀)
 
 abbrev μ-loop : tie.MeasureT-loop
-μ-loop buffer₀ lent₀ size count place₀ i₀ buffer lent place i = count - i
+μ-loop buffer₀ lent₀ count place₀ i₀ buffer lent place i = count - i
 
 word-requires : tie.Need-word-requires Inv-loop μ-loop
 word-requires c κs = search needs
@@ -29,11 +29,8 @@ returns c = search needs
 loop-holds : tie.Need-loop-holds Inv-loop μ-loop
 loop-holds c = search needs
 
-word-requires-2 : tie.Need-word-requires-2 Inv-loop μ-loop
-word-requires-2 c κs = search needs
-
-mul-lent : tie.Need-mul-lent Inv-loop μ-loop
-mul-lent c = search needs
+byte-requires : tie.Need-byte-requires Inv-loop μ-loop
+byte-requires c κs = search needs
 
 slice-write-lent : tie.Need-slice-write-lent Inv-loop μ-loop
 slice-write-lent c = search needs
@@ -56,8 +53,8 @@ same-length-3 c = search needs
 returns-2 : tie.Need-returns-2 Inv-loop μ-loop
 returns-2 c = search (needs, length-take-le)
 
-pub list-spec : {M : Type 1} → statement M
-list-spec =
+pub bytes-spec : {M : Type 1} → statement M
+bytes-spec =
     tie.close
     (tie.spec
     Inv-loop
@@ -67,8 +64,7 @@ list-spec =
     same-length
     returns
     loop-holds
-    word-requires-2
-    mul-lent
+    byte-requires
     slice-write-lent
     add-i
     loop-less

@@ -3,8 +3,8 @@ use Prim.Native.Nat.{_≤_, _-_}
 use mathlib.Core.Path.{_≡_}
 use lib.ListN.{length}
 use borrow.Author.Needs.{needs}
-use Rattle.cases.proofs.line.text.Statement.{statement}
-use Rattle.cases.proofs.line.text.Tie as tie
+use Rattle.stream.proofs.line.text.Statement.{statement}
+use Rattle.stream.proofs.line.text.Tie as tie
 
 abbrev Inv-loop : tie.InvT-loop
 Inv-loop sink₀ used bytes used₀ i₀ sink used' i = (i ≤ length bytes) × (length sink ≡ length sink₀)

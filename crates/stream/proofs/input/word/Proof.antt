@@ -2,8 +2,8 @@
 use mathlib.Core.Path.{_≡_}
 use lib.ListN.{length}
 use borrow.Author.Needs.{needs}
-use Rattle.cases.proofs.input.word.Statement.{statement}
-use Rattle.cases.proofs.input.word.Tie as tie
+use Rattle.stream.proofs.input.word.Statement.{statement}
+use Rattle.stream.proofs.input.word.Tie as tie
 
 abbrev Inv-loop : tie.InvT-loop
 Inv-loop buffer₀ width place₀ value₀ left₀ buffer place value left = length buffer ≡ length buffer₀
