@@ -3,49 +3,15 @@
 const encoding = require('/usr/share/nodejs/lib0/encoding.cjs')
 const decoding = require('/usr/share/nodejs/lib0/decoding.cjs')
 const model = require('./model.cjs')
+const { number, limited, sized, list, roomOf, LONG, SHORT, hex, begin, worked } = require('./stream.cjs')
 
 const SAFE = 2n ** 53n - 1n
-const hex = bytes => bytes.length === 0 ? '-' : Buffer.from(bytes).toString('hex')
 const same = (what, ours, theirs) => {
   if (ours !== theirs) throw new Error(`the model and lib0 part at ${what}: ${ours} against ${theirs}`)
 }
 
-// ---- the stream
-const chunks = []
-const lines = []
-const counts = new Map()
+const { add, bad, stream, output, counts, told } = begin()
 let compared = 0
-
-const number = n => {
-  const b = Buffer.alloc(8)
-  b.writeBigUInt64LE(BigInt(n))
-  return b
-}
-// What the program does not ask would end its stream.
-const asked = (what, n, most) => {
-  if (n > most) throw new Error(`${what}: ${n} is not asked`)
-}
-const limited = (what, n, most) => {
-  asked(what, BigInt(n), BigInt(most))
-  return number(n)
-}
-const sized = (bytes, most) => {
-  asked('bytes', bytes.length, most)
-  const b = Buffer.alloc(4)
-  b.writeUInt32LE(bytes.length)
-  return Buffer.concat([b, Buffer.from(bytes)])
-}
-const list = values => sized(Buffer.concat(values.map(number)), 4096 * 8)
-const roomOf = n => limited('room', n, 65536)
-const LONG = 524288
-const SHORT = 65536
-
-const add = (operation, parts, words) => {
-  chunks.push(Buffer.from([operation]), ...parts)
-  lines.push(words.join(' '))
-  counts.set(operation, (counts.get(operation) ?? 0) + 1)
-  return words.join(' ')
-}
 
 // ---- lib0's answers
 
@@ -182,19 +148,9 @@ const lib0Texts = (text, units) => {
 const writeTexts = (text, units, room) =>
   writer(12, [sized(text, SHORT), list(units), roomOf(room)], model.writeTexts(text, units.map(BigInt), BigInt(room)), () => lib0Texts(text, units))
 
-// A case worked by hand: the line is written beside it.
-const worked = (line, expected) => {
-  if (line !== expected) throw new Error(`worked by hand: ${expected}, by the model: ${line}`)
-}
-
 module.exports = {
   readUnsigned, readSigned, writeUnsigned, writeSigned, readNumbers, readDifferences, readBytes, readTexts,
   writeNumbers, writeDifferences, writeBytes, writeTexts, worked, encoded,
-  bad: bytes => {
-    chunks.push(Buffer.from(bytes))
-    lines.push('bad stream')
-  },
-  stream: () => Buffer.concat(chunks),
-  output: () => lines.join('\n') + '\n',
-  told: () => [...counts].sort(([a], [b]) => a - b).map(([o, n]) => `${o}: ${n}`).join('  ') + `  compared with lib0 ${require('/usr/share/nodejs/lib0/package.json').version}: ${compared}`
+  bad, stream, output,
+  told: () => told(counts) + `  compared with lib0 ${require('/usr/share/nodejs/lib0/package.json').version}: ${compared}`
 }

@@ -6,22 +6,15 @@ const path = require('path')
 const encoding = require('/usr/share/nodejs/lib0/encoding.cjs')
 const model = require('./model.cjs')
 const c = require('./cases.cjs')
+const { begin, many } = require('./random.cjs')
 
 const folder = process.argv[2]
 const p = (...bits) => bits.reduce((sum, k) => sum + 2n ** BigInt(k), 0n)
 const bytes = text => [...Buffer.from(text.replace(/ /g, ''), 'hex')]
 const utf8 = text => [...Buffer.from(text, 'utf8')]
 
-// ---- random numbers: xorshift, 32 bits
-let state = 0x9e3779b9
-const random = below => {
-  state ^= state << 13
-  state ^= state >>> 17
-  state ^= state << 5
-  return (state >>> 0) % below
-}
-const pick = from => from[random(from.length)]
-const many = (n, f) => Array.from({ length: n }, (_, k) => f(k))
+// ---- random numbers
+const { random, pick } = begin(0x9e3779b9)
 const wide = bits => many(3, () => BigInt(random(2 ** 31))).reduce((sum, x) => sum * p(31) + x, 0n) % p(bits)
 // A number of any length: as many bits as come up, so that short ones are as frequent as long ones.
 const anyLength = most => wide(1 + random(most))

@@ -190,27 +190,35 @@ const take = (chars, k, units) => {
   return k
 }
 
-const readTexts = (s, times) => {
+// Opens a text column: its length, bytes and UTF-8 are looked at. Gives { number } or { number: 0, draw }; a drawn text has its place in the column.
+const texts = s => {
   const length = readUnsigned(s, 0n)
-  if (length.number !== 0) return { number: length.number, values: [] }
-  if (length.next + length.value > BigInt(s.length)) return { number: 1, values: [] }
+  if (length.number !== 0) return { number: length.number }
+  if (length.next + length.value > BigInt(s.length)) return { number: 1 }
   const start = Number(length.next)
   const end = start + Number(length.value)
   const text = s.slice(start, end)
   const chars = characters(text)
-  if (chars === null) return { number: 6, values: [] }
+  if (chars === null) return { number: 6 }
   const unit = numbers(s, BigInt(end))
   const placeOf = k => k < chars.length ? chars[k][0] : text.length
   let k = 0
-  return draws(() => {
+  const draw = () => {
     const u = unit()
     if (u.number !== 0) return u
     const next = take(chars, k, u.value)
     if (next === null) return { number: 7 }
-    const value = text.slice(placeOf(k), placeOf(next))
+    const place = placeOf(k)
+    const value = text.slice(place, placeOf(next))
     k = next
-    return { number: 0, value }
-  }, times)
+    return { number: 0, value, place: start + place, units: u.value }
+  }
+  return { number: 0, draw }
+}
+
+const readTexts = (s, times) => {
+  const column = texts(s)
+  return column.number !== 0 ? { number: column.number, values: [] } : draws(column.draw, times)
 }
 
 // ---- columns, written
@@ -257,6 +265,6 @@ const writeTexts = (text, units, room) => {
 }
 
 module.exports = {
-  readUnsigned, readSigned, unsigned, signed, writeUnsigned, writeSigned, numbers, differences, bytes, draws, characters, readTexts,
+  readUnsigned, readSigned, unsigned, signed, writeUnsigned, writeSigned, numbers, differences, bytes, draws, characters, texts, readTexts,
   writeNumbers, writeDifferences, writeBytes, writeTexts
 }

@@ -41,46 +41,38 @@ fn next_run(column: &[u8], at: usize) -> Answer
     ensures { λ r. ⌜ r ≡ begun (now (column .entry)) at ⌝ }
 {
     if column.len() <= at {
-        return Answer::Bad(Refusal {
-            number: 1,
-            place: column.len(),
-        });
+        let place = column.len();
+        return Answer::Bad(Refusal { number: 1, place });
     }
     let b = column[at];
     let e = at + 1;
     if column.len() <= e {
-        return Answer::Next(
-            b,
-            Place {
-                at: e,
-                from: at,
-                last: b,
-                count: 0,
-                endless: true,
-            },
-        );
+        let run = Place {
+            at: e,
+            from: at,
+            last: b,
+            count: 0,
+            endless: true,
+        };
+        return Answer::Next(b, run);
     }
     let k = numbers::read_unsigned(column, e);
     let Read::Number(c, f) = k else {
         return Answer::Bad(numbers::why_read(k));
     };
     if numbers::MAX_COUNT < c {
-        return Answer::Bad(Refusal {
-            number: 3,
-            place: e,
-        });
+        let place = e;
+        return Answer::Bad(Refusal { number: 3, place });
     }
     let left = c as u32;
-    Answer::Next(
-        b,
-        Place {
-            at: f,
-            from: at,
-            last: b,
-            count: left,
-            endless: false,
-        },
-    )
+    let run = Place {
+        at: f,
+        from: at,
+        last: b,
+        count: left,
+        endless: false,
+    };
+    Answer::Next(b, run)
 }
 
 pub fn next(column: &[u8], place: Place) -> Answer

@@ -106,10 +106,8 @@ fn next_run(column: &[u8], at: usize, last: u32) -> Answer
         return Answer::Bad(numbers::why_signed(r));
     };
     if is_outside(minus, x) {
-        return Answer::Bad(Refusal {
-            number: 3,
-            place: at,
-        });
+        let place = at;
+        return Answer::Bad(Refusal { number: 3, place });
     }
     let key = key_read(minus, x);
     if x % 2 == 0 {
@@ -126,10 +124,8 @@ fn next_run(column: &[u8], at: usize, last: u32) -> Answer
         return Answer::Bad(numbers::why_read(k));
     };
     if numbers::MAX_COUNT < c {
-        return Answer::Bad(Refusal {
-            number: 3,
-            place: e,
-        });
+        let place = e;
+        return Answer::Bad(Refusal { number: 3, place });
     }
     let times = (c + 2) as u32;
     draw(Place {

@@ -23,6 +23,10 @@ chars-from-append st [] b = refl
 chars-from-append st (x ∷ a) b =
     ap (λ (l : List ℕ). ended (next st x) ++ l) (chars-from-append (next st x) a b) ∙ sym (append-assoc (ended (next st x)) _ _)
 
+-- so with the count: the units of the second piece are counted from the state after the first
+pub units-from-append : (st : State) (a b : List ℕ) → sum (charsFrom st (a ++ b)) ≡ sum (charsFrom st a) + sum (charsFrom (after st a) b)
+units-from-append st a b = ap sum (chars-from-append st a b) ∙ sum-append (charsFrom st a) (charsFrom (after st a) b)
+
 pub clash : false ≡ true → ⊥
 clash e = let z : _≡_ {A = ℕ} 0 1 = cc in omega arith
 

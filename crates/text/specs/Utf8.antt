@@ -7,6 +7,7 @@ use lib.Dec.{ltb, eqb}
 use Rattle.text.specs.declared.State.{State}
 use Rattle.text.specs.declared.State.the-variants.{Open, Broken}
 use Rattle.text.specs.declared.Units.{Units}
+use Rattle.text.specs.declared.Counted.{Counted}
 use Rattle.text.specs.declared.Taken.{Taken}
 use Rattle.text.specs.declared.Taken.the-variants.{Took, Refused}
 
@@ -79,6 +80,10 @@ unitsOf s = sum (chars s)
 
 abbrev pub unitsIn : List ℕ → Units
 unitsIn s = record { 0 = unitsOf s }
+
+-- a text that is checked and counted: units only where it is whole
+unfoldable pub countedIn : List ℕ → Counted
+countedIn s = record { whole = wellFormed s; units = record { 0 = pick (wellFormed s) (unitsOf s) 0 } }
 
 -- the units that a byte adds: those of the character that it ended
 unfoldable pub gain : State → ℕ

@@ -1,10 +1,9 @@
 // Text: UTF-8 bytes, the UTF-16 units that they have, and a text taken by its units.
 ghost use mathlib.Core.Path.{_≡_};
-ghost use mathlib.Core.Bool.{true};
 ghost use Prim.Native.Nat.{_≤_};
 ghost use lib.ListN.{length};
 ghost use lib.Seq.{slice};
-ghost use Rattle.text.specs.Utf8.{lead, next, after, settled, wellFormed, unitsIn, gain, takeUnits, Legal, Plain};
+ghost use Rattle.text.specs.Utf8.{lead, next, after, settled, wellFormed, countedIn, gain, takeUnits, Legal, Plain};
 
 // A length in UTF-16 units: two for a character from U+10000 up (a surrogate pair), one for any other.
 pub struct Units(pub u64);
@@ -163,10 +162,16 @@ pub fn check(s: &[u8], from: usize, to: usize) -> bool
     is_settled(st)
 }
 
-// How many units these bytes have, each character rebuilt.
-pub fn count_units(s: &[u8], from: usize, to: usize) -> Units
+// Whether these bytes are UTF-8, and then how many UTF-16 units they have.
+pub struct Counted {
+    pub whole: bool,
+    pub units: Units,
+}
+
+// Checked and counted in one pass. W-203 changes the inside only: what is promised of broken bytes is that they are broken.
+pub fn count_units(s: &[u8], from: usize, to: usize) -> Counted
     requires { ⌜ (from ≤ to) × (to ≤ length (now s)) ⌝ }
-    ensures { λ r. ⌜ r ≡ unitsIn (slice from to (now (s .entry))) ⌝ }
+    ensures { λ r. ⌜ r ≡ countedIn (slice from to (now (s .entry))) ⌝ }
 {
     let at = plain_to(s, from, to);
     let mut st = State::Open(0, 128, 191, 0);
@@ -180,16 +185,16 @@ pub fn count_units(s: &[u8], from: usize, to: usize) -> Units
         n += g;
         i += 1;
     }
-    Units(n)
-}
-
-// How many units a checked text has: the count for callers, who need not know how it is made.
-pub fn text_units(s: &[u8], from: usize, to: usize) -> Units
-    requires { ⌜ (from ≤ to) × (to ≤ length (now s)) ⌝ }
-    requires { ⌜ wellFormed (slice from to (now s)) ≡ true ⌝ }
-    ensures { λ r. ⌜ r ≡ unitsIn (slice from to (now (s .entry))) ⌝ }
-{
-    count_units(s, from, to)
+    if is_settled(st) {
+        return Counted {
+            whole: true,
+            units: Units(n),
+        };
+    }
+    Counted {
+        whole: false,
+        units: Units(0),
+    }
 }
 
 // The smaller one.

@@ -85,9 +85,12 @@ countAnswer false u = record { number = 6; units = record { 0 = 0 } }
 abbrev pub CountUnits : List ℕ → Counted → Type 0
 CountUnits t r = r ≡ countAnswer (wellFormed t) (unitsIn t)
 
+abbrev pub refusedCut : ℕ → Cut
+refusedCut why = record { number = why; bytes = record { 0 = 0 } }
+
 unfoldable pub cutAnswer : Taken → Cut
 cutAnswer (taken.Took b) = record { number = 0; bytes = b }
-cutAnswer (taken.Refused why) = record { number = why; bytes = record { 0 = 0 } }
+cutAnswer (taken.Refused why) = refusedCut why
 
 abbrev pub TakeText : List ℕ → ℕ → Units → Cut → Type 0
 TakeText t at u r = r ≡ cutAnswer (takeUnits 7 (u .0) (drop at t))

@@ -1,5 +1,5 @@
 // The public calls. None asks anything of its caller: any bytes, any place, any number is answered. An answer begins with its number in
-// document 01, 0 for done; a refusal has nothing else, and leaves zeros in what was lent.
+// document 01, 0 for done; a refusal has zeros for values and leaves zeros in what was lent, and a refused `next_..` gives back its place.
 use columns::byte;
 use columns::difference;
 use columns::number;
@@ -10,7 +10,7 @@ use text::Bytes;
 use text::Part;
 use text::Taken;
 use text::Units;
-ghost use Rattle.wairokabi.specs.Promises.{ReadUnsigned, ReadSigned, WriteUnsigned, WriteSigned, CountUnits, TakeText, CutText, OpenNumbers, NextNumber, OpenDifferences, NextDifference, OpenBytes, NextByte, OpenText, NextText, WriteNumbers, WriteDifferences, WriteBytes, WriteTexts, cutAnswer};
+ghost use Rattle.wairokabi.specs.Promises.{ReadUnsigned, ReadSigned, WriteUnsigned, WriteSigned, CountUnits, TakeText, CutText, OpenNumbers, NextNumber, OpenDifferences, NextDifference, OpenBytes, NextByte, OpenText, NextText, WriteNumbers, WriteDifferences, WriteBytes, WriteTexts, refusedCut, cutAnswer};
 ghost use mathlib.Core.Path.{_≡_};
 
 // ---- numbers
@@ -104,14 +104,15 @@ pub struct Counted {
 pub fn count_units(text: &[u8]) -> Counted
     ensures { λ r. ⌜ CountUnits (now (text .entry)) r ⌝ }
 {
-    if !text::check(text, 0, text.len()) {
-        return Counted {
-            number: 6,
-            units: Units(0),
-        };
+    let c = text::count_units(text, 0, text.len());
+    let units = c.units;
+    if c.whole {
+        return Counted { number: 0, units };
     }
-    let units = text::text_units(text, 0, text.len());
-    Counted { number: 0, units }
+    Counted {
+        number: 6,
+        units: Units(0),
+    }
 }
 
 pub struct Cut {
@@ -119,15 +120,21 @@ pub struct Cut {
     pub bytes: Bytes,
 }
 
+fn refused_cut(number: u8) -> Cut
+    ensures { λ r. ⌜ r ≡ refusedCut number ⌝ }
+{
+    Cut {
+        number,
+        bytes: Bytes(0),
+    }
+}
+
 fn cut_of(t: Taken) -> Cut
     ensures { λ r. ⌜ r ≡ cutAnswer t ⌝ }
 {
     match t {
         Taken::Took(bytes) => Cut { number: 0, bytes },
-        Taken::Refused(number) => Cut {
-            number,
-            bytes: Bytes(0),
-        },
+        Taken::Refused(number) => refused_cut(number),
     }
 }
 
@@ -141,17 +148,26 @@ pub fn take_text(text: &[u8], at: usize, units: Units) -> Cut
     cut_of(text::take_units(text, at, text.len(), units, 7))
 }
 
-// Where a text is cut after so many units; 6 where it is not UTF-8, 7 where they run past it, 9 where they end in a pair.
+// Where a text is cut after so many units; 6 where it is not UTF-8, 7 where they run past it, 9 where they end in a pair. What was taken is
+// UTF-8, so only what follows it is checked.
 pub fn cut_text(text: &[u8], units: Units) -> Cut
     ensures { λ r. ⌜ CutText (now (text .entry)) units r ⌝ }
 {
-    if !text::check(text, 0, text.len()) {
-        return Cut {
-            number: 6,
-            bytes: Bytes(0),
-        };
+    match text::take_units(text, 0, text.len(), units, 9) {
+        Taken::Took(bytes) => {
+            let from = bytes.0;
+            if !text::check(text, from, text.len()) {
+                return refused_cut(6);
+            }
+            Cut { number: 0, bytes }
+        }
+        Taken::Refused(number) => {
+            if !text::check(text, 0, text.len()) {
+                return refused_cut(6);
+            }
+            refused_cut(number)
+        }
     }
-    cut_of(text::take_units(text, 0, text.len(), units, 9))
 }
 
 // ---- columns, read: a place by value, and the place after; a refused read gives back the place it was given

@@ -1,5 +1,5 @@
 -- `cut_of` meets its contract, by the cases of what was taken.
-use mathlib.Core.Path.{sym, ap}
+use mathlib.Core.Path.{sym, ap, _∙_}
 use Rattle.wairokabi.specs.Promises.{cutAnswer}
 use borrow.Author.Needs.{needs}
 use Rattle.wairokabi.proofs.cut_of.Statement.{statement}
@@ -11,13 +11,17 @@ enum-known-t c = search needs
 enum-known-t-2 : tie.Need-enum-known-t-2
 enum-known-t-2 c = search needs
 
+refused-cut-requires : tie.Need-refused-cut-requires
+refused-cut-requires c κs = search needs
+
 returns : tie.Need-returns
 unfolding cutAnswer
 returns c = sym (ap cutAnswer (c .before .t .given .1))
 
 returns-2 : tie.Need-returns-2
 unfolding cutAnswer
-returns-2 c = sym (ap cutAnswer (c .before .t2 .given .1))
+returns-2 c = c .refused-cut .ensures ∙ sym (ap cutAnswer (c .before .before .t2 .given .1))
 
 pub cut-of-spec : {M : Type 1} → statement M
-cut-of-spec = tie.close (tie.spec enum-known-t enum-known-t-2 returns returns-2)
+cut-of-spec =
+    tie.close (tie.spec enum-known-t enum-known-t-2 refused-cut-requires returns returns-2)

@@ -1,38 +1,94 @@
--- `cut_text` meets its contract: the check, then the cut.
+-- `cut_text` meets its contract: what was taken is UTF-8, so what follows it is exactly if the whole is.
+use native.Mathlib.Omega.{arith}
 use mathlib.Core.Path.{_≡_, sym, ap, _∙_}
 use mathlib.Core.Bool.{true, false}
 use borrow.Author.Tests.{not-true, not-false}
+use Rattle.text.specs.declared.Taken.the-variants as taken
 use Rattle.text.specs.Utf8.{wellFormed, takeUnits}
+use Rattle.text.proofs.Cutting.{Cut, cut}
 use Rattle.wairokabi.specs.Promises.{cutAnswer}
-use Rattle.wairokabi.proofs.Laws.{slice-whole}
+use Rattle.wairokabi.proofs.Laws.{slice-whole, slice-from}
 use borrow.Author.Needs.{needs}
 use Rattle.wairokabi.proofs.cut_text.Statement.{statement}
 use Rattle.wairokabi.proofs.cut_text.Tie as tie
 
+take-units-requires : tie.Need-take-units-requires
+take-units-requires c κs = search needs
+
+enum-known-bytes : tie.Need-enum-known-bytes
+enum-known-bytes c = search needs
+
+-- what was taken is of the whole text, and a cut of it
+taken-here : (c : tie.After-bytes) → takeUnits 9 (c .before .before .before .before .args .units .0) (c .before .before .before .before .args .text .now) ≡ taken.Took (c .bytes .given .0 .0)
+taken-here c = ap (takeUnits 9 _) (sym (slice-whole (c .before .before .before .before .args .text .now))) ∙ sym (c .before .before .take-units .ensures) ∙ c .bytes .given .1
+
+took-here : (c : tie.After-bytes) → Cut (c .before .before .before .before .args .text .now) (c .before .before .before .before .args .units .0) (c .bytes .given .0 .0 .0)
+took-here c = cut 9 (c .before .before .before .before .args .units .0) (c .bytes .given .0 .0 .0) (c .before .before .before .before .args .text .now) (taken-here c)
+
 check-requires : tie.Need-check-requires
-check-requires c κs = search needs
+check-requires c κs = (took-here (c .before) .within, omega arith)
+
+refused-cut-requires : tie.Need-refused-cut-requires
+refused-cut-requires c κs = search needs
 
 returns : tie.Need-returns
 unfolding cutAnswer
 returns c =
-    let k = c .before .check in
-    let t = c .before .before .before .args .text .now in
-    let e : wellFormed t ≡ false = ap wellFormed (sym (slice-whole t)) ∙ sym (k .ensures) ∙ not-true (k .result) (c .if1 .taken) in
-    rw e
+    let t = c .before .before .before .before .before .before .before .before .args .text .now in
+    let k = c .before .before .check in
+    let w : wellFormed t ≡ false = sym (took-here (c .before .before .before .before) .back) ∙ ap wellFormed (sym (slice-from t (c .before .before .before .before .bytes .given .0 .0 .0))) ∙ sym (k .ensures) ∙ not-true (k .result) (c .before .if1 .taken) in
+    rw w (c .refused-cut .ensures)
 
-take-units-requires : tie.Need-take-units-requires
-take-units-requires c κs = search needs
+enum-known-number : tie.Need-enum-known-number
+enum-known-number c = search needs
 
-cut-of-requires : tie.Need-cut-of-requires
-cut-of-requires c κs = search needs
+check-requires-2 : tie.Need-check-requires-2
+check-requires-2 c κs = search needs
+
+refused-cut-requires-2 : tie.Need-refused-cut-requires-2
+refused-cut-requires-2 c κs = search needs
 
 returns-2 : tie.Need-returns-2
+unfolding cutAnswer
 returns-2 c =
-    let k = c .before .before .before .check in
-    let t = c .before .before .before .before .before .args .text .now in
-    let e : wellFormed t ≡ true = ap wellFormed (sym (slice-whole t)) ∙ sym (k .ensures) ∙ not-false (k .result) (c .before .before .if1 .left) in
-    rw e (c .cut-of .ensures ∙ ap cutAnswer (c .before .take-units .ensures ∙ ap (takeUnits 9 _) (slice-whole t)))
+    let t = c .before .before .before .before .before .before .before .before .args .text .now in
+    let k = c .before .before .check2 in
+    let w : wellFormed t ≡ false = ap wellFormed (sym (slice-whole t)) ∙ sym (k .ensures) ∙ not-true (k .result) (c .before .if2 .taken) in
+    rw w (c .refused-cut2 .ensures)
+
+refused-cut-requires-3 : tie.Need-refused-cut-requires-3
+refused-cut-requires-3 c κs = search needs
+
+returns-3 : tie.Need-returns-3
+unfolding cutAnswer
+returns-3 c =
+    let t = c .before .before .before .before .before .before .before .args .text .now in
+    let k = c .before .check in
+    let w : wellFormed t ≡ true = sym (took-here (c .before .before .before) .back) ∙ ap wellFormed (sym (slice-from t (c .before .before .before .bytes .given .0 .0 .0))) ∙ sym (k .ensures) ∙ not-false (k .result) (c .if1 .left) in
+    rw (w, taken-here (c .before .before .before))
+
+returns-4 : tie.Need-returns-4
+unfolding cutAnswer
+returns-4 c =
+    let t = c .before .before .before .before .before .before .before .before .args .text .now in
+    let k = c .before .before .check2 in
+    let w : wellFormed t ≡ true = ap wellFormed (sym (slice-whole t)) ∙ sym (k .ensures) ∙ not-false (k .result) (c .before .if2 .left) in
+    let e : takeUnits 9 _ t ≡ taken.Refused _ = ap (takeUnits 9 _) (sym (slice-whole t)) ∙ sym (c .before .before .before .before .before .before .take-units .ensures) ∙ c .before .before .before .before .number .given .1 in
+    rw (w, e) (c .refused-cut3 .ensures)
 
 pub cut-text-spec : {M : Type 1} → statement M
 cut-text-spec =
-    tie.close (tie.spec check-requires returns take-units-requires cut-of-requires returns-2)
+    tie.close
+    (tie.spec
+    take-units-requires
+    enum-known-bytes
+    check-requires
+    refused-cut-requires
+    returns
+    enum-known-number
+    check-requires-2
+    refused-cut-requires-2
+    returns-2
+    refused-cut-requires-3
+    returns-3
+    returns-4)

@@ -1,0 +1,62 @@
+// A stream of the case program, and the lines that it is expected to print, as they grow.
+'use strict'
+
+const number = n => {
+  const b = Buffer.alloc(8)
+  b.writeBigUInt64LE(BigInt(n))
+  return b
+}
+// What the program does not ask would end its stream.
+const asked = (what, n, most) => {
+  if (n > most) throw new Error(`${what}: ${n} is not asked`)
+}
+const limited = (what, n, most) => {
+  asked(what, BigInt(n), BigInt(most))
+  return number(n)
+}
+const sized = (bytes, most) => {
+  asked('bytes', bytes.length, most)
+  const b = Buffer.alloc(4)
+  b.writeUInt32LE(bytes.length)
+  return Buffer.concat([b, Buffer.from(bytes)])
+}
+const list = values => sized(Buffer.concat(values.map(number)), 4096 * 8)
+const roomOf = n => limited('room', n, 65536)
+const LONG = 524288
+const SHORT = 65536
+
+const hex = bytes => bytes.length === 0 ? '-' : Buffer.from(bytes).toString('hex')
+
+// `add` gives the expected line back. `counts` has how many cases an operation has, `refused` how many lines begin with a number.
+const begin = () => {
+  const chunks = []
+  const lines = []
+  const counts = new Map()
+  const refused = new Map()
+  const grow = (map, key) => map.set(key, (map.get(key) ?? 0) + 1)
+  return {
+    add: (operation, parts, words) => {
+      chunks.push(Buffer.from([operation]), ...parts)
+      lines.push(words.join(' '))
+      grow(counts, operation)
+      grow(refused, words[0])
+      return words.join(' ')
+    },
+    bad: bytes => {
+      chunks.push(Buffer.from(bytes))
+      lines.push('bad stream')
+    },
+    stream: () => Buffer.concat(chunks),
+    output: () => lines.join('\n') + '\n',
+    counts,
+    refused,
+    told: map => [...map].sort(([a], [b]) => a - b).map(([o, n]) => `${o}: ${n}`).join('  ')
+  }
+}
+
+// A case worked by hand: the line is written beside it.
+const worked = (line, expected) => {
+  if (line !== expected) throw new Error(`worked by hand: ${expected}, by the model: ${line}`)
+}
+
+module.exports = { number, limited, sized, list, roomOf, LONG, SHORT, hex, begin, worked }
