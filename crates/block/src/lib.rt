@@ -1,0 +1,75 @@
+// A row of the block table: one block of an update, in plain data.
+ghost use mathlib.Core.Path.{_≡_};
+ghost use Rattle.block.specs.Row.{noBlock};
+use text::Bytes;
+use text::Part;
+use text::Units;
+
+// What a row's `kind` says; 0 says that the row has no block.
+pub const GC: u8 = 1;
+
+pub const SKIP: u8 = 2;
+
+pub const DELETED: u8 = 3;
+
+pub const BINARY: u8 = 4;
+
+pub const TEXT: u8 = 5;
+
+#[repr(C)]
+pub struct Id {
+    pub client: u64,
+    pub clock: u32,
+}
+
+// `has_left` says whether `left` is there, and so on; what is not there is zero.
+#[repr(C)]
+pub struct Block {
+    pub client: u64,
+    pub clock: u32,
+    pub length: Units,
+    pub kind: u8,
+    pub has_left: bool,
+    pub left: Id,
+    pub has_right: bool,
+    pub right: Id,
+    pub has_parent: bool,
+    pub parent: Id,
+    pub has_name: bool,
+    pub name: Part,
+    pub has_key: bool,
+    pub key: Part,
+    // the stored part of a binary or a text
+    pub part: Part,
+}
+
+// The row that has no block: all zero.
+pub fn none() -> Block
+    ensures { λ r. ⌜ r ≡ noBlock ⌝ }
+{
+    let id = Id {
+        client: 0,
+        clock: 0,
+    };
+    let part = Part {
+        place: 0,
+        bytes: Bytes(0),
+    };
+    Block {
+        client: 0,
+        clock: 0,
+        length: Units(0),
+        kind: 0,
+        has_left: false,
+        left: id,
+        has_right: false,
+        right: id,
+        has_parent: false,
+        parent: id,
+        has_name: false,
+        name: part,
+        has_key: false,
+        key: part,
+        part,
+    }
+}

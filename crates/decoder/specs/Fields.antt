@@ -1,0 +1,155 @@
+-- The fields of an update: each draw gives a value, the place that it is blamed at, and the state after it. Form 1 has everything in line;
+-- form 2 draws clients, clocks, infos, parent infos, texts and lengths from columns, each a prefix of the update.
+use Prim.Native.Nat.{ℕ, _+_, _-_}
+use mathlib.Core.List.{List}
+use lib.Dec.{ltb, leb}
+use lib.ListN.{length, getD, take}
+use lib.Seq.{slice}
+use Rattle.numbers.specs.declared.Refusal.{Refusal}
+use Rattle.numbers.specs.declared.Read.{Read}
+use Rattle.numbers.specs.declared.Read.the-variants as read
+use Rattle.numbers.specs.Number.{pick, none, readUnsigned}
+use Rattle.numbers.specs.Limits.{maxValue, maxClock}
+use Rattle.text.specs.Utf8.{wellFormed}
+use Rattle.columns.specs.declared.number.Answer as number-answer
+use Rattle.columns.specs.declared.number.Answer.the-variants as number
+use Rattle.columns.specs.declared.difference.Answer as difference-answer
+use Rattle.columns.specs.declared.difference.Answer.the-variants as difference
+use Rattle.columns.specs.declared.byte.Answer as byte-answer
+use Rattle.columns.specs.declared.byte.Answer.the-variants as byte
+use Rattle.columns.specs.declared.string.Answer as string-answer
+use Rattle.columns.specs.declared.string.Answer.the-variants as string
+use Rattle.columns.specs.Number.{nextNumber}
+use Rattle.columns.specs.Difference.{nextDifference}
+use Rattle.columns.specs.Byte.{nextByte}
+use Rattle.columns.specs.String.{nextText}
+use Rattle.decoder.specs.declared.State.{State}
+use Rattle.decoder.specs.declared.Draw.{Draw}
+use Rattle.decoder.specs.declared.Draw.the-variants.{Number, Refused}
+use Rattle.decoder.specs.declared.Ident.{Ident}
+use Rattle.decoder.specs.declared.Ident.the-variants as ident
+use Rattle.decoder.specs.declared.Text.{Text}
+use Rattle.decoder.specs.declared.Text.the-variants as text
+
+abbrev pub whyDraw : Draw → Refusal
+whyDraw (Number v p s) = none
+whyDraw (Refused why) = why
+
+-- a number over its limit is 3, where it stands
+unfoldable pub bounded : ℕ → Draw → Draw
+bounded most (Number v p s) = pick (ltb most v) (Refused (record { number = 3; place = p })) (Number v p s)
+bounded most (Refused why) = Refused why
+
+-- ---- in line
+
+abbrev pub movedTo : State → ℕ → State
+movedTo s e = record { form = s .form; at = e; key = s .key; client = s .client; left = s .left; right = s .right; info = s .info; text = s .text; parent = s .parent; types = s .types; len = s .len }
+
+unfoldable pub varDraw : State → Read → Draw
+varDraw s (read.Number v e) = Number v (s .at) (movedTo s e)
+varDraw s (read.Refused why) = Refused why
+
+unfoldable pub varAt : List ℕ → State → Draw
+varAt u s = varDraw s (readUnsigned u (s .at))
+
+unfoldable pub byteAt : List ℕ → State → Draw
+byteAt u s = pick (leb (length u) (s .at)) (Refused (record { number = 1; place = length u })) (Number (getD u (s .at) 0) (s .at) (movedTo s (s .at + 1)))
+
+unfoldable pub clockAt : List ℕ → State → Draw
+clockAt u s = bounded maxClock (varAt u s)
+
+-- a length, and so many bytes
+unfoldable pub bytesAfter : List ℕ → Draw → Text
+bytesAfter u (Number n p s) =
+    pick (ltb (length u - s .at) n) (text.Refused (record { number = 1; place = length u }))
+    (text.Part (record { place = s .at; bytes = record { 0 = n } }) (movedTo s (s .at + n)))
+bytesAfter u (Refused why) = text.Refused why
+
+unfoldable pub bufAt : List ℕ → State → Text
+bufAt u s = bytesAfter u (varAt u s)
+
+-- ---- form 1
+
+unfoldable pub client1 : List ℕ → State → Draw
+client1 u s = bounded maxValue (varAt u s)
+
+-- an id: client, then clock
+unfoldable pub idOf : ℕ → Draw → Ident
+idOf client (Number clock p s) = ident.Id (record { client = client; clock = clock }) s
+idOf client (Refused why) = ident.Refused why
+
+unfoldable pub idDraw : Draw → (State → Draw) → Ident
+idDraw (Number client p s) clock = idOf client (clock s)
+idDraw (Refused why) clock = ident.Refused why
+
+unfoldable pub id1 : List ℕ → State → Ident
+id1 u s = idDraw (client1 u s) (clockAt u)
+
+-- the bytes of a text are UTF-8
+unfoldable pub checkedText : List ℕ → Text → Text
+checkedText u (text.Part p s) =
+    pick (wellFormed (slice (p .place) (p .place + p .bytes .0) u)) (text.Part p s) (text.Refused (record { number = 6; place = p .place }))
+checkedText u (text.Refused why) = text.Refused why
+
+unfoldable pub text1 : List ℕ → State → Text
+text1 u s = checkedText u (bufAt u s)
+
+-- ---- form 2: the column's next value, blamed at its run's first byte
+
+unfoldable pub clientDrawn : State → number-answer.Answer → Draw
+clientDrawn s (number.Next v c) = Number v (c .from) (record { form = s .form; at = s .at; key = s .key; client = record { place = c; to = s .client .to }; left = s .left; right = s .right; info = s .info; text = s .text; parent = s .parent; types = s .types; len = s .len })
+clientDrawn s (number.Bad why) = Refused why
+
+unfoldable pub client2 : List ℕ → State → Draw
+client2 u s = clientDrawn s (nextNumber (take (s .client .to) u) (s .client .place))
+
+unfoldable pub leftDrawn : State → difference-answer.Answer → Draw
+leftDrawn s (difference.Next v c) = Number v (c .from) (record { form = s .form; at = s .at; key = s .key; client = s .client; left = record { place = c; to = s .left .to }; right = s .right; info = s .info; text = s .text; parent = s .parent; types = s .types; len = s .len })
+leftDrawn s (difference.Bad why) = Refused why
+
+unfoldable pub leftClock : List ℕ → State → Draw
+leftClock u s = leftDrawn s (nextDifference (take (s .left .to) u) (s .left .place))
+
+unfoldable pub rightDrawn : State → difference-answer.Answer → Draw
+rightDrawn s (difference.Next v c) = Number v (c .from) (record { form = s .form; at = s .at; key = s .key; client = s .client; left = s .left; right = record { place = c; to = s .right .to }; info = s .info; text = s .text; parent = s .parent; types = s .types; len = s .len })
+rightDrawn s (difference.Bad why) = Refused why
+
+unfoldable pub rightClock : List ℕ → State → Draw
+rightClock u s = rightDrawn s (nextDifference (take (s .right .to) u) (s .right .place))
+
+unfoldable pub leftId : List ℕ → State → Ident
+leftId u s = idDraw (client2 u s) (leftClock u)
+
+unfoldable pub rightId : List ℕ → State → Ident
+rightId u s = idDraw (client2 u s) (rightClock u)
+
+unfoldable pub infoDrawn : State → byte-answer.Answer → Draw
+infoDrawn s (byte.Next v c) = Number v (c .from) (record { form = s .form; at = s .at; key = s .key; client = s .client; left = s .left; right = s .right; info = record { place = c; to = s .info .to }; text = s .text; parent = s .parent; types = s .types; len = s .len })
+infoDrawn s (byte.Bad why) = Refused why
+
+unfoldable pub infoDraw : List ℕ → State → Draw
+infoDraw u s = infoDrawn s (nextByte (take (s .info .to) u) (s .info .place))
+
+unfoldable pub parentDrawn : State → byte-answer.Answer → Draw
+parentDrawn s (byte.Next v c) = Number v (c .from) (record { form = s .form; at = s .at; key = s .key; client = s .client; left = s .left; right = s .right; info = s .info; text = s .text; parent = record { place = c; to = s .parent .to }; types = s .types; len = s .len })
+parentDrawn s (byte.Bad why) = Refused why
+
+unfoldable pub parentDraw : List ℕ → State → Draw
+parentDraw u s = parentDrawn s (nextByte (take (s .parent .to) u) (s .parent .place))
+
+unfoldable pub lenDrawn : State → number-answer.Answer → Draw
+lenDrawn s (number.Next v c) = Number v (c .from) (record { form = s .form; at = s .at; key = s .key; client = s .client; left = s .left; right = s .right; info = s .info; text = s .text; parent = s .parent; types = s .types; len = record { place = c; to = s .len .to } })
+lenDrawn s (number.Bad why) = Refused why
+
+unfoldable pub lenColumn : List ℕ → State → Draw
+lenColumn u s = lenDrawn s (nextNumber (take (s .len .to) u) (s .len .place))
+
+unfoldable pub len2 : List ℕ → State → Draw
+len2 u s = bounded maxClock (lenColumn u s)
+
+unfoldable pub textDrawn : State → string-answer.Answer → Text
+textDrawn s (string.Next p c) = text.Part p (record { form = s .form; at = s .at; key = s .key; client = s .client; left = s .left; right = s .right; info = s .info; text = record { place = c; to = s .text .to }; parent = s .parent; types = s .types; len = s .len })
+textDrawn s (string.Bad why) = text.Refused why
+
+unfoldable pub text2 : List ℕ → State → Text
+text2 u s = textDrawn s (nextText (take (s .text .to) u) (s .text .place))

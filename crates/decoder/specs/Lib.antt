@@ -1,0 +1,2 @@
+-- What the fields of an update are in either form.
+pub mod Fields

@@ -1,0 +1,73 @@
+// Form 1: everything in line.
+use crate::Draw;
+use crate::Ident;
+use crate::State;
+use crate::Text;
+use block::Id;
+use numbers::Refusal;
+ghost use mathlib.Core.Path.{_≡_};
+ghost use Rattle.decoder.specs.Fields.{byteAt, clockAt, client1, id1, text1, checkedText};
+
+pub fn read_client(update: &[u8], s: State) -> Draw
+    ensures { λ r. ⌜ r ≡ client1 (now (update .entry)) s ⌝ }
+{
+    crate::within(crate::read_var(update, s), numbers::MAX_VALUE)
+}
+
+// A left id and a right id are spelled alike: client, then clock.
+pub fn read_id(update: &[u8], s: State) -> Ident
+    ensures { λ r. ⌜ r ≡ id1 (now (update .entry)) s ⌝ }
+{
+    let c = read_client(update, s);
+    let Draw::Number(client, _, t) = c else {
+        return Ident::Refused(crate::why(c));
+    };
+    let k = crate::read_clock(update, t);
+    let Draw::Number(clock, _, e) = k else {
+        return Ident::Refused(crate::why(k));
+    };
+    let short = clock as u32;
+    let id = Id {
+        client,
+        clock: short,
+    };
+    Ident::Id(id, e)
+}
+
+pub fn read_info(update: &[u8], s: State) -> Draw
+    ensures { λ r. ⌜ r ≡ byteAt (now (update .entry)) s ⌝ }
+{
+    crate::read_u8(update, s)
+}
+
+pub fn read_parent_info(update: &[u8], s: State) -> Draw
+    ensures { λ r. ⌜ r ≡ clockAt (now (update .entry)) s ⌝ }
+{
+    crate::read_clock(update, s)
+}
+
+pub fn read_len(update: &[u8], s: State) -> Draw
+    ensures { λ r. ⌜ r ≡ clockAt (now (update .entry)) s ⌝ }
+{
+    crate::read_clock(update, s)
+}
+
+// A text: its byte length, its bytes, and their UTF-8.
+pub fn read_string(update: &[u8], s: State) -> Text
+    ensures { λ r. ⌜ r ≡ text1 (now (update .entry)) s ⌝ }
+{
+    let b = crate::read_buf(update, s);
+    let Text::Part(part, e) = b else {
+        return b;
+    };
+    let at = part.place;
+    let size = part.bytes.0;
+    let end = at + size;
+    if !text::check(update, at, end) {
+        return Text::Refused(Refusal {
+            number: 6,
+            place: at,
+        });
+    }
+    Text::Part(part, e)
+}

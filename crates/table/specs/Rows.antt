@@ -1,0 +1,9 @@
+-- A table whose rows from one on have no block.
+use Prim.Native.Nat.{ℕ, _-_}
+use mathlib.Core.List.{List, _++_}
+use lib.ListN.{length, replicate, take}
+use Rattle.block.specs.declared.Block.{Block}
+use Rattle.block.specs.Row.{noBlock}
+
+unfoldable pub clearedFrom : ℕ → List Block → List Block
+clearedFrom from rows = take from rows ++ replicate (length rows - from) noBlock
