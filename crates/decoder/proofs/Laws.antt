@@ -1,6 +1,6 @@
 -- What a draw that gives a value says: a number in line ends within the bytes, and a clock is within its limit.
-use Prim.Native.Nat.{ℕ, _+_, _-_, _%_, _≤_}
-use mathlib.Core.Path.{_≡_, refl, ap}
+use Prim.Native.Nat.{ℕ, zero, suc, _+_, _-_, _%_, _≤_, _<_}
+use mathlib.Core.Path.{_≡_, refl, ap, _∙_}
 use mathlib.Core.Bool.{Bool, true, false}
 use mathlib.Core.List.{List}
 use native.Mathlib.Omega.{arith}
@@ -22,9 +22,11 @@ use Rattle.columns.proofs.Texts.{read-ends}
 use Rattle.decoder.specs.declared.State.{State}
 use Rattle.decoder.specs.declared.Draw.{Draw}
 use Rattle.decoder.specs.declared.Draw.the-variants.{Number, Refused}
+use Rattle.numbers.specs.declared.Refusal.{Refusal}
+use Rattle.decoder.specs.declared.v2.Opened.the-variants as opened
 use Rattle.decoder.specs.declared.Text.{Text}
 use Rattle.decoder.specs.declared.Text.the-variants as text
-use Rattle.decoder.specs.Fields.{bounded, varDraw, varAt, clockAt, bytesAfter, bufAt, leftDrawn, leftClock, rightDrawn, rightClock}
+use Rattle.decoder.specs.Fields.{bounded, varDraw, varAt, clockAt, bytesAfter, bufAt, leftDrawn, leftClock, rightDrawn, rightClock, onPart, cutFrom, putColumn}
 
 clash : {A : Type 0} {v p : ℕ} {t : State} (why : _) → Refused why ≡ Number v p t → A
 clash why e = absurd (let z : _≡_ {A = ℕ} 0 1 = cc in omega arith)
@@ -123,3 +125,36 @@ buf-ends u s p t e = go (varAt u s) refl e
     go : (d : Draw) → varAt u s ≡ d → bytesAfter u d ≡ text.Part p t → p .place + p .bytes .0 ≤ length u
     go (Number n q x) r e = fits n q x (var-ends u s n q x r) (ltb (length u - x .at) n) refl e
     go (Refused why) r e = absurd (let z : _≡_ {A = ℕ} 0 1 = cc in omega arith)
+
+-- ---- cutting the nine columns
+
+-- all are cut
+pub cut-none : (n : ℕ) (u : List ℕ) (s : State) → n ≡ 0 → cutFrom n u s ≡ opened.At s
+unfolding cutFrom
+cut-none n u s e = rw e
+
+pub cut-refused : (n : ℕ) (u : List ℕ) (s : State) (why : Refusal) → 0 < n → bufAt u s ≡ text.Refused why → cutFrom n u s ≡ opened.Refused why
+unfolding cutFrom onPart
+cut-refused zero u s why h e = absurd (omega arith)
+cut-refused (suc n) u s why h e = rw e
+
+cut-step : (u : List ℕ) (s : State) (n : ℕ) (p : Part) (t : State) → bufAt u s ≡ text.Part p t → cutFrom (suc n) u s ≡ cutFrom n u (putColumn (9 - suc n) (p .place) (t .at) t)
+unfolding cutFrom onPart
+cut-step u s n p t e = rw e
+
+-- one more, the k-th
+pub cut-more : (u : List ℕ) (s : State) (k : ℕ) (p : Part) (t : State) → k < 9 → bufAt u s ≡ text.Part p t
+    → cutFrom (9 - k) u s ≡ cutFrom (9 - (k + 1)) u (putColumn k (p .place) (t .at) t)
+cut-more u s k p t h e = ap (λ (n : ℕ). cutFrom n u s) more ∙ go
+  where
+    more : 9 - k ≡ suc (9 - (k + 1))
+    more = omega arith
+
+    back : 9 - suc (9 - (k + 1)) ≡ k
+    back = omega arith
+
+    go : cutFrom (suc (9 - (k + 1))) u s ≡ cutFrom (9 - (k + 1)) u (putColumn k (p .place) (t .at) t)
+    go = step (9 - (k + 1)) ∙ ap (λ (j : ℕ). cutFrom (9 - (k + 1)) u (putColumn j (p .place) (t .at) t)) back
+      where
+        step : (n : ℕ) → cutFrom (suc n) u s ≡ cutFrom n u (putColumn (9 - suc n) (p .place) (t .at) t)
+        step n = cut-step u s n p t e

@@ -1,8 +1,9 @@
 -- The fields of an update: each draw gives a value, the place that it is blamed at, and the state after it. Form 1 has everything in line;
 -- form 2 draws clients, clocks, infos, parent infos, texts and lengths from columns, each a prefix of the update.
-use Prim.Native.Nat.{ℕ, _+_, _-_}
+use Prim.Native.Nat.{ℕ, zero, suc, _+_, _-_}
 use mathlib.Core.List.{List}
-use lib.Dec.{ltb, leb}
+use mathlib.Core.Bool.{Bool, true}
+use lib.Dec.{ltb, leb, eqb}
 use lib.ListN.{length, getD, take}
 use lib.Seq.{slice}
 use Rattle.numbers.specs.declared.Refusal.{Refusal}
@@ -10,6 +11,7 @@ use Rattle.numbers.specs.declared.Read.{Read}
 use Rattle.numbers.specs.declared.Read.the-variants as read
 use Rattle.numbers.specs.Number.{pick, none, readUnsigned}
 use Rattle.numbers.specs.Limits.{maxValue, maxClock}
+use Rattle.text.specs.declared.Part as part
 use Rattle.text.specs.Utf8.{wellFormed}
 use Rattle.columns.specs.declared.number.Answer as number-answer
 use Rattle.columns.specs.declared.number.Answer.the-variants as number
@@ -19,15 +21,27 @@ use Rattle.columns.specs.declared.byte.Answer as byte-answer
 use Rattle.columns.specs.declared.byte.Answer.the-variants as byte
 use Rattle.columns.specs.declared.string.Answer as string-answer
 use Rattle.columns.specs.declared.string.Answer.the-variants as string
+use Rattle.columns.specs.Number as numbers
+use Rattle.columns.specs.Difference as differences
+use Rattle.columns.specs.Byte as bytes
+use Rattle.columns.specs.String as strings
+use Rattle.columns.specs.declared.string.Opened as string-opened
+use Rattle.columns.specs.declared.string.Opened.the-variants as strings-opened
 use Rattle.columns.specs.Number.{nextNumber}
 use Rattle.columns.specs.Difference.{nextDifference}
 use Rattle.columns.specs.Byte.{nextByte}
-use Rattle.columns.specs.String.{nextText}
+use Rattle.columns.specs.String.{openText, nextText}
+use Rattle.decoder.specs.declared.Numbers.{Numbers}
+use Rattle.decoder.specs.declared.Differences.{Differences}
+use Rattle.decoder.specs.declared.Bytes.{Bytes}
+use Rattle.decoder.specs.declared.Texts.{Texts}
 use Rattle.decoder.specs.declared.State.{State}
 use Rattle.decoder.specs.declared.Draw.{Draw}
 use Rattle.decoder.specs.declared.Draw.the-variants.{Number, Refused}
 use Rattle.decoder.specs.declared.Ident.{Ident}
 use Rattle.decoder.specs.declared.Ident.the-variants as ident
+use Rattle.decoder.specs.declared.v2.Opened.{Opened}
+use Rattle.decoder.specs.declared.v2.Opened.the-variants as opened
 use Rattle.decoder.specs.declared.Text.{Text}
 use Rattle.decoder.specs.declared.Text.the-variants as text
 
@@ -153,3 +167,85 @@ textDrawn s (string.Bad why) = text.Refused why
 
 unfoldable pub text2 : List ℕ → State → Text
 text2 u s = textDrawn s (nextText (take (s .text .to) u) (s .text .place))
+
+-- a delete range's clock and length, restored, are clocks; blamed where the number stands
+unfoldable pub restoredBy : ℕ → Draw → Draw
+restoredBy by (Number v p s) = pick (ltb maxClock (by + v)) (Refused (record { number = 3; place = p })) (Number (by + v) p s)
+restoredBy by (Refused why) = Refused why
+
+unfoldable pub dsClock : List ℕ → State → ℕ → Draw
+dsClock u s end = restoredBy end (varAt u s)
+
+unfoldable pub dsLen : List ℕ → State → Draw
+dsLen u s = restoredBy 1 (varAt u s)
+
+-- ---- opening form 2
+
+abbrev pub whyText : Text → Refusal
+whyText (text.Part p s) = none
+whyText (text.Refused why) = why
+
+abbrev pub textFrom : ℕ → ℕ → Texts
+textFrom at to = record { place = strings.placeAt at at (numbers.startAt at); to = to }
+
+-- before anything is read
+abbrev pub startAt : ℕ → ℕ → State
+startAt form at =
+    let n : Numbers = record { place = numbers.startAt 0; to = 0 } in
+    let d : Differences = record { place = differences.startAt 0; to = 0 } in
+    let b : Bytes = record { place = bytes.startAt 0; to = 0 } in
+    record { form = form; at = at; key = d; client = n; left = d; right = d; info = b; text = textFrom 0 0; parent = b; types = n; len = n }
+
+unfoldable pub putDifferences : ℕ → Differences → State → State
+putDifferences k c s = pick (eqb k 0) (record { form = s .form; at = s .at; key = c; client = s .client; left = s .left; right = s .right; info = s .info; text = s .text; parent = s .parent; types = s .types; len = s .len }) (pick (eqb k 2) (record { form = s .form; at = s .at; key = s .key; client = s .client; left = c; right = s .right; info = s .info; text = s .text; parent = s .parent; types = s .types; len = s .len }) (record { form = s .form; at = s .at; key = s .key; client = s .client; left = s .left; right = c; info = s .info; text = s .text; parent = s .parent; types = s .types; len = s .len }))
+
+unfoldable pub putNumbers : ℕ → Numbers → State → State
+putNumbers k c s = pick (eqb k 1) (record { form = s .form; at = s .at; key = s .key; client = c; left = s .left; right = s .right; info = s .info; text = s .text; parent = s .parent; types = s .types; len = s .len }) (pick (eqb k 7) (record { form = s .form; at = s .at; key = s .key; client = s .client; left = s .left; right = s .right; info = s .info; text = s .text; parent = s .parent; types = c; len = s .len }) (record { form = s .form; at = s .at; key = s .key; client = s .client; left = s .left; right = s .right; info = s .info; text = s .text; parent = s .parent; types = s .types; len = c }))
+
+unfoldable pub putBytes : ℕ → Bytes → State → State
+putBytes k c s = pick (eqb k 4) (record { form = s .form; at = s .at; key = s .key; client = s .client; left = s .left; right = s .right; info = c; text = s .text; parent = s .parent; types = s .types; len = s .len }) (record { form = s .form; at = s .at; key = s .key; client = s .client; left = s .left; right = s .right; info = s .info; text = s .text; parent = c; types = s .types; len = s .len })
+
+abbrev pub withText : Texts → State → State
+withText c s = record { form = s .form; at = s .at; key = s .key; client = s .client; left = s .left; right = s .right; info = s .info; text = c; parent = s .parent; types = s .types; len = s .len }
+
+-- which columns hold differences and which bytes; the text is column 5, and the others hold numbers
+unfoldable pub holdsDifferences : ℕ → Bool
+holdsDifferences k = pick (eqb k 0) true (pick (eqb k 2) true (eqb k 3))
+
+unfoldable pub holdsBytes : ℕ → Bool
+holdsBytes k = pick (eqb k 4) true (eqb k 6)
+
+-- column k, in the order key, client, left clock, right clock, info, text, parent info, type, length: from a place to its end
+unfoldable pub putColumn : ℕ → ℕ → ℕ → State → State
+putColumn k from to s =
+    pick (holdsDifferences k) (putDifferences k (record { place = differences.startAt from; to = to }) s)
+    (pick (holdsBytes k) (putBytes k (record { place = bytes.startAt from; to = to }) s)
+    (pick (eqb k 5) (withText (textFrom from to) s) (putNumbers k (record { place = numbers.startAt from; to = to }) s)))
+
+unfoldable pub onPart : Text → (part.Part → State → Opened) → Opened
+onPart (text.Part p s) f = f p s
+onPart (text.Refused why) f = opened.Refused why
+
+-- the last n of nine columns, each a length and so many bytes
+unfoldable pub cutFrom : ℕ → List ℕ → State → Opened
+cutFrom zero u s = opened.At s
+cutFrom (suc n) u s = onPart (bufAt u s) (λ p t. cutFrom n u (putColumn (9 - suc n) (p .place) (t .at) t))
+
+unfoldable pub textIn : State → string-opened.Opened → Opened
+textIn s (strings-opened.At c) = opened.At (withText (record { place = c; to = s .text .to }) s)
+textIn s (strings-opened.Not why) = opened.Refused why
+
+unfoldable pub textOpened : List ℕ → State → Opened
+textOpened u s = textIn s (openText (take (s .text .to) u) (s .text .place .at))
+
+unfoldable pub onOpened : Opened → (State → Opened) → Opened
+onOpened (opened.At s) f = f s
+onOpened (opened.Refused why) f = opened.Refused why
+
+unfoldable pub afterFlag : Draw → (State → Opened) → Opened
+afterFlag (Number v p s) f = f s
+afterFlag (Refused why) f = opened.Refused why
+
+-- a flag byte of any value, nine columns, and the text among them opened
+unfoldable pub opened2 : List ℕ → Opened
+opened2 u = afterFlag (byteAt u (startAt 2 0)) (λ s. onOpened (cutFrom 9 u s) (textOpened u))

@@ -13,7 +13,7 @@ use numbers::Refusal;
 use text::Part;
 ghost use mathlib.Core.Path.{_≡_};
 ghost use lib.ListN.{take};
-ghost use Rattle.decoder.specs.Fields.{whyDraw, bounded, varAt, byteAt, clockAt, bufAt};
+ghost use Rattle.decoder.specs.Fields.{startAt, textFrom, whyDraw, whyText, bounded, restoredBy, varAt, byteAt, clockAt, bufAt};
 
 // A column and where it ends in the update.
 pub struct Numbers {
@@ -51,6 +51,47 @@ pub struct State {
     pub len: Numbers,
 }
 
+// The state before anything is read: no column has a byte.
+pub fn start(form: u8, at: usize) -> State
+    ensures { λ r. ⌜ r ≡ startAt form at ⌝ }
+{
+    let numbers = Numbers {
+        place: number::start(0),
+        to: 0,
+    };
+    let differences = Differences {
+        place: difference::start(0),
+        to: 0,
+    };
+    let bytes = Bytes {
+        place: byte::start(0),
+        to: 0,
+    };
+    let text = no_text(0, 0);
+    State {
+        form,
+        at,
+        key: differences,
+        client: numbers,
+        left: differences,
+        right: differences,
+        info: bytes,
+        text,
+        parent: bytes,
+        types: numbers,
+        len: numbers,
+    }
+}
+
+// A text column that is cut and not opened yet.
+pub fn no_text(at: usize, to: usize) -> Texts
+    ensures { λ r. ⌜ r ≡ textFrom at to ⌝ }
+{
+    let units = number::start(at);
+    let place = string::Place { at, end: at, units };
+    Texts { place, to }
+}
+
 pub enum Draw {
     Number(u64, usize, State),
     Refused(Refusal),
@@ -79,6 +120,18 @@ pub fn why(d: Draw) -> Refusal
     }
 }
 
+pub fn why_text(t: Text) -> Refusal
+    ensures { λ w. ⌜ w ≡ whyText t ⌝ }
+{
+    match t {
+        Text::Part(_, _) => Refusal {
+            number: 0,
+            place: 0,
+        },
+        Text::Refused(w) => w,
+    }
+}
+
 // The column up to its end; one that ends past the update is the whole of it.
 pub fn upto(update: &[u8], to: usize) -> &[u8]
     ensures { λ r. ⌜ now r ≡ take to (now (update .entry)) ⌝ }
@@ -100,6 +153,26 @@ pub fn within(d: Draw, most: u64) -> Draw
                 return Draw::Refused(Refusal { number: 3, place });
             }
             Draw::Number(v, place, s)
+        }
+    }
+}
+
+// A number that is stored less `by`: restored, it must be a clock.
+pub fn restored(d: Draw, by: u64) -> Draw
+    ensures { λ r. ⌜ r ≡ restoredBy by d ⌝ }
+{
+    match d {
+        Draw::Refused(why) => Draw::Refused(why),
+        Draw::Number(v, place, s) => {
+            if numbers::MAX_CLOCK < by {
+                return Draw::Refused(Refusal { number: 3, place });
+            }
+            let left = numbers::MAX_CLOCK - by;
+            if left < v {
+                return Draw::Refused(Refusal { number: 3, place });
+            }
+            let whole = by + v;
+            Draw::Number(whole, place, s)
         }
     }
 }

@@ -71,3 +71,16 @@ pub fn read_string(update: &[u8], s: State) -> Text
     }
     Text::Part(part, e)
 }
+
+// A delete range's clock and length stand as they are.
+pub fn read_ds_clock(update: &[u8], s: State) -> Draw
+    ensures { λ r. ⌜ r ≡ clockAt (now (update .entry)) s ⌝ }
+{
+    crate::read_clock(update, s)
+}
+
+pub fn read_ds_len(update: &[u8], s: State) -> Draw
+    ensures { λ r. ⌜ r ≡ clockAt (now (update .entry)) s ⌝ }
+{
+    crate::read_clock(update, s)
+}

@@ -1,0 +1,20 @@
+-- `decoder::v2::put_differences` meets its contract, column by column.
+use borrow.Author.Tests.{eq-eqb, ne-eqb}
+use Rattle.decoder.specs.Fields.{putDifferences}
+use Rattle.decoder.proofs.v2.put_differences.Statement.{statement}
+use Rattle.decoder.proofs.v2.put_differences.Tie as tie
+
+returns : tie.Need-returns
+unfolding putDifferences
+returns c = rw (eq-eqb _ 0 (c .if1 .taken))
+
+returns-2 : tie.Need-returns-2
+unfolding putDifferences
+returns-2 c = rw (ne-eqb _ 0 (c .before .if1 .left), eq-eqb _ 2 (c .if2 .taken))
+
+returns-3 : tie.Need-returns-3
+unfolding putDifferences
+returns-3 c = rw (ne-eqb _ 0 (c .before .if1 .left), ne-eqb _ 2 (c .if2 .left))
+
+pub put-differences-spec : {M : Type 1} → statement M
+put-differences-spec = tie.close (tie.spec returns returns-2 returns-3)
