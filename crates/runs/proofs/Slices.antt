@@ -18,9 +18,9 @@ use Rattle.runs.specs.declared.judge.Judge.{Judge}
 use Rattle.runs.specs.declared.slice.Pushed.{Pushed}
 use Rattle.runs.specs.declared.slice.Pushed.the-variants.{On, Full}
 use Rattle.runs.specs.Runs.{coding, within, storable, spellable, columnOf, whyOf, why}
-use Rattle.runs.specs.Writer.{fresh, keyAfter, emitted, finished, moved, pushed, Sound, Holds, unjudged, runFits, overLimit, goesOn, judged, sentence, whyAhead, pushedWithin, outWithin}
+use Rattle.runs.specs.Writer.{fresh, keyAfter, emitted, finished, moved, pushed, Sound, unjudged, runFits, overLimit, goesOn, judged, sentence, pushedWithin, outWithin}
 use Rattle.runs.proofs.Writing.{key-most}
-use Rattle.runs.proofs.Standing.{moved-count, pushed-at, why-start, why-push, why-end, holds-fresh, holds-push, holds-room, stands-end}
+use Rattle.runs.proofs.Standing.{Holds, whyAhead, moved-count, pushed-at, why-start, why-push, why-end, holds-fresh, holds-push, holds-room, stands-end}
 
 -- ---- judging
 
@@ -108,9 +108,6 @@ apart : {A : Type 0} {w : Writer} → On w ≡ Full → A
 apart p = absurd (let z : _≡_ {A = ℕ} 0 1 = cc in omega arith)
 
 module _ (col : Column) (e : List ℕ) (start : ℕ) (vs : List ℕ) (i : ℕ) (w : Writer) (out : List ℕ) (t : PutTo col e start vs i w out) where
-  pub put-kind : w .column ≡ col
-  put-kind = t .holds .stands .kind
-
   pub put-on : (w′ : Writer) → i < length vs → getD vs i 0 ≤ coding col .most → pushedWithin (length out) w (getD vs i 0) ≡ On w′
       → PutTo col e start vs (i + 1) w′ (outWithin out w (getD vs i 0))
   put-on w′ l m p = room-of w (getD vs i 0) out (On w′) p (λ h q. went h q) (λ h q. apart q)

@@ -14,9 +14,48 @@ use Rattle.numbers.proofs.Output.{sets-append}
 use Rattle.runs.specs.declared.Column.{Column}
 use Rattle.runs.specs.declared.writer.Writer.{Writer}
 use Rattle.runs.specs.declared.judge.Judge.{Judge}
-use Rattle.runs.specs.Runs.{coding, over, opened, column, within, overFits, storable, spellable, why}
-use Rattle.runs.specs.Writer.{fresh, ends, keyAfter, emitted, finished, moved, pushed, Sound, ahead, lastOf, Stands, Holds, unjudged, runFits, lastFitsIn, overLimit, goesOn, judged, sentence, fitsAhead, whyAhead}
+use Rattle.runs.specs.Runs.{Coding, coding, over, opened, column, within, overFits, storable, spellable, why}
+use Rattle.runs.specs.Writer.{fresh, ends, keyAfter, emitted, finished, moved, pushed, Sound, unjudged, runFits, lastFitsIn, overLimit, goesOn, judged, sentence}
 use Rattle.runs.proofs.Writing.{key-most}
+
+-- what a state has yet to write, if `rest` is what comes
+unfoldable pub ahead : Coding → ℕ → ℕ → ℕ → List ℕ → List ℕ
+ahead c p k zero rest = opened c p rest
+ahead c p k (suc n) rest = over c p k n rest
+
+-- the last value, or p
+unfoldable pub lastOf : ℕ → List ℕ → ℕ
+lastOf p [] = p
+lastOf p (v ∷ vs) = lastOf v vs
+
+-- A state stands for the values vs, of a column that began at `start`: the bytes `done` are written, and whatever comes,
+-- they and what the state has yet to write are the column.
+pub record Stands (col : Column) (start : ℕ) (vs : List ℕ) (done : List ℕ) (w : Writer) : Type 0 where
+  pub kind : w .column ≡ col
+  pub place : w .at ≡ start + length done
+  pub newest : w .last ≡ lastOf 0 vs
+  pub few : w .count ≤ length vs
+  pub sound : Sound w
+  pub whole : (rest : List ℕ) → column (coding col) (vs ++ rest) ≡ done ++ ahead (coding col) (w .last) (w .key) (w .count) rest
+
+-- The same with the buffer: `out` is `e` with the bytes done.
+pub record Holds (col : Column) (e : List ℕ) (start : ℕ) (vs : List ℕ) (w : Writer) (out : List ℕ) : Type 0 where
+  pub done : List ℕ
+  pub stands : Stands col start vs done w
+  pub bytes : out ≡ sets e start done
+
+-- the runs that are still to come can be stored
+unfoldable pub fitsAhead : Coding → ℕ → ℕ → ℕ → List ℕ → Bool
+fitsAhead c p k zero rest = storable c p rest
+fitsAhead c p k (suc n) rest = overFits c p k n rest
+
+-- the refusal of all values, if `rest` is what comes
+unfoldable pub whyAhead : Judge → List ℕ → ℕ
+whyAhead j rest =
+    pick (j .over) 3
+    (pick (within (coding (j .writer .column) .most) rest)
+    (pick (fitsAhead (coding (j .writer .column)) (j .writer .last) (j .writer .key) (j .writer .count) rest)
+    (pick (pick (j .far) false (spellable (coding (j .writer .column)) (j .writer .last) rest)) 0 13) 3) 3)
 
 -- ---- one value more
 
@@ -32,10 +71,6 @@ module _ (w : Writer) (v : ℕ) where
   pub pushed-last : pushed w v .last ≡ v
   unfolding pushed moved
   pushed-last = refl
-
-  pub pushed-key : pushed w v .key ≡ keyAfter w v
-  unfolding pushed moved
-  pushed-key = refl
 
   pub moved-count : (at k : ℕ) → moved w at k v .count ≤ w .count + 1
   unfolding moved

@@ -102,14 +102,6 @@ module _ (w : Writer) where
   finished-some e = rw (ne-eqb (w .count) 0 e)
 
 -- the columns' rules, as the code tests them
-pub most-number : coding Number .most ≡ 9007199254740991
-unfolding coding
-most-number = refl
-
-pub most-difference : coding Difference .most ≡ 2147483647
-unfolding coding
-most-difference = refl
-
 pub most-byte : coding Byte .most ≡ 255
 unfolding coding
 most-byte = refl

@@ -1,7 +1,6 @@
 -- The state of a column writer, as its functions and their callers' loops go by it.
-use Prim.Native.Nat.{ℕ, zero, suc, _+_, _-_, _≤_}
-use mathlib.Core.Path.{_≡_}
-use mathlib.Core.List.{List, [], _∷_, _++_}
+use Prim.Native.Nat.{ℕ, _+_, _-_, _≤_}
+use mathlib.Core.List.{List, []}
 use mathlib.Core.Bool.{Bool, true, false}
 use lib.Dec.{ltb, leb, eqb}
 use lib.ListN.{length}
@@ -12,7 +11,7 @@ use Rattle.runs.specs.declared.writer.Writer.{Writer}
 use Rattle.runs.specs.declared.judge.Judge.{Judge}
 use Rattle.runs.specs.declared.slice.Pushed.{Pushed}
 use Rattle.runs.specs.declared.slice.Pushed.the-variants.{On, Full}
-use Rattle.runs.specs.Runs.{Coding, coding, keyMost, over, opened, column, within, overFits, storable, spellable}
+use Rattle.runs.specs.Runs.{coding, keyMost, over, column}
 
 abbrev pub fresh : Column → ℕ → Writer
 fresh column at = record { column = column; at = at; last = 0; key = 0; count = 0 }
@@ -43,32 +42,6 @@ pushed w v = moved w (w .at + length (emitted w v)) (keyAfter w v) v
 abbrev pub Sound : Writer → Type 0
 Sound w = (w .last ≤ coding (w .column) .most) × (w .key ≤ keyMost (w .column))
 
--- what a state has yet to write, if `rest` is what comes
-unfoldable pub ahead : Coding → ℕ → ℕ → ℕ → List ℕ → List ℕ
-ahead c p k zero rest = opened c p rest
-ahead c p k (suc n) rest = over c p k n rest
-
--- the last value, or p
-unfoldable pub lastOf : ℕ → List ℕ → ℕ
-lastOf p [] = p
-lastOf p (v ∷ vs) = lastOf v vs
-
--- A state stands for the values vs, of a column that began at `start`: the bytes `done` are written, and whatever comes,
--- they and what the state has yet to write are the column.
-pub record Stands (col : Column) (start : ℕ) (vs : List ℕ) (done : List ℕ) (w : Writer) : Type 0 where
-  pub kind : w .column ≡ col
-  pub place : w .at ≡ start + length done
-  pub newest : w .last ≡ lastOf 0 vs
-  pub few : w .count ≤ length vs
-  pub sound : Sound w
-  pub whole : (rest : List ℕ) → column (coding col) (vs ++ rest) ≡ done ++ ahead (coding col) (w .last) (w .key) (w .count) rest
-
--- The same with the buffer: `out` is `e` with the bytes done.
-pub record Holds (col : Column) (e : List ℕ) (start : ℕ) (vs : List ℕ) (w : Writer) (out : List ℕ) : Type 0 where
-  pub done : List ℕ
-  pub stands : Stands col start vs done w
-  pub bytes : out ≡ sets e start done
-
 -- ---- refusals, a value at a time
 
 abbrev pub unjudged : Column → Judge
@@ -98,19 +71,6 @@ judged j v =
 
 unfoldable pub sentence : Judge → ℕ
 sentence j = pick (j .over) 3 (pick (lastFitsIn (j .writer)) (pick (j .far) 13 0) 3)
-
--- the runs that are still to come can be stored
-unfoldable pub fitsAhead : Coding → ℕ → ℕ → ℕ → List ℕ → Bool
-fitsAhead c p k zero rest = storable c p rest
-fitsAhead c p k (suc n) rest = overFits c p k n rest
-
--- the refusal of all values, if `rest` is what comes
-unfoldable pub whyAhead : Judge → List ℕ → ℕ
-whyAhead j rest =
-    pick (j .over) 3
-    (pick (within (coding (j .writer .column) .most) rest)
-    (pick (fitsAhead (coding (j .writer .column)) (j .writer .last) (j .writer .key) (j .writer .count) rest)
-    (pick (pick (j .far) false (spellable (coding (j .writer .column)) (j .writer .last) rest)) 0 13) 3) 3)
 
 -- ---- a push where room may be short
 
