@@ -14,6 +14,8 @@ use Rattle.numbers.specs.declared.Signed.the-variants.{Value, Wrong}
 use Rattle.numbers.specs.Number.{pick, readUnsigned, readSigned}
 use Rattle.numbers.specs.Limits.{maxClock, maxCount}
 use Rattle.text.specs.declared.Part.{Part}
+use Rattle.text.specs.declared.Units.{Units}
+use Rattle.text.specs.Utf8.{wellFormed, unitsOf, unitsIn, countedIn}
 use Rattle.columns.specs.declared.difference.Place as difference-place
 use Rattle.columns.specs.declared.difference.Answer as difference-answer
 use Rattle.columns.specs.declared.difference.Answer.the-variants as answer
@@ -24,8 +26,8 @@ use Rattle.decoder.specs.declared.Draw.{Draw}
 use Rattle.decoder.specs.declared.Draw.the-variants.{Number, Refused}
 use Rattle.numbers.specs.declared.Refusal.{Refusal}
 use Rattle.decoder.specs.declared.v2.Opened.the-variants as opened
-use Rattle.decoder.specs.declared.Text.{Text}
-use Rattle.decoder.specs.declared.Text.the-variants as text
+use Rattle.decoder.specs.declared.Buf.{Buf}
+use Rattle.decoder.specs.declared.Buf.the-variants as buf
 use Rattle.decoder.specs.Fields.{bounded, varDraw, varAt, clockAt, bytesAfter, bufAt, leftDrawn, leftClock, rightDrawn, rightClock, onPart, cutFrom, putColumn}
 
 clash : {A : Type 0} {v p : ℕ} {t : State} (why : _) → Refused why ≡ Number v p t → A
@@ -108,21 +110,21 @@ right-fits u s v p t e = go (difference.nextDifference (take (s .right .to) u) (
 
 -- ---- bytes in line
 
-pub buf-ends : (u : List ℕ) (s : State) (p : Part) (t : State) → bufAt u s ≡ text.Part p t → p .place + p .bytes .0 ≤ length u
+pub buf-ends : (u : List ℕ) (s : State) (p : Part) (t : State) → bufAt u s ≡ buf.Part p t → p .place + p .bytes .0 ≤ length u
 unfolding bufAt bytesAfter
 buf-ends u s p t e = go (varAt u s) refl e
   where
-    place-of : Text → ℕ
-    place-of (text.Part p t) = p .place + p .bytes .0
-    place-of (text.Refused why) = 0
+    place-of : Buf → ℕ
+    place-of (buf.Part p t) = p .place + p .bytes .0
+    place-of (buf.Refused why) = 0
 
     fits : (n q : ℕ) (x : State) → x .at ≤ length u → (b : Bool) → ltb (length u - x .at) n ≡ b
-        → pick b (text.Refused (record { number = 1; place = length u })) (text.Part (record { place = x .at; bytes = record { 0 = n } }) (record { form = x .form; at = x .at + n; key = x .key; client = x .client; left = x .left; right = x .right; info = x .info; text = x .text; parent = x .parent; types = x .types; len = x .len })) ≡ text.Part p t
+        → pick b (buf.Refused (record { number = 1; place = length u })) (buf.Part (record { place = x .at; bytes = record { 0 = n } }) (record { form = x .form; at = x .at + n; key = x .key; client = x .client; left = x .left; right = x .right; info = x .info; text = x .text; parent = x .parent; types = x .types; len = x .len })) ≡ buf.Part p t
         → p .place + p .bytes .0 ≤ length u
     fits n q x h true l e = absurd (let z : _≡_ {A = ℕ} 0 1 = cc in omega arith)
     fits n q x h false l e = omega (arith, ap place-of e, ltb-false (length u - x .at) n l)
 
-    go : (d : Draw) → varAt u s ≡ d → bytesAfter u d ≡ text.Part p t → p .place + p .bytes .0 ≤ length u
+    go : (d : Draw) → varAt u s ≡ d → bytesAfter u d ≡ buf.Part p t → p .place + p .bytes .0 ≤ length u
     go (Number n q x) r e = fits n q x (var-ends u s n q x r) (ltb (length u - x .at) n) refl e
     go (Refused why) r e = absurd (let z : _≡_ {A = ℕ} 0 1 = cc in omega arith)
 
@@ -133,17 +135,17 @@ pub cut-none : (n : ℕ) (u : List ℕ) (s : State) → n ≡ 0 → cutFrom n u 
 unfolding cutFrom
 cut-none n u s e = rw e
 
-pub cut-refused : (n : ℕ) (u : List ℕ) (s : State) (why : Refusal) → 0 < n → bufAt u s ≡ text.Refused why → cutFrom n u s ≡ opened.Refused why
+pub cut-refused : (n : ℕ) (u : List ℕ) (s : State) (why : Refusal) → 0 < n → bufAt u s ≡ buf.Refused why → cutFrom n u s ≡ opened.Refused why
 unfolding cutFrom onPart
 cut-refused zero u s why h e = absurd (omega arith)
 cut-refused (suc n) u s why h e = rw e
 
-cut-step : (u : List ℕ) (s : State) (n : ℕ) (p : Part) (t : State) → bufAt u s ≡ text.Part p t → cutFrom (suc n) u s ≡ cutFrom n u (putColumn (9 - suc n) (p .place) (t .at) t)
+cut-step : (u : List ℕ) (s : State) (n : ℕ) (p : Part) (t : State) → bufAt u s ≡ buf.Part p t → cutFrom (suc n) u s ≡ cutFrom n u (putColumn (9 - suc n) (p .place) (t .at) t)
 unfolding cutFrom onPart
 cut-step u s n p t e = rw e
 
 -- one more, the k-th
-pub cut-more : (u : List ℕ) (s : State) (k : ℕ) (p : Part) (t : State) → k < 9 → bufAt u s ≡ text.Part p t
+pub cut-more : (u : List ℕ) (s : State) (k : ℕ) (p : Part) (t : State) → k < 9 → bufAt u s ≡ buf.Part p t
     → cutFrom (9 - k) u s ≡ cutFrom (9 - (k + 1)) u (putColumn k (p .place) (t .at) t)
 cut-more u s k p t h e = ap (λ (n : ℕ). cutFrom n u s) more ∙ go
   where
@@ -158,3 +160,11 @@ cut-more u s k p t h e = ap (λ (n : ℕ). cutFrom n u s) more ∙ go
       where
         step : (n : ℕ) → cutFrom (suc n) u s ≡ cutFrom n u (putColumn (9 - suc n) (p .place) (t .at) t)
         step n = cut-step u s n p t e
+
+-- a text that is whole has the units counted
+pub whole-units : (s : List ℕ) → wellFormed s ≡ true → countedIn s .units ≡ unitsIn s
+unfolding countedIn
+whole-units s w = ap (λ (b : Bool). counted (pick b (unitsOf s) 0)) w
+  where
+    counted : ℕ → Units
+    counted n = record { 0 = n }

@@ -12,7 +12,7 @@ use Rattle.numbers.specs.declared.Read.the-variants as read
 use Rattle.numbers.specs.Number.{pick, none, readUnsigned}
 use Rattle.numbers.specs.Limits.{maxValue, maxClock}
 use Rattle.text.specs.declared.Part as part
-use Rattle.text.specs.Utf8.{wellFormed}
+use Rattle.text.specs.Utf8.{wellFormed, unitsOf}
 use Rattle.columns.specs.declared.number.Answer as number-answer
 use Rattle.columns.specs.declared.number.Answer.the-variants as number
 use Rattle.columns.specs.declared.difference.Answer as difference-answer
@@ -42,6 +42,8 @@ use Rattle.decoder.specs.declared.Ident.{Ident}
 use Rattle.decoder.specs.declared.Ident.the-variants as ident
 use Rattle.decoder.specs.declared.v2.Opened.{Opened}
 use Rattle.decoder.specs.declared.v2.Opened.the-variants as opened
+use Rattle.decoder.specs.declared.Buf.{Buf}
+use Rattle.decoder.specs.declared.Buf.the-variants as buf
 use Rattle.decoder.specs.declared.Text.{Text}
 use Rattle.decoder.specs.declared.Text.the-variants as text
 
@@ -73,13 +75,13 @@ unfoldable pub clockAt : List ℕ → State → Draw
 clockAt u s = bounded maxClock (varAt u s)
 
 -- a length, and so many bytes
-unfoldable pub bytesAfter : List ℕ → Draw → Text
+unfoldable pub bytesAfter : List ℕ → Draw → Buf
 bytesAfter u (Number n p s) =
-    pick (ltb (length u - s .at) n) (text.Refused (record { number = 1; place = length u }))
-    (text.Part (record { place = s .at; bytes = record { 0 = n } }) (movedTo s (s .at + n)))
-bytesAfter u (Refused why) = text.Refused why
+    pick (ltb (length u - s .at) n) (buf.Refused (record { number = 1; place = length u }))
+    (buf.Part (record { place = s .at; bytes = record { 0 = n } }) (movedTo s (s .at + n)))
+bytesAfter u (Refused why) = buf.Refused why
 
-unfoldable pub bufAt : List ℕ → State → Text
+unfoldable pub bufAt : List ℕ → State → Buf
 bufAt u s = bytesAfter u (varAt u s)
 
 -- ---- form 1
@@ -99,14 +101,18 @@ idDraw (Refused why) clock = ident.Refused why
 unfoldable pub id1 : List ℕ → State → Ident
 id1 u s = idDraw (client1 u s) (clockAt u)
 
--- the bytes of a text are UTF-8
-unfoldable pub checkedText : List ℕ → Text → Text
-checkedText u (text.Part p s) =
-    pick (wellFormed (slice (p .place) (p .place + p .bytes .0) u)) (text.Part p s) (text.Refused (record { number = 6; place = p .place }))
-checkedText u (text.Refused why) = text.Refused why
+-- the bytes of a text are UTF-8, and have so many units
+unfoldable pub checkedText : List ℕ → part.Part → State → Text
+checkedText u p s =
+    let bytes = slice (p .place) (p .place + p .bytes .0) u in
+    pick (wellFormed bytes) (text.Part p (record { 0 = unitsOf bytes }) s) (text.Refused (record { number = 6; place = p .place }))
+
+unfoldable pub textIn1 : List ℕ → Buf → Text
+textIn1 u (buf.Part p s) = checkedText u p s
+textIn1 u (buf.Refused why) = text.Refused why
 
 unfoldable pub text1 : List ℕ → State → Text
-text1 u s = checkedText u (bufAt u s)
+text1 u s = textIn1 u (bufAt u s)
 
 -- ---- form 2: the column's next value, blamed at its run's first byte
 
@@ -162,7 +168,7 @@ unfoldable pub len2 : List ℕ → State → Draw
 len2 u s = bounded maxClock (lenColumn u s)
 
 unfoldable pub textDrawn : State → string-answer.Answer → Text
-textDrawn s (string.Next p c) = text.Part p (record { form = s .form; at = s .at; key = s .key; client = s .client; left = s .left; right = s .right; info = s .info; text = record { place = c; to = s .text .to }; parent = s .parent; types = s .types; len = s .len })
+textDrawn s (string.Next p c) = text.Part p (record { 0 = c .units .last }) (record { form = s .form; at = s .at; key = s .key; client = s .client; left = s .left; right = s .right; info = s .info; text = record { place = c; to = s .text .to }; parent = s .parent; types = s .types; len = s .len })
 textDrawn s (string.Bad why) = text.Refused why
 
 unfoldable pub text2 : List ℕ → State → Text
@@ -181,8 +187,16 @@ dsLen u s = restoredBy 1 (varAt u s)
 
 -- ---- opening form 2
 
+abbrev pub whyId : Ident → Refusal
+whyId (ident.Id i s) = none
+whyId (ident.Refused why) = why
+
+abbrev pub whyBuf : Buf → Refusal
+whyBuf (buf.Part p s) = none
+whyBuf (buf.Refused why) = why
+
 abbrev pub whyText : Text → Refusal
-whyText (text.Part p s) = none
+whyText (text.Part p n s) = none
 whyText (text.Refused why) = why
 
 abbrev pub textFrom : ℕ → ℕ → Texts
@@ -222,9 +236,9 @@ putColumn k from to s =
     (pick (holdsBytes k) (putBytes k (record { place = bytes.startAt from; to = to }) s)
     (pick (eqb k 5) (withText (textFrom from to) s) (putNumbers k (record { place = numbers.startAt from; to = to }) s)))
 
-unfoldable pub onPart : Text → (part.Part → State → Opened) → Opened
-onPart (text.Part p s) f = f p s
-onPart (text.Refused why) f = opened.Refused why
+unfoldable pub onPart : Buf → (part.Part → State → Opened) → Opened
+onPart (buf.Part p s) f = f p s
+onPart (buf.Refused why) f = opened.Refused why
 
 -- the last n of nine columns, each a length and so many bytes
 unfoldable pub cutFrom : ℕ → List ℕ → State → Opened

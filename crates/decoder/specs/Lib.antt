@@ -1,2 +1,3 @@
 -- What the fields of an update are in either form.
+pub mod Course
 pub mod Fields

@@ -11,9 +11,10 @@ use columns::string;
 use numbers::Read;
 use numbers::Refusal;
 use text::Part;
+use text::Units;
 ghost use mathlib.Core.Path.{_≡_};
 ghost use lib.ListN.{take};
-ghost use Rattle.decoder.specs.Fields.{startAt, textFrom, whyDraw, whyText, bounded, restoredBy, varAt, byteAt, clockAt, bufAt};
+ghost use Rattle.decoder.specs.Fields.{startAt, textFrom, whyDraw, whyId, whyBuf, whyText, bounded, restoredBy, varAt, byteAt, clockAt, bufAt};
 
 // A column and where it ends in the update.
 pub struct Numbers {
@@ -102,8 +103,15 @@ pub enum Ident {
     Refused(Refusal),
 }
 
-pub enum Text {
+// So many bytes.
+pub enum Buf {
     Part(Part, State),
+    Refused(Refusal),
+}
+
+// A text, and how many units it has.
+pub enum Text {
+    Part(Part, Units, State),
     Refused(Refusal),
 }
 
@@ -120,11 +128,35 @@ pub fn why(d: Draw) -> Refusal
     }
 }
 
+pub fn why_id(i: Ident) -> Refusal
+    ensures { λ w. ⌜ w ≡ whyId i ⌝ }
+{
+    match i {
+        Ident::Id(_, _) => Refusal {
+            number: 0,
+            place: 0,
+        },
+        Ident::Refused(w) => w,
+    }
+}
+
+pub fn why_buf(b: Buf) -> Refusal
+    ensures { λ w. ⌜ w ≡ whyBuf b ⌝ }
+{
+    match b {
+        Buf::Part(_, _) => Refusal {
+            number: 0,
+            place: 0,
+        },
+        Buf::Refused(w) => w,
+    }
+}
+
 pub fn why_text(t: Text) -> Refusal
     ensures { λ w. ⌜ w ≡ whyText t ⌝ }
 {
     match t {
-        Text::Part(_, _) => Refusal {
+        Text::Part(_, _, _) => Refusal {
             number: 0,
             place: 0,
         },
@@ -216,17 +248,17 @@ pub fn read_clock(update: &[u8], s: State) -> Draw
 }
 
 // A length and so many bytes in line.
-pub fn read_buf(update: &[u8], s: State) -> Text
+pub fn read_buf(update: &[u8], s: State) -> Buf
     ensures { λ r. ⌜ r ≡ bufAt (now (update .entry)) s ⌝ }
 {
     let d = read_var(update, s);
     let Draw::Number(n, _, t) = d else {
-        return Text::Refused(why(d));
+        return Buf::Refused(why(d));
     };
     let at = t.at;
     let left = (update.len() - at) as u64;
     if left < n {
-        return Text::Refused(Refusal {
+        return Buf::Refused(Refusal {
             number: 1,
             place: update.len(),
         });
@@ -238,5 +270,5 @@ pub fn read_buf(update: &[u8], s: State) -> Text
         place: at,
         bytes: text::Bytes(size),
     };
-    Text::Part(part, e)
+    Buf::Part(part, e)
 }

@@ -1,4 +1,5 @@
 // Form 1: everything in line.
+use crate::Buf;
 use crate::Draw;
 use crate::Ident;
 use crate::State;
@@ -6,7 +7,7 @@ use crate::Text;
 use block::Id;
 use numbers::Refusal;
 ghost use mathlib.Core.Path.{_≡_};
-ghost use Rattle.decoder.specs.Fields.{byteAt, clockAt, client1, id1, text1, checkedText};
+ghost use Rattle.decoder.specs.Fields.{byteAt, clockAt, client1, id1, text1};
 
 pub fn read_client(update: &[u8], s: State) -> Draw
     ensures { λ r. ⌜ r ≡ client1 (now (update .entry)) s ⌝ }
@@ -52,24 +53,26 @@ pub fn read_len(update: &[u8], s: State) -> Draw
     crate::read_clock(update, s)
 }
 
-// A text: its byte length, its bytes, and their UTF-8.
+// A text: its byte length, its bytes, and their UTF-8, checked and counted in one pass.
 pub fn read_string(update: &[u8], s: State) -> Text
     ensures { λ r. ⌜ r ≡ text1 (now (update .entry)) s ⌝ }
 {
     let b = crate::read_buf(update, s);
-    let Text::Part(part, e) = b else {
-        return b;
+    let Buf::Part(part, e) = b else {
+        return Text::Refused(crate::why_buf(b));
     };
     let at = part.place;
     let size = part.bytes.0;
     let end = at + size;
-    if !text::check(update, at, end) {
+    let c = text::count_units(update, at, end);
+    if !c.whole {
         return Text::Refused(Refusal {
             number: 6,
             place: at,
         });
     }
-    Text::Part(part, e)
+    let units = c.units;
+    Text::Part(part, units, e)
 }
 
 // A delete range's clock and length stand as they are.

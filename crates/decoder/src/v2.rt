@@ -1,4 +1,5 @@
 // Form 2: a column for each kind of field.
+use crate::Buf;
 use crate::Bytes;
 use crate::Differences;
 use crate::Draw;
@@ -13,6 +14,7 @@ use columns::difference;
 use columns::number;
 use columns::string;
 use numbers::Refusal;
+use text::Units;
 ghost use mathlib.Core.Path.{_≡_};
 ghost use Rattle.decoder.specs.Fields.{client2, leftClock, rightClock, leftId, rightId, infoDraw, parentDraw, lenColumn, len2, text2, dsClock, dsLen, putDifferences, putNumbers, putBytes, holdsDifferences, holdsBytes, putColumn, cutFrom, textOpened, opened2};
 
@@ -112,7 +114,7 @@ pub fn read_len(update: &[u8], s: State) -> Draw
     crate::within(draw_len(update, s), numbers::MAX_CLOCK)
 }
 
-// A text of the text column.
+// A text of the text column: its units are the number drawn.
 pub fn read_string(update: &[u8], s: State) -> Text
     ensures { λ r. ⌜ r ≡ text2 (now (update .entry)) s ⌝ }
 {
@@ -123,9 +125,11 @@ pub fn read_string(update: &[u8], s: State) -> Text
         return Text::Refused(string::why(r));
     };
     let moved = Texts { place: next, to };
+    let drawn = next.units;
+    let units = Units(drawn.last);
     let mut t = s;
     t.text = moved;
-    Text::Part(part, t)
+    Text::Part(part, units, t)
 }
 
 pub fn read_left_id(update: &[u8], s: State) -> Ident
@@ -280,8 +284,8 @@ fn cut_columns(update: &[u8], s: State) -> Opened
     let mut k: usize = 0;
     while k < 9 {
         let b = crate::read_buf(update, s);
-        let Text::Part(part, t) = b else {
-            return Opened::Refused(crate::why_text(b));
+        let Buf::Part(part, t) = b else {
+            return Opened::Refused(crate::why_buf(b));
         };
         s = put_column(t, k, part.place, t.at);
         k += 1;

@@ -19,3 +19,15 @@ maxUnsigned = 9223372036854775807
 
 abbrev pub maxSigned : ℕ
 maxSigned = 4611686018427387903
+
+-- the bytes of an update
+abbrev pub maxUpdate : ℕ
+maxUpdate = 16777215
+
+-- sections, delete-set clients, state-vector entries
+abbrev pub maxClients : ℕ
+maxClients = 64
+
+-- blocks announced in one update
+abbrev pub maxBlocks : ℕ
+maxBlocks = 65535

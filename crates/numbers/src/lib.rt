@@ -9,7 +9,8 @@ ghost use lib.Seq.{sets};
 ghost use Rattle.numbers.specs.Output.{padded, refusal, done};
 ghost use Rattle.numbers.specs.Number.{after, spelt, placed, pick, bits, readUnsigned, readSigned, whyRead, whySigned, unsigned, signed};
 
-// The limits of document 01: client ids and values, clocks and lengths, stored run counts, and what nine bytes spell.
+// The limits of document 01: client ids and values, clocks and lengths, stored run counts, and what nine bytes spell; an update's bytes;
+// sections, delete-set clients and state-vector entries; blocks announced in one update.
 pub const MAX_VALUE: u64 = 9007199254740991;
 
 pub const MAX_CLOCK: u64 = 2147483647;
@@ -19,6 +20,12 @@ pub const MAX_COUNT: u64 = 2147483645;
 pub const MAX_UNSIGNED: u64 = 9223372036854775807;
 
 pub const MAX_SIGNED: u64 = 4611686018427387903;
+
+pub const MAX_UPDATE: usize = 16777215;
+
+pub const MAX_CLIENTS: u64 = 64;
+
+pub const MAX_BLOCKS: u64 = 65535;
 
 // What a refused read says: its number in document 01, and the byte place that it blames.
 pub struct Refusal {

@@ -2,7 +2,7 @@
 use native.Mathlib.Omega.{arith}
 use mathlib.Core.Path.{sym, ap, _∙_}
 use borrow.Author.Tests.{lt-ltb, le-ltb}
-use Rattle.decoder.specs.declared.Text.the-variants as text
+use Rattle.decoder.specs.declared.Buf.the-variants as buf
 use Rattle.decoder.specs.Fields.{whyDraw, bytesAfter, bufAt}
 use Rattle.decoder.proofs.Laws.{var-ends}
 use borrow.Author.Needs.{needs}
@@ -25,7 +25,7 @@ returns : tie.Need-returns
 unfolding bufAt bytesAfter
 returns c =
     let told = c .before .enum-told .given .1 in
-    rw (← c .before .before .before .read-var .ensures, told) (ap text.Refused (c .why .ensures ∙ ap whyDraw told))
+    rw (← c .before .before .before .read-var .ensures, told) (ap buf.Refused (c .why .ensures ∙ ap whyDraw told))
 
 sub-left : tie.Need-sub-left
 sub-left c =

@@ -3,7 +3,7 @@ use Prim.Native.Nat.{_-_, _≤_}
 use native.Mathlib.Omega.{arith}
 use mathlib.Core.Path.{_≡_, refl, sym, ap, _∙_}
 use Rattle.decoder.specs.declared.v2.Opened.the-variants as opened
-use Rattle.decoder.specs.Fields.{whyText, cutFrom}
+use Rattle.decoder.specs.Fields.{whyBuf, cutFrom}
 use Rattle.decoder.proofs.Laws.{cut-more, cut-none, cut-refused}
 use borrow.Author.Needs.{needs}
 use Rattle.decoder.proofs.v2.cut_columns.Statement.{statement}
@@ -27,14 +27,14 @@ enum-known-b c = search needs
 enum-told : tie.Need-enum-told Inv-loop μ-loop
 enum-told c = search needs
 
-why-text-requires : tie.Need-why-text-requires Inv-loop μ-loop
-why-text-requires c κs = search needs
+why-buf-requires : tie.Need-why-buf-requires Inv-loop μ-loop
+why-buf-requires c κs = search needs
 
 returns : tie.Need-returns Inv-loop μ-loop
 returns c =
     let l = c .before .before .before .before .before .loop in
     let a = c .before .before .before .before .before .before .before .args in
-    ap opened.Refused (c .why-text .ensures ∙ ap whyText (c .before .enum-told .given .1))
+    ap opened.Refused (c .why-buf .ensures ∙ ap whyBuf (c .before .enum-told .given .1))
     ∙ sym (cut-refused (9 - l .k) (a .update .now) (l .s) _ (omega arith) (sym (c .before .before .before .read-buf .ensures) ∙ c .before .enum-told .given .1)) ∙ l .inv .0
 
 put-column-requires : tie.Need-put-column-requires Inv-loop μ-loop
@@ -69,7 +69,7 @@ cut-columns-spec =
     read-buf-requires
     enum-known-b
     enum-told
-    why-text-requires
+    why-buf-requires
     returns
     put-column-requires
     add-k

@@ -31,7 +31,7 @@ returns c =
 
 returns-2 : tie.Need-returns-2
 unfolding text2 textDrawn
-returns-2 c = rw (← c .before .before .before .before .upto .ensures, ← c .before .before .before .next .ensures, c .before .r .given .1)
+returns-2 c = rw (← c .before .before .before .before .before .upto .ensures, ← c .before .before .before .before .next .ensures, c .before .before .r .given .1)
 
 pub read-string-spec : {M : Type 1} → statement M
 read-string-spec =

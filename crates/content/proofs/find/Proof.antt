@@ -1,0 +1,92 @@
+-- `content::find` meets its contract: the form opened, the blocks scanned, the delete set checked, then the part.
+use mathlib.Core.Path.{sym, ap, _∙_}
+use Rattle.update.proofs.Laws.{begins}
+use Rattle.content.specs.declared.Found.the-variants.{Refused}
+use Rattle.content.specs.Content.{whyBegun, whyScanned, whyChecked}
+use Rattle.content.proofs.Finds.{not-begun, not-scanned, not-checked, found}
+use borrow.Author.Needs.{needs}
+use Rattle.content.proofs.find.Statement.{statement}
+use Rattle.content.proofs.find.Tie as tie
+
+begin-requires : tie.Need-begin-requires
+begin-requires c κs = search needs
+
+enum-known-b : tie.Need-enum-known-b
+enum-known-b c = search needs
+
+enum-told : tie.Need-enum-told
+enum-told c = search needs
+
+why-begun-requires : tie.Need-why-begun-requires
+why-begun-requires c κs = search needs
+
+returns : tie.Need-returns
+returns c =
+    let told = c .before .enum-told .given .1 in
+    ap Refused (c .why-begun .ensures ∙ ap whyBegun told) ∙ not-begun (c .before .before .before .before .before .args .form) (c .before .before .before .before .before .args .update .now) (c .before .before .before .before .before .args .n) _ (sym (c .before .before .before .begin .ensures) ∙ told)
+
+scan-requires : tie.Need-scan-requires
+scan-requires c κs = begins (c .before .before .before .before .before .args .form) (c .before .before .before .before .before .args .update .now) _ (sym (c .before .before .before .begin .ensures) ∙ c .before .b .given .1) .1
+
+enum-known-r : tie.Need-enum-known-r
+enum-known-r c = search needs
+
+enum-told-2 : tie.Need-enum-told-2
+enum-told-2 c = search needs
+
+why-scanned-requires : tie.Need-why-scanned-requires
+why-scanned-requires c κs = search needs
+
+returns-2 : tie.Need-returns-2
+returns-2 c =
+    let a = c .before .before .before .before .before .before .before .before .before .args in
+    let told = c .before .enum-told2 .given .1 in
+    ap Refused (c .why-scanned .ensures ∙ ap whyScanned told) ∙ not-scanned (a .form) (a .update .now) (a .n) _ (sym (c .before .before .before .before .before .before .before .begin .ensures) ∙ c .before .before .before .before .before .b .given .1) _ (sym (c .before .before .before .scan .ensures) ∙ told)
+
+check-delete-set-requires : tie.Need-check-delete-set-requires
+check-delete-set-requires c κs = search needs
+
+enum-told-3 : tie.Need-enum-told-3
+enum-told-3 c = search needs
+
+enum-told-4 : tie.Need-enum-told-4
+enum-told-4 c = search needs
+
+why-checked-requires : tie.Need-why-checked-requires
+why-checked-requires c κs = search needs
+
+returns-3 : tie.Need-returns-3
+returns-3 c =
+    let a = c .before .before .before .before .before .before .before .before .before .before .before .before .before .args in
+    let told = c .before .enum-told4 .given .1 in
+    ap Refused (c .why-checked .ensures ∙ ap whyChecked told) ∙ not-checked (a .form) (a .update .now) (a .n) _ (sym (c .before .before .before .before .before .before .before .before .before .before .before .begin .ensures) ∙ c .before .before .before .before .before .before .before .before .before .b .given .1) _ _ (sym (c .before .before .before .before .before .before .before .scan .ensures) ∙ c .before .before .before .before .before .r .given .1) _ (sym (c .before .before .before .check-delete-set .ensures) ∙ told)
+
+stored-part-requires : tie.Need-stored-part-requires
+stored-part-requires c κs = search needs
+
+returns-4 : tie.Need-returns-4
+returns-4 c =
+    let a = c .before .before .before .before .before .before .before .before .before .before .before .before .before .args in
+    c .stored-part .ensures ∙ found (a .form) (a .update .now) (a .n) _ (sym (c .before .before .before .before .before .before .before .before .before .before .before .begin .ensures) ∙ c .before .before .before .before .before .before .before .before .before .b .given .1) _ _ (sym (c .before .before .before .before .before .before .before .scan .ensures) ∙ c .before .before .before .before .before .r .given .1) _ (sym (c .before .before .before .check-delete-set .ensures) ∙ c .before .enum-told3 .given .1)
+
+pub find-spec : {M : Type 1} → statement M
+find-spec =
+    tie.close
+    (tie.spec
+    begin-requires
+    enum-known-b
+    enum-told
+    why-begun-requires
+    returns
+    scan-requires
+    enum-known-r
+    enum-told-2
+    why-scanned-requires
+    returns-2
+    check-delete-set-requires
+    enum-told-3
+    enum-told-4
+    why-checked-requires
+    returns-3
+    stored-part-requires
+    returns-4)

@@ -1,0 +1,53 @@
+-- The stored part of block n: a part of the update itself, once the whole update reads.
+use Prim.Native.Nat.{ℕ, zero, suc}
+use mathlib.Core.List.{List}
+use lib.Dec.{ltb}
+use Rattle.numbers.specs.declared.Refusal.{Refusal}
+use Rattle.numbers.specs.Number.{pick, none}
+use Rattle.block.specs.declared.Block.{Block}
+use Rattle.block.specs.Row.{noBlock}
+use Rattle.decoder.specs.Course.{Course, item, over, stopped, ending}
+use Rattle.update.specs.declared.Begun.{Begun}
+use Rattle.update.specs.declared.Begun.the-variants as begun
+use Rattle.update.specs.Update.{blocksOf}
+use Rattle.deletes.specs.declared.Checked.{Checked}
+use Rattle.deletes.specs.declared.Checked.the-variants as checked
+use Rattle.deletes.specs.DeleteSet.{deleteSet}
+use Rattle.content.specs.declared.Scanned.{Scanned}
+use Rattle.content.specs.declared.Scanned.the-variants as scanned
+use Rattle.content.specs.declared.Found.{Found}
+use Rattle.content.specs.declared.Found.the-variants.{Part, Refused}
+
+-- block n, from 0; the row that has none where there are not so many
+unfoldable pub nth : ℕ → Course Block → Block
+nth zero (item b p c) = b
+nth (suc n) (item b p c) = nth n c
+nth n (over s) = noBlock
+nth n (stopped why) = noBlock
+
+unfoldable pub scannedOf : ℕ → Course Block → Scanned
+scannedOf n c = ending c (λ s. scanned.Row (nth n c) s) (λ why. scanned.Refused why)
+
+-- a binary (4) or a text (5)
+unfoldable pub stored : Block → Found
+stored b = pick (ltb (b .kind) 4) (Refused (record { number = 11; place = 0 })) (Part (b .part))
+
+unfoldable pub contentOf : ℕ → List ℕ → ℕ → Found
+contentOf form u n =
+    ending (blocksOf form u)
+    (λ s. ending (deleteSet u s) (λ t. stored (nth n (blocksOf form u))) (λ why. Refused why))
+    (λ why. Refused why)
+
+-- ---- why not
+
+abbrev pub whyBegun : Begun → Refusal
+whyBegun (begun.At s) = none
+whyBegun (begun.Refused why) = why
+
+abbrev pub whyScanned : Scanned → Refusal
+whyScanned (scanned.Row b s) = none
+whyScanned (scanned.Refused why) = why
+
+abbrev pub whyChecked : Checked → Refusal
+whyChecked (checked.Done s) = none
+whyChecked (checked.Refused why) = why

@@ -1,0 +1,2 @@
+-- Where a block's stored part lies.
+pub mod Content

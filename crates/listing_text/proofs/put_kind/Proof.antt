@@ -1,0 +1,104 @@
+-- `listing_text::put_kind` meets its contract: each kind has its test.
+use native.Mathlib.Omega.{arith}
+use mathlib.Core.Path.{sym}
+use borrow.Author.Tests.{eq-eqb, ne-eqb}
+use Rattle.lines.proofs.Laws.{overlay-nil}
+use Rattle.listing_text.specs.Listing.{kindName}
+use borrow.Author.Needs.{needs}
+use Rattle.listing_text.proofs.put_kind.Statement.{statement}
+use Rattle.listing_text.proofs.put_kind.Tie as tie
+
+slice-aggregate-put-text : tie.Need-slice-aggregate-put-text
+slice-aggregate-put-text c = search needs
+
+put-text-requires : tie.Need-put-text-requires
+put-text-requires c κs = search needs
+
+same-length : tie.Need-same-length
+same-length c = search needs
+
+returns : tie.Need-returns
+unfolding kindName
+returns c = rw (eq-eqb (c .before .before .before .before .before .before .before .args .kind) 1 (c .before .before .before .before .before .if1 .taken)) (c .before .before .put-text .ensures)
+
+slice-aggregate-put-text-2 : tie.Need-slice-aggregate-put-text-2
+slice-aggregate-put-text-2 c = search needs
+
+put-text-requires-2 : tie.Need-put-text-requires-2
+put-text-requires-2 c κs = search needs
+
+same-length-2 : tie.Need-same-length-2
+same-length-2 c = search needs
+
+returns-2 : tie.Need-returns-2
+unfolding kindName
+returns-2 c = rw (ne-eqb (c .before .before .before .before .before .before .before .before .args .kind) 1 (c .before .before .before .before .before .before .if1 .left), eq-eqb (c .before .before .before .before .before .before .before .before .args .kind) 2 (c .before .before .before .before .before .if2 .taken)) (c .before .before .put-text2 .ensures)
+
+slice-aggregate-put-text-3 : tie.Need-slice-aggregate-put-text-3
+slice-aggregate-put-text-3 c = search needs
+
+put-text-requires-3 : tie.Need-put-text-requires-3
+put-text-requires-3 c κs = search needs
+
+same-length-3 : tie.Need-same-length-3
+same-length-3 c = search needs
+
+returns-3 : tie.Need-returns-3
+unfolding kindName
+returns-3 c = rw (ne-eqb (c .before .before .before .before .before .before .before .before .before .args .kind) 1 (c .before .before .before .before .before .before .before .if1 .left), ne-eqb (c .before .before .before .before .before .before .before .before .before .args .kind) 2 (c .before .before .before .before .before .before .if2 .left), eq-eqb (c .before .before .before .before .before .before .before .before .before .args .kind) 3 (c .before .before .before .before .before .if3 .taken)) (c .before .before .put-text3 .ensures)
+
+slice-aggregate-put-text-4 : tie.Need-slice-aggregate-put-text-4
+slice-aggregate-put-text-4 c = search needs
+
+put-text-requires-4 : tie.Need-put-text-requires-4
+put-text-requires-4 c κs = search needs
+
+same-length-4 : tie.Need-same-length-4
+same-length-4 c = search needs
+
+returns-4 : tie.Need-returns-4
+unfolding kindName
+returns-4 c = rw (ne-eqb (c .before .before .before .before .before .before .before .before .before .before .args .kind) 1 (c .before .before .before .before .before .before .before .before .if1 .left), ne-eqb (c .before .before .before .before .before .before .before .before .before .before .args .kind) 2 (c .before .before .before .before .before .before .before .if2 .left), ne-eqb (c .before .before .before .before .before .before .before .before .before .before .args .kind) 3 (c .before .before .before .before .before .before .if3 .left), eq-eqb (c .before .before .before .before .before .before .before .before .before .before .args .kind) 4 (c .before .before .before .before .before .if4 .taken)) (c .before .before .put-text4 .ensures)
+
+slice-aggregate-put-text-5 : tie.Need-slice-aggregate-put-text-5
+slice-aggregate-put-text-5 c = search needs
+
+put-text-requires-5 : tie.Need-put-text-requires-5
+put-text-requires-5 c κs = search needs
+
+same-length-5 : tie.Need-same-length-5
+same-length-5 c = search needs
+
+returns-5 : tie.Need-returns-5
+unfolding kindName
+returns-5 c = rw (ne-eqb (c .before .before .before .before .before .before .before .before .before .before .before .args .kind) 1 (c .before .before .before .before .before .before .before .before .before .if1 .left), ne-eqb (c .before .before .before .before .before .before .before .before .before .before .before .args .kind) 2 (c .before .before .before .before .before .before .before .before .if2 .left), ne-eqb (c .before .before .before .before .before .before .before .before .before .before .before .args .kind) 3 (c .before .before .before .before .before .before .before .if3 .left), ne-eqb (c .before .before .before .before .before .before .before .before .before .before .before .args .kind) 4 (c .before .before .before .before .before .before .if4 .left), eq-eqb (c .before .before .before .before .before .before .before .before .before .before .before .args .kind) 5 (c .before .before .before .before .before .if5 .taken)) (c .before .before .put-text5 .ensures)
+
+returns-6 : tie.Need-returns-6
+unfolding kindName
+returns-6 c = rw (ne-eqb (c .before .before .before .before .before .before .args .kind) 1 (c .before .before .before .before .if1 .left), ne-eqb (c .before .before .before .before .before .before .args .kind) 2 (c .before .before .before .if2 .left), ne-eqb (c .before .before .before .before .before .before .args .kind) 3 (c .before .before .if3 .left), ne-eqb (c .before .before .before .before .before .before .args .kind) 4 (c .before .if4 .left), ne-eqb (c .before .before .before .before .before .before .args .kind) 5 (c .if5 .left)) (omega arith, sym (overlay-nil (c .before .before .before .before .before .before .args .out .now) (c .before .before .before .before .before .before .args .used)))
+
+pub put-kind-spec : {M : Type 1} → statement M
+put-kind-spec =
+    tie.close
+    (tie.spec
+    slice-aggregate-put-text
+    put-text-requires
+    same-length
+    returns
+    slice-aggregate-put-text-2
+    put-text-requires-2
+    same-length-2
+    returns-2
+    slice-aggregate-put-text-3
+    put-text-requires-3
+    same-length-3
+    returns-3
+    slice-aggregate-put-text-4
+    put-text-requires-4
+    same-length-4
+    returns-4
+    slice-aggregate-put-text-5
+    put-text-requires-5
+    same-length-5
+    returns-5
+    returns-6)

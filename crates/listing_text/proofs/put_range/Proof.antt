@@ -1,0 +1,34 @@
+-- `listing_text::put_range` meets its contract: three numbers.
+use native.Mathlib.Omega.{arith}
+use mathlib.Core.List.{_++_}
+use Rattle.lines.proofs.Laws.{put-then}
+use Rattle.listing_text.specs.Listing.{number, rangeLine}
+use Rattle.listing_text.proofs.Laws.{number-short}
+use borrow.Author.Needs.{needs}
+use Rattle.listing_text.proofs.put_range.Statement.{statement}
+use Rattle.listing_text.proofs.put_range.Tie as tie
+
+put-number-requires : tie.Need-put-number-requires
+put-number-requires c κs = search needs
+
+put-number-requires-2 : tie.Need-put-number-requires-2
+put-number-requires-2 c κs = omega (arith, c .before .before .before .put-number .ensures .0, number-short (c .before .before .before .before .before .before .args .client) 32)
+
+put-number-requires-3 : tie.Need-put-number-requires-3
+put-number-requires-3 c κs = omega (arith, c .before .before .before .put-number2 .ensures .0, c .before .before .before .before .before .before .before .put-number .ensures .0, number-short (c .before .before .before .before .before .before .before .before .before .before .args .client) 32, number-short (c .before .before .before .before .before .before .before .before .before .before .args .clock) 32)
+
+same-length : tie.Need-same-length
+same-length c = search needs
+
+returns : tie.Need-returns
+unfolding rangeLine
+returns c =
+    let a = c .before .before .before .before .before .before .before .before .before .before .before .before .before .args in
+    let client = number (a .client) 32 in
+    let clock = number (a .clock) 32 in
+    put-then (a .out .now) (a .used) (client ++ clock) (number (a .len) 10) (put-then (a .out .now) (a .used) client clock (c .before .before .before .before .before .before .before .before .before .before .put-number .ensures) (c .before .before .before .before .before .before .put-number2 .ensures)) (c .before .before .put-number3 .ensures)
+
+pub put-range-spec : {M : Type 1} → statement M
+put-range-spec =
+    tie.close
+    (tie.spec put-number-requires put-number-requires-2 put-number-requires-3 same-length returns)

@@ -1,0 +1,3 @@
+-- What the crate is believed to mean.
+pub mod Words
+pub mod Listing

@@ -1,0 +1,8 @@
+-- The normal form is unique and `normal` gives it (Theory), words and ranges (Flat), the limits kept (Fines), and the laws of the passes.
+pub mod Theory
+pub mod Flat
+pub mod Fines
+pub mod Rows
+pub mod Heaps
+pub mod Joins
+pub mod Levels

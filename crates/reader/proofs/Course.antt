@@ -1,0 +1,145 @@
+-- The reader's laws, with no machine: what a step makes of what is known of the rows, and what the rows are at each way out. Assumes nothing.
+use mathlib.Core.Path.{_≡_, refl, sym, _∙_, ap}
+use Prim.Native.Nat.{ℕ, zero, suc, _+_, _-_, _<_, _≤_}
+use native.Mathlib.Omega.{arith}
+use native.Mathlib.Numerals.{add-one}
+use mathlib.Core.List.{List, [], _∷_, _++_, append-assoc, append-nil}
+use lib.ListN.{length, set, take, replicate}
+use lib.Seq.{take-suc-set, length-take-le}
+use Rattle.numbers.specs.declared.Refusal.{Refusal}
+use Rattle.block.specs.declared.Block.{Block}
+use Rattle.block.specs.Row.{noBlock}
+use Rattle.table.specs.Rows.{clearedFrom}
+use Rattle.decoder.specs.declared.State.{State}
+use Rattle.decoder.specs.Course.{Course, item, over, stopped, fit, items, ending}
+use Rattle.reader.specs.declared.Filled.{Filled}
+use Rattle.reader.specs.declared.Filled.the-variants.{Rows, Refused}
+use Rattle.reader.specs.Reader.{filledOf, rowsOf}
+
+-- ---- how a course ends, as a value
+pub data Last : Type 0 where
+  done : State → Last
+  refused : Refusal → Last
+
+abbrev pub last : Course Block → Last
+last c = ending c done refused
+
+abbrev onLast : {X : Type 0} → Last → (State → X) → (Refusal → X) → X
+onLast (done s) d r = d s
+onLast (refused why) d r = r why
+
+ending-last : {X : Type 0} (c : Course Block) (d : State → X) (r : Refusal → X) → ending c d r ≡ onLast (last c) d r
+unfolding ending
+ending-last (item a p c) d r = ending-last c d r
+ending-last (over s) d r = refl
+ending-last (stopped why) d r = refl
+
+-- ---- so many rows: the blocks and the end, each known apart
+module _ (N : ℕ) (c : Course Block) where
+  filled-by : (bs : List Block) (l : Last) → items (fit N c) ≡ bs → last (fit N c) ≡ l → filledOf N c ≡ onLast l (λ s. Rows (length bs) s) (λ why. Refused why)
+  unfolding filledOf
+  filled-by bs l e h = ending-last (fit N c) (λ s. Rows (length (items (fit N c))) s) (λ why. Refused why) ∙ ap (λ (k : Last). onLast k (λ s. Rows (length (items (fit N c))) s) (λ why. Refused why)) h ∙ ap (λ (ws : List Block). onLast l (λ s. Rows (length ws) s) (λ why. Refused why)) e
+
+  rows-by : (bs : List Block) (l : Last) → items (fit N c) ≡ bs → last (fit N c) ≡ l → rowsOf N c ≡ onLast l (λ s. bs ++ replicate (N - length bs) noBlock) (λ why. replicate N noBlock)
+  unfolding rowsOf
+  rows-by bs l e h =
+      ending-last (fit N c) (λ s. items (fit N c) ++ replicate (N - length (items (fit N c))) noBlock) (λ why. replicate N noBlock)
+      ∙ ap (λ (k : Last). onLast k (λ s. items (fit N c) ++ replicate (N - length (items (fit N c))) noBlock) (λ why. replicate N noBlock)) h
+      ∙ ap (λ (ws : List Block). onLast l (λ s. ws ++ replicate (N - length ws) noBlock) (λ why. replicate N noBlock)) e
+
+-- ---- one thing more
+items-more : (k : ℕ) (b : Block) (p : ℕ) (c : Course Block) → items (fit (suc k) (item b p c)) ≡ b ∷ items (fit k c)
+unfolding fit items
+items-more k b p c = refl
+
+last-more : (k : ℕ) (b : Block) (p : ℕ) (c : Course Block) → last (fit (suc k) (item b p c)) ≡ last (fit k c)
+unfolding fit ending
+last-more k b p c = refl
+
+last-full : (b : Block) (p : ℕ) (c : Course Block) → last (fit 0 (item b p c)) ≡ refused (record { number = 8; place = p })
+unfolding fit ending
+last-full b p c = refl
+
+items-over : (k : ℕ) (s : State) → _≡_ {A = List Block} (items (fit k (over s))) []
+unfolding fit items
+items-over zero s = refl
+items-over (suc k) s = refl
+
+last-over : (k : ℕ) (s : State) → last (fit k (over s)) ≡ done s
+unfolding fit ending
+last-over zero s = refl
+last-over (suc k) s = refl
+
+last-stopped : (k : ℕ) (why : Refusal) → last (fit k (stopped why)) ≡ refused why
+unfolding fit ending
+last-stopped zero why = refl
+last-stopped (suc k) why = refl
+
+-- ---- what is known where a turn begins, with n of N rows filled and c to come: they hold the first blocks of c₀, and c is the rest
+abbrev pub Known : ℕ → Course Block → ℕ → List Block → Course Block → Type 0
+Known N c₀ n rows c = (n ≤ N) × (items (fit N c₀) ≡ take n rows ++ items (fit (N - n) c)) × (last (fit N c₀) ≡ last (fit (N - n) c))
+
+-- the contract at a way out
+abbrev Ends : ℕ → Course Block → Filled → List Block → Type 0
+Ends N c₀ r rows = (r ≡ filledOf N c₀) × (rows ≡ rowsOf N c₀)
+
+module _ (N : ℕ) (c₀ : Course Block) where
+  pub at-first : (rows : List Block) (c : Course Block) → c₀ ≡ c → Known N c₀ 0 rows c
+  at-first rows c e = (omega (arith), ap (λ (x : Course Block). items (fit N x)) e ∙ ap (λ (k : ℕ). items (fit k c)) all, ap (λ (x : Course Block). last (fit N x)) e ∙ ap (λ (k : ℕ). last (fit k c)) all)
+    where
+      all : N ≡ N - 0
+      all = omega (arith)
+
+  refuses : (rows : List Block) (why : Refusal) → length rows ≡ N → last (fit N c₀) ≡ refused why → Ends N c₀ (Refused why) (clearedFrom 0 rows)
+  unfolding clearedFrom
+  refuses rows why size h = (sym (filled-by N c₀ (items (fit N c₀)) (refused why) refl h), ap (λ (k : ℕ). replicate k noBlock) all ∙ sym (rows-by N c₀ (items (fit N c₀)) (refused why) refl h))
+    where
+      all : length rows - 0 ≡ N
+      all = omega (arith, size)
+
+  pub on-none : (rows : List Block) (why : Refusal) → length rows ≡ N → c₀ ≡ stopped why → Ends N c₀ (Refused why) (clearedFrom 0 rows)
+  on-none rows why size e = refuses rows why size (ap (λ (x : Course Block). last (fit N x)) e ∙ last-stopped N why)
+
+  module _ (n : ℕ) (rows : List Block) (c : Course Block) (known : Known N c₀ n rows c) where
+    pub passed : (rest : Course Block) → c ≡ rest → Known N c₀ n rows rest
+    passed rest e = (known .0, known .1 ∙ ap (λ (x : Course Block). take n rows ++ items (fit (N - n) x)) e, known .2 ∙ ap (λ (x : Course Block). last (fit (N - n) x)) e)
+
+    module _ (size : length rows ≡ N) where
+      pub kept : (b : Block) (p : ℕ) (rest : Course Block) → c ≡ item b p rest → n < N → Known N c₀ (n + 1) (set rows n b) rest
+      kept b p rest e l = (
+        omega (arith, l),
+        passed (item b p rest) e .1 ∙ ap (λ (k : ℕ). take n rows ++ items (fit k (item b p rest))) less ∙ ap (λ (bs : List Block). take n rows ++ bs) (items-more (N - (n + 1)) b p rest) ∙ sym (append-assoc (take n rows) (b ∷ []) (items (fit (N - (n + 1)) rest)))
+            ∙ ap (λ (bs : List Block). bs ++ items (fit (N - (n + 1)) rest)) (sym one-more),
+        passed (item b p rest) e .2 ∙ ap (λ (k : ℕ). last (fit k (item b p rest))) less ∙ last-more (N - (n + 1)) b p rest,
+      )
+        where
+          less : N - n ≡ suc (N - (n + 1))
+          less = omega (arith, l)
+
+          one-more : take (n + 1) (set rows n b) ≡ take n rows ++ (b ∷ [])
+          one-more = ap (λ (k : ℕ). take k (set rows n b)) (add-one n) ∙ take-suc-set rows n b (omega (arith, l, size))
+
+      pub on-full : (b : Block) (p : ℕ) (rest : Course Block) → c ≡ item b p rest → N ≤ n → Ends N c₀ (Refused (record { number = 8; place = p })) (clearedFrom 0 rows)
+      on-full b p rest e l = refuses rows (record { number = 8; place = p }) size (passed (item b p rest) e .2 ∙ ap (λ (k : ℕ). last (fit k (item b p rest))) none-left ∙ last-full b p rest)
+        where
+          none-left : N - n ≡ 0
+          none-left = omega (arith, l)
+
+      pub on-refusal : (why : Refusal) → c ≡ stopped why → Ends N c₀ (Refused why) (clearedFrom 0 rows)
+      on-refusal why e = refuses rows why size (passed (stopped why) e .2 ∙ last-stopped (N - n) why)
+
+      pub on-end : (s : State) → c ≡ over s → Ends N c₀ (Rows n s) (clearedFrom n rows)
+      unfolding clearedFrom
+      on-end s e = (
+        sym (filled-by N c₀ (take n rows) (done s) blocks end ∙ ap (λ (k : ℕ). Rows k s) taken),
+        ap (λ (k : ℕ). take n rows ++ replicate (k - n) noBlock) size ∙ sym (rows-by N c₀ (take n rows) (done s) blocks end ∙ ap (λ (k : ℕ). take n rows ++ replicate (N - k) noBlock) taken),
+      )
+        where
+          blocks : items (fit N c₀) ≡ take n rows
+          blocks = passed (over s) e .1 ∙ ap (λ (bs : List Block). take n rows ++ bs) (items-over (N - n) s) ∙ append-nil (take n rows)
+
+          end : last (fit N c₀) ≡ done s
+          end = passed (over s) e .2 ∙ last-over (N - n) s
+
+          taken : length (take n rows) ≡ n
+          taken = length-take-le n rows (omega (arith, known .0, size))

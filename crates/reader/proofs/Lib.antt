@@ -1,0 +1,4 @@
+-- Laws, and what walks share.
+pub mod Cards
+pub mod Course
+pub mod Sorts

@@ -1,0 +1,5 @@
+-- What the blocks of an update are.
+pub mod Block
+pub mod Fields
+pub mod Steps
+pub mod Update

@@ -1,0 +1,49 @@
+-- `vector::clear` meets its contract: before `i` it is what it shall be, from `i` on what it was.
+use Prim.Native.Nat.{_-_, _≤_}
+use mathlib.Core.Path.{_≡_, refl, _∙_}
+use mathlib.Core.List.{_++_}
+use native.Mathlib.Omega.{arith}
+use borrow.Author.Needs.{needs}
+use lib.ListN.{length, take, drop, replicate, length-set}
+use Rattle.numbers.proofs.Output.{zeros-none, zeros-more, zeros-all}
+use Rattle.vector.proofs.clear.Statement.{statement}
+use Rattle.vector.proofs.clear.Tie as tie
+
+abbrev Inv-loop : tie.InvT-loop
+Inv-loop words₀ from i₀ words i = (from ≤ i) × (i ≤ length words₀) × (words ≡ take from words₀ ++ (replicate (i - from) 0 ++ drop i words₀)) × (length words ≡ length words₀)
+
+abbrev μ-loop : tie.MeasureT-loop
+μ-loop words₀ from i₀ words i = length words₀ - i
+
+loop-holds : tie.Need-loop-holds Inv-loop μ-loop
+loop-holds c = (omega arith, c .pre, zeros-none (c .args .words .now) (c .args .from), refl)
+
+mul-words : tie.Need-mul-words Inv-loop μ-loop
+mul-words c = search needs
+
+slice-write-words : tie.Need-slice-write-words Inv-loop μ-loop
+slice-write-words c = search needs
+
+add-i : tie.Need-add-i Inv-loop μ-loop
+add-i c = search needs
+
+loop-less : tie.Need-loop-less Inv-loop μ-loop
+loop-less c = search needs
+
+loop-again : tie.Need-loop-again Inv-loop μ-loop
+loop-again c =
+    let l = c .before .loop in
+    let a = c .before .before .args in
+    (omega arith, omega arith, rw (l .inv .2) (zeros-more (a .words .now) (a .from) (l .i) (l .inv .0) (omega arith)), simp length-set (l .inv .3))
+
+same-length : tie.Need-same-length Inv-loop μ-loop
+same-length c = c .before .loop .inv .3
+
+returns : tie.Need-returns Inv-loop μ-loop
+returns c =
+    let l = c .before .loop in
+    let a = c .before .before .args in
+    l .inv .2 ∙ zeros-all (a .words .now) (a .from) (l .i) (omega arith)
+
+pub clear-spec : {M : Type 1} → statement M
+clear-spec = tie.close (tie.spec Inv-loop μ-loop loop-holds mul-words slice-write-words add-i loop-less loop-again same-length returns)

@@ -1,0 +1,2 @@
+-- What a state vector is.
+pub mod Vector

@@ -1,0 +1,209 @@
+// A state vector: how many entries, then a client and its clock each, as in 02 05 03 07 00: client 5 up to 3, client 7 up to 0.
+// What comes after the entries is not read.
+use decoder::Draw;
+use decoder::State;
+use numbers::Refusal;
+ghost use mathlib.Core.Path.{_≡_};
+ghost use mathlib.Core.List.{[], _++_};
+ghost use Prim.Native.Nat.{_-_, _*_, _≤_};
+ghost use lib.ListN.{length, take, replicate};
+ghost use Rattle.numbers.specs.Limits.{maxClients};
+ghost use Rattle.numbers.specs.Output.{padded};
+ghost use Rattle.vector.specs.Vector.{clientsIn, clocksIn, among, entries, vectorOf, entriesOf, kept, nextEntry, whyNext, whyEntries, countIn, joined, vectorAnswer, vectorWords};
+
+// How many entries were read.
+pub enum Entries {
+    Read(usize),
+    Refused(Refusal),
+}
+
+// A client and its clock.
+pub enum Next {
+    Entry(u64, u64, State),
+    Refused(Refusal),
+}
+
+// What a caller outside is told: 0 and how many entries, or the number of a refusal and none.
+pub struct Vector {
+    pub number: u8,
+    pub count: usize,
+}
+
+// Zeros from a place on.
+fn clear(words: &mut [u64], from: usize)
+    requires { ⌜ from ≤ length (now words) ⌝ }
+    ensures { λ _. ⌜ now (words .exit) ≡ take from (now (words .entry)) ++ replicate (length (now (words .entry)) - from) 0 ⌝ }
+{
+    let mut i = from;
+    while i < words.len() {
+        words[i] = 0;
+        i += 1;
+    }
+}
+
+// Whether a client is among the first n.
+fn is_seen(clients: &[u64], n: usize, client: u64) -> bool
+    requires { ⌜ n ≤ length (now clients) ⌝ }
+    ensures { λ r. ⌜ r ≡ among client (take n (now (clients .entry))) ⌝ }
+{
+    let mut i = 0;
+    while i < n {
+        if clients[i] == client {
+            return true;
+        }
+        i += 1;
+    }
+    false
+}
+
+// The entry at a place, after those of n clients: 3 of the client, 4, then 3 of the clock.
+fn next_entry(vector: &[u8], clients: &[u64], n: usize, s: State) -> Next
+    requires { ⌜ n ≤ length (now clients) ⌝ }
+    ensures { λ r. ⌜ r ≡ nextEntry (now (vector .entry)) (take n (now (clients .entry))) s ⌝ }
+{
+    let c = decoder::v1::read_client(vector, s);
+    let Draw::Number(client, place, t) = c else {
+        return Next::Refused(decoder::why(c));
+    };
+    let seen = is_seen(clients, n, client);
+    if seen {
+        return Next::Refused(Refusal { number: 4, place });
+    }
+    let k = decoder::read_clock(vector, t);
+    let Draw::Number(clock, _, e) = k else {
+        return Next::Refused(decoder::why(k));
+    };
+    Next::Entry(client, clock, e)
+}
+
+fn why_next(e: Next) -> Refusal
+    ensures { λ w. ⌜ w ≡ whyNext e ⌝ }
+{
+    match e {
+        Next::Entry(_, _, _) => Refusal {
+            number: 0,
+            place: 0,
+        },
+        Next::Refused(w) => w,
+    }
+}
+
+// So many entries, from the first word on; what a refusal leaves there means nothing.
+fn read_each(
+    vector: &[u8],
+    s: State,
+    count: usize,
+    clients: &mut [u64],
+    clocks: &mut [u64],
+) -> Entries
+    requires { ⌜ (count ≤ length (now clients)) × (count ≤ length (now clocks)) ⌝ }
+    ensures { λ r. ⌜ (r ≡ entriesOf (entries count (now (vector .entry)) [] s)) × (countIn r ≤ count) × (take (countIn r) (now (clients .exit)) ≡ clientsIn (kept (entries count (now (vector .entry)) [] s))) × (take (countIn r) (now (clocks .exit)) ≡ clocksIn (kept (entries count (now (vector .entry)) [] s))) ⌝ }
+{
+    let mut s = s;
+    let mut i = 0;
+    while i < count {
+        let e = next_entry(vector, clients, i, s);
+        let Next::Entry(client, clock, t) = e else {
+            return Entries::Refused(why_next(e));
+        };
+        clients[i] = client;
+        clocks[i] = clock;
+        s = t;
+        i += 1;
+    }
+    Entries::Read(i)
+}
+
+// How many entries are announced, and then each of them.
+fn read_announced(vector: &[u8], clients: &mut [u64], clocks: &mut [u64]) -> Entries
+    requires { ⌜ (maxClients ≤ length (now clients)) × (maxClients ≤ length (now clocks)) ⌝ }
+    ensures { λ r. ⌜ (r ≡ entriesOf (vectorOf (now (vector .entry)))) × (countIn r ≤ maxClients) × (take (countIn r) (now (clients .exit)) ≡ clientsIn (kept (vectorOf (now (vector .entry))))) × (take (countIn r) (now (clocks .exit)) ≡ clocksIn (kept (vectorOf (now (vector .entry))))) ⌝ }
+{
+    let start = decoder::start(1, 0);
+    let d = decoder::within(decoder::read_var(vector, start), numbers::MAX_CLIENTS);
+    let Draw::Number(n, _, s) = d else {
+        return Entries::Refused(decoder::why(d));
+    };
+    let count = n as usize;
+    read_each(vector, s, count, clients, clocks)
+}
+
+fn count_of(r: Entries) -> usize
+    ensures { λ n. ⌜ n ≡ countIn r ⌝ }
+{
+    match r {
+        Entries::Read(n) => n,
+        Entries::Refused(_) => 0,
+    }
+}
+
+// Every entry in reading order, its client and its clock at one index, and zeros after the last; on a refusal zeros only.
+pub fn read_entries(vector: &[u8], clients: &mut [u64], clocks: &mut [u64]) -> Entries
+    requires { ⌜ (maxClients ≤ length (now clients)) × (maxClients ≤ length (now clocks)) ⌝ }
+    ensures { λ r. ⌜ (r ≡ entriesOf (vectorOf (now (vector .entry)))) × (now (clients .exit) ≡ padded (length (now (clients .entry))) (clientsIn (kept (vectorOf (now (vector .entry)))))) × (now (clocks .exit) ≡ padded (length (now (clocks .entry))) (clocksIn (kept (vectorOf (now (vector .entry)))))) ⌝ }
+{
+    let r = read_announced(vector, clients, clocks);
+    let n = count_of(r);
+    clear(clients, n);
+    clear(clocks, n);
+    r
+}
+
+pub fn why_entries(r: Entries) -> Refusal
+    ensures { λ w. ⌜ w ≡ whyEntries r ⌝ }
+{
+    match r {
+        Entries::Read(_) => Refusal {
+            number: 0,
+            place: 0,
+        },
+        Entries::Refused(w) => w,
+    }
+}
+
+// Each of n clients and its clock side by side, and zeros after the last.
+fn put_words(out: &mut [u64], clients: &[u64], clocks: &[u64], n: usize)
+    requires { ⌜ (2 * n ≤ length (now out)) × (n ≤ length (now clients)) × (n ≤ length (now clocks)) ⌝ }
+    ensures { λ _. ⌜ now (out .exit) ≡ padded (length (now (out .entry))) (joined (take n (now (clients .entry))) (take n (now (clocks .entry)))) ⌝ }
+{
+    let mut at = 0;
+    let mut i = 0;
+    while i < n {
+        out[at] = clients[i];
+        out[at + 1] = clocks[i];
+        at += 2;
+        i += 1;
+    }
+    clear(out, at);
+}
+
+// The answer to a caller outside that is refused: zeros everywhere.
+fn refuse(out: &mut [u64], number: u8) -> Vector
+    ensures { λ r. ⌜ (r ≡ record { number = number; count = 0 }) × (now (out .exit) ≡ padded (length (now (out .entry))) []) ⌝ }
+{
+    clear(out, 0);
+    Vector { number, count: 0 }
+}
+
+// Client and clock of every entry in reading order, two words each, and zeros after the last: the vector's own refusal, then 10 where the
+// words don't fit.
+pub fn read_state_vector(vector: &[u8], out: &mut [u64]) -> Vector
+    ensures { λ r. ⌜ (r ≡ vectorAnswer (length (now (out .entry))) (vectorOf (now (vector .entry)))) × (now (out .exit) ≡ vectorWords (length (now (out .entry))) (vectorOf (now (vector .entry)))) ⌝ }
+{
+    let mut clients = [0u64; 64];
+    let mut clocks = [0u64; 64];
+    let r = read_entries(vector, &mut clients, &mut clocks);
+    let Entries::Read(n) = r else {
+        let why = why_entries(r);
+        return refuse(out, why.number);
+    };
+    let words = 2 * n;
+    if out.len() < words {
+        return refuse(out, 10);
+    }
+    put_words(out, &clients, &clocks, n);
+    Vector {
+        number: 0,
+        count: n,
+    }
+}
