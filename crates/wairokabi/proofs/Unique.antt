@@ -5,11 +5,12 @@ use mathlib.Core.List.{List}
 use mathlib.Core.Bool.{Bool}
 use Rattle.numbers.specs.declared.Written.{Written}
 use Rattle.text.specs.declared.Units.{Units}
+use Rattle.vector.specs.declared.Vector.{Vector}
 use Rattle.columns.specs.declared.number.Place as number
 use Rattle.columns.specs.declared.difference.Place as difference
 use Rattle.columns.specs.declared.byte.Place as byte
 use Rattle.columns.specs.declared.string.Place as string
-use Rattle.wairokabi.specs.Promises.{ReadUnsigned, ReadSigned, Writes, WriteUnsigned, WriteSigned, CountUnits, TakeText, CutText, OpenNumbers, NextNumber, OpenDifferences, NextDifference, OpenBytes, NextByte, OpenText, NextText, WriteNumbers, WriteDifferences, WriteBytes, WriteTexts}
+use Rattle.wairokabi.specs.Promises.{ReadUnsigned, ReadSigned, Writes, WriteUnsigned, WriteSigned, CountUnits, TakeText, CutText, OpenNumbers, NextNumber, OpenDifferences, NextDifference, OpenBytes, NextByte, OpenText, NextText, WriteNumbers, WriteDifferences, WriteBytes, WriteTexts, ReadStateVector}
 
 -- at most one value has a property
 abbrev pub Only : {A : Type 0} → (A → Type 0) → Type 0
@@ -81,3 +82,6 @@ only-write-bytes lent vs = both _ _ lent
 
 pub only-write-texts : (lent t us : List ℕ) → OnlyBoth (WriteTexts lent t us)
 only-write-texts lent t us = both _ _ lent
+
+pub only-read-state-vector : (v lent : List ℕ) (r r′ : Vector) (x x′ : List ℕ) → ReadStateVector v lent r x → ReadStateVector v lent r′ x′ → (r ≡ r′) × (x ≡ x′)
+only-read-state-vector v lent r r′ x x′ p q = (p .0 ∙ sym (q .0), p .1 ∙ sym (q .1))

@@ -37,6 +37,8 @@ use Rattle.columns.specs.declared.string.Opened.the-variants as opened
 use Rattle.columns.specs.declared.string.Answer as string-answer
 use Rattle.columns.specs.declared.string.Answer.the-variants as string
 use Rattle.columns.specs.String as strings
+use Rattle.vector.specs.declared.Vector.{Vector}
+use Rattle.vector.specs.Vector.{vectorOf, vectorAnswer, vectorWords}
 use Rattle.wairokabi.specs.declared.Unsigned.{Unsigned}
 use Rattle.wairokabi.specs.declared.Signed.{Signed}
 use Rattle.wairokabi.specs.declared.Counted.{Counted}
@@ -157,3 +159,8 @@ WriteBytes lent vs r x = Writes (whyOf column.Byte vs) (columnOf column.Byte vs)
 
 abbrev pub WriteTexts : List ℕ → List ℕ → List ℕ → Written → List ℕ → Type 0
 WriteTexts lent t us r x = Writes (strings.whyTexts t us) (strings.textColumn t us) lent r x
+
+-- ---- state vectors
+
+abbrev pub ReadStateVector : List ℕ → List ℕ → Vector → List ℕ → Type 0
+ReadStateVector v lent r x = (r ≡ vectorAnswer (length lent) (vectorOf v)) × (x ≡ vectorWords (length lent) (vectorOf v))

@@ -10,7 +10,8 @@ use text::Bytes;
 use text::Part;
 use text::Taken;
 use text::Units;
-ghost use Rattle.wairokabi.specs.Promises.{ReadUnsigned, ReadSigned, WriteUnsigned, WriteSigned, CountUnits, TakeText, CutText, OpenNumbers, NextNumber, OpenDifferences, NextDifference, OpenBytes, NextByte, OpenText, NextText, WriteNumbers, WriteDifferences, WriteBytes, WriteTexts, refusedCut, cutAnswer};
+use vector::Vector;
+ghost use Rattle.wairokabi.specs.Promises.{ReadUnsigned, ReadSigned, WriteUnsigned, WriteSigned, CountUnits, TakeText, CutText, OpenNumbers, NextNumber, OpenDifferences, NextDifference, OpenBytes, NextByte, OpenText, NextText, WriteNumbers, WriteDifferences, WriteBytes, WriteTexts, ReadStateVector, refusedCut, cutAnswer};
 ghost use mathlib.Core.Path.{_≡_};
 
 // ---- numbers
@@ -334,4 +335,13 @@ pub fn write_texts(out: &mut [u8], text: &[u8], units: &[u64]) -> Written
     ensures { λ r. ⌜ WriteTexts (now (out .entry)) (now (text .entry)) (now (units .entry)) r (now (out .exit)) ⌝ }
 {
     string::write(out, text, units)
+}
+
+// ---- state vectors
+
+// The entries in reading order, two words each: client, clock.
+pub fn read_state_vector(vector: &[u8], out: &mut [u64]) -> Vector
+    ensures { λ r. ⌜ ReadStateVector (now (vector .entry)) (now (out .entry)) r (now (out .exit)) ⌝ }
+{
+    vector::read_state_vector(vector, out)
 }
