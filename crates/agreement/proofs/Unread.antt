@@ -1,0 +1,23 @@
+-- Unread bytes change nothing: if an update reads, then with any bytes after it it reads the same, the same blocks with the same places and the same
+-- delete ranges.
+use Prim.Native.Nat.{ℕ}
+use mathlib.Core.Path.{_≡_, ap}
+use mathlib.Core.List.{List, _++_}
+use Rattle.decoder.specs.declared.State.{State}
+use Rattle.decoder.specs.Course.{fit}
+use Rattle.update.specs.Update.{blocksOf}
+use Rattle.deletes.specs.DeleteSet.{deleteSet}
+use Rattle.agreement.specs.Ends.{Ends}
+use Rattle.agreement.proofs.Courses.{fit-ends}
+use Rattle.agreement.proofs.Blocks.{unread-blocks}
+use Rattle.agreement.proofs.Deletes.{unread-deletes}
+
+pub unread : (form : ℕ) (u w : List ℕ) (s t : State) → Ends (blocksOf form u) s → Ends (deleteSet u s) t
+    → (blocksOf form (u ++ w) ≡ blocksOf form u) × (deleteSet (u ++ w) s ≡ deleteSet u s)
+unread form u w s t b d = (unread-blocks u w form s b, unread-deletes u w s t d)
+
+-- so too where there are only so many rows for its blocks and its ranges
+pub unread-rows : (form : ℕ) (u w : List ℕ) (n m : ℕ) (s t : State) → Ends (fit n (blocksOf form u)) s → Ends (fit m (deleteSet u s)) t
+    → (fit n (blocksOf form (u ++ w)) ≡ fit n (blocksOf form u)) × (fit m (deleteSet (u ++ w) s) ≡ fit m (deleteSet u s))
+unread-rows form u w n m s t b d =
+    (ap (fit n) (unread-blocks u w form s (fit-ends n (blocksOf form u) s b)), ap (fit m) (unread-deletes u w s t (fit-ends m (deleteSet u s) t d)))

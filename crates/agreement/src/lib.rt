@@ -1,0 +1,1 @@
+// No code: proofs/ has theorems about the meaning of an update.
