@@ -1,5 +1,4 @@
--- The laws behind the public calls, that no other answer fits, that what is written is read back, and the starred cases.
+-- The laws behind the public calls, that no other answer fits, and that what is written is read back.
 pub mod Laws
 pub mod Unique
 pub mod WrittenBack
-pub mod Starred

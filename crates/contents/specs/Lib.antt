@@ -1,0 +1,2 @@
+-- What the public call `content` promises.
+pub mod Promises

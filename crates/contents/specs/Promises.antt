@@ -1,0 +1,41 @@
+-- The promise of `content`: its number, and the part that it hands back, as equations of the inputs.
+use Prim.Native.Nat.{ℕ, _+_, _≤_}
+use mathlib.Core.Path.{_≡_}
+use mathlib.Core.List.{List}
+use lib.Dec.{ltb}
+use lib.ListN.{length, take, drop}
+use denote.Ref.{RefT, ptr, now}
+use Rattle.numbers.specs.Number.{pick}
+use Rattle.numbers.specs.Limits.{maxUpdate}
+use Rattle.text.specs.declared.Part.{Part}
+use Rattle.content.specs.declared.Found.{Found}
+use Rattle.content.specs.declared.Found.the-variants as found
+use Rattle.content.specs.Content.{contentOf}
+use Rattle.contents.specs.declared.Where.{Where}
+
+-- a refusal: the empty part
+unfoldable pub refusedWhere : ℕ → Where
+refusedWhere k = record { number = k; part = record { place = 0; bytes = record { 0 = 0 } } }
+
+unfoldable pub whereFound : Found → Where
+whereFound (found.Part p) = record { number = 0; part = p }
+whereFound (found.Refused why) = refusedWhere (why .number)
+
+-- the form first (12), then the update's length (3), then what the update has
+unfoldable pub whereOf : ℕ → List ℕ → ℕ → Where
+whereOf form u n =
+    pick (ltb form 1) (refusedWhere 12)
+    (pick (ltb 2 form) (refusedWhere 12)
+    (pick (ltb maxUpdate (length u)) (refusedWhere 3) (whereFound (contentOf form u n))))
+
+-- in the update
+abbrev pub In : List ℕ → Part → Type 0
+In u p = p .place + p .bytes .0 ≤ length u
+
+-- the part itself, not a copy: what lies there, and that it points into the update
+abbrev pub PartOf : RefT (List ℕ) → Part → RefT (List ℕ) → Type 0
+PartOf u p part = (now part ≡ take (p .bytes .0) (drop (p .place) (now u))) × (ptr part ≡ (ptr u .0, p .place + ptr u .1))
+
+-- what `content` answers for block n of the update u: a number and a part
+abbrev pub Contents : ℕ → RefT (List ℕ) → ℕ → ℕ → RefT (List ℕ) → Type 0
+Contents form u n number part = (number ≡ whereOf form (now u) n .number) × PartOf u (whereOf form (now u) n .part) part

@@ -1,0 +1,71 @@
+// The public call `content`: the stored part of a block, as a part of the lent update itself.
+use content::Found;
+use text::Bytes;
+use text::Part;
+ghost use mathlib.Core.Path.{_≡_};
+ghost use Rattle.contents.specs.Promises.{refusedWhere, whereOf, In, PartOf, Contents};
+
+// A number, and where the part lies that is handed back with it.
+pub struct Where {
+    pub number: u8,
+    pub part: Part,
+}
+
+fn refused_where(number: u8) -> Where
+    ensures { λ r. ⌜ r ≡ refusedWhere number ⌝ }
+{
+    Where {
+        number,
+        part: Part {
+            place: 0,
+            bytes: Bytes(0),
+        },
+    }
+}
+
+// All that is decided: the form, then the update's length, then what the update has.
+fn look(form: u8, update: &[u8], n: usize) -> Where
+    ensures { λ r. ⌜ r ≡ whereOf form (now (update .entry)) n ⌝ }
+{
+    if form < 1 {
+        return refused_where(12);
+    }
+    if 2 < form {
+        return refused_where(12);
+    }
+    if numbers::MAX_UPDATE < update.len() {
+        return refused_where(3);
+    }
+    match content::find(form, update, n) {
+        Found::Part(part) => Where { number: 0, part },
+        Found::Refused(why) => refused_where(why.number),
+    }
+}
+
+// The part of the update itself.
+fn cut(update: &[u8], p: Part) -> &[u8]
+    requires { ⌜ In (now update) p ⌝ }
+    ensures { λ r. ⌜ PartOf (update .entry) p r ⌝ }
+{
+    let place = p.place;
+    let bytes = p.bytes;
+    let end = place + bytes.0;
+    &update[place..end]
+}
+
+pub struct Lookup<'a> {
+    pub number: u8,
+    pub part: &'a [u8],
+}
+
+// Block n's text or binary, where it lies in the update; an empty part after a refusal.
+pub fn content<'a>(form: u8, update: &'a [u8], n: usize) -> Lookup<'a>
+    ensures { λ r. ⌜ Contents form (update .entry) n (r .number) (r .part) ⌝ }
+{
+    let w = look(form, update, n);
+    let part = cut(update, w.part);
+    Lookup {
+        number: w.number,
+        part,
+    }
+}

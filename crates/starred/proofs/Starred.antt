@@ -1,0 +1,118 @@
+-- The starred cases of document 01, "Numbers worked by hand", as one table under one theorem about the definitions.
+use Prim.Native.Nat.{ℕ, zero, suc, _+_}
+use mathlib.Core.Path.{_≡_, refl}
+use mathlib.Core.List.{List, [], _∷_}
+use lib.ListN.{replicate}
+use Rattle.numbers.specs.Number as spelling
+use Rattle.numbers.specs.Number.{spelt, placed, readUnsigned, readSigned, speltSigned, minusOf, withSign, spell, unsigned}
+use Rattle.columns.specs.declared.string.Opened.{Opened}
+use Rattle.columns.specs.declared.string.Opened.the-variants.{At, Not}
+use Rattle.columns.specs.String as string
+use Rattle.columns.specs.String.{Texts, openText, readTexts}
+use Rattle.text.specs.Utf8.{lead, next, after, settled, wellFormed, width, gain, takeFrom, takeUnits}
+use Rattle.columns.specs.Number as number
+use Rattle.columns.specs.Difference as difference
+use Rattle.columns.specs.Byte as byte
+use Rattle.runs.specs.Byte as byte-run
+use Rattle.runs.specs.Runs as runs
+use Rattle.columns.specs.Reading.{Reading, andThen, reads, numberDraw, differenceDraw, byteDraw, readNumbers, readDifferences, readBytes}
+use Rattle.columns.proofs.RoundTrip.{byte-on}
+use mathlib.Core.Bool.{true, false}
+use Rattle.block.specs.declared.Block.{Block}
+use Rattle.block.specs.Row.{noId, noPart}
+use Rattle.decoder.specs.Fields as field
+use Rattle.decoder.specs.Course as course
+use Rattle.update.specs.Fields as fields
+use Rattle.update.specs.Block as block
+use Rattle.update.specs.Update as update
+use Rattle.ranges.specs.Ranges as ranges
+use Rattle.deletes.specs.DeleteSet as deletes
+use Rattle.updates.specs.Promises as promises
+use Rattle.updates.specs.Promises.{reading}
+use Rattle.text.specs.Utf8 as utf8
+
+-- values read, and the number that ended them: 0 where nothing did
+abbrev pub gives : List ℕ → ℕ → Reading
+gives vs n = record { values = vs; number = n }
+
+-- the first text of a text column
+unfoldable pub firstOf : List ℕ → Opened → Texts
+firstOf s (At c) = readTexts 1 s c
+firstOf s (Not why) = record { texts = []; number = why .number }
+
+abbrev pub texts : List ℕ → Texts
+texts s = firstOf s (openText s 0)
+
+-- an update read: its blocks, and no delete ranges
+abbrev pub blocksRead : List Block → promises.Reading
+blocksRead bs = record { number = 0; blocks = bs; ranges = [] }
+
+-- a text of client 5 at clock 0 with two units: the name of its parent is a byte at a place, the text two bytes
+abbrev pub hi : ℕ → ℕ → Block
+hi name text = record { client = 5; clock = 0; length = record { 0 = 2 }; kind = 5; «has_left» = false; left = noId; «has_right» = false; right = noId; «has_parent» = false; parent = noId; «has_name» = true; name = record { place = name; bytes = record { 0 = 1 } }; «has_key» = false; key = noPart; part = record { place = text; bytes = record { 0 = 2 } } }
+
+abbrev pub updateA : List ℕ
+updateA = 0x00 ∷ 0x00 ∷ []
+
+abbrev pub updateB : List ℕ
+updateB = 0x00 ∷ 0x00 ∷ 0x00 ∷ 0x00 ∷ 0x00 ∷ 0x00 ∷ 0x01 ∷ 0x00 ∷ 0x00 ∷ 0x00 ∷ 0x00 ∷ 0x00 ∷ 0x00 ∷ []
+
+-- 74 stands at place 7, 68 69 at 9
+abbrev pub updateC : List ℕ
+updateC = 0x01 ∷ 0x01 ∷ 0x05 ∷ 0x00 ∷ 0x04 ∷ 0x01 ∷ 0x01 ∷ 0x74 ∷ 0x02 ∷ 0x68 ∷ 0x69 ∷ 0x00 ∷ []
+
+-- 74 stands at place 10, 68 69 at 11
+abbrev pub updateD : List ℕ
+updateD = 0x00 ∷ 0x00 ∷ 0x01 ∷ 0x05 ∷ 0x00 ∷ 0x00 ∷ 0x01 ∷ 0x04 ∷ 0x06 ∷ 0x03 ∷ 0x74 ∷ 0x68 ∷ 0x69 ∷ 0x01 ∷ 0x02 ∷ 0x01 ∷ 0x01 ∷ 0x00 ∷ 0x00 ∷ 0x01 ∷ 0x01 ∷ 0x00 ∷ 0x00 ∷ []
+
+pub record Starred : Type 0 where
+  -- nothing, in either form, however many rows there are
+  pub A : (n m : ℕ) → reading 1 updateA n m ≡ blocksRead []
+  pub B : (n m : ℕ) → reading 2 updateB n m ≡ blocksRead []
+  -- client 5, clock 0, parent "t", text "hi", wherever there is a row
+  pub C : (n m : ℕ) → reading 1 updateC (suc n) m ≡ blocksRead (hi 7 9 ∷ [])
+  pub D : (n m : ℕ) → reading 2 updateD (suc n) m ≡ blocksRead (hi 10 11 ∷ [])
+  -- 40 03: five zeros, a sixth read gives 1
+  pub F : readNumbers 6 (0x40 ∷ 0x03 ∷ []) (number.startAt 0) ≡ gives (0 ∷ 0 ∷ 0 ∷ 0 ∷ 0 ∷ []) 1
+  -- 45 00: 5, 5
+  pub G : readNumbers 3 (0x45 ∷ 0x00 ∷ []) (number.startAt 0) ≡ gives (5 ∷ 5 ∷ []) 1
+  -- 03 01: 1, 2, 3
+  pub H : readDifferences 4 (0x03 ∷ 0x01 ∷ []) (difference.startAt 0) ≡ gives (1 ∷ 2 ∷ 3 ∷ []) 1
+  -- 0a 41 00: 5, 4, 3
+  pub I : readDifferences 4 (0x0a ∷ 0x41 ∷ 0x00 ∷ []) (difference.startAt 0) ≡ gives (5 ∷ 4 ∷ 3 ∷ []) 1
+  -- 44: refused 3
+  pub J : readDifferences 1 (0x44 ∷ []) (difference.startAt 0) ≡ gives [] 3
+  -- 04 01 00: 4, 4, then 0 without end
+  pub K : (m : ℕ) → readBytes (3 + m) (0x04 ∷ 0x01 ∷ 0x00 ∷ []) (byte.startAt 0) ≡ gives (4 ∷ 4 ∷ 0 ∷ replicate m 0) 0
+  -- F0 9F 98 80 with unit length 1: 7; 2: the character; 3: 7
+  pub L1 : texts (0x04 ∷ 0xf0 ∷ 0x9f ∷ 0x98 ∷ 0x80 ∷ 0x01 ∷ []) ≡ record { texts = []; number = 7 }
+  pub L2 : texts (0x04 ∷ 0xf0 ∷ 0x9f ∷ 0x98 ∷ 0x80 ∷ 0x02 ∷ []) ≡ record { texts = (0xf0 ∷ 0x9f ∷ 0x98 ∷ 0x80 ∷ []) ∷ []; number = 0 }
+  pub L3 : texts (0x04 ∷ 0xf0 ∷ 0x9f ∷ 0x98 ∷ 0x80 ∷ 0x03 ∷ []) ≡ record { texts = []; number = 7 }
+
+abbrev Updates : ℕ → ℕ → Type 0
+Updates n m = (reading 1 updateA n m ≡ blocksRead []) × (reading 2 updateB n m ≡ blocksRead []) × (reading 1 updateC (suc n) m ≡ blocksRead (hi 7 9 ∷ [])) × (reading 2 updateD (suc n) m ≡ blocksRead (hi 10 11 ∷ []))
+
+updates : (n m : ℕ) → Updates n m
+unfolding field.bounded field.varDraw field.varAt field.byteAt field.clockAt field.bytesAfter field.bufAt field.client1 field.idOf field.idDraw field.id1 field.checkedText field.textIn1 field.text1 field.clientDrawn field.client2 field.infoDrawn field.infoDraw field.parentDrawn field.parentDraw field.lenDrawn field.lenColumn field.len2 field.textDrawn field.text2 field.restoredBy field.dsClock field.dsLen field.putDifferences field.putNumbers field.putBytes field.holdsDifferences field.holdsBytes field.putColumn field.onPart field.cutFrom field.textIn field.textOpened field.onOpened field.afterFlag field.opened2 course.drawn course.fit course.items course.ending fields.openedOf fields.clientOf fields.leftIdOf fields.rightIdOf fields.infoOf fields.parentInfoOf fields.lenOf fields.textOf block.number block.id block.bytes block.words block.andThen block.leftOf block.rightOf block.parentAfter block.parentOf block.keyOf block.placeOf block.deletedOf block.binaryOf block.stringOf block.contentOf block.itemOf block.skipOf block.gcOf block.bodyOf update.atPlace update.afterInfo update.blockOf update.dropped update.kept update.ended update.blocks update.holds update.sections update.fromOpened update.blocksOf deletes.clockIn deletes.lenIn deletes.ranges deletes.clients deletes.deleteSet ranges.normal promises.withRanges promises.withBlocks promises.known promises.early promises.reading utf8.charsFrom utf8.chars utf8.sum utf8.unitsOf utf8.lead utf8.next utf8.width utf8.after utf8.settled utf8.wellFormed utf8.gain utf8.takeFrom utf8.takeUnits spelling.after spelt placed readUnsigned readSigned speltSigned minusOf withSign number.drawn number.counted number.begun number.nextNumber byte.counted byte.begun byte.nextByte string.opened string.openText string.ending string.taken string.drawn string.nextText utf8.ended
+updates zero zero = (refl, refl, refl, refl)
+updates zero (suc m) = (refl, refl, refl, refl)
+updates (suc n) zero = (refl, refl, refl, refl)
+updates (suc n) (suc m) = (refl, refl, refl, refl)
+
+pub starred : Starred
+unfolding spelling.after spelt placed readUnsigned readSigned speltSigned minusOf withSign spell unsigned number.drawn number.counted number.begun number.nextNumber difference.drawn difference.outside difference.keyRead difference.counted difference.begun difference.nextDifference byte.counted byte.begun byte.nextByte byte-run.runBytes runs.over runs.opened runs.column runs.coding runs.why runs.within runs.overFits runs.storable runs.spellable runs.fitsLessOne andThen reads numberDraw differenceDraw byteDraw lead next width gain takeFrom takeUnits after settled wellFormed string.opened string.openText string.ending string.taken string.drawn string.nextText string.andThen string.readTexts firstOf
+starred = record {
+  A = λ n m. updates n m .0;
+  B = λ n m. updates n m .1;
+  C = λ n m. updates n m .2;
+  D = λ n m. updates n m .3;
+  F = refl;
+  G = refl;
+  H = refl;
+  I = refl;
+  J = refl;
+  K = λ m. byte-on [] (4 ∷ 0 ∷ []) 4 m refl;
+  L1 = refl;
+  L2 = refl;
+  L3 = refl;
+}

@@ -1,0 +1,5 @@
+-- Laws, and what walks share.
+pub mod Cards
+pub mod Laws
+pub mod Sorts
+pub mod Unique

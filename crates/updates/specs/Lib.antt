@@ -1,0 +1,2 @@
+-- What the public calls on updates promise.
+pub mod Promises

@@ -1,0 +1,54 @@
+-- What the public calls on updates promise: a reading has a number, the blocks kept and the delete ranges in normal form; a refusal has its number alone.
+use Prim.Native.Nat.{ℕ, _-_, _/_}
+use mathlib.Core.Bool.{Bool, true}
+use mathlib.Core.List.{List, [], _++_}
+use lib.Dec.{ltb, eqb}
+use lib.ListN.{length, replicate}
+use Rattle.numbers.specs.Number.{pick}
+use Rattle.numbers.specs.Limits.{maxUpdate}
+use Rattle.numbers.specs.Output.{padded}
+use Rattle.block.specs.declared.Block.{Block}
+use Rattle.block.specs.Row.{noBlock}
+use Rattle.decoder.specs.Course.{Course, fit, items, ending}
+use Rattle.update.specs.Update.{blocksOf}
+use Rattle.ranges.specs.Ranges.{Range, normal}
+use Rattle.ranges.specs.Table.{flat}
+use Rattle.deletes.specs.DeleteSet.{deleteSet}
+use Rattle.updates.specs.declared.Update.{Update}
+
+pub record Reading : Type 0 where
+  pub number : ℕ
+  pub blocks : List Block
+  pub ranges : List Range
+
+abbrev pub refused : ℕ → Reading
+refused n = record { number = n; blocks = []; ranges = [] }
+
+-- ---- reading with so many block rows and so many range rows
+
+unfoldable pub withRanges : List Block → Course Range → Reading
+withRanges bs c = ending c (λ s. record { number = 0; blocks = bs; ranges = normal (items c) }) (λ why. refused (why .number))
+
+unfoldable pub withBlocks : List ℕ → ℕ → Course Block → Reading
+withBlocks u rows c = ending c (λ s. withRanges (items c) (fit rows (deleteSet u s))) (λ why. refused (why .number))
+
+unfoldable pub known : ℕ → Bool
+known form = pick (eqb form 1) true (eqb form 2)
+
+-- the form, then the update's length, are looked at before the update is read; 0 is no refusal
+unfoldable pub early : ℕ → List ℕ → ℕ
+early form u = pick (known form) (pick (ltb maxUpdate (length u)) 3 0) 12
+
+unfoldable pub reading : ℕ → List ℕ → ℕ → ℕ → Reading
+reading form u blockRows rangeRows = pick (eqb (early form u) 0) (withBlocks u rangeRows (fit blockRows (blocksOf form u))) (refused (early form u))
+
+-- ---- what `read_update` gives, and what it leaves in n rows and in n words, three a range row
+
+unfoldable pub answer : Reading → Update
+answer r = record { number = r .number; blocks = length (r .blocks); ranges = length (r .ranges) }
+
+unfoldable pub rowsOf : ℕ → Reading → List Block
+rowsOf n r = r .blocks ++ replicate (n - length (r .blocks)) noBlock
+
+unfoldable pub wordsOf : ℕ → Reading → List ℕ
+wordsOf n r = padded n (flat (r .ranges))

@@ -1,0 +1,73 @@
+// The public calls on updates. None asks anything of its caller. An answer begins with its number in document 01, 0 for done; a refusal has zeros
+// for counts and leaves zeros in what was lent.
+use block::Block;
+use deletes::Set;
+use reader::Filled;
+ghost use mathlib.Core.Path.{_≡_};
+ghost use Prim.Native.Nat.{_/_};
+ghost use lib.ListN.{length};
+ghost use Rattle.updates.specs.Promises.{early, refused, reading, answer, rowsOf, wordsOf};
+
+// How many blocks and how many delete ranges were read.
+pub struct Update {
+    pub number: u8,
+    pub blocks: usize,
+    pub ranges: usize,
+}
+
+// What is refused before anything is read: 12, an unknown form; 3, an update over its length. 0 is neither.
+fn refused_early(form: u8, update: &[u8]) -> u8
+    ensures { λ r. ⌜ r ≡ early form (now (update .entry)) ⌝ }
+{
+    if form != 1 {
+        if form != 2 {
+            return 12;
+        }
+    }
+    if numbers::MAX_UPDATE < update.len() {
+        return 3;
+    }
+    0
+}
+
+// A refusal: its number, and counts of 0.
+fn none(number: u8) -> Update
+    ensures { λ r. ⌜ r ≡ answer (refused number) ⌝ }
+{
+    Update {
+        number,
+        blocks: 0,
+        ranges: 0,
+    }
+}
+
+// An update of form 1 or 2: its blocks in reading order in `rows`, its delete ranges in normal form in `ranges`, three words a range.
+pub fn read_update(form: u8, update: &[u8], rows: &mut [Block], ranges: &mut [u64]) -> Update
+    ensures { λ r. ⌜ (r ≡ answer (reading form (now (update .entry)) (length (now (rows .entry))) (length (now (ranges .entry)) / 3)))
+        × (now (rows .exit) ≡ rowsOf (length (now (rows .entry))) (reading form (now (update .entry)) (length (now (rows .entry))) (length (now (ranges .entry)) / 3)))
+        × (now (ranges .exit) ≡ wordsOf (length (now (ranges .entry))) (reading form (now (update .entry)) (length (now (rows .entry))) (length (now (ranges .entry)) / 3))) ⌝ }
+{
+    let early = refused_early(form, update);
+    if early != 0 {
+        table::clear(rows, 0);
+        ranges::clear(ranges, 0);
+        return none(early);
+    }
+    match reader::read_blocks(form, update, rows) {
+        Filled::Rows(blocks, s) => match deletes::read_delete_set(update, s, ranges) {
+            Set::Ranges(count, _) => Update {
+                number: 0,
+                blocks,
+                ranges: count,
+            },
+            Set::Refused(why) => {
+                table::clear(rows, 0);
+                none(why.number)
+            }
+        },
+        Filled::Refused(why) => {
+            ranges::clear(ranges, 0);
+            none(why.number)
+        }
+    }
+}
