@@ -1,4 +1,5 @@
--- Theorems about the meaning of an update: bytes that are not read change nothing (Unread), a number that is spelled longer reads the same (Longer).
+-- Theorems about the meaning of an update: bytes that are not read change nothing (Unread), a reading with the number 0 is whole, for no refusal has
+-- it (Numbered*, Readings), and a number that is spelled longer reads the same (Longer).
 pub mod Line
 pub mod Draws
 pub mod Courses
@@ -6,4 +7,10 @@ pub mod Columns
 pub mod Blocks
 pub mod Deletes
 pub mod Unread
+pub mod NumberedColumns
+pub mod NumberedFields
+pub mod NumberedCourses
+pub mod NumberedBlocks
+pub mod NumberedDeletes
+pub mod Readings
 pub mod Longer

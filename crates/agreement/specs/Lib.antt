@@ -1,3 +1,4 @@
 -- What the theorems speak of.
 pub mod Ends
+pub mod Numbered
 pub mod Longer

@@ -1,6 +1,7 @@
 -- The starred cases of document 01, "Numbers worked by hand", as one table under one theorem about the definitions.
 use Prim.Native.Nat.{ℕ, zero, suc, _+_}
-use mathlib.Core.Path.{_≡_, refl}
+use mathlib.Core.Path.{_≡_, refl, ap}
+use mathlib.Core.Bool.{true, false}
 use mathlib.Core.List.{List, [], _∷_}
 use lib.ListN.{replicate}
 use Rattle.numbers.specs.Number as spelling
@@ -17,7 +18,6 @@ use Rattle.runs.specs.Byte as byte-run
 use Rattle.runs.specs.Runs as runs
 use Rattle.columns.specs.Reading.{Reading, andThen, reads, numberDraw, differenceDraw, byteDraw, readNumbers, readDifferences, readBytes}
 use Rattle.columns.proofs.RoundTrip.{byte-on}
-use mathlib.Core.Bool.{true, false}
 use Rattle.block.specs.declared.Block.{Block}
 use Rattle.block.specs.Row.{noId, noPart}
 use Rattle.decoder.specs.Fields as field
@@ -30,6 +30,10 @@ use Rattle.deletes.specs.DeleteSet as deletes
 use Rattle.updates.specs.Promises as promises
 use Rattle.updates.specs.Promises.{reading}
 use Rattle.text.specs.Utf8 as utf8
+use Rattle.lines.specs.Lines.{digits, decimal}
+use Rattle.listing_text.specs.Listing as listing
+use Rattle.listed.specs.Listed as listings
+use Rattle.listed.specs.Listed.{linesOf, listed}
 
 -- values read, and the number that ended them: 0 where nothing did
 abbrev pub gives : List ℕ → ℕ → Reading
@@ -65,13 +69,25 @@ updateC = 0x01 ∷ 0x01 ∷ 0x05 ∷ 0x00 ∷ 0x04 ∷ 0x01 ∷ 0x01 ∷ 0x74 �
 abbrev pub updateD : List ℕ
 updateD = 0x00 ∷ 0x00 ∷ 0x01 ∷ 0x05 ∷ 0x00 ∷ 0x00 ∷ 0x01 ∷ 0x04 ∷ 0x06 ∷ 0x03 ∷ 0x74 ∷ 0x68 ∷ 0x69 ∷ 0x01 ∷ 0x02 ∷ 0x01 ∷ 0x01 ∷ 0x00 ∷ 0x00 ∷ 0x01 ∷ 0x01 ∷ 0x00 ∷ 0x00 ∷ []
 
+-- "empty" and a new line
+abbrev pub emptyText : List ℕ
+emptyText = 101 ∷ 109 ∷ 112 ∷ 116 ∷ 121 ∷ 10 ∷ []
+
+-- "update form .. blocks 1 ranges 0", "5 0 2 text", "end", a line each; the form's digit is given
+abbrev pub oneText : ℕ → List ℕ
+oneText digit = 117 ∷ 112 ∷ 100 ∷ 97 ∷ 116 ∷ 101 ∷ 32 ∷ 102 ∷ 111 ∷ 114 ∷ 109 ∷ 32 ∷ digit ∷ 32 ∷ 98 ∷ 108 ∷ 111 ∷ 99 ∷ 107 ∷ 115 ∷ 32 ∷ 49 ∷ 32 ∷ 114 ∷ 97 ∷ 110 ∷ 103 ∷ 101 ∷ 115 ∷ 32 ∷ 48 ∷ 10 ∷ 53 ∷ 32 ∷ 48 ∷ 32 ∷ 50 ∷ 32 ∷ 116 ∷ 101 ∷ 120 ∷ 116 ∷ 10 ∷ 101 ∷ 110 ∷ 100 ∷ 10 ∷ []
+
 pub record Starred : Type 0 where
   -- nothing, in either form, however many rows there are
   pub A : (n m : ℕ) → reading 1 updateA n m ≡ blocksRead []
   pub B : (n m : ℕ) → reading 2 updateB n m ≡ blocksRead []
+  pub listedA : listed (1 ∷ updateA) ≡ emptyText
+  pub listedB : listed (2 ∷ updateB) ≡ emptyText
   -- client 5, clock 0, parent "t", text "hi", wherever there is a row
   pub C : (n m : ℕ) → reading 1 updateC (suc n) m ≡ blocksRead (hi 7 9 ∷ [])
   pub D : (n m : ℕ) → reading 2 updateD (suc n) m ≡ blocksRead (hi 10 11 ∷ [])
+  pub listedC : listed (1 ∷ updateC) ≡ oneText 49
+  pub listedD : listed (2 ∷ updateD) ≡ oneText 50
   -- 40 03: five zeros, a sixth read gives 1
   pub F : readNumbers 6 (0x40 ∷ 0x03 ∷ []) (number.startAt 0) ≡ gives (0 ∷ 0 ∷ 0 ∷ 0 ∷ 0 ∷ []) 1
   -- 45 00: 5, 5
@@ -99,6 +115,15 @@ updates zero (suc m) = (refl, refl, refl, refl)
 updates (suc n) zero = (refl, refl, refl, refl)
 updates (suc n) (suc m) = (refl, refl, refl, refl)
 
+lists : (listed (1 ∷ updateA) ≡ emptyText) × (listed (2 ∷ updateB) ≡ emptyText) × (listed (1 ∷ updateC) ≡ oneText 49) × (listed (2 ∷ updateD) ≡ oneText 50)
+unfolding listings.same listings.isEmpty listings.linesOf listings.listedReading listings.listedUpdate listings.listedParts listings.listed listing.number listing.named listing.kindName listing.blockLine listing.blockLines listing.rangeLine listing.rangeLines listing.header listing.endLine listing.listing listing.emptyLine listing.refusedLine digits decimal
+lists = (
+  refl,
+  refl,
+  ap (linesOf 1) (updates 511 1024 .2),
+  ap (linesOf 2) (updates 511 1024 .3),
+)
+
 pub starred : Starred
 unfolding spelling.after spelt placed readUnsigned readSigned speltSigned minusOf withSign spell unsigned number.drawn number.counted number.begun number.nextNumber difference.drawn difference.outside difference.keyRead difference.counted difference.begun difference.nextDifference byte.counted byte.begun byte.nextByte byte-run.runBytes runs.over runs.opened runs.column runs.coding runs.why runs.within runs.overFits runs.storable runs.spellable runs.fitsLessOne andThen reads numberDraw differenceDraw byteDraw lead next width gain takeFrom takeUnits after settled wellFormed string.opened string.openText string.ending string.taken string.drawn string.nextText string.andThen string.readTexts firstOf
 starred = record {
@@ -106,6 +131,10 @@ starred = record {
   B = λ n m. updates n m .1;
   C = λ n m. updates n m .2;
   D = λ n m. updates n m .3;
+  listedA = lists .0;
+  listedB = lists .1;
+  listedC = lists .2;
+  listedD = lists .3;
   F = refl;
   G = refl;
   H = refl;

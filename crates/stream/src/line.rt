@@ -1,4 +1,4 @@
-// The lines, printed to standard output through a buffer that is lent to every call; each takes and gives back how much of it is used.
+// The lines that programs print, to standard output through a buffer that is lent to every call; each takes and gives back how much of it is used.
 use libc::STDOUT_FILENO;
 
 // Writes out what the buffer holds. Where standard output takes nothing more there is no one left to tell.
