@@ -1,4 +1,7 @@
 // The public call `content`: the stored part of a block, as a part of the lent update itself.
+pub mod answer;
+
+use answer::Content;
 use content::Found;
 use text::Bytes;
 use text::Part;
@@ -53,18 +56,13 @@ fn cut(update: &[u8], p: Part) -> &[u8]
     &update[place..end]
 }
 
-pub struct Lookup<'a> {
-    pub number: u8,
-    pub part: &'a [u8],
-}
-
 // Block n's text or binary, where it lies in the update; an empty part after a refusal.
-pub fn content<'a>(form: u8, update: &'a [u8], n: usize) -> Lookup<'a>
+pub fn content<'a>(form: u8, update: &'a [u8], n: usize) -> Content<'a>
     ensures { λ r. ⌜ Contents form (update .entry) n (r .number) (r .part) ⌝ }
 {
     let w = look(form, update, n);
     let part = cut(update, w.part);
-    Lookup {
+    Content {
         number: w.number,
         part,
     }

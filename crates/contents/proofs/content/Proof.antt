@@ -42,13 +42,13 @@ use Rattle.text.specs.declared.Part.{Part}
 use Rattle.text.proofs.Part as P
 use Rattle.text.proofs.Part.Laws as P′
 use Rattle.contents.specs.declared.Where.{Where}
-use Rattle.contents.specs.declared.Lookup.{Lookup}
+use Rattle.contents.specs.declared.answer.Content.{Content}
 use Rattle.contents.specs.Promises.{whereOf, PartOf}
 use Rattle.contents.proofs.Inside.{where-inside}
 use Rattle.contents.proofs.Where as R
 use Rattle.contents.proofs.Where.Laws as R′
-use Rattle.contents.proofs.Lookup as T
-use Rattle.contents.proofs.Lookup.Laws as T′
+use Rattle.contents.proofs.answer.Content as T
+use Rattle.contents.proofs.answer.Content.Laws as T′
 use Rattle.contents.proofs.look as looks
 use Rattle.contents.proofs.look.Symbol as look-def
 use Rattle.contents.proofs.look.Symbol.{name as #contents·look}
@@ -140,7 +140,7 @@ module _ {M : Type 1} (𝓤 : URA M) (H : Heap 𝓤) (A : Atoms 𝓤) (W : Given
 
   -- ---- the answer
   module _ (r : RefT (List ℕ)) where
-    abbrev made : Lookup
+    abbrev made : Content
     made = record { number = told .number; part = r }
 
     abbrev vr : Val
