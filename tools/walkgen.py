@@ -10,7 +10,8 @@ Run it in the repository. It reads crates/*/src/*.rt, the contracts there, and `
   walkgen.py tidy FILE              takes out of FILE, in place, the imports that it does not use
   walkgen.py mir CRATE FN..         the MIR, readable
 
-A callee's contract is a fact of conjuncts `r ≡ ..` and `now (x .exit) ≡ ..`, one for each `&mut`, in any order.
+A callee's contract is a fact of conjuncts `r ≡ ..` and `now (x .exit) ≡ ..`, one for each `&mut`, in any order. Where one is missing, as in a
+program, the card says nothing of what comes back, and the walk goes on with any result and any lists.
 Sorts and cards are looked for in every crate's proofs/Sorts.antt and proofs/Cards.antt: print each once, in the lowest crate.
 The names: a type's Kind is its name in small letters (`Block`: block); a variant is Enum·Variant, and the facts on it enum·variant-has,
 enum·variant-0; a card is crate·fn!, or crate·fn-rows! where rows is lent from a `&mut`. A type whose name is not the only one in the
@@ -210,6 +211,8 @@ class Signature:
                     else:
                         self.order.append('?')
             at = end + 1 + len(re.match(r'\s*', rest[end + 1:]).group(0))
+        # of what it gives, or of a list that it changes, nothing is said
+        self.loose = (self.ret and not self.gives) or any(how == 'mut' and p not in self.ends for p, how, _ in self.params)
         self.name = dash('·'.join(x for x in (crate, mod, fn) if x))
         self.contract = self.name[0].upper() + self.name[1:]
 
@@ -280,7 +283,7 @@ use denote.Triple.Clauses.{atExit}
 use denote.Triple.Table.{entered, cited}
 use denote.Triple.Walked.{needs, walkOf, ends-at}
 use Rattle.walks.proofs.Rows.{Kind, Has, uint-kind, byte, word, bool-kind, unit-kind}
-use Rattle.walks.proofs.Refs.{Seat, seatOf, seat-val, Arg, val, mut, read, pass, Held, tab, shr, refs, back, vals, ends, enters, leaves, knows, Card, since, calls-by, calls-by-last}
+use Rattle.walks.proofs.Refs.{Seat, seatOf, seat-val, Arg, val, mut, read, pass, Held, tab, shr, refs, back, vals, ends, enters, leaves, leaves-freely, knows, Card, Loose, since, calls-by, calls-by-last, calls-loosely}
 use Rattle.walks.proofs.Params.{Form, by-value, by-mut, by-ref, stays, goes, spells, tells}
 use Rattle.walks.proofs.Own.{own-seat, Owner, array-typed, own-lends, own-back}
 use Rattle.walks.proofs.Element.{takes-out, puts-in, looks-at, shuts}
@@ -430,7 +433,7 @@ def cards(crate, names):
             if how == 'val':
                 args.append('val %s %s₀ g-%s' % (k, d, d))
             elif how == 'mut':
-                args.append('mut %s at-%s %s₀ %s' % (k, d, d, atom(g.at(g.ends[p], L, V)) if p in g.ends else '?'))
+                args.append('mut %s at-%s %s₀ %s' % (k, d, d, d + '₀' if g.loose else atom(g.at(g.ends[p], L, V))))
             else:
                 args.append('%s %s at-%s %s₀' % ('read' if p in lent else 'pass', k, d, d))
         r = g.at(g.gives, L, V) if g.gives else 'tt'
@@ -439,13 +442,13 @@ def cards(crate, names):
             xs.append('h')
         name = lent_name(g.name, lent)
         ps = '(%s ∷ [])' % ' ∷ '.join(args) if args else '[]'
-        out('    pub %s : Triple 𝓤 (C #%s) %s → %s%sCard 𝓤 H A C #%s %s %s %s' % (name, g.name, g.contract, ' '.join(binds) + ' → ' if binds else '', atom(q) + ' → ' if q else '', g.name, ps, kindof(g.ret, g.here), atom(r)))
+        out('    pub %s : Triple 𝓤 (C #%s) %s → %s%s%s 𝓤 H A C #%s %s %s%s' % (name, g.name, g.contract, ' '.join(binds) + ' → ' if binds else '', atom(q) + ' → ' if q else '', 'Loose' if g.loose else 'Card', g.name, ps, kindof(g.ret, g.here), '' if g.loose else ' ' + atom(r)))
         pr = lambda k: 'e' if len(g.order) == 1 else 'e .%d' % g.order.index(k)
         said = 'tt'
         for p, how, t in reversed(g.params):
-            if how == 'mut':
+            if how == 'mut' and not g.loose:
                 said = '(%s, %s)' % (pr(p), said)
-        said = '(%s, %s)' % (pr('r') if 'r' in g.order else 'refl', said)
+        said = '' if g.loose else '\n      said = λ ns r ws. since 𝓤 (λ e. (%s, %s));' % (pr('r') if 'r' in g.order else 'refl', said)
         out('''    %s %s = record {
       contract = %s;
       known = known;
@@ -455,8 +458,7 @@ def cards(crate, names):
       asks = %s;
       into = λ ns. id⊢ 𝓤 _;
       ensured = λ x r ws. %s-fn.clauses 𝓤 H A mem run (x .0) (x .3) .ensures tt r (atExit %s-fn.ended (x .0) (x .3) ws);
-      out = λ ns v. id⊢ 𝓤 _;
-      said = λ ns r ws. since 𝓤 (λ e. %s);
+      out = λ ns v. id⊢ 𝓤 _;%s
     }
 ''' % (name, ' '.join(['known'] + xs), g.contract, 'fact 𝓤 ' + atom(q) if q else 'emp 𝓤', 'factI 𝓤 %s (emp 𝓤) h' % atom(q) if q else 'id⊢ 𝓤 _', g.name, g.name, said))
     print(tidied('\n'.join(['-- What callees do at given arguments (tools/walkgen.py cards). Assumes that each meets its contract.'] + FIXED + type_imports(crate) + ghost_imports(heres, crate) + made_imports(crate, ['Sorts']) + head + [''] + O)).rstrip())
@@ -802,7 +804,7 @@ def walk(crate, path):
         if b == 'return':
             arrays_back(st)
             out(('return-on' if tail else 'returns-within') + ' ! Post refl (look ! %d refl) $' % at(0))
-            return out(freeing(st) + ' by ! (exits %s ?)' % ' '.join([atom(st.val.get(0, '?'))] + [atom(st.cur[q]) for q in muts] + [atom(st.has.get(0, '?'))]) + ')' * cl)
+            return out(freeing(st) + ' by ! (exits %s%s)' % (' '.join([atom(st.val.get(0, '?'))] + [atom(st.cur[q]) for q in muts] + [atom(st.has.get(0, '?'))]), ' ?' if g.order else '') + ')' * cl)
         k = b[0]
         if k == 'seq':
             if tail:
@@ -852,8 +854,11 @@ def walk(crate, path):
             card, old = lent_name(c.name, lent), hs(st)
             for (q, how, t), o in zip(c.params, xs):
                 if how == 'mut':
-                    st.cur[st.sl[int(o[1][1])]] = c.at(c.ends[q], L, V) if q in c.ends else '?'
-            out('calls-by%s ! (fmOf 𝓤 H (W .laws) 𝓣) (%s[]) %s (%s) refl (λ P. %s) (λ %s.' % ('' if tail else '-last', ''.join('%d ∷ ' % x for x in took), old, ' '.join([card + ' 𝓤 H A mem run (𝓣 .C) known-' + c.name] + args), opds(xs), gk))
+                    st.cur[st.sl[int(o[1][1])]] = 'w%s%s' % (low(count[0]), then([x[0] for x in c.params].index(q))) if c.loose else c.at(c.ends[q], L, V)
+            if c.loose:
+                r, gk = 'r' + low(count[0]), 'r%s w%s %s' % (low(count[0]), low(count[0]), gk)
+            out('calls-%s%s ! (fmOf 𝓤 H (W .laws) 𝓣) (%s[]) %s (%s) refl (λ P. %s) (λ %s.' % ('loosely' if c.loose else 'by', '' if tail else '-last', ''.join('%d ∷ ' % x for x in took), old, ' '.join([card + ' 𝓤 H A mem run (𝓣 .C) known-' + c.name] + args), opds(xs), gk))
+            gk = 'g' + low(count[0])
             out('land%s ! %s $' % ('' if tail else '-last', lay(st, int(b[3][1]), r, gk + ' .0', '(%s .1 .0)' % gk)))
             return go(tail, st, cl + 1) if tail else ended(st, cl + 1)
         if k in ('if', 'cond'):
@@ -999,10 +1004,17 @@ def walk(crate, path):
     put('  abbrev Post : Val → SProp 𝓤\n  Post = walkOf 𝓤 H A f.ended (stays fs) (f.clauses 𝓤 H A mem run) .post ((κs, qs, bounds, a, at-entry), tt)\n')
     L, V = ({p: dash(p) + '₀' for p, how, t in g.params if (how == 'val') == v} for v in (False, True))
     facts = ['r ≡ %s' % g.at(g.gives, L, V) if o == 'r' else '%s₁ ≡ %s' % (dash(o), g.at(g.ends[o], L, V)) if o in g.ends else '?' for o in g.order]
-    put('  -- the contract\n  abbrev Right : %s → %sType 0\n  %s = %s\n' % (den_of(g.ret), to, ' '.join(['Right', 'r'] + ends), ' × '.join('(%s)' % x for x in facts) if len(facts) > 1 else facts[0] if facts else '?'))
-    put('  exits : (r : %s)%s → Has %s r → %s → ent 𝓤 (sem 𝓤 H A (refs %s)) (Post (%s .val r))' % (den_of(g.ret), ''.join(' (%s : %s)' % x for x in zip(ends, lists)), rk, ' '.join(['Right', 'r'] + ends), hsx, rk))
-    put('  %s = leaves 𝓤 H A W %s %s %s r g %s e (Post (%s .val r)) (λ fit. ends-at 𝓤 H A f.ended (stays fs) (f.clauses 𝓤 H A mem run) W ((κs, qs, bounds, a, at-entry), tt) (%s .val r) r (ends %s) fit)\n' % (
-        ' '.join(['exits', 'r'] + ends + ['g', 'e']), ps, '(refl, ' * len(muts) + 'tt' + ')' * len(muts), rk, atom(' '.join(['Right', 'r'] + ends)), rk, rk, ps))
+    heads, says = ' '.join(['exits', 'r'] + ends + ['g']), 'ends-at 𝓤 H A f.ended (stays fs) (f.clauses 𝓤 H A mem run) W ((κs, qs, bounds, a, at-entry), tt) (%s .val r) r (ends %s) fit' % (rk, ps)
+    counts = '(refl, ' * len(muts) + 'tt' + ')' * len(muts)
+    over = '  exits : (r : %s)%s → Has %s r → %%sent 𝓤 (sem 𝓤 H A (refs %s)) (Post (%s .val r))' % (den_of(g.ret), ''.join(' (%s : %s)' % x for x in zip(ends, lists)), rk, hsx, rk)
+    if facts:
+        right = ' '.join(['Right', 'r'] + ends)
+        put('  -- the contract\n  abbrev Right : %s → %sType 0\n  %s = %s\n' % (den_of(g.ret), to, right, ' × '.join('(%s)' % x for x in facts) if len(facts) > 1 else facts[0]))
+        put(over % (right + ' → '))
+        put('  %s e = leaves 𝓤 H A W %s %s %s r g %s e (Post (%s .val r)) (λ fit. %s)\n' % (heads, ps, counts, rk, atom(right), rk, says))
+    else:
+        put(over % '')
+        put('  %s = leaves-freely 𝓤 H A W %s %s %s r g (Post (%s .val r)) (λ fit. %s)\n' % (heads, ps, counts, rk, rk, says))
     if turn:
         put('  abbrev X : Type 0\n  X = Turn %s\n\n  abbrev μ : X → ℕ\n  μ t = ?\n' % ' '.join(dash(p) + '₀' for p, _, _ in g.params))
         lists_at, holds = ' '.join(['hs'] + ['(t .%s)' % p if p in turn[1] else p + '₀' for p in muts]), lambda xs: '(%s)' % ' ∷ '.join(xs + ['[]'])

@@ -1,4 +1,4 @@
-// Writes the stream of the case program and what it is expected to print: generate.cjs FOLDER writes FOLDER/stdin and FOLDER/stdout.
+// Writes the stream of operations 1 to 12 and what is expected of it: generate.cjs FOLDER writes FOLDER/numbers.stdin and FOLDER/numbers.stdout.
 // The same every time: its random numbers are its own. `run` beside it installs what this needs.
 'use strict'
 const fs = require('fs')
@@ -337,6 +337,6 @@ c.writeTexts(utf8('😀é€z'.repeat(6000)), Array(4096).fill(5), 65536)
 // The stream ends in what is no case: operation 0 is none. What follows it is not looked at.
 c.bad([0, 1, 2, 3])
 
-fs.writeFileSync(path.join(folder, 'stdin'), c.stream())
-fs.writeFileSync(path.join(folder, 'stdout'), c.output())
+fs.writeFileSync(path.join(folder, 'numbers.stdin'), c.stream())
+fs.writeFileSync(path.join(folder, 'numbers.stdout'), c.output())
 console.log(c.told())

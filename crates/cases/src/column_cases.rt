@@ -1,12 +1,12 @@
 // Operations 5 to 12: the four columns, read and written.
 ghost use Rattle.io.specs.Counts.{Counts};
-use crate::Done;
 use crate::lent;
 use crate::lent::Writer;
 use columns::byte;
 use columns::difference;
 use columns::number;
 use columns::string;
+use stream::Done;
 use stream::input;
 use stream::input::Place;
 use stream::line;

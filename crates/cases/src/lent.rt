@@ -1,6 +1,6 @@
 // What is lent to a writer: filled with something before the call, looked at after it. The last argument of every writer is how much.
-use crate::Done;
 use numbers::Written;
+use stream::Done;
 use stream::input;
 use stream::input::Place;
 use stream::line;

@@ -5,15 +5,14 @@ mod number_cases;
 
 use column_cases::Column;
 use lent::Writer;
+use stream::Done;
 use stream::input;
 use stream::input::Place;
 use stream::line;
-
-// After a case: the stream's place, not good if the case was none, and how much of the output's buffer is used.
-pub struct Done {
-    pub place: Place,
-    pub used: usize,
-}
+use update_cases::listings;
+use update_cases::parts;
+use update_cases::tables;
+use update_cases::vectors;
 
 // The operation's case: its arguments taken from the stream, its call made, its line printed. The longest argument is taken into `bytes`.
 fn case(
@@ -37,6 +36,10 @@ fn case(
         10 => column_cases::write(Writer::Differences, source, place, sink, used),
         11 => column_cases::write_bytes(source, place, bytes, sink, used),
         12 => column_cases::write_texts(source, place, sink, used),
+        13 => vectors::read(source, place, sink, used),
+        14 => tables::read(source, place, bytes, sink, used),
+        15 => parts::read(source, place, bytes, sink, used),
+        18 => listings::read(source, place, bytes, sink, used),
         _ => {
             let place = input::spoiled(place);
             Done { place, used }

@@ -1,7 +1,7 @@
 // Operations 1 to 4: numbers on the line, read and written.
-use crate::Done;
 use crate::lent;
 use crate::lent::Writer;
+use stream::Done;
 use stream::input;
 use stream::input::Place;
 use stream::line;

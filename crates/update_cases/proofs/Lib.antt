@@ -1,0 +1,4 @@
+-- What walks share.
+pub mod Answers
+pub mod Cards
+pub mod Sorts

@@ -1,0 +1,112 @@
+// What the lines of updates have beside numbers: ids, parts, kinds, rows, and the last word.
+use block::Block;
+use block::Id;
+use stream::line;
+use text::Part;
+
+fn id(sink: &mut [u8], used: usize, client: u64, clock: u64) -> usize {
+    let begun = line::decimal(sink, used, client);
+    let parted = line::put(sink, begun, b':');
+    line::decimal(sink, parted, clock)
+}
+
+// An id with the dot before it, `-` if it is absent.
+fn dotted_id(sink: &mut [u8], used: usize, has: bool, it: Id) -> usize {
+    let begun = line::put(sink, used, b'.');
+    if !has {
+        return line::put(sink, begun, b'-');
+    }
+    id(sink, begun, it.client, it.clock as u64)
+}
+
+// A part with the dot before it, `-` if it is absent.
+fn dotted_part(sink: &mut [u8], used: usize, has: bool, it: Part) -> usize {
+    let begun = line::put(sink, used, b'.');
+    if !has {
+        return line::put(sink, begun, b'-');
+    }
+    let placed = line::decimal(sink, begun, it.place as u64);
+    let parted = line::put(sink, placed, b'+');
+    let bytes = it.bytes;
+    line::decimal(sink, parted, bytes.0 as u64)
+}
+
+fn dotted(sink: &mut [u8], used: usize, value: u64) -> usize {
+    let begun = line::put(sink, used, b'.');
+    line::decimal(sink, begun, value)
+}
+
+fn kind(sink: &mut [u8], used: usize, kind: u8) -> usize {
+    match kind {
+        block::GC => line::text(sink, used, b".gc"),
+        block::SKIP => line::text(sink, used, b".skip"),
+        block::DELETED => line::text(sink, used, b".deleted"),
+        block::BINARY => line::text(sink, used, b".binary"),
+        block::TEXT => line::text(sink, used, b".text"),
+        _ => line::text(sink, used, b".?"),
+    }
+}
+
+fn head(sink: &mut [u8], used: usize, b: Block) -> usize {
+    let client = line::number(sink, used, b.client);
+    let clock = dotted(sink, client, b.clock as u64);
+    let units = b.length;
+    let length = dotted(sink, clock, units.0);
+    kind(sink, length, b.kind)
+}
+
+fn origins(sink: &mut [u8], used: usize, b: Block) -> usize {
+    let left = dotted_id(sink, used, b.has_left, b.left);
+    dotted_id(sink, left, b.has_right, b.right)
+}
+
+fn place(sink: &mut [u8], used: usize, b: Block) -> usize {
+    let name = dotted_part(sink, used, b.has_name, b.name);
+    let parent = dotted_id(sink, name, b.has_parent, b.parent);
+    dotted_part(sink, parent, b.has_key, b.key)
+}
+
+// A row with the space before it.
+pub fn row(sink: &mut [u8], used: usize, b: Block) -> usize {
+    let begun = head(sink, used, b);
+    let linked = origins(sink, begun, b);
+    let placed = place(sink, linked, b);
+    dotted_part(sink, placed, block::BINARY <= b.kind, b.part)
+}
+
+// What was printed of lent words: how much of the output's buffer is used, and where the printed words end.
+pub struct Listed {
+    pub used: usize,
+    pub at: usize,
+}
+
+// An entry of a state vector with the space before it.
+pub fn entry(sink: &mut [u8], used: usize, client: u64, clock: u64) -> usize {
+    let begun = line::put(sink, used, b' ');
+    id(sink, begun, client, clock)
+}
+
+// A delete range with the space before it.
+pub fn range(sink: &mut [u8], used: usize, client: u64, clock: u64, length: u64) -> usize {
+    let begun = line::number(sink, used, client);
+    let placed = dotted(sink, begun, clock);
+    dotted(sink, placed, length)
+}
+
+pub fn are_zero(words: &[u64], from: usize) -> bool {
+    let mut i = from;
+    while i < words.len() {
+        if words[i] != 0 {
+            return false;
+        }
+        i += 1;
+    }
+    true
+}
+
+pub fn last(sink: &mut [u8], used: usize, zero: bool) -> usize {
+    if zero {
+        return line::text(sink, used, b" zero\n");
+    }
+    line::text(sink, used, b" dirty\n")
+}

@@ -1,0 +1,127 @@
+// Operation 14's line: the rows of a table, seen one at a time by value, and what stands before and after them.
+use crate::lines;
+use crate::lines::Listed;
+use block::Block;
+use block::Id;
+use stream::line;
+use text::Bytes;
+use text::Part;
+use text::Units;
+use updates::Update;
+
+// How much of the output's buffer is used, and whether all rows seen that hold no block are zero.
+pub struct Told {
+    pub used: usize,
+    pub zero: bool,
+}
+
+// A row that is lent: no field is zero.
+pub fn full() -> Block {
+    let id = Id {
+        client: 0xA5A5,
+        clock: 0xA5A5,
+    };
+    let part = Part {
+        place: 0xA5A5,
+        bytes: Bytes(0xA5A5),
+    };
+    Block {
+        client: 0xA5A5,
+        clock: 0xA5A5,
+        length: Units(0xA5A5),
+        kind: 0xA5,
+        has_left: true,
+        left: id,
+        has_right: true,
+        right: id,
+        has_parent: true,
+        parent: id,
+        has_name: true,
+        name: part,
+        has_key: true,
+        key: part,
+        part,
+    }
+}
+
+fn is_no_id(it: Id) -> bool {
+    it.client == 0 && it.clock == 0
+}
+
+fn is_no_part(it: Part) -> bool {
+    let bytes = it.bytes;
+    it.place == 0 && bytes.0 == 0
+}
+
+fn has_none(b: Block) -> bool {
+    !b.has_left && !b.has_right && !b.has_parent && !b.has_name && !b.has_key
+}
+
+fn is_none(b: Block) -> bool {
+    let length = b.length;
+    b.client == 0
+        && b.clock == 0
+        && length.0 == 0
+        && b.kind == 0
+        && has_none(b)
+        && is_no_id(b.left)
+        && is_no_id(b.right)
+        && is_no_id(b.parent)
+        && is_no_part(b.name)
+        && is_no_part(b.key)
+        && is_no_part(b.part)
+}
+
+// Row i: one of the first n is printed, any other looked at.
+pub fn put_row(sink: &mut [u8], told: Told, b: Block, i: usize, n: usize) -> Told {
+    if i < n {
+        let used = lines::row(sink, told.used, b);
+        return Told {
+            used,
+            zero: told.zero,
+        };
+    }
+    let zero = told.zero && is_none(b);
+    Told {
+        used: told.used,
+        zero,
+    }
+}
+
+// The line up to the rows.
+pub fn begin(sink: &mut [u8], used: usize, answer: Update) -> usize {
+    let begun = line::decimal(sink, used, answer.number as u64);
+    if answer.number != 0 {
+        return begun;
+    }
+    let named = line::text(sink, begun, b" blocks");
+    line::number(sink, named, answer.blocks as u64)
+}
+
+fn ranges(sink: &mut [u8], used: usize, count: usize, words: &[u64]) -> Listed {
+    let mut used = used;
+    let mut at = 0;
+    let mut left = count;
+    while 0 < left {
+        if words.len() - at < 3 {
+            return Listed { used, at };
+        }
+        used = lines::range(sink, used, words[at], words[at + 1], words[at + 2]);
+        at += 3;
+        left -= 1;
+    }
+    Listed { used, at }
+}
+
+// The line from the ranges on.
+pub fn end(sink: &mut [u8], told: Told, answer: Update, words: &[u64]) -> usize {
+    if answer.number != 0 {
+        let zero = told.zero && lines::are_zero(words, 0);
+        return lines::last(sink, told.used, zero);
+    }
+    let named = line::text(sink, told.used, b" ranges");
+    let counted = line::number(sink, named, answer.ranges as u64);
+    let listed = ranges(sink, counted, answer.ranges, words);
+    let zero = told.zero && lines::are_zero(words, listed.at);
+    lines::last(sink, listed.used, zero)
+}
