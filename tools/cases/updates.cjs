@@ -191,6 +191,7 @@ w(vector('02 05 00 06'), '1 zero')
 w(vector('41'), '3 zero')
 w(vector(''), '1 zero')
 w(vector('01 80 80 80 80 80 80 80 10'), '3 zero')
+w(vector('01 80 80 80 80 80 80 80 10 01'), '3 zero')
 w(vector('01 05 80 80 80 80 08'), '3 zero')
 w(vector('01 ff ff ff ff ff ff ff 0f ff ff ff ff 07'), '0 9007199254740991:2147483647 zero')
 w(vector('01 80 80 80 80 80 80 80 80 80 00'), '2 zero')
@@ -248,6 +249,7 @@ differs('stored run count 2147483646', 2, '0000010500000100010000000642feffffff0
 differs('number of ten bytes', 1, '8080808080808080800000', '2 zero', '')
 differs('content 20', 1, '0101050014010174016100', '5 zero', null)
 differs('65 sections', 1, '41' + many(65, k => '00' + (0x3f + k).toString(16).padStart(2, '0') + '00').join('') + '00', '3 zero', '')
+differs('65 delete-set clients', 1, '0041' + many(65, k => (0x3f + k).toString(16).padStart(2, '0') + '00').join(''), '3 zero', '')
 // 2^31 blocks are announced, info 0 stands without end, and the length column has no byte: Yjs makes blocks of nothing until its memory ends, so it is not asked.
 w(read(2, '00 00 00 00 00 01 00 01 00 00 00 00 01 80 80 80 80 08 00 00'), '3 zero')
 // These part in a diff or in the sorter; both read them, and read the same.

@@ -1,4 +1,4 @@
-// What the case program reads and prints: arguments from standard input, and lines to standard output, both through lent buffers.
+// What programs read and print: arguments from standard input, and lines to standard output, both through lent buffers.
 pub mod input;
 pub mod line;
 
