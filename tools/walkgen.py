@@ -6,12 +6,13 @@ Run it in the repository. It reads crates/*/src/*.rt, the contracts there, and `
                                     -TYPE: the `Kind` alone. TYPE is a name or a path (text::Part)
   walkgen.py cards CRATE CALLEE..   proofs/Cards.antt: what each callee (table::fill) does at given arguments.
                                     table::fetch=rows: its `&` named rows is lent from a `&mut` that the caller holds
-  walkgen.py walk CRATE [MOD::]FN   proofs/[MOD/]FN/Proof.antt: the walk. A `?` is a fact to give
+  walkgen.py walk CRATE [MOD::]FN   proofs/[MOD/]FN/Proof.antt: the walk. A `?` is a fact to give, the first of them the argument in a sentence
   walkgen.py tidy FILE              takes out of FILE, in place, the imports that it does not use
   walkgen.py mir CRATE FN..         the MIR, readable
 
-A callee's contract is a fact of conjuncts `r ≡ ..` and `now (x .exit) ≡ ..`, one for each `&mut`, in any order. Where one is missing, as in a
-program, the card says nothing of what comes back, and the walk goes on with any result and any lists.
+A callee's contract is a fact of conjuncts `r ≡ ..` and `now (x .exit) ≡ ..`, one for each `&mut`, in any order, or a name that its crate's specs
+give such a fact. Where a conjunct is missing, as in a program, the card says nothing of what comes back, and the walk goes on with any result
+and any lists.
 Sorts and cards are looked for in every crate's proofs/Sorts.antt and proofs/Cards.antt: print each once, in the lowest crate.
 The names: a type's Kind is its name in small letters (`Block`: block); a variant is Enum·Variant, and the facts on it enum·variant-has,
 enum·variant-0; a card is crate·fn!, or crate·fn-rows! where rows is lent from a `&mut`. A type whose name is not the only one in the
@@ -164,7 +165,7 @@ def width(t, here):
     return sum(width(u, (d.crate, d.mod)) for u in parts) if parts else 1
 
 
-WIDE = 40  # types of more numbers than this are put in their Kind's shape: see `retyped`
+WIDE = 0  # types of more numbers than this are put in their Kind's shape: see `retyped`
 
 
 def den(t, here):
@@ -199,9 +200,9 @@ class Signature:
                 self.asks = bare(t.strip('⌜⌝ '))
             else:
                 t = re.sub(r'^λ \w+\.\s*', '', t).strip().strip('⌜⌝').strip()
-                for c in split(t, ' × '):
+                for c in split(unfolded(t, self.here), ' × '):
                     c = bare(c)
-                    m1, m2 = re.match(r'r ≡ (.*)$', c), re.match(r'now \((\w+) \.exit\) ≡ (.*)$', c)
+                    m1, m2 = re.match(r'r ≡ (.*)$', c), re.match(r'\(?now \((\w+) \.exit\)\)? ≡ (.*)$', c)
                     if m1:
                         self.gives = m1.group(1)
                         self.order.append('r')
@@ -231,14 +232,41 @@ class Signature:
         return re.sub(r'⟪(\w+)⟫', lambda m: atom(lists[m.group(1)]), t)
 
 
+def seen_from(mod, here, crate):
+    return mod if here[0] == crate else mod.replace('Rattle.%s.specs' % here[0], 'Rattle.%s.specs' % here[0])
+
+
 def ghosts(here, crate):
     """the names that the contracts of a source cite: name -> module, seen from crate"""
     r = {}
-    for m in re.finditer(r'ghost use (.*?)\.\{(.*?)\};', SOURCES[here], re.S):
-        mod = m.group(1) if here[0] == crate else m.group(1).replace('Rattle.%s.specs' % here[0], 'Rattle.%s.specs' % here[0])
-        for n in m.group(2).split(','):
-            r[n.strip()] = mod
+    cited = [m.groups() for m in re.finditer(r'ghost use (\S+?)\.\{(.*?)\};', SOURCES[here], re.S)]
+    for spec, words in UNFOLDED.get(here, ()):
+        text = open('crates/%s/specs/%s.antt' % (here[0], spec)).read()
+        own = 'Rattle.%s.specs.%s' % (here[0], spec), ','.join(re.findall(r'^(?:abbrev|unfoldable) pub (%s)' % NAME, text, re.M))
+        for mod, names in re.findall(r'^use (\S+?)\.\{(.*)\}$', text, re.M) + [own]:
+            cited.append((mod, ','.join(n for n in names.split(',') if n.strip().strip('_') in words and '.declared.' not in mod)))
+    for mod, names in cited:
+        for n in names.split(','):
+            if n.strip():
+                r[n.strip()] = seen_from(mod, here, crate)
     return r
+
+
+UNFOLDED = {}  # (crate, module) -> the specs whose contracts were unfolded, each with the words of the contract
+
+
+def unfolded(t, here):
+    """a contract that is one name at arguments (`ReadUpdate form ..`), as its crate's specs define it"""
+    words = split(t, ' ')
+    mod = {} if '≡' in t or not words else ghosts(here, here[0])
+    spec = re.match(r'Rattle\.%s\.specs\.(\w+)$' % here[0], mod.get(words[0], ''))
+    if not spec:
+        return t
+    text = open('crates/%s/specs/%s.antt' % (here[0], spec.group(1))).read()
+    params, body = re.search(r'^%s ([^=\n]*)=\s*(.*?)(?:\n\n|\s*\Z)' % words[0], text, re.M | re.S).groups()
+    at = dict(zip(params.split(), words[1:]))
+    UNFOLDED.setdefault(here, []).append((spec.group(1), set(re.findall(NAME, body))))
+    return re.sub(NAME, lambda m: at.get(m.group(0), m.group(0)), re.sub(r'\s+', ' ', body))
 
 
 # ---------------------------------------------------------------- imports
@@ -575,68 +603,86 @@ class State:
         self.arr = dict(old.arr) if old else {}
 
 
-def walk(crate, path):
-    mod, fname = path.split('::') if '::' in path else ('', path)
-    g = Signature(crate, mod, fname)
-    fn = mir(crate)['::'.join(x for x in (crate, mod, fname) if x)]
-    locs = [l[1] for l in items(fn[4])]
-    n, np = len(locs), int(fn[3])
-    at = lambda i: 1 + 2 * (n - 1 - i)
-    refs = [(dash(p), how, t) for p, how, t in g.params if how != 'val']
-    muts = [dash(p) for p, how, t in g.params if how == 'mut']
-    den_of = lambda t: den(t, g.here)
-    O, callees, used, stack, count, opened, turn = [], [], [], [], [0], [0], []
-    out = O.append
-    room = {}
+class Walk:
+    """the walk of one function: its text is put out step by step, then printed with what stands around it"""
 
-    def typed(t):
-        return Type.all.get(found(t[1][1].strip('"'), g.here)) if not isinstance(t, str) and t[0] == 'tyNamed' else None
+    def __init__(self, crate, path):
+        self.crate = crate
+        self.mod, self.fname = path.split('::') if '::' in path else ('', path)
+        self.g = Signature(crate, self.mod, self.fname)
+        self.path = '::'.join(x for x in (crate, self.mod, self.fname) if x)
+        self.fn = mir(crate)[self.path]
+        self.locs = [l[1] for l in items(self.fn[4])]
+        self.n, self.np = len(self.locs), int(self.fn[3])
+        self.refs = [(dash(p), how, t) for p, how, t in self.g.params if how != 'val']
+        self.muts = [dash(p) for p, how, t in self.g.params if how == 'mut']
+        self.O, self.callees, self.stack, self.turn, self.room = [], [], [], [], {}
+        self.count = self.opened = 0
+        self.out = self.O.append
 
-    def wide(t):
-        d = typed(t)
-        return d is not None and width('::'.join(x for x in (d.crate, d.mod, d.name) if x), g.here) > WIDE
+    def at(self, i):
+        """where local i stands in the context"""
+        return 1 + 2 * (self.n - 1 - i)
 
-    def sort(t):
+    def den_of(self, t):
+        return den(t, self.g.here)
+
+    def counted(self):
+        """the number of the next call, test or match, as an index"""
+        self.count += 1
+        return low(self.count)
+
+    def begin(self):
+        """what is known at entry"""
+        st = State()
+        for i, (p, how, t) in enumerate(self.g.params):
+            d, l = dash(p), i + 1
+            if how == 'val':
+                st.val[l], st.has[l] = d + '₀', '(are%s)' % then(i)
+                st.ty[l] = '(%s .lawful M 𝓤 H A W .typed %s₀ _ (are%s) .0)' % (kindof(t, self.g.here), d, then(i))
+            else:
+                self.room[d] = 'are%s .0 .1 .0' % then(i)
+                st.sl[l], st.val[l], st.has[l] = d, 'seat-val at-' + d, '?'
+                st.ty[l] = '(tt, (tt, (record { fits = %s }, tt)))' % self.room[d]
+                st.cur[d] = d + '₀'
+        return st
+
+    def typed(self, t):
+        return Type.all.get(found(t[1][1].strip('"'), self.g.here)) if not isinstance(t, str) and t[0] == 'tyNamed' else None
+
+    def wide(self, t):
+        d = self.typed(t)
+        return d is not None and width('::'.join(x for x in (d.crate, d.mod, d.name) if x), self.g.here) > WIDE
+
+    def sort(self, t):
         if isinstance(t, str):
             return {'tyBool': 'bool', 'tyUnit': 'unit'}.get(t, 'ptr')
-        return 'int' if t[0] == 'tyInt' else typed(t).kind if t[0] == 'tyNamed' else 'slice' if t[0] == 'tyStruct' else 'ptr'
+        return 'int' if t[0] == 'tyInt' else self.typed(t).kind if t[0] == 'tyNamed' else 'slice' if t[0] == 'tyStruct' else 'ptr'
 
-    def kind(t):
-        s = sort(t)
+    def kind(self, t):
+        s = self.sort(t)
         return {'8': 'byte', '64': 'word', 'w8': 'byte', 'w64': 'word'}.get(t[1], '(uint-kind w%s)' % t[1].lstrip('w')) if s == 'int' else {'bool': 'bool-kind', 'unit': 'unit-kind'}.get(s, s)
 
-    def denoted(t):
-        return {'int': 'ℕ', 'bool': 'Bool', 'unit': 'Unit {0}'}.get(sort(t)) or typed(t).den
+    def denoted(self, t):
+        return {'int': 'ℕ', 'bool': 'Bool', 'unit': 'Unit {0}'}.get(self.sort(t)) or self.typed(t).den
 
-    def machine(t, v):
-        return 'vint w%s %s' % (t[1].lstrip('w'), atom(v)) if sort(t) == 'int' else 'vbool ' + atom(v) if sort(t) == 'bool' else '%s .val %s' % (kind(t), atom(v))
+    def machine(self, t, v):
+        return 'vint w%s %s' % (t[1].lstrip('w'), atom(v)) if self.sort(t) == 'int' else 'vbool ' + atom(v) if self.sort(t) == 'bool' else '%s .val %s' % (self.kind(t), atom(v))
 
-    st = State()
-    for i, (p, how, t) in enumerate(g.params):
-        d, l = dash(p), i + 1
-        if how == 'val':
-            st.val[l], st.has[l] = d + '₀', '(are%s)' % then(i)
-            st.ty[l] = '(%s .lawful M 𝓤 H A W .typed %s₀ _ (are%s) .0)' % (kindof(t, g.here), d, then(i))
-        else:
-            room[d] = 'are%s .0 .1 .0' % then(i)
-            st.sl[l], st.val[l], st.has[l] = d, 'seat-val at-' + d, '?'
-            st.ty[l] = '(tt, (tt, (record { fits = %s }, tt)))' % room[d]
-            st.cur[d] = d + '₀'
-
-    def seat(st, d):
+    def seat(self, st, d):
         o = [o for o in st.own if o[0] == d][0]
         return '(own-seat l%s %s ν%s δ%s)' % (low(d[5:]), atom(o[3]), low(d[5:]), low(d[5:]))
 
-    def seated(st, d):
-        return seat(st, d) if d.startswith('local') else 'at-' + d
+    def seated(self, st, d):
+        return self.seat(st, d) if d.startswith('local') else 'at-' + d
 
-    def hs(st, own=None):
+    def hs(self, st, own=None):
         own = st.own if own is None else own
-        return '(%s%s)' % (''.join('tab %s %s %s ∷ ' % (o[1], seat(st, o[0]), atom(st.cur[o[0]])) for o in own), ' '.join(['hs'] + [atom(st.cur[p]) for p in muts]))
+        return '(%s%s)' % (''.join('tab %s %s %s ∷ ' % (o[1], self.seat(st, o[0]), atom(st.cur[o[0]])) for o in own), ' '.join(['hs'] + [atom(st.cur[p]) for p in self.muts]))
 
-    def way(i, steps):
+    def way(self, i, steps):
         """how a place is reached, and how it is read"""
-        p, w, part = at(i), 'stop !', 'whole !'
+        p, w, part = self.at(i), 'stop !', 'whole !'
         if not steps:
             return 'from ! (stop !)', 'look ! %d refl' % p
         ks = [x[0] for x in steps]
@@ -660,27 +706,27 @@ def walk(crate, path):
                 j += 1
         return 'from ! (%s)' % w, ('look-tag ! %d (%s)' if tag else 'look-in ! %d (%s)') % (p, part)
 
-    def opd(o):
+    def opd(self, o):
         if isinstance(o, str):
             return {'true': 'true-lit !', 'false': 'false-lit !', 'unit': 'unit-lit !'}.get(o, o)
         if o[0] == 'copy':
-            return 'load ! (%s) (%s)' % way(int(o[1][1]), items(o[1][2]))
+            return 'load ! (%s) (%s)' % self.way(int(o[1][1]), items(o[1][2]))
         return 'lit ! tt' if int(o[2]) < 1024 else 'big-lit ! (record { fits = lit< tt })'
 
-    def opds(xs):
+    def opds(self, xs):
         r = 'no-more !'
         for o in reversed(xs):
-            r = 'and-then ! (%s) (%s)' % (opd(o), r)
+            r = 'and-then ! (%s) (%s)' % (self.opd(o), r)
         return r
 
-    def value(st, o):
+    def value(self, st, o):
         """an operand's value, and that it is in range"""
         if isinstance(o, str):
             return {'true': 'true', 'false': 'false', 'unit': 'tt'}.get(o, '?'), 'refl'
         if o[0] != 'copy':
             return o[2], '(refl, lit< tt)'
         i, steps = int(o[1][1]), items(o[1][2])
-        v, h, t = st.val.get(i, '?'), st.has.get(i, '?'), typed(locs[i])
+        v, h, t = st.val.get(i, '?'), st.has.get(i, '?'), self.typed(self.locs[i])
         if steps:
             if v == '?' or t is None or 'deref' in [x[0] for x in steps]:
                 return '?', '?'
@@ -695,255 +741,281 @@ def walk(crate, path):
             return '?', '?'
         return v, h
 
-    def lay(st, i, val, has, ty, sl=None):
+    def lay(self, st, i, val, has, ty, sl=None):
         """a value is laid in local i"""
         how = 'store' if i in st.ty else 'init'
         st.val[i], st.has[i], st.ty[i] = val, has, ty
         st.sl.pop(i, None)
         if sl:
             st.sl[i] = sl
-        return '(from ! (stop !)) (%s ! %d refl %s)' % (how, at(i), ty)
+        return '(from ! (stop !)) (%s ! %d refl %s)' % (how, self.at(i), ty)
 
-    def lawful(t, v, h):
-        return '(%s .lawful M 𝓤 H A W .typed %s _ %s .0)' % (kind(t), atom(v), atom(h))
+    def lawful(self, t, v, h):
+        return '(%s .lawful M 𝓤 H A W .typed %s _ %s .0)' % (self.kind(t), atom(v), atom(h))
 
-    def right(st, r, i):
+    def right(self, st, r, i):
         """the right side of an assignment to local i: its step, value, range, what a store asks, slice"""
-        t = locs[i]
-        k = sort(t)
-        if r[0] == 'rvOpd':
-            o = r[1]
-            v, h = value(st, o)
-            if not isinstance(o, str) and o[0] == 'copy':
-                j, steps = int(o[1][1]), items(o[1][2])
-                if not steps:
-                    return 'of-opd ! (%s)' % opd(o), v, h, st.ty.get(j, '?'), st.sl.get(j)
-                if j in st.sl and [x[0] for x in steps] == ['field'] and steps[0][1] == '1':
-                    p = st.sl[j]
-                    return 'of-opd ! (%s)' % opd(o), '%s .count' % seated(st, p), '(refl, %s)' % room[p], '(tt, record { fits = %s })' % room[p], None
-            if not isinstance(o, str) and o[0] != 'copy':
-                ty = '(tt, record { fits = lit< tt })'
-            elif k in ('bool', 'unit'):
-                ty = '(tt, tt)'
-            else:
-                ty = '(tt, record { fits = %s })' % (second(h) if h != '?' else '?') if k == 'int' else lawful(t, v, h)
-            return 'of-opd ! (%s)' % opd(o), v, h, ty, None
-        if r[0] == 'op2':
-            o = r[1] if isinstance(r[1], str) else r[1][0]
-            a, b = value(st, r[2])[0], value(st, r[3])[0]
-            if o in ('add', 'sub', 'mul'):
-                v = '%s %s %s' % (atom(a), {'add': '+', 'sub': '-', 'mul': '*'}[o], atom(b))
-                return 'bin ! (%s) (%s) (record { fits = ? })' % (opd(r[2]), opd(r[3])), v, '(refl, ?)', '(tt, record { fits = ? })', None
-            f = {'lt': 'ltb', 'le': 'leb', 'eq': 'eqb'}.get(o)
-            v = '%s %s %s' % (f, atom(a), atom(b)) if f else 'not (eqb %s %s)' % (atom(a), atom(b)) if o == 'ne' else '?'
-            return 'bin ! (%s) (%s) tt' % (opd(r[2]), opd(r[3])), v, 'refl', '(tt, tt)', None
+        how = {'rvOpd': self.right_operand, 'op2': self.right_binary, 'aggregate': self.right_aggregate, 'repeat': self.right_repeat}.get(r[0])
+        if how:
+            return how(st, r, i)
         if r[0] == 'op1':
-            return 'un ! (%s) tt' % opd(r[2]), 'not %s' % atom(value(st, r[2])[0]), 'refl', '(tt, tt)', None
+            return 'un ! (%s) tt' % self.opd(r[2]), 'not %s' % atom(self.value(st, r[2])[0]), 'refl', '(tt, tt)', None
         if r[0] == 'addrOf':
             j = int(r[1][1])
-            return 'addr ! (%s)' % way(j, items(r[1][2]))[0], '?', '?', '(tt, tt)', st.sl.get(j, 'local%d' % j)
-        if r[0] == 'aggregate':
-            xs = items(r[1])
-            w = 'agg ! (%s)' % opds(xs)
-            if k == 'slice':
-                p = st.sl[int(xs[0][1][1])]
-                return w, 'seat-val at-' + p, '?', '(tt, (tt, (record { fits = %s }, tt)))' % (room[p] if p in room else second(value(st, xs[1])[1])), p
-            d, vh = typed(t), [value(st, o) for o in xs]
-            if d.sort == 'struct':
-                v = 'record { %s }' % '; '.join('%s = %s' % (fence(p[0]), x[0]) for p, x in zip(d.parts, vh))
-                h = '%s-has %s' % (k, ' '.join(atom(x[0]) + ' ' + atom(x[1]) for x in vh))
-            else:
-                name = d.parts[int(xs[0][2])][0]
-                v = ' '.join([d.variant(name)] + [atom(x[0]) for x in vh[1:]])
-                h = ' '.join([d.fact(name) + '-has'] + [atom(x[0]) + ' ' + atom(x[1]) for x in vh[1:]])
-            return w, v, h, lawful(t, v, h), None
-        if r[0] == 'repeat':
-            v, h = value(st, r[1])
-            kd = kind(t[1])
-            st.arr[i] = (kd, r[2], v, h)
-            out('array-typed ! %s %s %s %s (λ ty%s.' % (kd, r[2], atom(v), atom(h), low(i)))
-            opened[0] += 1
-            return 'rep ! %s (%s)' % (r[2], opd(r[1])), 'replicate %s %s' % (r[2], atom(v)), '?', '(ty%s .0)' % low(i), None
+            return 'addr ! (%s)' % self.way(j, items(r[1][2]))[0], '?', '?', '(tt, tt)', st.sl.get(j, 'local%d' % j)
         return '?' + str(r), '?', '?', '?', None
 
-    def freeing(st):
+    def right_operand(self, st, r, i):
+        t = self.locs[i]
+        k = self.sort(t)
+        o = r[1]
+        v, h = self.value(st, o)
+        if not isinstance(o, str) and o[0] == 'copy':
+            j, steps = int(o[1][1]), items(o[1][2])
+            if not steps:
+                return 'of-opd ! (%s)' % self.opd(o), v, h, st.ty.get(j, '?'), st.sl.get(j)
+            if j in st.sl and [x[0] for x in steps] == ['field'] and steps[0][1] == '1':
+                p = st.sl[j]
+                return 'of-opd ! (%s)' % self.opd(o), '%s .count' % self.seated(st, p), '(refl, %s)' % self.room[p], '(tt, record { fits = %s })' % self.room[p], None
+        if not isinstance(o, str) and o[0] != 'copy':
+            ty = '(tt, record { fits = lit< tt })'
+        elif k in ('bool', 'unit'):
+            ty = '(tt, tt)'
+        else:
+            ty = '(tt, record { fits = %s })' % (second(h) if h != '?' else '?') if k == 'int' else self.lawful(t, v, h)
+        return 'of-opd ! (%s)' % self.opd(o), v, h, ty, None
+
+    def right_binary(self, st, r, i):
+        o = r[1] if isinstance(r[1], str) else r[1][0]
+        a, b = self.value(st, r[2])[0], self.value(st, r[3])[0]
+        if o in ('add', 'sub', 'mul'):
+            v = '%s %s %s' % (atom(a), {'add': '+', 'sub': '-', 'mul': '*'}[o], atom(b))
+            return 'bin ! (%s) (%s) (record { fits = ? })' % (self.opd(r[2]), self.opd(r[3])), v, '(refl, ?)', '(tt, record { fits = ? })', None
+        f = {'lt': 'ltb', 'le': 'leb', 'eq': 'eqb'}.get(o)
+        v = '%s %s %s' % (f, atom(a), atom(b)) if f else 'not (eqb %s %s)' % (atom(a), atom(b)) if o == 'ne' else '?'
+        return 'bin ! (%s) (%s) tt' % (self.opd(r[2]), self.opd(r[3])), v, 'refl', '(tt, tt)', None
+
+    def right_aggregate(self, st, r, i):
+        t = self.locs[i]
+        k = self.sort(t)
+        xs = items(r[1])
+        w = 'agg ! (%s)' % self.opds(xs)
+        if k == 'slice':
+            p = st.sl[int(xs[0][1][1])]
+            return w, 'seat-val at-' + p, '?', '(tt, (tt, (record { fits = %s }, tt)))' % (self.room[p] if p in self.room else second(self.value(st, xs[1])[1])), p
+        d, vh = self.typed(t), [self.value(st, o) for o in xs]
+        if d.sort == 'struct':
+            v = 'record { %s }' % '; '.join('%s = %s' % (fence(p[0]), x[0]) for p, x in zip(d.parts, vh))
+            h = '%s-has %s' % (k, ' '.join(atom(x[0]) + ' ' + atom(x[1]) for x in vh))
+        else:
+            name = d.parts[int(xs[0][2])][0]
+            v = ' '.join([d.variant(name)] + [atom(x[0]) for x in vh[1:]])
+            h = ' '.join([d.fact(name) + '-has'] + [atom(x[0]) + ' ' + atom(x[1]) for x in vh[1:]])
+        return w, v, h, self.lawful(t, v, h), None
+
+    def right_repeat(self, st, r, i):
+        v, h = self.value(st, r[1])
+        kd = self.kind(self.locs[i][1])
+        st.arr[i] = (kd, r[2], v, h)
+        self.out('array-typed ! %s %s %s %s (λ ty%s.' % (kd, r[2], atom(v), atom(h), low(i)))
+        self.opened += 1
+        return 'rep ! %s (%s)' % (r[2], self.opd(r[1])), 'replicate %s %s' % (r[2], atom(v)), '?', '(ty%s .0)' % low(i), None
+
+    def freeing(self, st):
         return 'free-all ! (_ ∷ []) En (%s ∷ []) [] $' % ' ∷ '.join('has _' if i in st.ty else 'bare' for i in range(max(st.ty, default=0) + 1))
 
-    def rest_of(tail):
+    def rest_of(self, tail):
         r = None
         for b, p in reversed(tail):
             e = 'part (%s[]) (code.function .body)' % ''.join('%d ∷ ' % x for x in p)
             r = e if r is None else 'seq (%s) (%s)' % (e, r)
         return r
 
-    def arrays_back(st):
+    def arrays_back(self, st):
         own = list(st.own)
         while own:
             o = own.pop(0)
             j = int(o[0][5:])
-            out('move ! (0 ∷ %d ∷ []) $ own-back ! tt %s %s %s %s %s %s l%s ν%s δ%s %s $ move ! (0 ∷ %s1 ∷ []) $' % (
-                at(j), o[1], o[2], atom(o[3]), o[5], atom(o[4]), atom(st.cur[o[0]]), low(j), low(j), low(j), hs(st, own), ''.join('%d ∷ ' % x for x in range(2, at(j) + 1))))
+            self.out('move ! (0 ∷ %d ∷ []) $ own-back ! tt %s %s %s %s %s %s l%s ν%s δ%s %s $ move ! (0 ∷ %s1 ∷ []) $' % (
+                self.at(j), o[1], o[2], atom(o[3]), o[5], atom(o[4]), atom(st.cur[o[0]]), low(j), low(j), low(j), self.hs(st, own), ''.join('%d ∷ ' % x for x in range(2, self.at(j) + 1))))
 
-    def turn_of(st, w):
+    def turn_of(self, st, w):
         return 'record { %s }' % '; '.join(['v%d = %s; g%d = %s' % (i, st.val[i], i, st.has[i]) for i in w[0]] + ['%s = %s' % (p, st.cur[p]) for p in w[1]] + ['known = ?'])
 
-    def ended(st, cl):
+    def ended(self, st, cl):
         """the part is over: what its surroundings do next"""
-        if stack and stack[-1][0] == 'loop':
-            gone = [i for i in sorted(st.ty, reverse=True) if i not in stack[-1][1]]
-            out(''.join('forget ! %d refl $ ' % at(i) for i in gone) + 'again-by ! μ %s t (%s) ?' % ('I' if turn[4] else '(Inv ls)', turn_of(st, turn)) + ')' * cl)
+        if self.stack and self.stack[-1][0] == 'loop':
+            gone = [i for i in sorted(st.ty, reverse=True) if i not in self.stack[-1][1]]
+            self.out(''.join('forget ! %d refl $ ' % self.at(i) for i in gone) + 'again-by ! μ %s t (%s) ?' % ('I' if self.turn[4] else '(Inv ls)', self.turn_of(st, self.turn)) + ')' * cl)
         else:
-            out('-- the part ends here; what runs next: exec ! (𝓣 .C) (𝓣 .Λ) En ? ? $ ?' + ')' * cl)
+            self.out('-- the part ends here; what runs next: exec ! (𝓣 .C) (𝓣 .Λ) En ? ? $ ?' + ')' * cl)
 
-    def go(todo, st, cl):
+    def go(self, todo, st, cl):
         """the steps of the first of todo and what is after it; cl brackets are to be closed at the end"""
         (b, p), tail = todo[0], todo[1:]
         if b == 'skip':
-            out('skip-on ! $' if tail else 'skips ! $')
-            return go(tail, st, cl) if tail else ended(st, cl)
+            self.out('skip-on ! $' if tail else 'skips ! $')
+            return self.go(tail, st, cl) if tail else self.ended(st, cl)
         if b == 'return':
-            arrays_back(st)
-            out(('return-on' if tail else 'returns-within') + ' ! Post refl (look ! %d refl) $' % at(0))
-            return out(freeing(st) + ' by ! (exits %s%s)' % (' '.join([atom(st.val.get(0, '?'))] + [atom(st.cur[q]) for q in muts] + [atom(st.has.get(0, '?'))]), ' ?' if g.order else '') + ')' * cl)
-        k = b[0]
-        if k == 'seq':
+            self.arrays_back(st)
+            self.out(('return-on' if tail else 'returns-within') + ' ! Post refl (look ! %d refl) $' % self.at(0))
+            return self.out(self.freeing(st) + ' by ! (exits %s%s)' % (' '.join([atom(st.val.get(0, '?'))] + [atom(st.cur[q]) for q in self.muts] + [atom(st.has.get(0, '?'))]), ' ?' if self.g.order else '') + ')' * cl)
+        steps = {'assign': self.go_assign, 'call': self.go_call, 'if': self.go_if, 'cond': self.go_if, 'switch': self.go_switch, 'loop': self.go_loop, 'exit': self.go_exit}
+        if b[0] in steps:
+            return steps[b[0]](b, p, tail, st, cl)
+        if b[0] == 'seq':
             if tail:
-                out('flat ! $')
-            return go([(b[1], p + [0]), (b[2], p + [1])] + tail, st, cl)
-        if k == 'assign':
-            opened[0] = 0
-            i, steps = int(b[1][1]), items(b[1][2])
-            w, v, h, t, sl = right(st, b[2], i)
-            d = '(%s) (store-raw ! 0 refl ?)' % way(i, steps)[0] if steps else lay(st, i, v, h, t, sl)
-            out('assigns%s ! (%s) %s $' % ('' if tail else '-last', w, d))
-            cl += opened[0]
-            if sl and sl.startswith('local') and sort(locs[i]) == 'slice' and sl not in [o[0] for o in st.own]:
-                j = int(sl[5:])
-                kd, size, dv, dh = st.arr[j]
-                m = value(st, items(b[2][1])[1])[0]
-                le = '(omega (arith))' if m == size else '?'
-                out('move ! (0 ∷ %d ∷ []) $ own-lends ! tt %s tt %s %s %s %s l%s %s ? %s (λ ν%s δ%s. move ! (0 ∷ %s1 ∷ []) $' % (
-                    at(j), kd, size, atom(m), le, atom(dv), low(j), atom(dh), hs(st), low(j), low(j), ''.join('%d ∷ ' % x for x in range(2, at(j) + 1))))
-                cl += 1
-                st.own.insert(0, (sl, kd, size, m, dv, le))
-                room[sl] = second(value(st, items(b[2][1])[1])[1])
-                st.cur[sl] = 'replicate %s %s' % (atom(m), atom(dv))
-            return go(tail, st, cl) if tail else ended(st, cl)
-        if k == 'call':
-            c = Signature(*found(b[1][1][1].strip('"'), g.here))
-            xs, L, V, args, took, lent = items(b[2]), {}, {}, [], [], []
-            held = [o[0] for o in st.own] + [x[0] for x in refs]
-            for (q, how, t), o in zip(c.params, xs):
-                if how == 'val':
-                    V[q], h = value(st, o)
-                    args += [atom(V[q]), atom(h)]
-                else:
-                    s = st.sl[int(o[1][1])]
-                    L[q] = st.cur[s]
-                    args += [seated(st, s), atom(st.cur[s])]
-                    took.append(held.index(s))
-                    if how == 'ref' and (s in muts or s.startswith('local')):
-                        lent.append(q)
-            r = c.at(c.gives, L, V) if c.gives else 'tt'
-            if c.asks:
-                args.append('?')
-            count[0] += 1
-            gk = 'g' + low(count[0])
-            if c.name not in [x.name for x in callees]:
-                callees.append(c)
-            card, old = lent_name(c.name, lent), hs(st)
-            for (q, how, t), o in zip(c.params, xs):
-                if how == 'mut':
-                    st.cur[st.sl[int(o[1][1])]] = 'w%s%s' % (low(count[0]), then([x[0] for x in c.params].index(q))) if c.loose else c.at(c.ends[q], L, V)
-            if c.loose:
-                r, gk = 'r' + low(count[0]), 'r%s w%s %s' % (low(count[0]), low(count[0]), gk)
-            out('calls-%s%s ! (fmOf 𝓤 H (W .laws) 𝓣) (%s[]) %s (%s) refl (λ P. %s) (λ %s.' % ('loosely' if c.loose else 'by', '' if tail else '-last', ''.join('%d ∷ ' % x for x in took), old, ' '.join([card + ' 𝓤 H A mem run (𝓣 .C) known-' + c.name] + args), opds(xs), gk))
-            gk = 'g' + low(count[0])
-            out('land%s ! %s $' % ('' if tail else '-last', lay(st, int(b[3][1]), r, gk + ' .0', '(%s .1 .0)' % gk)))
-            return go(tail, st, cl + 1) if tail else ended(st, cl + 1)
-        if k in ('if', 'cond'):
-            count[0] += 1
-            y = 'y' + low(count[0])
-            out('%s ! (%s)   -- %s' % ('tests' if tail else 'tests-last', opd(b[1]), value(st, b[1])[0]))
-            out('(λ %s.' % y)
-            go([(b[2], p + [0])] + tail, State(st), 1)
-            out('(λ %s.' % y)
-            return go([(b[3], p + [1])] + tail, State(st), 1 + cl)
-        if k == 'switch':
-            i, a, arms = int(b[1][1][1]), b[2], []
-            while not isinstance(a, str):
-                if a[0] == 'arm':
-                    arms.append((items(a[1]), a[2]))
-                    a = a[3]
-                else:
-                    arms.append((['else'], a[1]))
-                    break
-            count[0] += 1
-            e, t = 'e' + low(count[0]), typed(locs[i])
-            enum = any(x[0] == 'variant' for x in items(b[1][1][2]))
-            out('%s-cases %s' % (t.kind, atom(st.val.get(i, '?'))) if enum else '-- by cases on %s, each with its equation %s' % (st.val.get(i, '?'), e))
-            for ix, (keys, arm) in enumerate(arms):
-                names, v = [], ''
-                if enum:
-                    v, us = t.parts[int(keys[0])]
-                    names = ['x%s%s' % (e[1:], 'abcdefgh'[q] if len(us) > 1 else '') for q in range(len(us))]
-                out('(λ %s.   -- %s' % (' '.join(names + [e]), v or ' '.join(keys)))
-                out('revalue ! %d (%s .val) %s refl $ %s ! (%s) refl $' % (at(i), sort(locs[i]), e, 'switches-to' if tail else 'switches-to-last', opd(b[1])))
-                s2 = State(st)
-                s2.val[i] = ' '.join([t.variant(v)] + names) if enum else '?'
-                s2.has[i] = 'subst (Has %s) %s %s' % (t.kind, e, atom(st.has.get(i, '?'))) if enum else '?'
-                go([(arm, ['?'])] + tail, s2, 1 + (cl if ix == len(arms) - 1 else 0))
-            return
-        if k == 'block':
-            out('first ! $ blocks ! $' if tail else 'blocks ! $')
-            stack.append(('block', tail))
-            go([(b[1], p + [0])], st, cl)
-            return stack.pop()
-        if k == 'loop':
-            named = {int(x) for x in re.findall(r"'place', '(\d+)'", str([b, tail] + [x[-1] for x in stack]))}
-            for i in sorted((i for i in st.ty if i > np and i not in named and 'local%d' % i not in [o[0] for o in st.own]), reverse=True):
-                out('forget ! %d refl $' % at(i))
-                del st.ty[i]
-            keep = set(st.ty)
-            stack.append(('loop', keep, tail))
-            own = [o for o in st.own if any(st.sl.get(i) == o[0] for i in named)]
-            turn[:] = [[x for x in sorted(writes(b[1])) if x in keep], [o[0] for o in own] + lends(b[1])]
-            held = []
-            for i in range(max(keep) + 1):
-                v = 't .v%d' % i if i in turn[0] else st.val.get(i)
-                held.append('bare' if i not in keep or i in st.arr else 'has ' + atom('seat-val ' + seated(st, st.sl[i]) if sort(locs[i]) == 'slice' else machine(locs[i], v)))
-            turn.append(held)
-            turn.append(''.join('  v%d : %s\n  g%d : Has %s v%d\n' % (i, denoted(locs[i]), i, kind(locs[i]), i) for i in turn[0]))
-            turn.append(own[0] if own else None)
-            if own:
-                j, ls = int(own[0][0][5:]), ['l' + low(i) for i in range(n)]
-                out('let I : X → List (Item 𝓤) = Inv (%s) %s ν%s δ%s (%s) in' % (' ∷ '.join(ls[:j] + ['[]']), ls[j], low(j), low(j), ' ∷ '.join(ls[j + 1:] + ['[]'])))
-            first = turn_of(st, turn)
-            s2 = State(st)
-            for i in turn[0]:
-                s2.val[i], s2.has[i] = 't .v%d' % i, 't .g%d' % i
-                s2.ty[i] = '(tt, record { fits = t .g%d .1 })' % i if sort(locs[i]) == 'int' else '(tt, tt)' if sort(locs[i]) == 'bool' else lawful(locs[i], 't .v%d' % i, 't .g%d' % i)
-            for q in turn[1]:
-                s2.cur[q] = '(t .%s)' % q
-            out('loops-by ! 𝓣 μ %s (λ t. knows ! %s (λ sz.' % ('I' if own else '(Inv ls)', hs(s2)))
-            go([(b[1], p + [0])], s2, 2)
-            stack.pop()
-            return out('(%s)' % first + ')' * cl)
-        if k == 'exit':
-            m = int(b[1])
-            out(('exit-on' if tail else 'jumps') + ' ! $')
-            fr = stack[-1 - m]
-            if fr[0] == 'block' and fr[1]:
-                out('exec ! (𝓣 .C) (𝓣 .Λ) En (%s) (atRet En Post) $' % rest_of(fr[1]))
-                saved = stack[:]
-                del stack[-1 - m:]
-                go(fr[1], st, cl)
-                stack[:] = saved
-                return
-            return ended(st, cl)
-        out('? ' + str(b)[:80])
+                self.out('flat ! $')
+            return self.go([(b[1], p + [0]), (b[2], p + [1])] + tail, st, cl)
+        if b[0] == 'block':
+            self.out('first ! $ blocks ! $' if tail else 'blocks ! $')
+            self.stack.append(('block', tail))
+            self.go([(b[1], p + [0])], st, cl)
+            return self.stack.pop()
+        self.out('? ' + str(b)[:80])
 
-    def writes(b):
+    def go_assign(self, b, p, tail, st, cl):
+        self.opened = 0
+        i, steps = int(b[1][1]), items(b[1][2])
+        w, v, h, t, sl = self.right(st, b[2], i)
+        d = '(%s) (store-raw ! 0 refl ?)' % self.way(i, steps)[0] if steps else self.lay(st, i, v, h, t, sl)
+        self.out('assigns%s ! (%s) %s $' % ('' if tail else '-last', w, d))
+        cl += self.opened
+        if sl and sl.startswith('local') and self.sort(self.locs[i]) == 'slice' and sl not in [o[0] for o in st.own]:
+            self.lend(st, sl, items(b[2][1])[1])
+            cl += 1
+        return self.go(tail, st, cl) if tail else self.ended(st, cl)
+
+    def lend(self, st, sl, count):
+        """a local array is lent, so many of it, for the first time"""
+        j = int(sl[5:])
+        kd, size, dv, dh = st.arr[j]
+        m = self.value(st, count)[0]
+        le = '(omega (arith))' if m == size else '?'
+        self.out('move ! (0 ∷ %d ∷ []) $ own-lends ! tt %s tt %s %s %s %s l%s %s ? %s (λ ν%s δ%s. move ! (0 ∷ %s1 ∷ []) $' % (
+            self.at(j), kd, size, atom(m), le, atom(dv), low(j), atom(dh), self.hs(st), low(j), low(j), ''.join('%d ∷ ' % x for x in range(2, self.at(j) + 1))))
+        st.own.insert(0, (sl, kd, size, m, dv, le))
+        self.room[sl] = second(self.value(st, count)[1])
+        st.cur[sl] = 'replicate %s %s' % (atom(m), atom(dv))
+
+    def go_call(self, b, p, tail, st, cl):
+        c = Signature(*found(b[1][1][1].strip('"'), self.g.here))
+        xs = items(b[2])
+        L, V, args, took, lent = self.arguments(c, xs, st)
+        r = c.at(c.gives, L, V) if c.gives else 'tt'
+        ix = self.counted()
+        g = 'g' + ix
+        if c.name not in [x.name for x in self.callees]:
+            self.callees.append(c)
+        card, old = lent_name(c.name, lent), self.hs(st)
+        for (q, how, t), o in zip(c.params, xs):
+            if how == 'mut':
+                st.cur[st.sl[int(o[1][1])]] = 'w%s%s' % (ix, then([x[0] for x in c.params].index(q))) if c.loose else c.at(c.ends[q], L, V)
+        binds = g
+        if c.loose:
+            r, binds = 'r' + ix, 'r%s w%s %s' % (ix, ix, g)
+        self.out('calls-%s%s ! (fmOf 𝓤 H (W .laws) 𝓣) (%s[]) %s (%s) refl (λ P. %s) (λ %s.' % ('loosely' if c.loose else 'by', '' if tail else '-last', ''.join('%d ∷ ' % x for x in took), old, ' '.join([card + ' 𝓤 H A mem run (𝓣 .C) known-' + c.name] + args), self.opds(xs), binds))
+        self.out('land%s ! %s $' % ('' if tail else '-last', self.lay(st, int(b[3][1]), r, g + ' .0', '(%s .1 .0)' % g)))
+        return self.go(tail, st, cl + 1) if tail else self.ended(st, cl + 1)
+
+    def arguments(self, c, xs, st):
+        """of a call: its lists and values, the card's arguments, which references it takes, and which `&` are lent from a `&mut`"""
+        L, V, args, took, lent = {}, {}, [], [], []
+        held = [o[0] for o in st.own] + [x[0] for x in self.refs]
+        for (q, how, t), o in zip(c.params, xs):
+            if how == 'val':
+                V[q], h = self.value(st, o)
+                args += [atom(V[q]), atom(h)]
+            else:
+                s = st.sl[int(o[1][1])]
+                L[q] = st.cur[s]
+                args += [self.seated(st, s), atom(st.cur[s])]
+                took.append(held.index(s))
+                if how == 'ref' and (s in self.muts or s.startswith('local')):
+                    lent.append(q)
+        return L, V, args + (['?'] if c.asks else []), took, lent
+
+    def go_if(self, b, p, tail, st, cl):
+        y = 'y' + self.counted()
+        self.out('%s ! (%s)   -- %s' % ('tests' if tail else 'tests-last', self.opd(b[1]), self.value(st, b[1])[0]))
+        self.out('(λ %s.' % y)
+        self.go([(b[2], p + [0])] + tail, State(st), 1)
+        self.out('(λ %s.' % y)
+        return self.go([(b[3], p + [1])] + tail, State(st), 1 + cl)
+
+    def go_switch(self, b, p, tail, st, cl):
+        i, a, arms = int(b[1][1][1]), b[2], []
+        while not isinstance(a, str):
+            if a[0] == 'arm':
+                arms.append((items(a[1]), a[2]))
+                a = a[3]
+            else:
+                arms.append((['else'], a[1]))
+                break
+        e, t = 'e' + self.counted(), self.typed(self.locs[i])
+        enum = any(x[0] == 'variant' for x in items(b[1][1][2]))
+        self.out('%s-cases %s' % (t.kind, atom(st.val.get(i, '?'))) if enum else '-- by cases on %s, each with its equation %s' % (st.val.get(i, '?'), e))
+        for ix, (keys, arm) in enumerate(arms):
+            names, v = [], ''
+            if enum:
+                v, us = t.parts[int(keys[0])]
+                names = ['x%s%s' % (e[1:], 'abcdefgh'[q] if len(us) > 1 else '') for q in range(len(us))]
+            self.out('(λ %s.   -- %s' % (' '.join(names + [e]), v or ' '.join(keys)))
+            self.out('revalue ! %d (%s .val) %s refl $ %s ! (%s) refl $' % (self.at(i), self.sort(self.locs[i]), e, 'switches-to' if tail else 'switches-to-last', self.opd(b[1])))
+            s2 = State(st)
+            s2.val[i] = ' '.join([t.variant(v)] + names) if enum else '?'
+            s2.has[i] = 'subst (Has %s) %s %s' % (t.kind, e, atom(st.has.get(i, '?'))) if enum else '?'
+            self.go([(arm, ['?'])] + tail, s2, 1 + (cl if ix == len(arms) - 1 else 0))
+
+    def go_loop(self, b, p, tail, st, cl):
+        named = {int(x) for x in re.findall(r"'place', '(\d+)'", str([b, tail] + [x[-1] for x in self.stack]))}
+        for i in sorted((i for i in st.ty if i > self.np and i not in named and 'local%d' % i not in [o[0] for o in st.own]), reverse=True):
+            self.out('forget ! %d refl $' % self.at(i))
+            del st.ty[i]
+        self.stack.append(('loop', set(st.ty), tail))
+        own = [o for o in st.own if any(st.sl.get(i) == o[0] for i in named)]
+        self.turn[:] = self.turning(b[1], st, own)
+        if own:
+            j, ls = int(own[0][0][5:]), ['l' + low(i) for i in range(self.n)]
+            self.out('let I : X → List (Item 𝓤) = Inv (%s) %s ν%s δ%s (%s) in' % (' ∷ '.join(ls[:j] + ['[]']), ls[j], low(j), low(j), ' ∷ '.join(ls[j + 1:] + ['[]'])))
+        first, s2 = self.turn_of(st, self.turn), self.turned(st)
+        self.out('loops-by ! 𝓣 μ %s (λ t. knows ! %s (λ sz.' % ('I' if own else '(Inv ls)', self.hs(s2)))
+        self.go([(b[1], p + [0])], s2, 2)
+        self.stack.pop()
+        return self.out('(%s)' % first + ')' * cl)
+
+    def turning(self, body, st, own):
+        """of a loop: the locals and the lists that a turn changes, what each local holds, a turn's fields, the array that the loop lends"""
+        changed, held = [x for x in sorted(self.writes(body)) if x in st.ty], []
+        for i in range(max(st.ty) + 1):
+            v = 't .v%d' % i if i in changed else st.val.get(i)
+            held.append('bare' if i not in st.ty or i in st.arr else 'has ' + atom('seat-val ' + self.seated(st, st.sl[i]) if self.sort(self.locs[i]) == 'slice' else self.machine(self.locs[i], v)))
+        fields = ''.join('  v%d : %s\n  g%d : Has %s v%d\n' % (i, self.denoted(self.locs[i]), i, self.kind(self.locs[i]), i) for i in changed)
+        return [changed, [o[0] for o in own] + self.lends(body), held, fields, own[0] if own else None]
+
+    def turned(self, st):
+        """what is known where a turn t begins"""
+        s2 = State(st)
+        for i in self.turn[0]:
+            s2.val[i], s2.has[i] = 't .v%d' % i, 't .g%d' % i
+            s2.ty[i] = '(tt, record { fits = t .g%d .1 })' % i if self.sort(self.locs[i]) == 'int' else '(tt, tt)' if self.sort(self.locs[i]) == 'bool' else self.lawful(self.locs[i], 't .v%d' % i, 't .g%d' % i)
+        for q in self.turn[1]:
+            s2.cur[q] = '(t .%s)' % q
+        return s2
+
+    def go_exit(self, b, p, tail, st, cl):
+        m = int(b[1])
+        self.out(('exit-on' if tail else 'jumps') + ' ! $')
+        fr = self.stack[-1 - m]
+        if fr[0] != 'block' or not fr[1]:
+            return self.ended(st, cl)
+        self.out('exec ! (𝓣 .C) (𝓣 .Λ) En (%s) (atRet En Post) $' % self.rest_of(fr[1]))
+        saved = self.stack[:]
+        del self.stack[-1 - m:]
+        self.go(fr[1], st, cl)
+        self.stack[:] = saved
+
+    def writes(self, b):
         if isinstance(b, str):
             return set()
         if b[0] == 'assign':
@@ -953,95 +1025,111 @@ def walk(crate, path):
         if b[0] == 'switch':
             r, a = set(), b[2]
             while not isinstance(a, str):
-                r |= writes(a[2] if a[0] == 'arm' else a[1])
+                r |= self.writes(a[2] if a[0] == 'arm' else a[1])
                 a = a[3] if a[0] == 'arm' else 'end'
             return r
-        return set().union(*[writes(x) for x in b[1:]]) if b[0] in ('seq', 'block', 'loop', 'cond', 'if') else set()
+        return set().union(*[self.writes(x) for x in b[1:]]) if b[0] in ('seq', 'block', 'loop', 'cond', 'if') else set()
 
-    def lends(b):
-        return [dash(p) for i, (p, how, t) in enumerate(g.params) if how == 'mut' and "'addrOf', ['place', '%d'" % (i + 1) in str(b)]
+    def lends(self, b):
+        return [dash(p) for i, (p, how, t) in enumerate(self.g.params) if how == 'mut' and "'addrOf', ['place', '%d'" % (i + 1) in str(b)]
 
-    passed = ''.join('pass1 ! (init ! %d refl %s) $ ' % (2 * (n - 1 - i), st.ty[i]) for i in range(1, np + 1))
-    go([(fn[5], [])], st, 1)
     # ---- the file
-    I = []
-    put = I.append
-    head = []
-    for c in callees:
-        m = c.module(crate)
-        head += ['use %s.Symbol as %s-def' % (m, c.name), 'use %s.Symbol.{name as #%s}' % (m, c.name), 'use %s.Met as %s-thm' % (m, c.name)]
-    m, rk, nl = g.module(crate), kindof(g.ret, g.here), len(refs)
-    head += ['use %s.Key.{name as #it}' % m, 'use %s as f' % m, 'use %s.Statement as stated' % m, 'use %s.Code as code' % m, '']
-    forms, args, j, abbrevs = [], [], 0, []
-    for i, (p, how, t) in enumerate(g.params):
-        d, k = dash(p), kindof(t, g.here)
-        if how == 'val':
-            forms.append('by-value %s' % k)
-            abbrevs.append('  abbrev %s₀ : %s\n  %s₀ = a%s\n' % (d, den_of(t), d, then(i)))
-            args.append('val %s %s₀ (are%s)' % (k, d, then(i)))
-        else:
-            forms.append('by-%s %d tt %s' % (how, j, k))
-            abbrevs.append('  abbrev at-%s : Seat\n  at-%s = seatOf (κs%s) (qs%s) (a%s)\n\n  abbrev %s₀ : List %s\n  %s₀ = a%s .now\n' % (d, d, then(j), then(j), then(i), d, den_of(t), d, then(i)))
-            args.append('mut %s at-%s %s₀ %s₁' % (k, d, d, d) if how == 'mut' else 'pass %s at-%s %s₀' % (k, d, d))
-            j += 1
-    put('abbrev fs : List (Form %d)\nfs = %s ∷ []\n' % (nl, ' ∷ '.join(forms)))
-    wides = [i for i, t in enumerate(locs) if wide(t)]
-    if wides:
-        put('-- the function, its large types in their shape of quick computing\nabbrev fn : Fn\nfn = retyped (%s ∷ []) code.function\n' % ' ∷ '.join('some (lone (%s .row .mir))' % kind(locs[i]) if i in wides else 'none' for i in range(max(wides) + 1)))
-    walked = len(I)
-    if turn:
-        put('-- what a turn of the loop begins with\nrecord Turn %s : Type 0 where\n%s%s  known : ?\n' % (
-            ' '.join('(%s₀ : %s)' % (dash(p), den_of(t) if how == 'val' else 'List ' + den_of(t)) for p, how, t in g.params), turn[3], ('  %s : List ℕ\n' % turn[4][0] if turn[4] else '') + ''.join('  %s : List %s\n' % (dash(p), den_of(t)) for p, how, t in g.params if dash(p) in turn[1])))
-    put('module _ {M : Type 1} (𝓤 : URA M) (H : Heap 𝓤) (A : Atoms 𝓤) (W : Given 𝓤 H A) (mem : Memory → SProp 𝓤) (run : Routine → Fun 𝓤) (κs : Lfts %d) (qs : Shares %d) (bounds : AllOutlive %d (f.signature .outlives) κs) (a : Args f.signature κs)\n    (are : Are (typesAt (f.signature .params) κs) (Ises (typesAt (f.signature .params) κs)) a (valss (typesAt (f.signature .params) κs) (spells fs κs) a)) where' % (nl, nl, nl))
-    for x in abbrevs:
-        put(x)
-    lists = [('List ' + den_of(t)) for p, how, t in g.params if how == 'mut']
-    to, ends = ''.join(l + ' → ' for l in lists), [p + '₁' for p in muts]
-    ps, hsx = atom(' '.join(['ps'] + ends)), atom(' '.join(['hs'] + ends))
-    put('  -- the parameters, with the lists at exit\n  abbrev ps : %sList Arg\n  %s = %s ∷ []\n' % (to, ' '.join(['ps'] + ends), ' ∷ '.join(args)))
-    put('  abbrev hs : %sList Held\n  %s = back %s\n' % (to, ' '.join(['hs'] + ends), ps))
-    put('  abbrev at-entry : Vals f.signature κs\n  at-entry = valss (typesAt (f.signature .params) κs) (spells fs κs) a\n')
-    put('  abbrev Post : Val → SProp 𝓤\n  Post = walkOf 𝓤 H A f.ended (stays fs) (f.clauses 𝓤 H A mem run) .post ((κs, qs, bounds, a, at-entry), tt)\n')
-    L, V = ({p: dash(p) + '₀' for p, how, t in g.params if (how == 'val') == v} for v in (False, True))
-    facts = ['r ≡ %s' % g.at(g.gives, L, V) if o == 'r' else '%s₁ ≡ %s' % (dash(o), g.at(g.ends[o], L, V)) if o in g.ends else '?' for o in g.order]
-    heads, says = ' '.join(['exits', 'r'] + ends + ['g']), 'ends-at 𝓤 H A f.ended (stays fs) (f.clauses 𝓤 H A mem run) W ((κs, qs, bounds, a, at-entry), tt) (%s .val r) r (ends %s) fit' % (rk, ps)
-    counts = '(refl, ' * len(muts) + 'tt' + ')' * len(muts)
-    over = '  exits : (r : %s)%s → Has %s r → %%sent 𝓤 (sem 𝓤 H A (refs %s)) (Post (%s .val r))' % (den_of(g.ret), ''.join(' (%s : %s)' % x for x in zip(ends, lists)), rk, hsx, rk)
-    if facts:
+    def modules(self):
+        """the imports of what is generated for the callees and for the function"""
+        r = []
+        for c in self.callees:
+            m = c.module(self.crate)
+            r += ['use %s.Symbol as %s-def' % (m, c.name), 'use %s.Symbol.{name as #%s}' % (m, c.name), 'use %s.Met as %s-thm' % (m, c.name)]
+        m = self.g.module(self.crate)
+        return r + ['use %s.Key.{name as #it}' % m, 'use %s as f' % m, 'use %s.Statement as stated' % m, 'use %s.Code as code' % m, '']
+
+    def parameters(self):
+        """of each parameter: its form, its names, and what it is as an argument"""
+        forms, abbrevs, args, j = [], [], [], 0
+        for i, (p, how, t) in enumerate(self.g.params):
+            d, k = dash(p), kindof(t, self.g.here)
+            if how == 'val':
+                forms.append('by-value %s' % k)
+                abbrevs.append('  abbrev %s₀ : %s\n  %s₀ = a%s\n' % (d, self.den_of(t), d, then(i)))
+                args.append('val %s %s₀ (are%s)' % (k, d, then(i)))
+            else:
+                forms.append('by-%s %d tt %s' % (how, j, k))
+                abbrevs.append('  abbrev at-%s : Seat\n  at-%s = seatOf (κs%s) (qs%s) (a%s)\n\n  abbrev %s₀ : List %s\n  %s₀ = a%s .now\n' % (d, d, then(j), then(j), then(i), d, self.den_of(t), d, then(i)))
+                args.append('mut %s at-%s %s₀ %s₁' % (k, d, d, d) if how == 'mut' else 'pass %s at-%s %s₀' % (k, d, d))
+                j += 1
+        return forms, abbrevs, args
+
+    def retyping(self):
+        """the function with its types of more than WIDE numbers in their Kind's shape"""
+        wides = [i for i, t in enumerate(self.locs) if self.wide(t)]
+        if not wides:
+            return []
+        return ['-- the function, its large types in their shape of quick computing\nabbrev fn : Fn\nfn = retyped (%s ∷ []) code.function\n' % ' ∷ '.join('some (lone (%s .row .mir))' % self.kind(self.locs[i]) if i in wides else 'none' for i in range(max(wides) + 1))]
+
+    def turn_record(self):
+        params = ' '.join('(%s₀ : %s)' % (dash(p), self.den_of(t) if how == 'val' else 'List ' + self.den_of(t)) for p, how, t in self.g.params)
+        lists = ('  %s : List ℕ\n' % self.turn[4][0] if self.turn[4] else '') + ''.join('  %s : List %s\n' % (dash(p), self.den_of(t)) for p, how, t in self.g.params if dash(p) in self.turn[1])
+        return '-- what a turn of the loop begins with\nrecord Turn %s : Type 0 where\n%s%s  known : ?\n' % (params, self.turn[3], lists)
+
+    def named(self, v):
+        """the parameters by value, or those that are lists, each with its name at entry"""
+        return {p: dash(p) + '₀' for p, how, t in self.g.params if (how == 'val') == v}
+
+    def entry(self, abbrevs, args):
+        """the module's parameters, the function's at entry and at exit, and what shall hold after it"""
+        nl, lists = len(self.refs), [('List ' + self.den_of(t)) for p, how, t in self.g.params if how == 'mut']
+        to, ends = ''.join(l + ' → ' for l in lists), [p + '₁' for p in self.muts]
+        ps = atom(' '.join(['ps'] + ends))
+        return ['module _ {M : Type 1} (𝓤 : URA M) (H : Heap 𝓤) (A : Atoms 𝓤) (W : Given 𝓤 H A) (mem : Memory → SProp 𝓤) (run : Routine → Fun 𝓤) (κs : Lfts %d) (qs : Shares %d) (bounds : AllOutlive %d (f.signature .outlives) κs) (a : Args f.signature κs)\n    (are : Are (typesAt (f.signature .params) κs) (Ises (typesAt (f.signature .params) κs)) a (valss (typesAt (f.signature .params) κs) (spells fs κs) a)) where' % (nl, nl, nl)] + abbrevs + [
+            '  -- the parameters, with the lists at exit\n  abbrev ps : %sList Arg\n  %s = %s ∷ []\n' % (to, ' '.join(['ps'] + ends), ' ∷ '.join(args)),
+            '  abbrev hs : %sList Held\n  %s = back %s\n' % (to, ' '.join(['hs'] + ends), ps),
+            '  abbrev at-entry : Vals f.signature κs\n  at-entry = valss (typesAt (f.signature .params) κs) (spells fs κs) a\n',
+            '  abbrev Post : Val → SProp 𝓤\n  Post = walkOf 𝓤 H A f.ended (stays fs) (f.clauses 𝓤 H A mem run) .post ((κs, qs, bounds, a, at-entry), tt)\n']
+
+    def exits(self):
+        """the contract, and that it is enough at a way out"""
+        lists = [('List ' + self.den_of(t)) for p, how, t in self.g.params if how == 'mut']
+        to, ends, rk = ''.join(l + ' → ' for l in lists), [p + '₁' for p in self.muts], kindof(self.g.ret, self.g.here)
+        ps, hs, L, V = atom(' '.join(['ps'] + ends)), atom(' '.join(['hs'] + ends)), self.named(False), self.named(True)
+        facts = ['r ≡ %s' % self.g.at(self.g.gives, L, V) if o == 'r' else '%s₁ ≡ %s' % (dash(o), self.g.at(self.g.ends[o], L, V)) if o in self.g.ends else '?' for o in self.g.order]
+        head, says = ' '.join(['exits', 'r'] + ends + ['g']), 'ends-at 𝓤 H A f.ended (stays fs) (f.clauses 𝓤 H A mem run) W ((κs, qs, bounds, a, at-entry), tt) (%s .val r) r (ends %s) fit' % (rk, ps)
+        counts = '(refl, ' * len(self.muts) + 'tt' + ')' * len(self.muts)
+        over = '  exits : (r : %s)%s → Has %s r → %%sent 𝓤 (sem 𝓤 H A (refs %s)) (Post (%s .val r))' % (self.den_of(self.g.ret), ''.join(' (%s : %s)' % x for x in zip(ends, lists)), rk, hs, rk)
+        if not facts:
+            return [over % '', '  %s = leaves-freely 𝓤 H A W %s %s %s r g (Post (%s .val r)) (λ fit. %s)\n' % (head, ps, counts, rk, rk, says)]
         right = ' '.join(['Right', 'r'] + ends)
-        put('  -- the contract\n  abbrev Right : %s → %sType 0\n  %s = %s\n' % (den_of(g.ret), to, right, ' × '.join('(%s)' % x for x in facts) if len(facts) > 1 else facts[0]))
-        put(over % (right + ' → '))
-        put('  %s e = leaves 𝓤 H A W %s %s %s r g %s e (Post (%s .val r)) (λ fit. %s)\n' % (heads, ps, counts, rk, atom(right), rk, says))
-    else:
-        put(over % '')
-        put('  %s = leaves-freely 𝓤 H A W %s %s %s r g (Post (%s .val r)) (λ fit. %s)\n' % (heads, ps, counts, rk, rk, says))
-    if turn:
-        put('  abbrev X : Type 0\n  X = Turn %s\n\n  abbrev μ : X → ℕ\n  μ t = ?\n' % ' '.join(dash(p) + '₀' for p, _, _ in g.params))
-        lists_at, holds = ' '.join(['hs'] + ['(t .%s)' % p if p in turn[1] else p + '₀' for p in muts]), lambda xs: '(%s)' % ' ∷ '.join(xs + ['[]'])
-        if turn[4]:
-            d, kd, size, m, dv, _ = turn[4]
-            j = int(d[5:])
-            v = {'j': low(j), 'kd': kd, 'size': size, 'm': atom(m), 'dv': atom(dv), 'd': d, 'hs': lists_at, 'k': j + 1, 'low': holds(turn[2][:j]), 'high': holds(turn[2][j + 1:])}
-            put('  -- `below` and `above`: the blocks of the locals before and after the array\n  abbrev Inv : List ℕ → ℕ → ℕ → GName → List ℕ → X → List (Item 𝓤)\n'
-                '  Inv below l%(j)s ν%(j)s δ%(j)s above t = ‵ (refs (tab %(kd)s (own-seat l%(j)s %(m)s ν%(j)s δ%(j)s) (t .%(d)s) ∷ %(hs)s)) ∷ locals (envOf (drop %(k)s (code.function .locals)) above) %(high)s\n'
-                '      (‵ (Owner %(kd)s %(size)s %(m)s %(dv)s l%(j)s ν%(j)s δ%(j)s) ∷ ‵ (fdies (tyArray (lone (%(kd)s .row .mir)) %(size)s) l%(j)s) ∷ locals (envOf (code.function .locals) below) %(low)s [])\n' % v)
-        else:
-            put('  abbrev Inv : List ℕ → X → List (Item 𝓤)\n  Inv ls t = ‵ (refs %s) ∷ locals (envOf (code.function .locals) ls) %s []\n' % (atom(lists_at), holds(turn[2])))
-    put('  module _ (𝓣 : Tables 𝓤 H)%s where' % ''.join(' (known-%s : Triple 𝓤 (𝓣 .C #%s) (%s 𝓤 H A mem run))' % (c.name, c.name, c.contract) for c in callees))
-    entry = [p + '₀' for p in muts]
-    ps0, hs0 = atom(' '.join(['ps'] + entry)), atom(' '.join(['hs'] + entry))
-    put('    walk : %sent 𝓤 (onEntry 𝓤 H A f.signature κs qs a at-entry) (WpFn 𝓤 H (𝓣 .C) (𝓣 .Λ) code.function (vals %s) Post)' % (atom(g.at(g.asks, L, V)) + ' → ' if g.asks else '', ps0))
-    if turn:
-        put('    unfolding afterTurn')
-    put('    walk %s=\n        qed W (raw (onEntry 𝓤 H A f.signature κs qs a at-entry) ∷ []) ∵ use1 W (‵ (refs %s)) (enters 𝓤 H A W %s) $ enter ! (𝓣 .C) (𝓣 .Λ) code.function (vals %s) _ $' % ('req ' if g.asks else '', hs0, ps0, ps0))
-    ls = ['l' + low(i) for i in range(n)]
-    put('        alloc-all ! (code.function .locals) (λ %s. let ls : List ℕ = %s ∷ [] in let En : Envs = envOf (code.function .locals) ls in' % (' '.join(ls), ' ∷ '.join(ls)))
-    put('        params1 ! $ %spass0 ! $ move ! (%d ∷ []) $' % (passed, 2 * n))
-    put('        -- [the references; ' + '; '.join('_%d at %d' % (i, at(i)) for i in reversed(range(n))) + ']')
-    I.extend('        ' + l for l in O)
-    if wides:
-        I[walked:] = [x.replace('code.function', 'fn') for x in I[walked:]]
-    put('''
+        return ['  -- the contract\n  abbrev Right : %s → %sType 0\n  %s = %s\n' % (self.den_of(self.g.ret), to, right, ' × '.join('(%s)' % x for x in facts) if len(facts) > 1 else facts[0]),
+                over % (right + ' → '),
+                '  %s e = leaves 𝓤 H A W %s %s %s r g %s e (Post (%s .val r)) (λ fit. %s)\n' % (head, ps, counts, rk, atom(right), rk, says)]
+
+    def invariant(self):
+        """what a turn holds, as items of the context"""
+        lists_at, holds = ' '.join(['hs'] + ['(t .%s)' % p if p in self.turn[1] else p + '₀' for p in self.muts]), lambda xs: '(%s)' % ' ∷ '.join(xs + ['[]'])
+        r = ['  abbrev X : Type 0\n  X = Turn %s\n\n  abbrev μ : X → ℕ\n  μ t = ?\n' % ' '.join(dash(p) + '₀' for p, _, _ in self.g.params)]
+        if not self.turn[4]:
+            return r + ['  abbrev Inv : List ℕ → X → List (Item 𝓤)\n  Inv ls t = ‵ (refs %s) ∷ locals (envOf (code.function .locals) ls) %s []\n' % (atom(lists_at), holds(self.turn[2]))]
+        d, kd, size, m, dv, _ = self.turn[4]
+        j = int(d[5:])
+        v = {'j': low(j), 'kd': kd, 'size': size, 'm': atom(m), 'dv': atom(dv), 'd': d, 'hs': lists_at, 'k': j + 1, 'low': holds(self.turn[2][:j]), 'high': holds(self.turn[2][j + 1:])}
+        return r + ['  -- `below` and `above`: the blocks of the locals before and after the array\n  abbrev Inv : List ℕ → ℕ → ℕ → GName → List ℕ → X → List (Item 𝓤)\n'
+                    '  Inv below l%(j)s ν%(j)s δ%(j)s above t = ‵ (refs (tab %(kd)s (own-seat l%(j)s %(m)s ν%(j)s δ%(j)s) (t .%(d)s) ∷ %(hs)s)) ∷ locals (envOf (drop %(k)s (code.function .locals)) above) %(high)s\n'
+                    '      (‵ (Owner %(kd)s %(size)s %(m)s %(dv)s l%(j)s ν%(j)s δ%(j)s) ∷ ‵ (fdies (tyArray (lone (%(kd)s .row .mir)) %(size)s) l%(j)s) ∷ locals (envOf (code.function .locals) below) %(low)s [])\n' % v]
+
+    def steps(self, passed):
+        """the walk itself"""
+        entry, ls, asks = [p + '₀' for p in self.muts], ['l' + low(i) for i in range(self.n)], self.g.asks
+        ps, hs = atom(' '.join(['ps'] + entry)), atom(' '.join(['hs'] + entry))
+        return ['  module _ (𝓣 : Tables 𝓤 H)%s where' % ''.join(' (known-%s : Triple 𝓤 (𝓣 .C #%s) (%s 𝓤 H A mem run))' % (c.name, c.name, c.contract) for c in self.callees),
+                '    walk : %sent 𝓤 (onEntry 𝓤 H A f.signature κs qs a at-entry) (WpFn 𝓤 H (𝓣 .C) (𝓣 .Λ) code.function (vals %s) Post)' % (atom(self.g.at(asks, self.named(False), self.named(True))) + ' → ' if asks else '', ps)
+                ] + (['    unfolding afterTurn'] if self.turn else []) + [
+                '    walk %s=\n        qed W (raw (onEntry 𝓤 H A f.signature κs qs a at-entry) ∷ []) ∵ use1 W (‵ (refs %s)) (enters 𝓤 H A W %s) $ enter ! (𝓣 .C) (𝓣 .Λ) code.function (vals %s) _ $' % ('req ' if asks else '', hs, ps, ps),
+                '        alloc-all ! (code.function .locals) (λ %s. let ls : List ℕ = %s ∷ [] in let En : Envs = envOf (code.function .locals) ls in' % (' '.join(ls), ' ∷ '.join(ls)),
+                '        params1 ! $ %spass0 ! $ move ! (%d ∷ []) $' % (passed, 2 * self.n),
+                '        -- [the references; ' + '; '.join('_%d at %d' % (i, self.at(i)) for i in reversed(range(self.n))) + ']'] + ['        ' + l for l in self.O]
+
+    def spec(self):
+        """the theorem, with what is known of the callees"""
+        r = ['''
 pub %s-spec : {M : Type 1} → stated.statement M
 unfolding code.routine tablesOf
 %s-spec 𝓤 H 𝓜 𝓖 𝓡 =
@@ -1051,13 +1139,24 @@ unfolding code.routine tablesOf
     entered 𝓤 H (tripleOf 𝓤 H A f.signature (f.spec 𝓤 H A (𝓜 .mem) (𝓡 .run))) (tables 𝓤 H 𝓜 𝓡 code.env .C) (tables 𝓤 H 𝓜 𝓡 code.env .Λ) #it code.function (code.unfolded 𝓤 H 𝓜 𝓡)
     (meets 𝓤 H A W f.ended (stays fs) (goes 𝓤 H A W fs) (f.clauses 𝓤 H A (𝓜 .mem) (𝓡 .run)) 𝓣 code.function (spells fs) (tells fs)
     (λ κs qs bounds a _ are. %s
-    (walk 𝓤 H A W (𝓜 .mem) (𝓡 .run) κs qs bounds a are 𝓣''' % (dash(fname), dash(fname), 'needs 𝓤 _ _' if g.asks else 'via 𝓤 _ (fst∗ 𝓤 _ (emp 𝓤))'))
-    for c in callees:
-        put('    (cited 𝓤 H (%s 𝓤 H A (𝓜 .mem) (𝓡 .run)) 𝓜 𝓡 code.env #%s %s-def.routine code.calls-%s (%s-thm.met 𝓤 H 𝓜 𝓖 𝓡))' % (c.contract, c.name, c.name, c.name, c.name))
-    I[-1] += ')))'
-    cited = ghost_imports([g.here] + [c.here for c in callees], crate)
-    print(tidied('\n'.join(['-- `%s` meets its contract: a walk of its MIR, by hand (tools/walkgen.py walk).' % '::'.join(x for x in (crate, mod, fname) if x), '-- Assumes nothing.'] + FIXED + type_imports(crate)
-                           + cited + made_imports(crate, ['Sorts', 'Cards']) + head + I), FIXED + cited).rstrip())
+    (walk 𝓤 H A W (𝓜 .mem) (𝓡 .run) κs qs bounds a are 𝓣''' % (dash(self.fname), dash(self.fname), 'needs 𝓤 _ _' if self.g.asks else 'via 𝓤 _ (fst∗ 𝓤 _ (emp 𝓤))')]
+        r += ['    (cited 𝓤 H (%s 𝓤 H A (𝓜 .mem) (𝓡 .run)) 𝓜 𝓡 code.env #%s %s-def.routine code.calls-%s (%s-thm.met 𝓤 H 𝓜 𝓖 𝓡))' % (c.contract, c.name, c.name, c.name, c.name) for c in self.callees]
+        return r[:-1] + [r[-1] + ')))']
+
+    def text(self):
+        """the whole file"""
+        st = self.begin()
+        passed = ''.join('pass1 ! (init ! %d refl %s) $ ' % (2 * (self.n - 1 - i), st.ty[i]) for i in range(1, self.np + 1))
+        self.go([(self.fn[5], [])], st, 1)
+        forms, abbrevs, args = self.parameters()
+        retyped = self.retyping()
+        walk = ([self.turn_record()] if self.turn else []) + self.entry(abbrevs, args) + self.exits() + (self.invariant() if self.turn else []) + self.steps(passed)
+        if retyped:
+            walk = [x.replace('code.function', 'fn') for x in walk]
+        cited = ghost_imports([self.g.here] + [c.here for c in self.callees], self.crate)
+        head = ['-- `%s` meets its contract: ?' % self.path, '-- A walk of its MIR by hand (tools/walkgen.py walk). Assumes nothing.']
+        fs = ['abbrev fs : List (Form %d)\nfs = %s ∷ []\n' % (len(self.refs), ' ∷ '.join(forms))]
+        return tidied('\n'.join(head + FIXED + type_imports(self.crate) + cited + made_imports(self.crate, ['Sorts', 'Cards']) + self.modules() + fs + retyped + walk + self.spec()), FIXED + cited).rstrip()
 
 
 def main(words):
@@ -1073,7 +1172,7 @@ def main(words):
         text = open(words[1]).read()
         open(words[1], 'w').write(tidied(text))
     else:
-        walk(words[1], words[2])
+        print(Walk(words[1], words[2]).text())
 
 
 main(sys.argv[1:])

@@ -20,15 +20,17 @@ use Rattle.decoder.specs.declared.Text.{Text}
 use Rattle.decoder.specs.declared.Text.the-variants as text
 use Rattle.decoder.specs.declared.v2.Opened.{Opened}
 use Rattle.decoder.specs.declared.v2.Opened.the-variants as opened
-use Rattle.decoder.specs.Fields.{movedTo}
+use Rattle.decoder.specs.States.{movedTo}
 use Rattle.decoder.specs.Course.{Course}
 use Rattle.update.specs.declared.item.Item.{Item}
 use Rattle.update.specs.declared.item.Item.the-variants.{At, Refused}
 use Rattle.update.specs.declared.Decoded.{Decoded}
 use Rattle.update.specs.declared.Decoded.the-variants as decoded
 use Rattle.update.specs.Fields.{openedOf, clientOf, leftIdOf, rightIdOf, infoOf, parentInfoOf, lenOf, textOf}
-use Rattle.update.specs.Block.{plain, number, id, bytes, words, andThen, leftOf, rightOf, parentAfter, parentOf, keyOf, placeOf, deletedOf, binaryOf, stringOf, contentOf, itemOf, skipOf, gcOf, bodyOf}
-use Rattle.update.specs.Update.{atPlace, afterInfo, blockOf, dropped, kept, ended, blocks, holds, sections, fromOpened, blocksOf}
+use Rattle.update.specs.Rows.{plain}
+use Rattle.update.specs.Block.{number, id, bytes, words, andThen, leftOf, rightOf, parentAfter, parentOf, keyOf, placeOf, deletedOf, binaryOf, stringOf, contentOf, itemOf, skipOf, gcOf, bodyOf}
+use Rattle.numbers.specs.Words.{among}
+use Rattle.update.specs.Update.{atPlace, afterInfo, blockOf, dropped, kept, ended, blocks, sections, fromOpened, blocksOf}
 use Rattle.agreement.specs.Ends.{Ends}
 use Rattle.agreement.proofs.Line.{either}
 use Rattle.agreement.proofs.Draws.{SameDraw, SameIdent, SameBuf, SameText, bounded-same, var-same, byte-same, clock-same, client1-same, buf-same, text1-same, id1-same}
@@ -214,7 +216,7 @@ module _ (u w : List ℕ) where
   sections-same (suc n) seen room s h =
       drawn-same I _ _ _ _ (bounded-same I room _ _ (var-same I moves u w s h)) (λ k at t i.
       drawn-same I _ _ _ _ (client-same t i) (λ client place v j.
-      either SameCourse (holds client seen) (stopped-same (record { number = 4; place = place }) _)
+      either SameCourse (among client seen) (stopped-same (record { number = 4; place = place }) _)
       (drawn-same I _ _ _ _ (clock-same I moves u w v j) (λ clock from x l.
       blocks-same k client clock x _ _ l (sections-same n (seen ++ (client ∷ [])) (room - k))))))
 

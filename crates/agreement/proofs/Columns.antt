@@ -31,7 +31,8 @@ use Rattle.decoder.specs.declared.Buf.{Buf}
 use Rattle.decoder.specs.declared.Buf.the-variants as buf
 use Rattle.decoder.specs.declared.v2.Opened.{Opened}
 use Rattle.decoder.specs.declared.v2.Opened.the-variants as opened
-use Rattle.decoder.specs.Fields.{movedTo, clientDrawn, client2, leftDrawn, leftClock, rightDrawn, rightClock, leftId, rightId, infoDrawn, infoDraw, parentDrawn, parentDraw, lenDrawn, lenColumn, len2, textDrawn, text2, startAt, putDifferences, putNumbers, putBytes, holdsDifferences, holdsBytes, putColumn, onPart, cutFrom, textIn, textOpened, onOpened, afterFlag, opened2}
+use Rattle.decoder.specs.States.{movedTo}
+use Rattle.decoder.specs.Fields.{clientDrawn, client2, leftDrawn, leftClock, rightDrawn, rightClock, leftId, rightId, infoDrawn, infoDraw, parentDrawn, parentDraw, lenDrawn, lenColumn, len2, textDrawn, text2, startAt, putDifferences, putNumbers, putBytes, holdsDifferences, holdsBytes, putColumn, onPart, cutFrom, textIn, textOpened, onOpened, afterFlag, opened2}
 use Rattle.agreement.proofs.Draws.{SameDraw, SameIdent, SameBuf, SameText, bounded-same, id-same, byte-same, buf-same}
 
 -- ends of columns, at most n

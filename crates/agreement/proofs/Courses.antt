@@ -5,7 +5,7 @@ use Rattle.numbers.specs.declared.Refusal.{Refusal}
 use Rattle.decoder.specs.declared.State.{State}
 use Rattle.decoder.specs.declared.Draw.{Draw}
 use Rattle.decoder.specs.declared.Draw.the-variants.{Number, Refused}
-use Rattle.decoder.specs.Course.{Course, item, over, stopped, drawn, fit}
+use Rattle.decoder.specs.Course.{Course, item, over, stopped, drawn, fit, ending}
 use Rattle.agreement.specs.Ends.{Ends}
 use Rattle.agreement.proofs.Draws.{SameDraw}
 
@@ -37,3 +37,10 @@ module _ {A : Type 0} where
   fit-ends (suc n) (item a p c) s e = fit-ends n c s e
   fit-ends n (over t) s e = e
   fit-ends n (stopped why) s e = e
+
+  -- what follows its end is all
+  pub ending-at : {X : Type 0} (c : Course A) (f : State → X) (not : Refusal → X) (s : State) → Ends c s → ending c f not ≡ f s
+  unfolding ending Ends
+  ending-at (item a p c) f not s e = ending-at c f not s e
+  ending-at (over t) f not s e = ap f e
+  ending-at (stopped why) f not s e = absurd e

@@ -5,7 +5,7 @@ use mathlib.Core.List.{List, _++_}
 use lib.Dec.{ltb, eqb}
 use Rattle.numbers.specs.Limits.{maxClock, maxClients}
 use Rattle.decoder.specs.declared.State.{State}
-use Rattle.decoder.specs.Fields.{movedTo}
+use Rattle.decoder.specs.States.{movedTo}
 use Rattle.decoder.specs.Course.{Course}
 use Rattle.ranges.specs.Ranges.{Range}
 use Rattle.ranges.specs.Table.{range}
@@ -16,10 +16,10 @@ use Rattle.agreement.proofs.Draws.{SameDraw, bounded-same, var-same, cl
 use Rattle.agreement.proofs.Courses.{SameCourse, item-same, over-same, stopped-same, drawn-same}
 
 -- it is all in line, so nothing is to be said of a state
-abbrev Any : State → Type 0
+abbrev pub Any : State → Type 0
 Any s = Unit {0}
 
-moves : (s : State) (e : ℕ) → Any s → Any (movedTo s e)
+pub moves : (s : State) (e : ℕ) → Any s → Any (movedTo s e)
 moves s e h = tt
 
 module _ (u w : List ℕ) where

@@ -23,7 +23,8 @@ use Rattle.decoder.specs.declared.Buf.{Buf}
 use Rattle.decoder.specs.declared.Buf.the-variants as buf
 use Rattle.decoder.specs.declared.Text.{Text}
 use Rattle.decoder.specs.declared.Text.the-variants as text
-use Rattle.decoder.specs.Fields.{bounded, movedTo, varDraw, varAt, byteAt, clockAt, bytesAfter, bufAt, client1, idOf, idDraw, id1, checkedText, textIn1, text1, restoredBy, dsClock, dsLen}
+use Rattle.decoder.specs.States.{movedTo}
+use Rattle.decoder.specs.Fields.{bounded, varDraw, varAt, byteAt, clockAt, bytesAfter, bufAt, client1, idOf, idDraw, id1, checkedText, textIn1, text1, restoredBy, dsClock, dsLen}
 use Rattle.decoder.proofs.Laws.{var-ends}
 use Rattle.agreement.proofs.Line.{either, SameRead, unsigned-same}
 

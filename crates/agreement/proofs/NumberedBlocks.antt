@@ -25,8 +25,10 @@ use Rattle.update.specs.declared.item.Item.the-variants.{At, Refused}
 use Rattle.update.specs.declared.Decoded.{Decoded}
 use Rattle.update.specs.declared.Decoded.the-variants as decoded
 use Rattle.update.specs.Fields.{openedOf, clientOf, leftIdOf, rightIdOf, infoOf, parentInfoOf, lenOf, textOf}
-use Rattle.update.specs.Block.{plain, number, id, bytes, words, andThen, leftOf, rightOf, parentAfter, parentOf, keyOf, placeOf, deletedOf, binaryOf, stringOf, contentOf, itemOf, skipOf, gcOf, bodyOf}
-use Rattle.update.specs.Update.{atPlace, afterInfo, blockOf, dropped, kept, ended, blocks, holds, sections, fromOpened, blocksOf}
+use Rattle.update.specs.Rows.{plain}
+use Rattle.update.specs.Block.{number, id, bytes, words, andThen, leftOf, rightOf, parentAfter, parentOf, keyOf, placeOf, deletedOf, binaryOf, stringOf, contentOf, itemOf, skipOf, gcOf, bodyOf}
+use Rattle.numbers.specs.Words.{among}
+use Rattle.update.specs.Update.{atPlace, afterInfo, blockOf, dropped, kept, ended, blocks, sections, fromOpened, blocksOf}
 use Rattle.agreement.specs.Numbered.{Low, Numbered, Stops}
 use Rattle.agreement.proofs.NumberedColumns.{chosen, low3}
 use Rattle.agreement.proofs.NumberedFields.{NumberedDraw, NumberedIdent, NumberedBuf, NumberedText, NumberedOpened, bounded-numbered, var-numbered, byte-at-numbered, clock-numbered, client1-numbered, buf-numbered, text1-numbered, id1-numbered, client2-numbered, info-numbered, parent-numbered, len2-numbered, text2-numbered, left-id-numbered, right-id-numbered, opened2-numbered}
@@ -192,7 +194,7 @@ module _ (u : List ℕ) where
   sections-stop (suc n) seen room s =
       drawn-stops _ _ (bounded-numbered room _ (var-numbered u s)) (λ k at t.
       drawn-stops _ _ (client-numbered t) (λ client place v.
-      chosen Stops (holds client seen) low4
+      chosen Stops (among client seen) low4
       (drawn-stops _ _ (clock-numbered u v) (λ clock from w.
       blocks-stop k client clock w _ (sections-stop n (seen ++ (client ∷ [])) (room - k))))))
 

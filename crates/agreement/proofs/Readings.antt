@@ -7,7 +7,6 @@ use native.Mathlib.Omega.{arith}
 use lib.Dec.{ltb, eqb}
 use lib.ListN.{length}
 use borrow.Author.Tests.{eqb-true, le-ltb}
-use Rattle.numbers.specs.declared.Refusal.{Refusal}
 use Rattle.numbers.specs.Number.{pick}
 use Rattle.numbers.specs.Limits.{maxUpdate}
 use Rattle.block.specs.declared.Block.{Block}
@@ -19,6 +18,7 @@ use Rattle.deletes.specs.DeleteSet.{deleteSet}
 use Rattle.updates.specs.Promises.{Reading, refused, withRanges, withBlocks, known, early, reading}
 use Rattle.agreement.specs.Ends.{Ends, Whole}
 use Rattle.agreement.specs.Numbered.{Stops}
+use Rattle.agreement.proofs.Courses.{ending-at}
 use Rattle.agreement.proofs.Unread.{unread-rows}
 use Rattle.agreement.proofs.NumberedCourses.{fit-stops}
 use Rattle.agreement.proofs.NumberedBlocks.{blocks-numbered}
@@ -38,13 +38,6 @@ module _ {A : Type 0} where
   followed (item a p c) f h e = let r = followed c f h e in record { end = r .end; ends = r .ends; done = r .done }
   followed (over s) f h e = record { end = s; ends = refl; done = e }
   followed (stopped why) f h e = absurd (omega (arith, h .0, e))
-
-  -- what follows the end is all
-  ending-at : (c : Course A) (f : State → Reading) (not : Refusal → Reading) (s : State) → Ends c s → ending c f not ≡ f s
-  unfolding ending Ends
-  ending-at (item a p c) f not s e = ending-at c f not s e
-  ending-at (over t) f not s e = ap f e
-  ending-at (stopped why) f not s e = absurd e
 
 -- ---- what is looked at before an update is read
 

@@ -1,8 +1,6 @@
 -- The row that has no block.
 use mathlib.Core.Bool.{false}
 use Rattle.text.specs.declared.Part.{Part}
-use Rattle.text.specs.declared.Bytes.{Bytes}
-use Rattle.text.specs.declared.Units.{Units}
 use Rattle.block.specs.declared.Id.{Id}
 use Rattle.block.specs.declared.Block.{Block}
 

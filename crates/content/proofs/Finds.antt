@@ -11,9 +11,9 @@ use Rattle.decoder.specs.Course.{Course, item, over, stopped, ending}
 use Rattle.ranges.specs.Ranges.{Range}
 use Rattle.update.specs.declared.Blocks.{Blocks}
 use Rattle.update.specs.declared.Begun.the-variants as begun
-use Rattle.update.specs.Steps.{begunOf}
+use Rattle.update.specs.Steps.{begunOf, rest}
 use Rattle.update.specs.Update.{blocksOf}
-use Rattle.update.proofs.Laws.{rest, begins, begin-refused}
+use Rattle.update.proofs.Laws.{begins, begin-refused}
 use Rattle.deletes.specs.declared.Checked.{Checked}
 use Rattle.deletes.specs.declared.Checked.the-variants as checked
 use Rattle.deletes.specs.DeleteSet.{deleteSet}

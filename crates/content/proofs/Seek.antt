@@ -12,8 +12,8 @@ use Rattle.decoder.specs.declared.State.{State}
 use Rattle.decoder.specs.Course.{Course, item, over, stopped, ending}
 use Rattle.update.specs.declared.Blocks.{Blocks}
 use Rattle.update.specs.declared.Step.the-variants as step
-use Rattle.update.specs.Steps.{nextOf, memoryAfter}
-use Rattle.update.proofs.Laws.{rest, Fine, left, on-block, on-on, on-done, on-refused}
+use Rattle.update.specs.Steps.{nextOf, memoryAfter, rest, Fine}
+use Rattle.update.proofs.Laws.{left, on-block, on-on, on-done, on-refused}
 use Rattle.update.proofs.Sections.{memory-length}
 use Rattle.content.specs.declared.Scanned.{Scanned}
 use Rattle.content.specs.declared.Scanned.the-variants as scanned

@@ -9,8 +9,7 @@ use update::Blocks;
 use update::Step;
 ghost use mathlib.Core.Path.{_≡_};
 ghost use lib.ListN.{replicate};
-ghost use Rattle.update.specs.Update.{blocksOf};
-ghost use Rattle.update.proofs.Laws.{rest, Fine};
+ghost use Rattle.update.specs.Steps.{rest, Fine};
 ghost use Rattle.content.specs.Content.{scannedOf, stored, contentOf, whyBegun, whyScanned, whyChecked};
 
 // The row of the block sought, or the row that has none; and the state after all blocks.

@@ -43,8 +43,10 @@ use Rattle.decoder.proofs.Laws.{buf-ends}
 use Rattle.update.specs.declared.item.Item.{Item}
 use Rattle.update.specs.declared.item.Item.the-variants as items
 use Rattle.update.specs.Fields.{clientOf, infoOf, lenOf, textOf, openedOf}
+use Rattle.update.specs.Rows.{plain, withContent}
 use Rattle.update.specs.Block as spelled
-use Rattle.update.specs.Update.{atPlace, afterInfo, blockOf, dropped, kept, ended, blocks, holds, sections, fromOpened, blocksOf}
+use Rattle.numbers.specs.Words.{among}
+use Rattle.update.specs.Update.{atPlace, afterInfo, blockOf, dropped, kept, ended, blocks, sections, fromOpened, blocksOf}
 use Rattle.deletes.specs.DeleteSet.{deleteSet}
 use Rattle.content.specs.declared.Found.{Found}
 use Rattle.content.specs.declared.Found.the-variants as found
@@ -148,7 +150,7 @@ module _ (u : List ℕ) where
   unfolding spelled.binaryOf spelled.bytes
   in-binary b s = go (bufAt u s) refl
     where
-      go : (r : Buf) → bufAt u s ≡ r → ItemIn (spelled.bytes r (λ p t. items.At (spelled.withContent 4 (record { 0 = 1 }) p b) t))
+      go : (r : Buf) → bufAt u s ≡ r → ItemIn (spelled.bytes r (λ p t. items.At (withContent 4 (record { 0 = 1 }) p b) t))
       go (buf.Part p t) e = λ _. buf-ends u s p t e
       go (buf.Refused why) e = tt
 
@@ -160,7 +162,7 @@ module _ (u : List ℕ) where
       none : (n : ℕ) → n ≡ 0 → pick (eqb n 0) true false ≡ false → ⊥
       none n z e = absurd (let y : true ≡ false = ap (λ (t : Bool). pick t true false) (sym (eq-eqb n 0 z)) ∙ e in let w : _≡_ {A = ℕ} 0 1 = cc in omega arith)
 
-      go : (r : Text) → TextIn r → ItemIn (spelled.words r (λ p n t. items.At (spelled.withContent 5 n p b) t))
+      go : (r : Text) → TextIn r → ItemIn (spelled.words r (λ p n t. items.At (withContent 5 n p b) t))
       go (text.Part p n t) h = λ k. ⊎-elim (λ i. i) (λ z. absurd (none (n .0) z k)) h
       go (text.Refused why) h = tt
 
@@ -176,7 +178,7 @@ module _ (u : List ℕ) where
   in-body client clock info place s =
       either ItemIn (eqb info 10) _ _ (λ _. by-number (clockAt u s) _ (λ v p t _. omega arith))
       (λ _. either ItemIn (eqb info 0) _ _ (λ _. by-number (lenOf u s) _ (λ v p t _. omega arith))
-      (λ _. by-item (spelled.placeOf u info (spelled.plain client clock 0 0) s) _ (in-content info place)))
+      (λ _. by-item (spelled.placeOf u info (plain client clock 0 0) s) _ (in-content info place)))
 
   -- ---- the rows of the blocks
 
@@ -226,7 +228,7 @@ module _ (u : List ℕ) where
   in-sections (suc n) seen room s =
       by-draw (bounded room (varAt u s)) _ (λ k at t.
       by-draw (clientOf u t) _ (λ client place v.
-      either Rows (holds client seen) _ _ (λ _. in-stopped _)
+      either Rows (among client seen) _ _ (λ _. in-stopped _)
       (λ _. by-draw (clockAt u v) _ (λ clock from w. in-blocks k client clock w _ (in-sections n (seen ++ (client ∷ [])) (room - k))))))
 
   in-update : (form : ℕ) → Rows (blocksOf form u)

@@ -9,7 +9,7 @@ ghost use mathlib.Core.Path.{_≡_};
 ghost use Rattle.contents.specs.Promises.{refusedWhere, whereOf, In, PartOf, Contents};
 
 // A number, and where the part lies that is handed back with it.
-pub struct Where {
+struct Where {
     pub number: u8,
     pub part: Part,
 }

@@ -46,10 +46,24 @@ use Rattle.decoder.specs.declared.Buf.{Buf}
 use Rattle.decoder.specs.declared.Buf.the-variants as buf
 use Rattle.decoder.specs.declared.Text.{Text}
 use Rattle.decoder.specs.declared.Text.the-variants as text
+use Rattle.decoder.specs.States.{movedTo, withKey, withClient, withLeft, withRight, withInfo, withText, withParent, withTypes, withLen}
 
+-- why a draw was refused
 abbrev pub whyDraw : Draw → Refusal
 whyDraw (Number v p s) = none
 whyDraw (Refused why) = why
+
+abbrev pub whyId : Ident → Refusal
+whyId (ident.Id i s) = none
+whyId (ident.Refused why) = why
+
+abbrev pub whyBuf : Buf → Refusal
+whyBuf (buf.Part p s) = none
+whyBuf (buf.Refused why) = why
+
+abbrev pub whyText : Text → Refusal
+whyText (text.Part p n s) = none
+whyText (text.Refused why) = why
 
 -- a number over its limit is 3, where it stands
 unfoldable pub bounded : ℕ → Draw → Draw
@@ -57,9 +71,6 @@ bounded most (Number v p s) = pick (ltb most v) (Refused (record { number = 3; p
 bounded most (Refused why) = Refused why
 
 -- ---- in line
-
-abbrev pub movedTo : State → ℕ → State
-movedTo s e = record { form = s .form; at = e; key = s .key; client = s .client; left = s .left; right = s .right; info = s .info; text = s .text; parent = s .parent; types = s .types; len = s .len }
 
 unfoldable pub varDraw : State → Read → Draw
 varDraw s (read.Number v e) = Number v (s .at) (movedTo s e)
@@ -117,21 +128,21 @@ text1 u s = textIn1 u (bufAt u s)
 -- ---- form 2: the column's next value, blamed at its run's first byte
 
 unfoldable pub clientDrawn : State → number-answer.Answer → Draw
-clientDrawn s (number.Next v c) = Number v (c .from) (record { form = s .form; at = s .at; key = s .key; client = record { place = c; to = s .client .to }; left = s .left; right = s .right; info = s .info; text = s .text; parent = s .parent; types = s .types; len = s .len })
+clientDrawn s (number.Next v c) = Number v (c .from) (withClient (record { place = c; to = s .client .to }) s)
 clientDrawn s (number.Bad why) = Refused why
 
 unfoldable pub client2 : List ℕ → State → Draw
 client2 u s = clientDrawn s (nextNumber (take (s .client .to) u) (s .client .place))
 
 unfoldable pub leftDrawn : State → difference-answer.Answer → Draw
-leftDrawn s (difference.Next v c) = Number v (c .from) (record { form = s .form; at = s .at; key = s .key; client = s .client; left = record { place = c; to = s .left .to }; right = s .right; info = s .info; text = s .text; parent = s .parent; types = s .types; len = s .len })
+leftDrawn s (difference.Next v c) = Number v (c .from) (withLeft (record { place = c; to = s .left .to }) s)
 leftDrawn s (difference.Bad why) = Refused why
 
 unfoldable pub leftClock : List ℕ → State → Draw
 leftClock u s = leftDrawn s (nextDifference (take (s .left .to) u) (s .left .place))
 
 unfoldable pub rightDrawn : State → difference-answer.Answer → Draw
-rightDrawn s (difference.Next v c) = Number v (c .from) (record { form = s .form; at = s .at; key = s .key; client = s .client; left = s .left; right = record { place = c; to = s .right .to }; info = s .info; text = s .text; parent = s .parent; types = s .types; len = s .len })
+rightDrawn s (difference.Next v c) = Number v (c .from) (withRight (record { place = c; to = s .right .to }) s)
 rightDrawn s (difference.Bad why) = Refused why
 
 unfoldable pub rightClock : List ℕ → State → Draw
@@ -144,21 +155,21 @@ unfoldable pub rightId : List ℕ → State → Ident
 rightId u s = idDraw (client2 u s) (rightClock u)
 
 unfoldable pub infoDrawn : State → byte-answer.Answer → Draw
-infoDrawn s (byte.Next v c) = Number v (c .from) (record { form = s .form; at = s .at; key = s .key; client = s .client; left = s .left; right = s .right; info = record { place = c; to = s .info .to }; text = s .text; parent = s .parent; types = s .types; len = s .len })
+infoDrawn s (byte.Next v c) = Number v (c .from) (withInfo (record { place = c; to = s .info .to }) s)
 infoDrawn s (byte.Bad why) = Refused why
 
 unfoldable pub infoDraw : List ℕ → State → Draw
 infoDraw u s = infoDrawn s (nextByte (take (s .info .to) u) (s .info .place))
 
 unfoldable pub parentDrawn : State → byte-answer.Answer → Draw
-parentDrawn s (byte.Next v c) = Number v (c .from) (record { form = s .form; at = s .at; key = s .key; client = s .client; left = s .left; right = s .right; info = s .info; text = s .text; parent = record { place = c; to = s .parent .to }; types = s .types; len = s .len })
+parentDrawn s (byte.Next v c) = Number v (c .from) (withParent (record { place = c; to = s .parent .to }) s)
 parentDrawn s (byte.Bad why) = Refused why
 
 unfoldable pub parentDraw : List ℕ → State → Draw
 parentDraw u s = parentDrawn s (nextByte (take (s .parent .to) u) (s .parent .place))
 
 unfoldable pub lenDrawn : State → number-answer.Answer → Draw
-lenDrawn s (number.Next v c) = Number v (c .from) (record { form = s .form; at = s .at; key = s .key; client = s .client; left = s .left; right = s .right; info = s .info; text = s .text; parent = s .parent; types = s .types; len = record { place = c; to = s .len .to } })
+lenDrawn s (number.Next v c) = Number v (c .from) (withLen (record { place = c; to = s .len .to }) s)
 lenDrawn s (number.Bad why) = Refused why
 
 unfoldable pub lenColumn : List ℕ → State → Draw
@@ -168,7 +179,7 @@ unfoldable pub len2 : List ℕ → State → Draw
 len2 u s = bounded maxClock (lenColumn u s)
 
 unfoldable pub textDrawn : State → string-answer.Answer → Text
-textDrawn s (string.Next p c) = text.Part p (record { 0 = c .units .last }) (record { form = s .form; at = s .at; key = s .key; client = s .client; left = s .left; right = s .right; info = s .info; text = record { place = c; to = s .text .to }; parent = s .parent; types = s .types; len = s .len })
+textDrawn s (string.Next p c) = text.Part p (record { 0 = c .units .last }) (withText (record { place = c; to = s .text .to }) s)
 textDrawn s (string.Bad why) = text.Refused why
 
 unfoldable pub text2 : List ℕ → State → Text
@@ -187,18 +198,6 @@ dsLen u s = restoredBy 1 (varAt u s)
 
 -- ---- opening form 2
 
-abbrev pub whyId : Ident → Refusal
-whyId (ident.Id i s) = none
-whyId (ident.Refused why) = why
-
-abbrev pub whyBuf : Buf → Refusal
-whyBuf (buf.Part p s) = none
-whyBuf (buf.Refused why) = why
-
-abbrev pub whyText : Text → Refusal
-whyText (text.Part p n s) = none
-whyText (text.Refused why) = why
-
 abbrev pub textFrom : ℕ → ℕ → Texts
 textFrom at to = record { place = strings.placeAt at at (numbers.startAt at); to = to }
 
@@ -211,16 +210,13 @@ startAt form at =
     record { form = form; at = at; key = d; client = n; left = d; right = d; info = b; text = textFrom 0 0; parent = b; types = n; len = n }
 
 unfoldable pub putDifferences : ℕ → Differences → State → State
-putDifferences k c s = pick (eqb k 0) (record { form = s .form; at = s .at; key = c; client = s .client; left = s .left; right = s .right; info = s .info; text = s .text; parent = s .parent; types = s .types; len = s .len }) (pick (eqb k 2) (record { form = s .form; at = s .at; key = s .key; client = s .client; left = c; right = s .right; info = s .info; text = s .text; parent = s .parent; types = s .types; len = s .len }) (record { form = s .form; at = s .at; key = s .key; client = s .client; left = s .left; right = c; info = s .info; text = s .text; parent = s .parent; types = s .types; len = s .len }))
+putDifferences k c s = pick (eqb k 0) (withKey c s) (pick (eqb k 2) (withLeft c s) (withRight c s))
 
 unfoldable pub putNumbers : ℕ → Numbers → State → State
-putNumbers k c s = pick (eqb k 1) (record { form = s .form; at = s .at; key = s .key; client = c; left = s .left; right = s .right; info = s .info; text = s .text; parent = s .parent; types = s .types; len = s .len }) (pick (eqb k 7) (record { form = s .form; at = s .at; key = s .key; client = s .client; left = s .left; right = s .right; info = s .info; text = s .text; parent = s .parent; types = c; len = s .len }) (record { form = s .form; at = s .at; key = s .key; client = s .client; left = s .left; right = s .right; info = s .info; text = s .text; parent = s .parent; types = s .types; len = c }))
+putNumbers k c s = pick (eqb k 1) (withClient c s) (pick (eqb k 7) (withTypes c s) (withLen c s))
 
 unfoldable pub putBytes : ℕ → Bytes → State → State
-putBytes k c s = pick (eqb k 4) (record { form = s .form; at = s .at; key = s .key; client = s .client; left = s .left; right = s .right; info = c; text = s .text; parent = s .parent; types = s .types; len = s .len }) (record { form = s .form; at = s .at; key = s .key; client = s .client; left = s .left; right = s .right; info = s .info; text = s .text; parent = c; types = s .types; len = s .len })
-
-abbrev pub withText : Texts → State → State
-withText c s = record { form = s .form; at = s .at; key = s .key; client = s .client; left = s .left; right = s .right; info = s .info; text = c; parent = s .parent; types = s .types; len = s .len }
+putBytes k c s = pick (eqb k 4) (withInfo c s) (withParent c s)
 
 -- which columns hold differences and which bytes; the text is column 5, and the others hold numbers
 unfoldable pub holdsDifferences : ℕ → Bool

@@ -9,14 +9,8 @@ use numbers::Refusal;
 ghost use mathlib.Core.Path.{_≡_};
 ghost use Rattle.decoder.specs.Fields.{byteAt, clockAt, client1, id1, text1};
 
-pub fn read_client(update: &[u8], s: State) -> Draw
-    ensures { λ r. ⌜ r ≡ client1 (now (update .entry)) s ⌝ }
-{
-    crate::within(crate::read_var(update, s), numbers::MAX_VALUE)
-}
-
-// A left id and a right id are spelled alike: client, then clock.
-pub fn read_id(update: &[u8], s: State) -> Ident
+// An id: client, then clock.
+fn read_id(update: &[u8], s: State) -> Ident
     ensures { λ r. ⌜ r ≡ id1 (now (update .entry)) s ⌝ }
 {
     let c = read_client(update, s);
@@ -33,24 +27,6 @@ pub fn read_id(update: &[u8], s: State) -> Ident
         clock: short,
     };
     Ident::Id(id, e)
-}
-
-pub fn read_info(update: &[u8], s: State) -> Draw
-    ensures { λ r. ⌜ r ≡ byteAt (now (update .entry)) s ⌝ }
-{
-    crate::read_u8(update, s)
-}
-
-pub fn read_parent_info(update: &[u8], s: State) -> Draw
-    ensures { λ r. ⌜ r ≡ clockAt (now (update .entry)) s ⌝ }
-{
-    crate::read_clock(update, s)
-}
-
-pub fn read_len(update: &[u8], s: State) -> Draw
-    ensures { λ r. ⌜ r ≡ clockAt (now (update .entry)) s ⌝ }
-{
-    crate::read_clock(update, s)
 }
 
 // A text: its byte length, its bytes, and their UTF-8, checked and counted in one pass.
@@ -83,6 +59,43 @@ pub fn read_ds_clock(update: &[u8], s: State) -> Draw
 }
 
 pub fn read_ds_len(update: &[u8], s: State) -> Draw
+    ensures { λ r. ⌜ r ≡ clockAt (now (update .entry)) s ⌝ }
+{
+    crate::read_clock(update, s)
+}
+
+// A left id and a right id are spelled alike.
+pub fn read_left_id(update: &[u8], s: State) -> Ident
+    ensures { λ r. ⌜ r ≡ id1 (now (update .entry)) s ⌝ }
+{
+    read_id(update, s)
+}
+
+pub fn read_right_id(update: &[u8], s: State) -> Ident
+    ensures { λ r. ⌜ r ≡ id1 (now (update .entry)) s ⌝ }
+{
+    read_id(update, s)
+}
+
+pub fn read_client(update: &[u8], s: State) -> Draw
+    ensures { λ r. ⌜ r ≡ client1 (now (update .entry)) s ⌝ }
+{
+    crate::within(crate::read_var(update, s), numbers::MAX_VALUE)
+}
+
+pub fn read_info(update: &[u8], s: State) -> Draw
+    ensures { λ r. ⌜ r ≡ byteAt (now (update .entry)) s ⌝ }
+{
+    crate::read_u8(update, s)
+}
+
+pub fn read_parent_info(update: &[u8], s: State) -> Draw
+    ensures { λ r. ⌜ r ≡ clockAt (now (update .entry)) s ⌝ }
+{
+    crate::read_clock(update, s)
+}
+
+pub fn read_len(update: &[u8], s: State) -> Draw
     ensures { λ r. ⌜ r ≡ clockAt (now (update .entry)) s ⌝ }
 {
     crate::read_clock(update, s)

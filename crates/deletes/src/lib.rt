@@ -246,7 +246,7 @@ pub fn read_delete_set(update: &[u8], s: State, words: &mut [u64]) -> Set
 {
     let b = begin(update, s);
     let Begun::At(first) = b else {
-        ranges::clear(words, 0);
+        numbers::words::clear(words, 0);
         return Set::Refused(why_begun(b));
     };
     let c = collect(update, first, words);
@@ -256,7 +256,7 @@ pub fn read_delete_set(update: &[u8], s: State, words: &mut [u64]) -> Set
             return Set::Ranges(m, t);
         }
         Collected::Refused(why) => {
-            ranges::clear(words, 0);
+            numbers::words::clear(words, 0);
             return Set::Refused(why);
         }
     }

@@ -21,10 +21,7 @@ use Rattle.updates.specs.Promises.{Reading, refused, withRanges, withBlocks, ea
 use Rattle.listing_text.specs.Listing.{emptyLine, refusedLine}
 use Rattle.listing_text.specs.Words.{wordRefused}
 use Rattle.listing_text.proofs.Laws.{named-short, listing-short}
-use Rattle.listed.specs.Listed.{maxInput, blockRows, rangeRows, isEmpty, linesOf, listedReading, listedUpdate, listedParts, listed, Lists}
-
-abbrev pub maxText : ℕ
-maxText = 100957
+use Rattle.listed.specs.Listed.{maxInput, maxText, blockRows, rangeRows, isEmpty, linesOf, listedReading, listedUpdate, listedParts, listed, Lists}
 
 -- n rows take no more than n things
 fit-short : {A : Type 0} (n : ℕ) (c : Course A) → length (items (fit n c)) ≤ n

@@ -1,2 +1,2 @@
--- What the crate is believed to mean.
+-- What the listing of an update is.
 pub mod Listed

@@ -11,10 +11,15 @@ use Rattle.numbers.specs.Output.{written, put}
 use Rattle.updates.specs.Promises.{Reading, reading}
 use Rattle.listing_text.specs.Listing.{listing, emptyLine, refusedLine}
 
--- the bytes of an input, the form byte among them, and the rows lent for blocks and for ranges
+-- the bytes of an input, the form byte among them
 abbrev pub maxInput : ℕ
 maxInput = 65536
 
+-- the bytes that hold any listing
+abbrev pub maxText : ℕ
+maxText = 100957
+
+-- the rows lent for blocks and for ranges
 abbrev pub blockRows : ℕ
 blockRows = 512
 

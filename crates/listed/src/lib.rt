@@ -7,7 +7,7 @@ ghost use lib.ListN.{length, take};
 ghost use Rattle.ranges.specs.Table.{rowsFrom};
 ghost use Rattle.lines.specs.Lines.{overlay};
 ghost use Rattle.listing_text.specs.Listing.{listing};
-ghost use Rattle.listed.specs.Listed.{same, isEmpty, listedReading, listedUpdate, listed, Lists};
+ghost use Rattle.listed.specs.Listed.{maxText, same, isEmpty, listedReading, listedUpdate, listed, Lists};
 
 // The empty update of each form.
 pub const EMPTY_V1: [u8; 2] = *b"\x00\x00";
@@ -19,6 +19,13 @@ pub const MAX_INPUT: usize = 65536;
 
 // No listing is longer: a header, the lines of 512 blocks and of 1,024 ranges, the end.
 pub const MAX_TEXT: usize = 100957;
+
+// `MAX_TEXT` is the number of the theorem that `list`, with so many bytes lent, is always done.
+pub fn max_text() -> usize
+    ensures { λ r. ⌜ r ≡ maxText ⌝ }
+{
+    MAX_TEXT
+}
 
 fn same(a: &[u8], b: &[u8]) -> bool
     ensures { λ r. ⌜ r ≡ same (now (a .entry)) (now (b .entry)) ⌝ }

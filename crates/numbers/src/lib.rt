@@ -1,5 +1,7 @@
 // Numbers on the line, as lib0 writes them: seven bits a byte, lowest first, 128 set on all but the last; at most nine bytes.
 // A signed number's first byte has 64 for minus and six bits. 80 01 is 128; 40 is minus zero.
+pub mod words;
+
 ghost use mathlib.Core.Path.{_≡_};
 ghost use Prim.Native.Nat.{_+_, _-_, _*_, _^_, _≤_, _<_};
 ghost use mathlib.Core.Bool.{Bool};

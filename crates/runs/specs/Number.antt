@@ -1,5 +1,5 @@
 -- How the number column spells a run: a signed number; minus, and how often less two, where it stands more than once.
-use Prim.Native.Nat.{ℕ, _+_, _-_}
+use Prim.Native.Nat.{ℕ, _-_}
 use mathlib.Core.List.{List, _++_}
 use mathlib.Core.Bool.{true, false}
 use lib.Dec.{eqb}

@@ -29,17 +29,10 @@ use Rattle.update.specs.declared.Step.the-variants.{Block, On, Done, Ref
 use Rattle.update.specs.declared.Decoded.{Decoded}
 use Rattle.update.specs.declared.Decoded.the-variants as decoded
 use Rattle.update.specs.Fields.{clientOf, openedOf}
-use Rattle.update.specs.Update.{dropped, kept, ended, blocks, holds, sections, fromOpened, blockOf, blocksOf}
-use Rattle.update.specs.Steps.{counted, sectionCount, begunOf, number, headed, passed, sectionStep, overEnd, endedStep, blockStep, nextOf, remembered, memoryAfter}
+use Rattle.numbers.specs.Words.{among}
+use Rattle.update.specs.Update.{dropped, kept, ended, blocks, sections, fromOpened, blockOf, blocksOf}
+use Rattle.update.specs.Steps.{rest, Fine, counted, sectionCount, begunOf, number, headed, passed, sectionStep, overEnd, endedStep, blockStep, nextOf, remembered, memoryAfter}
 use Rattle.update.proofs.Sections.{block-remembers}
-
--- what is still to come
-unfoldable pub rest : List ℕ → List ℕ → Blocks → Course row.Block
-rest u m s = blocks (s .blocks) u (s .client) (s .clock) (s .fields) (sections (s .sections) u (take (s .seen) m) (s .room))
-
--- the memory has room for the clients to come, and so many blocks are announced
-unfoldable pub Fine : List ℕ → Blocks → Type 0
-Fine m s = (s .seen + s .sections ≤ length m) × (s .room ≤ maxBlocks)
 
 -- how many steps there are at most
 unfoldable pub left : Blocks → ℕ
@@ -106,7 +99,7 @@ module _ (u m : List ℕ) (s : Blocks) where
 
     section-tells : Tells (sections (suc n) u (take (s .seen) m) (s .room) (s .fields)) (sectionStep u m s)
     unfolding sections sectionStep
-    section-tells = by-draw (bounded (s .room) (varAt u (s .fields))) _ _ (λ k at t ek. by-draw (clientOf u t) _ _ (λ client place v ec. subst (Tells _) (ap (λ (b : Bool). pick b (Refused (record { number = 3; place = place })) (pick (holds client (take (s .seen) m)) (Refused (record { number = 4; place = place })) (number (clockAt u v) (λ clock from w. On (headed s k client clock w))))) (sym (lt-leb _ _ room-for))) (or-refused (holds client (take (s .seen) m)) _ _ _ (λ h. by-draw (clockAt u v) _ _ (λ clock from w e. first-clock k at t ek client clock w)))))
+    section-tells = by-draw (bounded (s .room) (varAt u (s .fields))) _ _ (λ k at t ek. by-draw (clientOf u t) _ _ (λ client place v ec. subst (Tells _) (ap (λ (b : Bool). pick b (Refused (record { number = 3; place = place })) (pick (among client (take (s .seen) m)) (Refused (record { number = 4; place = place })) (number (clockAt u v) (λ clock from w. On (headed s k client clock w))))) (sym (lt-leb _ _ room-for))) (or-refused (among client (take (s .seen) m)) _ _ _ (λ h. by-draw (clockAt u v) _ _ (λ clock from w e. first-clock k at t ek client clock w)))))
 
   -- ---- a block
   module _ (fine : Fine m s) (k : ℕ) (ek : s .blocks ≡ suc k) where

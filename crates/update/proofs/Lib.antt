@@ -1,5 +1,4 @@
 -- Laws of reading blocks.
 pub mod Ends
-pub mod Holds
 pub mod Laws
 pub mod Sections

@@ -18,7 +18,8 @@ use Rattle.update.specs.declared.Step.the-variants.{Block, On, Done, Ref
 use Rattle.update.specs.declared.Decoded.{Decoded}
 use Rattle.update.specs.declared.Decoded.the-variants as decoded
 use Rattle.update.specs.Fields.{clientOf}
-use Rattle.update.specs.Update.{holds, dropped, blockOf}
+use Rattle.numbers.specs.Words.{among}
+use Rattle.update.specs.Update.{dropped, blockOf}
 use Rattle.update.specs.Steps.{number, headed, passed, sectionStep, overEnd, endedStep, blockStep, nextOf, remembered, memoryAfter}
 
 module _ (u m : List ℕ) (s : Blocks) where
@@ -45,11 +46,11 @@ module _ (u m : List ℕ) (s : Blocks) where
       full l = refuses _ (rw (ek, ec, le-leb _ _ l))
 
       module _ (l : s .seen < length m) where
-        pub again : holds client (take (s .seen) m) ≡ true → Gives (Refused (record { number = 4; place = place })) m
+        pub again : among client (take (s .seen) m) ≡ true → Gives (Refused (record { number = 4; place = place })) m
         unfolding sectionStep number
         again h = refuses _ (rw (ek, ec, lt-leb _ _ l, h))
 
-        module _ (h : holds client (take (s .seen) m) ≡ false) where
+        module _ (h : among client (take (s .seen) m) ≡ false) where
           pub no-clock : (why : Refusal) → clockAt u v ≡ draw.Refused why → Gives (Refused why) m
           unfolding sectionStep number
           no-clock why e = refuses why (rw (ek, ec, lt-leb _ _ l, h, e))

@@ -1,7 +1,6 @@
 -- A block of an update. The info byte decides between Skip, GC and item; an item has a left id if 128, a right id if 64; if neither, a parent and,
 -- if 32, a key; then its content, whose number is the low five bits.
 use Prim.Native.Nat.{ℕ, _%_}
-use mathlib.Core.Bool.{true, false}
 use mathlib.Core.List.{List}
 use lib.Dec.{ltb, eqb}
 use Rattle.numbers.specs.declared.Refusal.{Refusal}
@@ -10,7 +9,7 @@ use Rattle.text.specs.declared.Part.{Part}
 use Rattle.text.specs.declared.Units.{Units}
 use Rattle.block.specs.declared.Id.{Id}
 use Rattle.block.specs.declared.Block.{Block}
-use Rattle.block.specs.Row.{noId, noPart}
+use Rattle.block.specs.Row.{noPart}
 use Rattle.decoder.specs.declared.State.{State}
 use Rattle.decoder.specs.declared.Draw.{Draw}
 use Rattle.decoder.specs.declared.Draw.the-variants as draw
@@ -23,31 +22,8 @@ use Rattle.decoder.specs.declared.Text.the-variants as text
 use Rattle.decoder.specs.Fields.{clockAt, bufAt}
 use Rattle.update.specs.declared.item.Item.{Item}
 use Rattle.update.specs.declared.item.Item.the-variants.{At, Refused}
+use Rattle.update.specs.Rows.{plain, withLeft, withRight, withParent, withName, withKey, withContent}
 use Rattle.update.specs.Fields.{leftIdOf, rightIdOf, parentInfoOf, lenOf, textOf}
-
--- ---- the record, field by field
-
--- a block with nothing but its place, its length and its kind
-abbrev pub plain : ℕ → ℕ → ℕ → ℕ → Block
-plain client clock len kind = record { client = client; clock = clock; length = record { 0 = len }; kind = kind; «has_left» = false; left = noId; «has_right» = false; right = noId; «has_parent» = false; parent = noId; «has_name» = false; name = noPart; «has_key» = false; key = noPart; part = noPart }
-
-abbrev pub withLeft : Id → Block → Block
-withLeft i b = record { client = b .client; clock = b .clock; length = b .length; kind = b .kind; «has_left» = true; left = i; «has_right» = b .«has_right»; right = b .right; «has_parent» = b .«has_parent»; parent = b .parent; «has_name» = b .«has_name»; name = b .name; «has_key» = b .«has_key»; key = b .key; part = b .part }
-
-abbrev pub withRight : Id → Block → Block
-withRight i b = record { client = b .client; clock = b .clock; length = b .length; kind = b .kind; «has_left» = b .«has_left»; left = b .left; «has_right» = true; right = i; «has_parent» = b .«has_parent»; parent = b .parent; «has_name» = b .«has_name»; name = b .name; «has_key» = b .«has_key»; key = b .key; part = b .part }
-
-abbrev pub withParent : Id → Block → Block
-withParent i b = record { client = b .client; clock = b .clock; length = b .length; kind = b .kind; «has_left» = b .«has_left»; left = b .left; «has_right» = b .«has_right»; right = b .right; «has_parent» = true; parent = i; «has_name» = b .«has_name»; name = b .name; «has_key» = b .«has_key»; key = b .key; part = b .part }
-
-abbrev pub withName : Part → Block → Block
-withName p b = record { client = b .client; clock = b .clock; length = b .length; kind = b .kind; «has_left» = b .«has_left»; left = b .left; «has_right» = b .«has_right»; right = b .right; «has_parent» = b .«has_parent»; parent = b .parent; «has_name» = true; name = p; «has_key» = b .«has_key»; key = b .key; part = b .part }
-
-abbrev pub withKey : Part → Block → Block
-withKey p b = record { client = b .client; clock = b .clock; length = b .length; kind = b .kind; «has_left» = b .«has_left»; left = b .left; «has_right» = b .«has_right»; right = b .right; «has_parent» = b .«has_parent»; parent = b .parent; «has_name» = b .«has_name»; name = b .name; «has_key» = true; key = p; part = b .part }
-
-abbrev pub withContent : ℕ → Units → Part → Block → Block
-withContent kind n p b = record { client = b .client; clock = b .clock; length = n; kind = kind; «has_left» = b .«has_left»; left = b .left; «has_right» = b .«has_right»; right = b .right; «has_parent» = b .«has_parent»; parent = b .parent; «has_name» = b .«has_name»; name = b .name; «has_key» = b .«has_key»; key = b .key; part = p }
 
 -- ---- what is drawn, and what comes after it; the first refusal is the block's
 

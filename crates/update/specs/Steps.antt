@@ -1,5 +1,5 @@
 -- One step of reading an update's blocks: a section's head, or a block. `Laws` in the proofs say that the steps make up the update's blocks.
-use Prim.Native.Nat.{ℕ, _+_, _-_}
+use Prim.Native.Nat.{ℕ, _+_, _-_, _≤_}
 use mathlib.Core.Bool.{Bool}
 use mathlib.Core.List.{List}
 use lib.Dec.{ltb, leb, eqb}
@@ -7,12 +7,14 @@ use lib.ListN.{length, take, set}
 use Rattle.numbers.specs.declared.Refusal.{Refusal}
 use Rattle.numbers.specs.Number.{pick, none}
 use Rattle.numbers.specs.Limits.{maxClock, maxClients, maxBlocks}
+use Rattle.block.specs.declared.Block as row
 use Rattle.decoder.specs.declared.State.{State}
 use Rattle.decoder.specs.declared.Draw.{Draw}
 use Rattle.decoder.specs.declared.Draw.the-variants as draw
 use Rattle.decoder.specs.declared.v2.Opened.{Opened}
 use Rattle.decoder.specs.declared.v2.Opened.the-variants as opened
 use Rattle.decoder.specs.Fields.{bounded, varAt, clockAt}
+use Rattle.decoder.specs.Course.{Course}
 use Rattle.update.specs.declared.Blocks.{Blocks}
 use Rattle.update.specs.declared.Begun.{Begun}
 use Rattle.update.specs.declared.Begun.the-variants as begun
@@ -21,7 +23,8 @@ use Rattle.update.specs.declared.Step.the-variants.{Block, On, Done, Ref
 use Rattle.update.specs.declared.Decoded.{Decoded}
 use Rattle.update.specs.declared.Decoded.the-variants as decoded
 use Rattle.update.specs.Fields.{clientOf, openedOf}
-use Rattle.update.specs.Update.{dropped, blockOf, holds}
+use Rattle.numbers.specs.Words.{among}
+use Rattle.update.specs.Update.{dropped, blocks, sections, blockOf}
 
 -- before the first section
 unfoldable pub counted : Draw → Begun
@@ -52,7 +55,7 @@ sectionStep u m s =
     number (bounded (s .room) (varAt u (s .fields))) (λ k at t.
     number (clientOf u t) (λ client place v.
     pick (leb (length m) (s .seen)) (Refused (record { number = 3; place = place }))
-    (pick (holds client (take (s .seen) m)) (Refused (record { number = 4; place = place }))
+    (pick (among client (take (s .seen) m)) (Refused (record { number = 4; place = place }))
     (number (clockAt u v) (λ clock from w. On (headed s k client clock w))))))
 
 -- a block
@@ -83,3 +86,12 @@ remembered m s (Refused why) = m
 
 unfoldable pub memoryAfter : List ℕ → List ℕ → Blocks → List ℕ
 memoryAfter u m s = remembered m s (nextOf u m s)
+
+-- ---- what is still to come before a step, and what steps keep up
+
+unfoldable pub rest : List ℕ → List ℕ → Blocks → Course row.Block
+rest u m s = blocks (s .blocks) u (s .client) (s .clock) (s .fields) (sections (s .sections) u (take (s .seen) m) (s .room))
+
+-- the memory has room for the clients to come, and so many blocks are announced
+unfoldable pub Fine : List ℕ → Blocks → Type 0
+Fine m s = (s .seen + s .sections ≤ length m) × (s .room ≤ maxBlocks)

@@ -1,10 +1,11 @@
 -- What an update means: its sections, each with blocks that follow one another, in reading order.
 use Prim.Native.Nat.{ℕ, zero, suc, _+_, _-_}
-use mathlib.Core.Bool.{Bool, true, false}
+use mathlib.Core.Bool.{Bool, false}
 use mathlib.Core.List.{List, [], _∷_, _++_}
 use lib.Dec.{ltb, eqb}
 use Rattle.numbers.specs.declared.Refusal.{Refusal}
 use Rattle.numbers.specs.Number.{pick, none}
+use Rattle.numbers.specs.Words.{among}
 use Rattle.numbers.specs.Limits.{maxClock, maxClients, maxBlocks}
 use Rattle.block.specs.declared.Block.{Block}
 use Rattle.decoder.specs.declared.State.{State}
@@ -59,18 +60,13 @@ blocks (suc k) u client clock s then = ended clock (blockOf u client clock s) (�
 
 -- ---- the sections
 
--- one of these clients
-unfoldable pub holds : ℕ → List ℕ → Bool
-holds client [] = false
-holds client (c ∷ cs) = pick (eqb c client) true (holds client cs)
-
 -- n sections: block count, client, first clock, blocks; `room` blocks may still be announced, and a client that was seen is refused with 4
 unfoldable pub sections : ℕ → List ℕ → List ℕ → ℕ → State → Course Block
 sections zero u seen room s = over s
 sections (suc n) u seen room s =
     drawn (bounded room (varAt u s)) (λ k at t.
     drawn (clientOf u t) (λ client place v.
-    pick (holds client seen) (stopped (record { number = 4; place = place }))
+    pick (among client seen) (stopped (record { number = 4; place = place }))
     (drawn (clockAt u v) (λ clock from w. blocks k u client clock w (sections n u (seen ++ (client ∷ [])) (room - k))))))
 
 unfoldable pub fromOpened : Opened → (State → Course Block) → Course Block

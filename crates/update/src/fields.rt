@@ -30,7 +30,7 @@ pub fn read_left_id(update: &[u8], s: State) -> Ident
     ensures { λ r. ⌜ r ≡ leftIdOf (now (update .entry)) s ⌝ }
 {
     if s.form == 1 {
-        return v1::read_id(update, s);
+        return v1::read_left_id(update, s);
     }
     v2::read_left_id(update, s)
 }
@@ -39,7 +39,7 @@ pub fn read_right_id(update: &[u8], s: State) -> Ident
     ensures { λ r. ⌜ r ≡ rightIdOf (now (update .entry)) s ⌝ }
 {
     if s.form == 1 {
-        return v1::read_id(update, s);
+        return v1::read_right_id(update, s);
     }
     v2::read_right_id(update, s)
 }

@@ -10,7 +10,8 @@ use numbers::Refusal;
 use text::Part;
 use text::Units;
 ghost use mathlib.Core.Path.{_≡_};
-ghost use Rattle.update.specs.Block.{plain, withContent, whyItem, leftOf, rightOf, parentAfter, parentOf, keyOf, placeOf, deletedOf, binaryOf, stringOf, contentOf, itemOf, skipOf, gcOf, bodyOf};
+ghost use Rattle.update.specs.Rows.{plain, withContent};
+ghost use Rattle.update.specs.Block.{whyItem, leftOf, rightOf, parentAfter, parentOf, keyOf, placeOf, deletedOf, binaryOf, stringOf, contentOf, itemOf, skipOf, gcOf, bodyOf};
 
 // The row as far as it is read.
 pub enum Item {

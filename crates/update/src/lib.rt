@@ -10,8 +10,8 @@ use item::Item;
 use numbers::Refusal;
 ghost use mathlib.Core.Path.{_≡_};
 ghost use Prim.Native.Nat.{_≤_};
-ghost use lib.ListN.{length, take};
-ghost use Rattle.update.specs.Update.{holds, dropped, blockOf, whyBlock};
+ghost use lib.ListN.{length};
+ghost use Rattle.update.specs.Update.{dropped, blockOf, whyBlock};
 ghost use Rattle.update.specs.Steps.{begunOf, whyOpened, overEnd, sectionStep, blockStep, nextOf, remembered, memoryAfter};
 
 // What is still to come: sections, and blocks of this section; how many blocks may still be announced; how many clients were seen; the client
@@ -78,21 +78,6 @@ fn is_dropped(b: Block) -> bool
     block::SKIP < b.kind
 }
 
-// Whether this client is among the first n words.
-fn is_seen(memory: &[u64], n: usize, client: u64) -> bool
-    requires { ⌜ n ≤ length (now memory) ⌝ }
-    ensures { λ r. ⌜ r ≡ holds client (take n (now (memory .entry))) ⌝ }
-{
-    let mut i: usize = 0;
-    while i < n {
-        if memory[i] == client {
-            return true;
-        }
-        i += 1;
-    }
-    false
-}
-
 // Whether a block of this length ends over the limit.
 fn ends_over(clock: u32, len: u64) -> bool
     ensures { λ r. ⌜ r ≡ overEnd clock len ⌝ }
@@ -121,7 +106,7 @@ fn read_section(update: &[u8], memory: &mut [u64], s: Blocks) -> Step
     if memory.len() <= seen {
         return Step::Refused(Refusal { number: 3, place });
     }
-    if is_seen(memory, seen, client) {
+    if numbers::words::is_among(memory, seen, client) {
         return Step::Refused(Refusal { number: 4, place });
     }
     let k = decoder::read_clock(update, v);

@@ -32,8 +32,8 @@ use Rattle.reader.proofs.read_blocks as reader·read-blocks-fn
 use Rattle.reader.proofs.read_blocks.Symbol.{name as #reader·read-blocks}
 use Rattle.deletes.proofs.read_delete_set as deletes·read-delete-set-fn
 use Rattle.deletes.proofs.read_delete_set.Symbol.{name as #deletes·read-delete-set}
-use Rattle.ranges.proofs.clear as ranges·clear-fn
-use Rattle.ranges.proofs.clear.Symbol.{name as #ranges·clear}
+use Rattle.numbers.proofs.words.clear as numbers·words·clear-fn
+use Rattle.numbers.proofs.words.clear.Symbol.{name as #numbers·words·clear}
 
 module _ {M : Type 1} (𝓤 : URA M) (H : Heap 𝓤) (A : Atoms 𝓤) (mem : Memory → SProp 𝓤) (run : Routine → Fun 𝓤) where
   abbrev pub Updates·refused-early : Contract 𝓤
@@ -48,8 +48,8 @@ module _ {M : Type 1} (𝓤 : URA M) (H : Heap 𝓤) (A : Atoms 𝓤) (mem : Mem
   abbrev pub Deletes·read-delete-set : Contract 𝓤
   Deletes·read-delete-set = tripleOf 𝓤 H A deletes·read-delete-set-fn.signature (deletes·read-delete-set-fn.spec 𝓤 H A mem run)
 
-  abbrev pub Ranges·clear : Contract 𝓤
-  Ranges·clear = tripleOf 𝓤 H A ranges·clear-fn.signature (ranges·clear-fn.spec 𝓤 H A mem run)
+  abbrev pub Numbers·words·clear : Contract 𝓤
+  Numbers·words·clear = tripleOf 𝓤 H A numbers·words·clear-fn.signature (numbers·words·clear-fn.spec 𝓤 H A mem run)
 
   module _ (C : Calls 𝓤 H) where
     pub updates·refused-early! : Triple 𝓤 (C #updates·refused-early) Updates·refused-early → (form₀ : ℕ) (g-form : Has byte form₀) (at-update : Seat) (update₀ : List ℕ) → Card 𝓤 H A C #updates·refused-early (val byte form₀ g-form ∷ pass byte at-update update₀ ∷ []) byte (early form₀ update₀)
@@ -108,16 +108,16 @@ module _ {M : Type 1} (𝓤 : URA M) (H : Heap 𝓤) (A : Atoms 𝓤) (mem : Mem
       said = λ ns r ws. since 𝓤 (λ e. (e .0, (e .1, tt)));
     }
 
-    pub ranges·clear! : Triple 𝓤 (C #ranges·clear) Ranges·clear → (at-rows : Seat) (rows₀ : List ℕ) (from₀ : ℕ) (g-from : Has word from₀) → (from₀ ≤ length rows₀) → Card 𝓤 H A C #ranges·clear (mut word at-rows rows₀ (take from₀ rows₀ ++ replicate (length rows₀ - from₀) 0) ∷ val word from₀ g-from ∷ []) unit-kind tt
-    ranges·clear! known at-rows rows₀ from₀ g-from h = record {
-      contract = Ranges·clear;
+    pub numbers·words·clear! : Triple 𝓤 (C #numbers·words·clear) Numbers·words·clear → (at-rows : Seat) (rows₀ : List ℕ) (from₀ : ℕ) (g-from : Has word from₀) → (from₀ ≤ length rows₀) → Card 𝓤 H A C #numbers·words·clear (mut word at-rows rows₀ (take from₀ rows₀ ++ replicate (length rows₀ - from₀) 0) ∷ val word from₀ g-from ∷ []) unit-kind tt
+    numbers·words·clear! known at-rows rows₀ from₀ g-from h = record {
+      contract = Numbers·words·clear;
       known = known;
       ghost = λ x. (x, tt);
       args = λ ns. refl;
       asked = fact 𝓤 (from₀ ≤ length rows₀);
       asks = factI 𝓤 (from₀ ≤ length rows₀) (emp 𝓤) h;
       into = λ ns. id⊢ 𝓤 _;
-      ensured = λ x r ws. ranges·clear-fn.clauses 𝓤 H A mem run (x .0) (x .3) .ensures tt r (atExit ranges·clear-fn.ended (x .0) (x .3) ws);
+      ensured = λ x r ws. numbers·words·clear-fn.clauses 𝓤 H A mem run (x .0) (x .3) .ensures tt r (atExit numbers·words·clear-fn.ended (x .0) (x .3) ws);
       out = λ ns v. id⊢ 𝓤 _;
       said = λ ns r ws. since 𝓤 (λ e. (refl, (e, tt)));
     }

@@ -1,19 +1,11 @@
--- No other answer fits: two answers of a public call that keep its promise for the same inputs are the same, and so is what is lent back.
+-- No other answer fits: two answers of `read_update` that keep its promise for the same inputs are the same, and so is what is lent back.
 -- Assumes nothing.
-use Prim.Native.Nat.{ℕ, _/_}
+use Prim.Native.Nat.{ℕ}
 use mathlib.Core.Path.{_≡_, sym, _∙_}
 use mathlib.Core.List.{List}
-use lib.ListN.{length}
 use Rattle.block.specs.declared.Block.{Block}
 use Rattle.updates.specs.declared.Update.{Update}
-use Rattle.updates.specs.Promises.{reading, answer, rowsOf, wordsOf}
-
--- the contract of `read_update`: of an answer, and of what the rows and the words are at exit
-abbrev pub ReadUpdate : ℕ → List ℕ → List Block → List ℕ → Update → List Block → List ℕ → Type 0
-ReadUpdate form u rows words r rows₁ words₁ =
-    (r ≡ answer (reading form u (length rows) (length words / 3)))
-    × (rows₁ ≡ rowsOf (length rows) (reading form u (length rows) (length words / 3)))
-    × (words₁ ≡ wordsOf (length words) (reading form u (length rows) (length words / 3)))
+use Rattle.updates.specs.Promises.{ReadUpdate}
 
 pub only-read-update : (form : ℕ) (u : List ℕ) (rows : List Block) (words : List ℕ) (r r′ : Update) (rows₁ rows₁′ : List Block) (words₁ words₁′ : List ℕ)
     → ReadUpdate form u rows words r rows₁ words₁ → ReadUpdate form u rows words r′ rows₁′ words₁′ → (r′ ≡ r) × (rows₁′ ≡ rows₁) × (words₁′ ≡ words₁)

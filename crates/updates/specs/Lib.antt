@@ -1,2 +1,2 @@
--- What the public calls on updates promise.
+-- What the public call `read_update` promises.
 pub mod Promises

@@ -1,5 +1,6 @@
--- What the public calls on updates promise: a reading has a number, the blocks kept and the delete ranges in normal form; a refusal has its number alone.
+-- What `read_update` promises: a reading has a number, the blocks kept and the delete ranges in normal form; a refusal has its number alone.
 use Prim.Native.Nat.{ℕ, _-_, _/_}
+use mathlib.Core.Path.{_≡_}
 use mathlib.Core.Bool.{Bool, true}
 use mathlib.Core.List.{List, [], _++_}
 use lib.Dec.{ltb, eqb}
@@ -52,3 +53,10 @@ rowsOf n r = r .blocks ++ replicate (n - length (r .blocks)) noBlock
 
 unfoldable pub wordsOf : ℕ → Reading → List ℕ
 wordsOf n r = padded n (flat (r .ranges))
+
+-- what `read_update` answers into the rows and the words lent, and what both are then lent back
+abbrev pub ReadUpdate : ℕ → List ℕ → List Block → List ℕ → Update → List Block → List ℕ → Type 0
+ReadUpdate form u rows words r rows₁ words₁ =
+    (r ≡ answer (reading form u (length rows) (length words / 3)))
+    × (rows₁ ≡ rowsOf (length rows) (reading form u (length rows) (length words / 3)))
+    × (words₁ ≡ wordsOf (length words) (reading form u (length rows) (length words / 3)))

@@ -1,12 +1,10 @@
-// The public calls on updates. None asks anything of its caller. An answer begins with its number in document 01, 0 for done; a refusal has zeros
-// for counts and leaves zeros in what was lent.
+// The public call that reads an update. It asks nothing of its caller. An answer begins with its number in document 01, 0 for done; a refusal has
+// zeros for counts and leaves zeros in what was lent.
 use block::Block;
 use deletes::Set;
 use reader::Filled;
 ghost use mathlib.Core.Path.{_≡_};
-ghost use Prim.Native.Nat.{_/_};
-ghost use lib.ListN.{length};
-ghost use Rattle.updates.specs.Promises.{early, refused, reading, answer, rowsOf, wordsOf};
+ghost use Rattle.updates.specs.Promises.{early, refused, answer, ReadUpdate};
 
 // How many blocks and how many delete ranges were read.
 pub struct Update {
@@ -43,14 +41,12 @@ fn none(number: u8) -> Update
 
 // An update of form 1 or 2: its blocks in reading order in `rows`, its delete ranges in normal form in `ranges`, three words a range.
 pub fn read_update(form: u8, update: &[u8], rows: &mut [Block], ranges: &mut [u64]) -> Update
-    ensures { λ r. ⌜ (r ≡ answer (reading form (now (update .entry)) (length (now (rows .entry))) (length (now (ranges .entry)) / 3)))
-        × (now (rows .exit) ≡ rowsOf (length (now (rows .entry))) (reading form (now (update .entry)) (length (now (rows .entry))) (length (now (ranges .entry)) / 3)))
-        × (now (ranges .exit) ≡ wordsOf (length (now (ranges .entry))) (reading form (now (update .entry)) (length (now (rows .entry))) (length (now (ranges .entry)) / 3))) ⌝ }
+    ensures { λ r. ⌜ ReadUpdate form (now (update .entry)) (now (rows .entry)) (now (ranges .entry)) r (now (rows .exit)) (now (ranges .exit)) ⌝ }
 {
     let early = refused_early(form, update);
     if early != 0 {
         table::clear(rows, 0);
-        ranges::clear(ranges, 0);
+        numbers::words::clear(ranges, 0);
         return none(early);
     }
     match reader::read_blocks(form, update, rows) {
@@ -66,7 +62,7 @@ pub fn read_update(form: u8, update: &[u8], rows: &mut [Block], ranges: &mut [u6
             }
         },
         Filled::Refused(why) => {
-            ranges::clear(ranges, 0);
+            numbers::words::clear(ranges, 0);
             none(why.number)
         }
     }

@@ -8,6 +8,7 @@ use lib.Dec.{eqb}
 use lib.ListN.{length}
 use borrow.Author.Tests.{eqb-true, eq-eqb}
 use Rattle.numbers.specs.Number.{pick}
+use Rattle.numbers.specs.Words.{among}
 use Rattle.numbers.specs.Limits.{maxClients}
 use Rattle.decoder.specs.declared.State.{State}
 use Rattle.decoder.specs.declared.Draw.{Draw}
@@ -15,7 +16,7 @@ use Rattle.decoder.specs.declared.Draw.the-variants as draw
 use Rattle.decoder.specs.Fields.{startAt, bounded, varAt, client1, clockAt}
 use Rattle.decoder.specs.Course.{Course, item, stopped, drawn, items}
 use Rattle.decoder.proofs.Laws.{within-limit}
-use Rattle.vector.specs.Vector.{Entry, entry, clientsIn, among, holds, entries, vectorOf}
+use Rattle.vector.specs.Vector.{Entry, entry, clientsIn, holds, entries, vectorOf}
 use Rattle.vector.proofs.Laws.{oneEntry, entries-one, clients-more}
 
 -- ---- at most 64

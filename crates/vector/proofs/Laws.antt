@@ -7,12 +7,12 @@ use mathlib.Core.Bool.{Bool, true, false}
 use native.Mathlib.Numerals.{add-one}
 use native.Mathlib.Nat.{sub-zero}
 use native.Mathlib.Omega.{arith}
-use lib.Dec.{eqb}
-use lib.ListN.{length, take, drop, getD, set, replicate, length-append, length-set, length-map}
-use lib.Seq.{drop-cons, take-suc, take-suc-set, length-take-le, take-append-seam}
+use lib.ListN.{length, take, getD, set, replicate, length-append, length-set, length-map}
+use lib.Seq.{take-suc, take-suc-set, length-take-le, take-append-seam}
 use borrow.Author.Tests.{lt-ltb, le-ltb}
 use Rattle.numbers.specs.declared.Refusal.{Refusal}
 use Rattle.numbers.specs.Number.{pick}
+use Rattle.numbers.specs.Words.{among}
 use Rattle.numbers.specs.Limits.{maxClients}
 use Rattle.numbers.specs.Output.{padded}
 use Rattle.numbers.proofs.Output.{padded-some}
@@ -24,20 +24,7 @@ use Rattle.decoder.specs.Course.{Course, item, over, stopped, drawn, items, end
 use Rattle.vector.specs.declared.Next.the-variants as next
 use Rattle.vector.specs.declared.Entries.{Entries}
 use Rattle.vector.specs.declared.Entries.the-variants.{Read, Refused}
-use Rattle.vector.specs.Vector.{Entry, entry, clientsIn, clocksIn, among, holds, entries, entriesOf, kept, nextEntry, withClient, withClock, vectorOf, wordsIn, joined, vectorAnswer, vectorWords}
-
--- ---- a client among others
-
-pub among-here : (c : ℕ) (xs : List ℕ) (n i : ℕ) → i < n → i < length xs
-    → among c (take (n - i) (drop i xs)) ≡ pick (eqb (getD xs i 0) c) true (among c (take (n - (i + 1)) (drop (i + 1) xs)))
-unfolding among
-among-here c xs n i h l =
-    let more : n - i ≡ suc (n - (i + 1)) = omega arith in
-    rw (more, drop-cons xs i 0 l, add-one)
-
-pub among-none : (c : ℕ) (xs : List ℕ) (n : ℕ) → n ≡ 0 → among c (take n xs) ≡ false
-unfolding among
-among-none c xs n e = rw e
+use Rattle.vector.specs.Vector.{Entry, entry, clientsIn, clocksIn, holds, entries, entriesOf, kept, nextEntry, withClient, withClock, vectorOf, wordsIn, joined, vectorAnswer, vectorWords}
 
 -- ---- an entry
 

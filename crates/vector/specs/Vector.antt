@@ -1,11 +1,12 @@
 -- A state vector: how many entries, then a client and its clock each. What comes after them is not read.
 use Prim.Native.Nat.{ℕ, zero, suc, _*_}
 use mathlib.Core.List.{List, [], _∷_, _++_, map}
-use mathlib.Core.Bool.{Bool, true, false}
-use lib.Dec.{ltb, eqb}
+use mathlib.Core.Bool.{Bool}
+use lib.Dec.{ltb}
 use lib.ListN.{length}
 use Rattle.numbers.specs.declared.Refusal.{Refusal}
 use Rattle.numbers.specs.Number.{pick, none}
+use Rattle.numbers.specs.Words.{among}
 use Rattle.numbers.specs.Limits.{maxClients}
 use Rattle.numbers.specs.Output.{padded}
 use Rattle.decoder.specs.declared.State.{State}
@@ -31,10 +32,6 @@ clientsIn es = map (λ (e : Entry). e .client) es
 
 abbrev pub clocksIn : List Entry → List ℕ
 clocksIn es = map (λ (e : Entry). e .clock) es
-
-unfoldable pub among : ℕ → List ℕ → Bool
-among c [] = false
-among c (x ∷ xs) = pick (eqb x c) true (among c xs)
 
 -- whether a client has an entry
 unfoldable pub holds : ℕ → List Entry → Bool

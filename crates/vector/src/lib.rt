@@ -3,13 +3,14 @@
 use decoder::Draw;
 use decoder::State;
 use numbers::Refusal;
+use numbers::words;
 ghost use mathlib.Core.Path.{_≡_};
-ghost use mathlib.Core.List.{[], _++_};
-ghost use Prim.Native.Nat.{_-_, _*_, _≤_};
-ghost use lib.ListN.{length, take, replicate};
+ghost use mathlib.Core.List.{[]};
+ghost use Prim.Native.Nat.{_*_, _≤_};
+ghost use lib.ListN.{length, take};
 ghost use Rattle.numbers.specs.Limits.{maxClients};
 ghost use Rattle.numbers.specs.Output.{padded};
-ghost use Rattle.vector.specs.Vector.{clientsIn, clocksIn, among, entries, vectorOf, entriesOf, kept, nextEntry, whyNext, whyEntries, countIn, joined, vectorAnswer, vectorWords};
+ghost use Rattle.vector.specs.Vector.{clientsIn, clocksIn, entries, vectorOf, entriesOf, kept, nextEntry, whyNext, whyEntries, countIn, joined, vectorAnswer, vectorWords};
 
 // How many entries were read.
 pub enum Entries {
@@ -29,33 +30,6 @@ pub struct Vector {
     pub count: usize,
 }
 
-// Zeros from a place on.
-fn clear(words: &mut [u64], from: usize)
-    requires { ⌜ from ≤ length (now words) ⌝ }
-    ensures { λ _. ⌜ now (words .exit) ≡ take from (now (words .entry)) ++ replicate (length (now (words .entry)) - from) 0 ⌝ }
-{
-    let mut i = from;
-    while i < words.len() {
-        words[i] = 0;
-        i += 1;
-    }
-}
-
-// Whether a client is among the first n.
-fn is_seen(clients: &[u64], n: usize, client: u64) -> bool
-    requires { ⌜ n ≤ length (now clients) ⌝ }
-    ensures { λ r. ⌜ r ≡ among client (take n (now (clients .entry))) ⌝ }
-{
-    let mut i = 0;
-    while i < n {
-        if clients[i] == client {
-            return true;
-        }
-        i += 1;
-    }
-    false
-}
-
 // The entry at a place, after those of n clients: 3 of the client, 4, then 3 of the clock.
 fn next_entry(vector: &[u8], clients: &[u64], n: usize, s: State) -> Next
     requires { ⌜ n ≤ length (now clients) ⌝ }
@@ -65,7 +39,7 @@ fn next_entry(vector: &[u8], clients: &[u64], n: usize, s: State) -> Next
     let Draw::Number(client, place, t) = c else {
         return Next::Refused(decoder::why(c));
     };
-    let seen = is_seen(clients, n, client);
+    let seen = words::is_among(clients, n, client);
     if seen {
         return Next::Refused(Refusal { number: 4, place });
     }
@@ -144,8 +118,8 @@ pub fn read_entries(vector: &[u8], clients: &mut [u64], clocks: &mut [u64]) -> E
 {
     let r = read_announced(vector, clients, clocks);
     let n = count_of(r);
-    clear(clients, n);
-    clear(clocks, n);
+    words::clear(clients, n);
+    words::clear(clocks, n);
     r
 }
 
@@ -174,14 +148,14 @@ fn put_words(out: &mut [u64], clients: &[u64], clocks: &[u64], n: usize)
         at += 2;
         i += 1;
     }
-    clear(out, at);
+    words::clear(out, at);
 }
 
 // The answer to a caller outside that is refused: zeros everywhere.
 fn refuse(out: &mut [u64], number: u8) -> Vector
     ensures { λ r. ⌜ (r ≡ record { number = number; count = 0 }) × (now (out .exit) ≡ padded (length (now (out .entry))) []) ⌝ }
 {
-    clear(out, 0);
+    words::clear(out, 0);
     Vector { number, count: 0 }
 }
 

@@ -1,5 +1,6 @@
--- `listed::put_reading` meets its contract: a walk of its MIR, by hand (tools/walkgen.py walk).
--- Assumes nothing.
+-- `listed::put_reading` meets its contract: the first rows of both tables are the blocks and ranges of the reading, and its number decides between their listing
+-- and a refusal's line.
+-- A walk of its MIR by hand (tools/walkgen.py walk). Assumes nothing.
 use mathlib.Core.Path.{_≡_, refl, _∙_, ap}
 use Prim.Native.Nat.{ℕ, _+_}
 use native.Mathlib.Omega.{arith}

@@ -1,5 +1,5 @@
--- `listed::put_tables` meets its contract: a walk of its MIR, by hand (tools/walkgen.py walk).
--- Assumes nothing.
+-- `listed::put_tables` meets its contract: each part of the listing is put where the part before it ended.
+-- A walk of its MIR by hand (tools/walkgen.py walk). Assumes nothing.
 use mathlib.Core.Path.{_≡_, refl}
 use Prim.Native.Nat.{ℕ, _+_, _*_, _<_, _≤_, _^_}
 use native.Mathlib.Omega.{arith}

@@ -1,5 +1,5 @@
--- `listing_text::put_blocks` meets its contract: a walk of its MIR, by hand (tools/walkgen.py walk).
--- Assumes nothing.
+-- `listing_text::put_blocks` meets its contract: at each turn the lines of the first i rows stand in the buffer, and the next row adds its line.
+-- A walk of its MIR by hand (tools/walkgen.py walk). Assumes nothing.
 use mathlib.Core.Path.{_≡_, refl}
 use Prim.Native.Nat.{ℕ, _+_, _-_, _*_, _<_, _≤_, _^_}
 use native.Mathlib.Omega.{arith}

@@ -1,5 +1,6 @@
--- `reader::read_blocks` meets its contract: a walk of its MIR, by hand (tools/walkgen.py walk).
--- Assumes nothing.
+-- `reader::read_blocks` meets its contract: at each turn the blocks in the first n rows, and those still to come, are the blocks of the update; each way out
+-- is one way that these can end.
+-- A walk of its MIR by hand (tools/walkgen.py walk). Assumes nothing.
 use mathlib.Core.Path.{_≡_, refl, subst}
 use Prim.Native.Nat.{ℕ, _+_, _<_, _^_}
 use native.Mathlib.Omega.{arith}
@@ -46,13 +47,13 @@ use Rattle.reader.specs.declared.Filled.the-variants.{Rows as Filled·Ro
 use Rattle.update.specs.declared.Blocks.{Blocks as update·Blocks}
 use Rattle.reader.specs.Reader.{filledOf, rowsOf}
 use Rattle.table.specs.Rows.{clearedFrom}
-use Rattle.update.specs.Steps.{begunOf, memoryAfter, nextOf}
+use Rattle.update.specs.Steps.{begunOf, memoryAfter, nextOf, rest, Fine}
 use Rattle.update.specs.Update.{blocksOf}
 use Rattle.reader.proofs.Sorts.{decoder·state, update·blocks, refusal, refusal-has, update·step, update·step·block-0, update·step·block-1, update·step·block-2, update·step·on-0, update·step·done-0, update·step·refused-0, update·step-cases, begun, begun·at-0, begun·refused-0, begun-cases, filled, filled·rows-has, filled·refused-has}
 use Rattle.table.proofs.Sorts.{block}
 use Rattle.reader.proofs.Cards.{Update·begin, Update·next, update·begin!, update·next! }
 use Rattle.decoder.specs.Course.{Course, item}
-use Rattle.update.proofs.Laws.{rest, Fine, left, begins, begin-refused, on-block, on-on, on-done, on-refused}
+use Rattle.update.proofs.Laws.{left, begins, begin-refused, on-block, on-on, on-done, on-refused}
 use Rattle.reader.proofs.Course.{Known, at-first, passed, kept, on-none, on-full, on-end, on-refusal}
 use Rattle.update.specs.declared.Step.the-variants.{Block as update·Step·Block, On as update·Step·On}
 use Rattle.table.proofs.Cards.{Table·fill, Table·clear, table·fill!, table·clear! }

@@ -1,5 +1,4 @@
 -- `put_counted` meets its contract: the head, and the count where there is one.
-use Prim.Native.Nat.{_-_}
 use native.Mathlib.Omega.{arith}
 use lib.ListN.{length-append}
 use Rattle.numbers.proofs.Output.{sets-append}

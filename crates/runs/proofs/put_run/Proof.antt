@@ -1,5 +1,4 @@
 -- `put_run` meets its contract, column by column.
-use Prim.Native.Nat.{_-_}
 use native.Mathlib.Omega.{arith}
 use Rattle.runs.specs.Runs.{keyMost, coding}
 use borrow.Author.Needs.{needs}

@@ -1,5 +1,5 @@
--- `table::clear` meets its contract: a walk of its MIR, by hand (tools/walkgen.py walk).
--- Assumes nothing.
+-- `table::clear` meets its contract: at each turn the rows from `from` to i have no block, and all others are what they were.
+-- A walk of its MIR by hand (tools/walkgen.py walk). Assumes nothing.
 use mathlib.Core.Path.{_≡_, refl, sym, _∙_}
 use Prim.Native.Nat.{ℕ, _+_, _-_, _<_, _^_}
 use native.Mathlib.Omega.{arith}

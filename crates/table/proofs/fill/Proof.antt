@@ -1,5 +1,5 @@
--- `table::fill` meets its contract: a walk of its MIR, by hand (tools/walkgen.py walk).
--- Assumes nothing.
+-- `table::fill` meets its contract: the row at place i is taken out of the list, and the new one is put in there.
+-- A walk of its MIR by hand (tools/walkgen.py walk). Assumes nothing.
 use mathlib.Core.Path.{_≡_, refl, sym}
 use Prim.Native.Nat.{ℕ, _*_, _<_, _^_}
 use native.Mathlib.Omega.{arith}

@@ -55,8 +55,8 @@ returns-3 c =
     let a = c .before .before .before .before .before .before .before .before .before .before .before .before .args in
     full (a .update .now) (a .memory .now) (a .s) _ _ _ (ap (bounded (a .s .room)) (sym (c .before .before .before .before .before .before .before .before .before .read-var .ensures)) ∙ sym (c .before .before .before .before .before .before .before .before .within .ensures) ∙ c .before .before .before .before .before .before .n .given .1) _ _ _ (sym (c .before .before .before .before .read-client .ensures) ∙ c .before .before .c .given .1) (c .if1 .taken)
 
-is-seen-requires : tie.Need-is-seen-requires
-is-seen-requires c κs = search needs
+is-among-requires : tie.Need-is-among-requires
+is-among-requires c κs = search needs
 
 same-length : tie.Need-same-length
 same-length c = search needs
@@ -64,7 +64,7 @@ same-length c = search needs
 returns-4 : tie.Need-returns-4
 returns-4 c =
     let a = c .before .before .before .before .before .before .before .before .before .before .before .before .before .before .before .args in
-    again (a .update .now) (a .memory .now) (a .s) _ _ _ (ap (bounded (a .s .room)) (sym (c .before .before .before .before .before .before .before .before .before .before .before .before .read-var .ensures)) ∙ sym (c .before .before .before .before .before .before .before .before .before .before .before .within .ensures) ∙ c .before .before .before .before .before .before .before .before .before .n .given .1) _ _ _ (sym (c .before .before .before .before .before .before .before .read-client .ensures) ∙ c .before .before .before .before .before .c .given .1) (c .before .before .before .if1 .left) (sym (c .before .is-seen .ensures) ∙ c .if2 .taken)
+    again (a .update .now) (a .memory .now) (a .s) _ _ _ (ap (bounded (a .s .room)) (sym (c .before .before .before .before .before .before .before .before .before .before .before .before .read-var .ensures)) ∙ sym (c .before .before .before .before .before .before .before .before .before .before .before .within .ensures) ∙ c .before .before .before .before .before .before .before .before .before .n .given .1) _ _ _ (sym (c .before .before .before .before .before .before .before .read-client .ensures) ∙ c .before .before .before .before .before .c .given .1) (c .before .before .before .if1 .left) (sym (c .before .is-among .ensures) ∙ c .if2 .taken)
 
 read-clock-requires : tie.Need-read-clock-requires
 read-clock-requires c κs = search needs
@@ -85,7 +85,7 @@ returns-5 : tie.Need-returns-5
 returns-5 c =
     let a = c .before .before .before .before .before .before .before .before .before .before .before .before .before .before .before .before .before .before .before .args in
     let told = c .before .enum-told3 .given .1 in
-    let law = no-clock (a .update .now) (a .memory .now) (a .s) _ _ _ (ap (bounded (a .s .room)) (sym (c .before .before .before .before .before .before .before .before .before .before .before .before .before .before .before .before .read-var .ensures)) ∙ sym (c .before .before .before .before .before .before .before .before .before .before .before .before .before .before .before .within .ensures) ∙ c .before .before .before .before .before .before .before .before .before .before .before .before .before .n .given .1) _ _ _ (sym (c .before .before .before .before .before .before .before .before .before .before .before .read-client .ensures) ∙ c .before .before .before .before .before .before .before .before .before .c .given .1) (c .before .before .before .before .before .before .before .if1 .left) (sym (c .before .before .before .before .before .is-seen .ensures) ∙ c .before .before .before .before .if2 .left) _ (sym (c .before .before .before .read-clock .ensures) ∙ told) in
+    let law = no-clock (a .update .now) (a .memory .now) (a .s) _ _ _ (ap (bounded (a .s .room)) (sym (c .before .before .before .before .before .before .before .before .before .before .before .before .before .before .before .before .read-var .ensures)) ∙ sym (c .before .before .before .before .before .before .before .before .before .before .before .before .before .before .before .within .ensures) ∙ c .before .before .before .before .before .before .before .before .before .before .before .before .before .n .given .1) _ _ _ (sym (c .before .before .before .before .before .before .before .before .before .before .before .read-client .ensures) ∙ c .before .before .before .before .before .before .before .before .before .c .given .1) (c .before .before .before .before .before .before .before .if1 .left) (sym (c .before .before .before .before .before .is-among .ensures) ∙ c .before .before .before .before .if2 .left) _ (sym (c .before .before .before .read-clock .ensures) ∙ told) in
     (ap Refused (c .why3 .ensures ∙ ap whyDraw told) ∙ law .0, law .1)
 
 mul-memory : tie.Need-mul-memory
@@ -118,7 +118,7 @@ same-length-3 c = search needs
 returns-6 : tie.Need-returns-6
 returns-6 c =
     let a = c .before .before .before .before .before .before .before .before .before .before .before .before .before .before .before .before .before .before .before .before .before .args in
-    head (a .update .now) (a .memory .now) (a .s) _ _ _ (ap (bounded (a .s .room)) (sym (c .before .before .before .before .before .before .before .before .before .before .before .before .before .before .before .before .before .before .read-var .ensures)) ∙ sym (c .before .before .before .before .before .before .before .before .before .before .before .before .before .before .before .before .before .within .ensures) ∙ c .before .before .before .before .before .before .before .before .before .before .before .before .before .before .before .n .given .1) _ _ _ (sym (c .before .before .before .before .before .before .before .before .before .before .before .before .before .read-client .ensures) ∙ c .before .before .before .before .before .before .before .before .before .before .before .c .given .1) (c .before .before .before .before .before .before .before .before .before .if1 .left) (sym (c .before .before .before .before .before .before .before .is-seen .ensures) ∙ c .before .before .before .before .before .before .if2 .left) _ _ _ (sym (c .before .before .before .before .before .read-clock .ensures) ∙ c .before .before .before .k .given .1)
+    head (a .update .now) (a .memory .now) (a .s) _ _ _ (ap (bounded (a .s .room)) (sym (c .before .before .before .before .before .before .before .before .before .before .before .before .before .before .before .before .before .before .read-var .ensures)) ∙ sym (c .before .before .before .before .before .before .before .before .before .before .before .before .before .before .before .before .before .within .ensures) ∙ c .before .before .before .before .before .before .before .before .before .before .before .before .before .before .before .n .given .1) _ _ _ (sym (c .before .before .before .before .before .before .before .before .before .before .before .before .before .read-client .ensures) ∙ c .before .before .before .before .before .before .before .before .before .before .before .c .given .1) (c .before .before .before .before .before .before .before .before .before .if1 .left) (sym (c .before .before .before .before .before .before .before .is-among .ensures) ∙ c .before .before .before .before .before .before .if2 .left) _ _ _ (sym (c .before .before .before .before .before .read-clock .ensures) ∙ c .before .before .before .k .given .1)
 
 pub read-section-spec : {M : Type 1} → statement M
 read-section-spec =
@@ -136,7 +136,7 @@ read-section-spec =
     why-requires-2
     returns-2
     returns-3
-    is-seen-requires
+    is-among-requires
     same-length
     returns-4
     read-clock-requires

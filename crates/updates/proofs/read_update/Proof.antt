@@ -1,7 +1,8 @@
--- `updates::read_update` meets its contract: a walk of its MIR, by hand (tools/walkgen.py walk).
--- Assumes nothing.
-use mathlib.Core.Path.{_≡_, refl, subst}
-use Prim.Native.Nat.{ℕ, _-_, _/_}
+-- `updates::read_update` meets its contract: the ways out are a refusal before reading, one of the blocks, one of the delete set, and done; each is a case of
+-- the reading, and leaves the rows and words that this case has (Laws).
+-- A walk of its MIR by hand (tools/walkgen.py walk). Assumes nothing.
+use mathlib.Core.Path.{refl, subst}
+use Prim.Native.Nat.{ℕ, _-_}
 use native.Mathlib.Omega.{arith}
 use borrow.Author.Tests.{not-true, not-false}
 use mathlib.Core.List.{List, [], _∷_, _++_}
@@ -43,22 +44,22 @@ use Rattle.deletes.specs.DeleteSet.{setOf, wordsOf as setWords}
 use Rattle.reader.specs.Reader.{filledOf, rowsOf as filledRows}
 use Rattle.table.specs.Rows.{clearedFrom}
 use Rattle.update.specs.Update.{blocksOf}
-use Rattle.updates.specs.Promises.{answer, early, reading, refused, rowsOf, wordsOf}
+use Rattle.updates.specs.Promises.{answer, early, refused, ReadUpdate}
 use Rattle.reader.proofs.Sorts.{decoder·state, refusal, refusal-number, filled, filled·rows-0, filled·rows-1, filled·refused-0, filled-cases}
 use Rattle.table.proofs.Sorts.{block}
 use Rattle.updates.proofs.Sorts.{deletes·set, deletes·set·ranges-0, deletes·set·refused-0, deletes·set-cases, update, update-has}
 use Rattle.updates.proofs.Laws.{on-early, on-blocks, on-set, on-ranges}
 use Rattle.table.proofs.Cards.{Table·clear, table·clear! }
-use Rattle.updates.proofs.Cards.{Updates·refused-early, Updates·none, Reader·read-blocks, Deletes·read-delete-set, Ranges·clear, updates·refused-early!, updates·none!, reader·read-blocks!, deletes·read-delete-set!, ranges·clear! }
+use Rattle.updates.proofs.Cards.{Updates·refused-early, Updates·none, Reader·read-blocks, Deletes·read-delete-set, Numbers·words·clear, updates·refused-early!, updates·none!, reader·read-blocks!, deletes·read-delete-set!, numbers·words·clear! }
 use Rattle.updates.proofs.refused_early.Symbol as updates·refused-early-def
 use Rattle.updates.proofs.refused_early.Symbol.{name as #updates·refused-early}
 use Rattle.updates.proofs.refused_early.Met as updates·refused-early-thm
 use Rattle.table.proofs.clear.Symbol as table·clear-def
 use Rattle.table.proofs.clear.Symbol.{name as #table·clear}
 use Rattle.table.proofs.clear.Met as table·clear-thm
-use Rattle.ranges.proofs.clear.Symbol as ranges·clear-def
-use Rattle.ranges.proofs.clear.Symbol.{name as #ranges·clear}
-use Rattle.ranges.proofs.clear.Met as ranges·clear-thm
+use Rattle.numbers.proofs.words.clear.Symbol as numbers·words·clear-def
+use Rattle.numbers.proofs.words.clear.Symbol.{name as #numbers·words·clear}
+use Rattle.numbers.proofs.words.clear.Met as numbers·words·clear-thm
 use Rattle.updates.proofs.none.Symbol as updates·none-def
 use Rattle.updates.proofs.none.Symbol.{name as #updates·none}
 use Rattle.updates.proofs.none.Met as updates·none-thm
@@ -118,12 +119,12 @@ module _ {M : Type 1} (𝓤 : URA M) (H : Heap 𝓤) (A : Atoms 𝓤) (W : Given
 
   -- the contract
   abbrev Right : Update → List Block → List ℕ → Type 0
-  Right r rows₁ ranges₁ = (r ≡ answer (reading form₀ update₀ (length rows₀) (length ranges₀ / 3))) × (rows₁ ≡ rowsOf (length rows₀) (reading form₀ update₀ (length rows₀) (length ranges₀ / 3))) × (ranges₁ ≡ wordsOf (length ranges₀) (reading form₀ update₀ (length rows₀) (length ranges₀ / 3)))
+  Right r rows₁ ranges₁ = ReadUpdate form₀ update₀ rows₀ ranges₀ r rows₁ ranges₁
 
   exits : (r : Update) (rows₁ : List Block) (ranges₁ : List ℕ) → Has update r → Right r rows₁ ranges₁ → ent 𝓤 (sem 𝓤 H A (refs (hs rows₁ ranges₁))) (Post (update .val r))
   exits r rows₁ ranges₁ g e = leaves 𝓤 H A W (ps rows₁ ranges₁) (refl, (refl, tt)) update r g (Right r rows₁ ranges₁) e (Post (update .val r)) (λ fit. ends-at 𝓤 H A f.ended (stays fs) (f.clauses 𝓤 H A mem run) W ((κs, qs, bounds, a, at-entry), tt) (update .val r) r (ends (ps rows₁ ranges₁)) fit)
 
-  module _ (𝓣 : Tables 𝓤 H) (known-updates·refused-early : Triple 𝓤 (𝓣 .C #updates·refused-early) (Updates·refused-early 𝓤 H A mem run)) (known-table·clear : Triple 𝓤 (𝓣 .C #table·clear) (Table·clear 𝓤 H A mem run)) (known-ranges·clear : Triple 𝓤 (𝓣 .C #ranges·clear) (Ranges·clear 𝓤 H A mem run)) (known-updates·none : Triple 𝓤 (𝓣 .C #updates·none) (Updates·none 𝓤 H A mem run)) (known-reader·read-blocks : Triple 𝓤 (𝓣 .C #reader·read-blocks) (Reader·read-blocks 𝓤 H A mem run)) (known-deletes·read-delete-set : Triple 𝓤 (𝓣 .C #deletes·read-delete-set) (Deletes·read-delete-set 𝓤 H A mem run)) where
+  module _ (𝓣 : Tables 𝓤 H) (known-updates·refused-early : Triple 𝓤 (𝓣 .C #updates·refused-early) (Updates·refused-early 𝓤 H A mem run)) (known-table·clear : Triple 𝓤 (𝓣 .C #table·clear) (Table·clear 𝓤 H A mem run)) (known-numbers·words·clear : Triple 𝓤 (𝓣 .C #numbers·words·clear) (Numbers·words·clear 𝓤 H A mem run)) (known-updates·none : Triple 𝓤 (𝓣 .C #updates·none) (Updates·none 𝓤 H A mem run)) (known-reader·read-blocks : Triple 𝓤 (𝓣 .C #reader·read-blocks) (Reader·read-blocks 𝓤 H A mem run)) (known-deletes·read-delete-set : Triple 𝓤 (𝓣 .C #deletes·read-delete-set) (Deletes·read-delete-set 𝓤 H A mem run)) where
     walk : ent 𝓤 (onEntry 𝓤 H A f.signature κs qs a at-entry) (WpFn 𝓤 H (𝓣 .C) (𝓣 .Λ) fn (vals (ps rows₀ ranges₀)) Post)
     walk =
         qed W (raw (onEntry 𝓤 H A f.signature κs qs a at-entry) ∷ []) ∵ use1 W (‵ (refs (hs rows₀ ranges₀))) (enters 𝓤 H A W (ps rows₀ ranges₀)) $ enter ! (𝓣 .C) (𝓣 .Λ) fn (vals (ps rows₀ ranges₀)) _ $
@@ -147,7 +148,7 @@ module _ {M : Type 1} (𝓤 : URA M) (H : Heap 𝓤) (A : Atoms 𝓤) (W : Given
         flat ! $
         assigns ! (agg ! (and-then ! (load ! (from ! (stop !)) (look ! 31 refl)) (and-then ! (load ! (from ! (fld ! refl (stop !))) (look-in ! 53 (sub ! 1 refl (whole !)))) (no-more !)))) (from ! (stop !)) (init ! 29 refl (tt, (tt, (record { fits = are .1 .1 .1 .0 .0 .1 .0 }, tt)))) $
         flat ! $
-        calls-by ! (fmOf 𝓤 H (W .laws) 𝓣) (2 ∷ []) (hs (clearedFrom 0 rows₀) ranges₀) (ranges·clear! 𝓤 H A mem run (𝓣 .C) known-ranges·clear at-ranges ranges₀ 0 (refl, lit< tt) (omega arith)) refl (λ P. and-then ! (load ! (from ! (stop !)) (look ! 29 refl)) (and-then ! (lit ! tt) (no-more !))) (λ g₄.
+        calls-by ! (fmOf 𝓤 H (W .laws) 𝓣) (2 ∷ []) (hs (clearedFrom 0 rows₀) ranges₀) (numbers·words·clear! 𝓤 H A mem run (𝓣 .C) known-numbers·words·clear at-ranges ranges₀ 0 (refl, lit< tt) (omega arith)) refl (λ P. and-then ! (load ! (from ! (stop !)) (look ! 29 refl)) (and-then ! (lit ! tt) (no-more !))) (λ g₄.
         land ! (from ! (stop !)) (store ! 37 refl (g₄ .1 .0)) $
         flat ! $
         calls-by ! (fmOf 𝓤 H (W .laws) 𝓣) ([]) (hs (clearedFrom 0 rows₀) (take 0 ranges₀ ++ replicate (length ranges₀ - 0) 0)) (updates·none! 𝓤 H A mem run (𝓣 .C) known-updates·none (early form₀ update₀) (g₁ .0)) refl (λ P. and-then ! (load ! (from ! (stop !)) (look ! 51 refl)) (no-more !)) (λ g₅.
@@ -212,7 +213,7 @@ module _ {M : Type 1} (𝓤 : URA M) (H : Heap 𝓤) (A : Atoms 𝓤) (W : Given
         flat ! $
         assigns ! (agg ! (and-then ! (load ! (from ! (stop !)) (look ! 3 refl)) (and-then ! (load ! (from ! (fld ! refl (stop !))) (look-in ! 53 (sub ! 1 refl (whole !)))) (no-more !)))) (from ! (stop !)) (init ! 1 refl (tt, (tt, (record { fits = are .1 .1 .1 .0 .0 .1 .0 }, tt)))) $
         flat ! $
-        calls-by ! (fmOf 𝓤 H (W .laws) 𝓣) (2 ∷ []) (hs (filledRows (length rows₀) (blocksOf form₀ update₀)) ranges₀) (ranges·clear! 𝓤 H A mem run (𝓣 .C) known-ranges·clear at-ranges ranges₀ 0 (refl, lit< tt) (omega arith)) refl (λ P. and-then ! (load ! (from ! (stop !)) (look ! 1 refl)) (and-then ! (lit ! tt) (no-more !))) (λ g₁₂.
+        calls-by ! (fmOf 𝓤 H (W .laws) 𝓣) (2 ∷ []) (hs (filledRows (length rows₀) (blocksOf form₀ update₀)) ranges₀) (numbers·words·clear! 𝓤 H A mem run (𝓣 .C) known-numbers·words·clear at-ranges ranges₀ 0 (refl, lit< tt) (omega arith)) refl (λ P. and-then ! (load ! (from ! (stop !)) (look ! 1 refl)) (and-then ! (lit ! tt) (no-more !))) (λ g₁₂.
         land ! (from ! (stop !)) (init ! 5 refl (g₁₂ .1 .0)) $
         calls-by ! (fmOf 𝓤 H (W .laws) 𝓣) ([]) (hs (filledRows (length rows₀) (blocksOf form₀ update₀)) (take 0 ranges₀ ++ replicate (length ranges₀ - 0) 0)) (updates·none! 𝓤 H A mem run (𝓣 .C) known-updates·none (x₇ .number) (refusal-number x₇ (filled·refused-0 x₇ (subst (Has filled) e₇ (g₆ .0))))) refl (λ P. and-then ! (load ! (from ! (fld ! refl (stop !))) (look-in ! 41 (sub ! 0 refl (whole !)))) (no-more !)) (λ g₁₃.
         land ! (from ! (stop !)) (init ! 21 refl (g₁₃ .1 .0)) $
@@ -232,7 +233,7 @@ read-update-spec 𝓤 H 𝓜 𝓖 𝓡 =
     (walk 𝓤 H A W (𝓜 .mem) (𝓡 .run) κs qs bounds a are 𝓣
     (cited 𝓤 H (Updates·refused-early 𝓤 H A (𝓜 .mem) (𝓡 .run)) 𝓜 𝓡 code.env #updates·refused-early updates·refused-early-def.routine code.calls-updates·refused-early (updates·refused-early-thm.met 𝓤 H 𝓜 𝓖 𝓡))
     (cited 𝓤 H (Table·clear 𝓤 H A (𝓜 .mem) (𝓡 .run)) 𝓜 𝓡 code.env #table·clear table·clear-def.routine code.calls-table·clear (table·clear-thm.met 𝓤 H 𝓜 𝓖 𝓡))
-    (cited 𝓤 H (Ranges·clear 𝓤 H A (𝓜 .mem) (𝓡 .run)) 𝓜 𝓡 code.env #ranges·clear ranges·clear-def.routine code.calls-ranges·clear (ranges·clear-thm.met 𝓤 H 𝓜 𝓖 𝓡))
+    (cited 𝓤 H (Numbers·words·clear 𝓤 H A (𝓜 .mem) (𝓡 .run)) 𝓜 𝓡 code.env #numbers·words·clear numbers·words·clear-def.routine code.calls-numbers·words·clear (numbers·words·clear-thm.met 𝓤 H 𝓜 𝓖 𝓡))
     (cited 𝓤 H (Updates·none 𝓤 H A (𝓜 .mem) (𝓡 .run)) 𝓜 𝓡 code.env #updates·none updates·none-def.routine code.calls-updates·none (updates·none-thm.met 𝓤 H 𝓜 𝓖 𝓡))
     (cited 𝓤 H (Reader·read-blocks 𝓤 H A (𝓜 .mem) (𝓡 .run)) 𝓜 𝓡 code.env #reader·read-blocks reader·read-blocks-def.routine code.calls-reader·read-blocks (reader·read-blocks-thm.met 𝓤 H 𝓜 𝓖 𝓡))
     (cited 𝓤 H (Deletes·read-delete-set 𝓤 H A (𝓜 .mem) (𝓡 .run)) 𝓜 𝓡 code.env #deletes·read-delete-set deletes·read-delete-set-def.routine code.calls-deletes·read-delete-set (deletes·read-delete-set-thm.met 𝓤 H 𝓜 𝓖 𝓡)))))

@@ -25,13 +25,13 @@ returns c =
     let told = c .before .enum-told .given .1 in
     rw (← c .before .before .before .read-client .ensures, told) (ap next.Refused (c .why .ensures ∙ ap whyDraw told))
 
-is-seen-requires : tie.Need-is-seen-requires
-is-seen-requires c κs = search needs
+is-among-requires : tie.Need-is-among-requires
+is-among-requires c κs = search needs
 
 returns-2 : tie.Need-returns-2
 unfolding nextEntry withClient
 returns-2 c =
-    rw (← c .before .before .before .before .before .read-client .ensures, c .before .before .before .c .given .1, ← c .before .is-seen .ensures, c .if1 .taken)
+    rw (← c .before .before .before .before .before .read-client .ensures, c .before .before .before .c .given .1, ← c .before .is-among .ensures, c .if1 .taken)
 
 read-clock-requires : tie.Need-read-clock-requires
 read-clock-requires c κs = search needs
@@ -49,12 +49,12 @@ returns-3 : tie.Need-returns-3
 unfolding nextEntry withClient withClock
 returns-3 c =
     let told = c .before .enum-told2 .given .1 in
-    rw (← c .before .before .before .before .before .before .before .before .before .read-client .ensures, c .before .before .before .before .before .before .before .c .given .1, ← c .before .before .before .before .before .is-seen .ensures, c .before .before .before .before .if1 .left, ← c .before .before .before .read-clock .ensures, told) (ap next.Refused (c .why2 .ensures ∙ ap whyDraw told))
+    rw (← c .before .before .before .before .before .before .before .before .before .read-client .ensures, c .before .before .before .before .before .before .before .c .given .1, ← c .before .before .before .before .before .is-among .ensures, c .before .before .before .before .if1 .left, ← c .before .before .before .read-clock .ensures, told) (ap next.Refused (c .why2 .ensures ∙ ap whyDraw told))
 
 returns-4 : tie.Need-returns-4
 unfolding nextEntry withClient withClock
 returns-4 c =
-    rw (← c .before .before .before .before .before .before .before .before .before .read-client .ensures, c .before .before .before .before .before .before .before .c .given .1, ← c .before .before .before .before .before .is-seen .ensures, c .before .before .before .before .if1 .left, ← c .before .before .before .read-clock .ensures, c .before .k .given .1)
+    rw (← c .before .before .before .before .before .before .before .before .before .read-client .ensures, c .before .before .before .before .before .before .before .c .given .1, ← c .before .before .before .before .before .is-among .ensures, c .before .before .before .before .if1 .left, ← c .before .before .before .read-clock .ensures, c .before .k .given .1)
 
 pub next-entry-spec : {M : Type 1} → statement M
 next-entry-spec =
@@ -65,7 +65,7 @@ next-entry-spec =
     enum-told
     why-requires
     returns
-    is-seen-requires
+    is-among-requires
     returns-2
     read-clock-requires
     enum-known-k

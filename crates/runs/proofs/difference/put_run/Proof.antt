@@ -1,5 +1,5 @@
 -- `difference::put_run` meets its contract: the run as a signed number and its count.
-use Prim.Native.Nat.{ℕ, _-_}
+use Prim.Native.Nat.{ℕ}
 use native.Mathlib.Omega.{arith}
 use mathlib.Core.Path.{ap}
 use lib.Dec.{ltb}

@@ -1,5 +1,4 @@
 -- `judge::far_with` meets its contract, column by column.
-use Prim.Native.Nat.{_-_}
 use borrow.Author.Tests.{le-leb, lt-leb, lt-ltb, le-ltb}
 use Rattle.runs.specs.Runs.{coding, nearKey}
 use borrow.Author.Needs.{needs}

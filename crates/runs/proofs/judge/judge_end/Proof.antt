@@ -1,5 +1,4 @@
 -- `judge::judge_end` meets its contract, test by test.
-use Prim.Native.Nat.{_-_}
 use mathlib.Core.Path.{sym, _∙_}
 use borrow.Author.Tests.{not-true, not-false}
 use Rattle.runs.specs.Writer.{sentence}

@@ -1,5 +1,4 @@
 -- `judge::judge_next` meets its contract, test by test.
-use Prim.Native.Nat.{_-_}
 use mathlib.Core.Path.{sym, _∙_}
 use borrow.Author.Tests.{lt-ltb, le-ltb, not-true, not-false}
 use Rattle.runs.specs.Writer.{keyAfter, judged}

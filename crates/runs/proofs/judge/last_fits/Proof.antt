@@ -1,5 +1,4 @@
 -- `judge::last_fits` meets its contract, column by column.
-use Prim.Native.Nat.{_-_}
 use borrow.Author.Tests.{eq-eqb, ne-eqb}
 use Rattle.runs.specs.Writer.{lastFitsIn}
 use Rattle.runs.specs.Runs.{coding, fitsLessTwo, fitsLessOne}

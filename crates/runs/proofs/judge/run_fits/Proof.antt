@@ -1,5 +1,4 @@
 -- `judge::run_fits` meets its contract, column by column.
-use Prim.Native.Nat.{_-_}
 use native.Mathlib.Omega.{arith}
 use mathlib.Core.Path.{sym, _∙_}
 use borrow.Author.Tests.{not-true, not-false}

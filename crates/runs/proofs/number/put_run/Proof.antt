@@ -1,5 +1,4 @@
 -- `number::put_run` meets its contract: the run as a signed number and its count.
-use Prim.Native.Nat.{_-_}
 use native.Mathlib.Omega.{arith}
 use mathlib.Core.Path.{ap}
 use lib.ListN.{length}

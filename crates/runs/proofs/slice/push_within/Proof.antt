@@ -1,5 +1,4 @@
 -- `slice::push_within` meets its contract: the room is what the size asks.
-use Prim.Native.Nat.{_-_}
 use native.Mathlib.Omega.{arith}
 use mathlib.Core.Path.{sym, ap, _∙_}
 use Rattle.runs.proofs.Slices.{within-on, within-full}

@@ -1,5 +1,5 @@
 -- `slice::put_all` meets its contract: the state holds the values put so far, and room that is short for them is short for all.
-use Prim.Native.Nat.{_+_, _-_}
+use Prim.Native.Nat.{_-_}
 use native.Mathlib.Omega.{arith}
 use mathlib.Core.Path.{_≡_, sym, ap, _∙_}
 use Rattle.runs.proofs.Slices.{length-take-most, PutTo, put-begin, put-on, put-full, put-over, legal-at}

@@ -1,5 +1,4 @@
 -- `slice::write_all` meets its contract: the refusal, or the column.
-use Prim.Native.Nat.{_-_}
 use native.Mathlib.Omega.{arith}
 use mathlib.Core.Path.{_≡_, sym, _∙_}
 use lib.ListN.{length}

@@ -1,5 +1,4 @@
 -- `slice::write_bytes` meets its contract: the refusal, or the column.
-use Prim.Native.Nat.{_-_}
 use mathlib.Core.Path.{_≡_, sym, _∙_}
 use lib.ListN.{length}
 use Rattle.runs.specs.declared.Column.the-variants.{Byte}

@@ -1,5 +1,4 @@
 -- `writer::finish` meets its contract: nothing, or the last run.
-use Prim.Native.Nat.{_-_}
 use native.Mathlib.Omega.{arith}
 use mathlib.Core.Path.{refl, ap}
 use lib.ListN.{length}

@@ -1,5 +1,5 @@
 -- `writer::measure` meets its contract: it goes on as `push` does.
-use Prim.Native.Nat.{ℕ, _+_, _-_}
+use Prim.Native.Nat.{ℕ, _+_}
 use mathlib.Core.Path.{ap, _∙_}
 use Rattle.runs.specs.Writer.{keyAfter}
 use Rattle.runs.proofs.Writing.{pushed-some}

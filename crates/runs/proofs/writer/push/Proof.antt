@@ -1,5 +1,4 @@
 -- `writer::push` meets its contract: a run is written where the value ends it.
-use Prim.Native.Nat.{_-_}
 use native.Mathlib.Omega.{arith}
 use mathlib.Core.Path.{_≡_, sym, ap, _∙_}
 use mathlib.Core.Bool.{true, false}

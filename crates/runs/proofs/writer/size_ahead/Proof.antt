@@ -1,5 +1,4 @@
 -- `writer::size_ahead` meets its contract: nothing, or the run that the value ends.
-use Prim.Native.Nat.{_-_}
 use native.Mathlib.Omega.{arith}
 use mathlib.Core.Path.{_≡_, sym, ap, _∙_}
 use mathlib.Core.Bool.{true, false}

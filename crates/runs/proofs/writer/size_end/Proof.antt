@@ -1,5 +1,4 @@
 -- `writer::size_end` meets its contract: nothing, or the last run.
-use Prim.Native.Nat.{_-_}
 use native.Mathlib.Omega.{arith}
 use mathlib.Core.Path.{sym, ap, _∙_}
 use lib.ListN.{length}

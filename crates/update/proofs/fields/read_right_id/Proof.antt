@@ -5,19 +5,19 @@ use borrow.Author.Needs.{needs}
 use Rattle.update.proofs.fields.read_right_id.Statement.{statement}
 use Rattle.update.proofs.fields.read_right_id.Tie as tie
 
-read-id-requires : tie.Need-read-id-requires
-read-id-requires c κs = search needs
-
-returns : tie.Need-returns
-unfolding rightIdOf
-returns c = rw (eq-eqb _ 1 (c .before .if1 .taken)) (c .read-id .ensures)
-
 read-right-id-requires : tie.Need-read-right-id-requires
 read-right-id-requires c κs = search needs
 
+returns : tie.Need-returns
+unfolding rightIdOf
+returns c = rw (eq-eqb _ 1 (c .before .if1 .taken)) (c .read-right-id .ensures)
+
+read-right-id-requires-2 : tie.Need-read-right-id-requires-2
+read-right-id-requires-2 c κs = search needs
+
 returns-2 : tie.Need-returns-2
 unfolding rightIdOf
-returns-2 c = rw (ne-eqb _ 1 (c .before .if1 .left)) (c .read-right-id .ensures)
+returns-2 c = rw (ne-eqb _ 1 (c .before .if1 .left)) (c .read-right-id2 .ensures)
 
 pub read-right-id-spec : {M : Type 1} → statement M
-read-right-id-spec = tie.close (tie.spec read-id-requires returns read-right-id-requires returns-2)
+read-right-id-spec = tie.close (tie.spec read-right-id-requires returns read-right-id-requires-2 returns-2)

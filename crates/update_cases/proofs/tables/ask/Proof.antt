@@ -1,5 +1,5 @@
--- `update_cases::tables::ask` meets its contract: a walk of its MIR, by hand (tools/walkgen.py walk).
--- Assumes nothing.
+-- `update_cases::tables::ask` is safe: so many rows are lent as there are, and what comes back is printed as it is.
+-- A walk of its MIR by hand (tools/walkgen.py walk). Assumes nothing.
 use mathlib.Core.Path.{_≡_, refl}
 use Prim.Native.Nat.{ℕ, _≤_}
 use native.Mathlib.Omega.{arith}

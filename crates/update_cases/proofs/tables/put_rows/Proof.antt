@@ -1,5 +1,5 @@
--- `update_cases::tables::put_rows` meets its contract: a walk of its MIR, by hand (tools/walkgen.py walk).
--- Assumes nothing.
+-- `update_cases::tables::put_rows` is safe: each row is fetched below the rows' length.
+-- A walk of its MIR by hand (tools/walkgen.py walk). Assumes nothing.
 use mathlib.Core.Path.{_≡_, refl}
 use Prim.Native.Nat.{ℕ, zero, _+_, _-_, _<_, _^_}
 use native.Mathlib.Omega.{arith}
