@@ -1,0 +1,2 @@
+-- What it is that a state draws tokens.
+pub mod Draws

@@ -1,0 +1,1 @@
+// No code: written tokens are drawn again, in either form.

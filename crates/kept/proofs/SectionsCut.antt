@@ -1,0 +1,181 @@
+-- A sound row that is cut: the units behind the cut take all bytes that are left, so only the cut itself can lie inside a pair, and what is left of the row is
+-- the piece's record.
+use Prim.Native.Nat.{ℕ, _+_, _-_, _≤_, _<_}
+use mathlib.Core.Path.{_≡_, refl, sym, ap, ap₂, _∙_}
+use mathlib.Core.Bool.{Bool, true, false}
+use mathlib.Core.List.{List, [], append-nil}
+use native.Mathlib.Omega.{arith}
+use lib.Dec.{ltb, eqb}
+use lib.ListN.{length, drop, length-drop}
+use lib.Seq.{length-slice}
+use borrow.Author.Tests.{lt-ltb, le-leb, eqb-true, eq-eqb}
+use Rattle.numbers.specs.Number.{pick}
+use Rattle.numbers.specs.Limits.{maxClock}
+use Rattle.text.specs.declared.Part.{Part}
+use Rattle.text.specs.declared.Taken.{Taken}
+use Rattle.text.specs.declared.Taken.the-variants as units
+use Rattle.text.specs.Utf8.{wellFormed, unitsOf, took, takeUnits}
+use Rattle.text.proofs.Cutting.{cut, found}
+use Rattle.block.specs.declared.Block.{Block}
+use Rattle.block.specs.Row.{noId, noPart}
+use Rattle.readings.specs.Sound.{bytesIn, Lies, Sound}
+use Rattle.parts.specs.Brim.{brim}
+use Rattle.kept.specs.Kept.{piece, wholePiece}
+use Rattle.kept.specs.Cut.{bytesFor, broken, before, cutPart, tornText, isWhole, partOf, shortened, begunLater, cutRow, torn}
+use Rattle.kept.specs.Plan.{cutIn, cuts, sane, leftOf, partAfter, laterPart}
+use Rattle.kept.proofs.SectionsRun.{skipOf, tornAt}
+
+not-broken : (r : Taken) → broken r ≡ false → r ≡ took (bytesFor r)
+unfolding broken bytesFor
+not-broken (units.Took b) e = refl
+not-broken (units.Refused why) e = absurd (let z : _≡_ {A = ℕ} 0 1 = cc in omega arith)
+
+part-length : (u : List ℕ) (p : Part) → Lies u p → length (bytesIn u p) ≡ p .bytes .0
+unfolding bytesIn
+part-length u p l = length-slice (p .place) (p .place + p .bytes .0) u l ∙ omega arith
+
+-- ---- the text of a sound row
+
+module _ (u : List ℕ) (b : Block) (sound : Sound u b) where
+  -- behind a cut after n units and e bytes
+  record Rest (n e : ℕ) : Type 0 where
+    within : e ≤ b .part .bytes .0
+    taken : takeUnits 9 (b .length .0 - n) (drop e (bytesIn u (b .part))) ≡ took (b .part .bytes .0 - e)
+
+  rest-taken : (n e : ℕ) → b .kind ≡ 5 → takeUnits 9 n (bytesIn u (b .part)) ≡ took e → Rest n e
+  rest-taken n e kind p =
+      let t = bytesIn u (b .part) in
+      let whole = sound .stored .text kind in
+      let c = cut 9 n e t p in
+      let formed : wellFormed (drop e t) ≡ true = c .back ∙ whole .0 in
+      let left : unitsOf (drop e t) ≡ b .length .0 - n = omega (arith, c .rest, whole .1) in
+      let bytes : length t ≡ b .part .bytes .0 = part-length u (b .part) (sound .stored .lies) in
+      let size : length (drop e t) ≡ b .part .bytes .0 - e = length-drop e t ∙ ap (λ (x : ℕ). x - e) bytes in
+      record {
+        within = omega (arith, c .within);
+        taken = ap₂ (takeUnits 9) (sym left) (sym (append-nil (drop e t))) ∙ found 9 (drop e t) [] formed ∙ ap took size;
+      }
+
+  -- ---- torn
+
+  torn-text : (n : ℕ) → b .kind ≡ 5 → tornText u (b .part) n (b .length .0 - n) ≡ broken (takeUnits 9 n (bytesIn u (b .part)))
+  unfolding tornText broken
+  torn-text n kind = go (broken (takeUnits 9 n (bytesIn u (b .part)))) refl
+    where
+      go : (t : Bool) → broken (takeUnits 9 n (bytesIn u (b .part))) ≡ t
+          → pick t true (broken (takeUnits 9 (b .length .0 - n) (drop (before (bytesIn u (b .part)) n) (bytesIn u (b .part))))) ≡ t
+      go true e = refl
+      go false e = ap broken (rest-taken n (before (bytesIn u (b .part)) n) kind (not-broken (takeUnits 9 n (bytesIn u (b .part))) e) .taken)
+
+  pub torn-first : (n : ℕ) → torn u (piece b n (b .length .0)) ≡ tornAt u b n
+  unfolding torn isWhole tornAt cuts cutIn
+  torn-first n = rw (eq-eqb (b .length .0) (b .length .0) refl) (go (eqb n 0) (eqb (b .kind) 5) refl)
+    where
+      go : (x y : Bool) → eqb (b .kind) 5 ≡ y
+          → pick (pick x true false) false (pick y (tornText u (b .part) n (b .length .0 - n)) false)
+          ≡ pick (pick x false y) (broken (takeUnits 9 n (bytesIn u (b .part)))) false
+      go true y e = refl
+      go false true e = torn-text n (eqb-true (b .kind) 5 e)
+      go false false e = refl
+
+  pub torn-whole : torn u (wholePiece b) ≡ false
+  unfolding torn isWhole
+  torn-whole = rw (eq-eqb (b .length .0) (b .length .0) refl)
+
+  -- ---- what is left of it
+
+  -- a cut that is not torn
+  module _ (n : ℕ) (whole : tornAt u b n ≡ false) where
+    cut-took : cuts b n ≡ true → takeUnits 9 n (bytesIn u (b .part)) ≡ took (skipOf u b n)
+    unfolding tornAt skipOf cutIn
+    cut-took c = rw c (not-broken (takeUnits 9 n (bytesIn u (b .part))) (rw c at whole))
+
+    skip-none : cuts b n ≡ false → skipOf u b n ≡ 0
+    unfolding skipOf
+    skip-none c = rw c
+
+    cuts-text : cuts b n ≡ true → b .kind ≡ 5
+    unfolding cuts
+    cuts-text c = go (eqb n 0) c
+      where
+        go : (x : Bool) → pick x false (eqb (b .kind) 5) ≡ true → b .kind ≡ 5
+        go true e = absurd (let z : _≡_ {A = ℕ} 0 1 = cc in omega arith)
+        go false e = eqb-true (b .kind) 5 e
+
+    text-cuts : eqb n 0 ≡ false → eqb (b .kind) 5 ≡ true → cuts b n ≡ true
+    unfolding cuts
+    text-cuts some kind = rw some kind
+
+    pub skip-within : skipOf u b n ≤ b .part .bytes .0
+    skip-within = go (cuts b n) refl
+      where
+        go : (x : Bool) → cuts b n ≡ x → skipOf u b n ≤ b .part .bytes .0
+        go true c = rest-taken n (skipOf u b n) (cuts-text c) (cut-took c) .within
+        go false c = omega (arith, skip-none c)
+
+    pub first-sane : length u < brim → n ≤ b .length .0 → sane b n (skipOf u b n) ≡ true
+    unfolding sane
+    first-sane short l =
+        rw (le-leb n (b .length .0) l, le-leb (b .clock + b .length .0) maxClock (sound .end), le-leb (skipOf u b n) (b .part .bytes .0) skip-within)
+        (lt-ltb (b .part .place + b .part .bytes .0) brim (omega (arith, sound .stored .lies)))
+
+    part-left : eqb n 0 ≡ false → partAfter b (skipOf u b n) ≡ partOf u (piece b n (b .length .0))
+    unfolding partAfter partOf cutPart bytesFor
+    part-left some = go (eqb (b .kind) 5) refl
+      where
+        go : (x : Bool) → eqb (b .kind) 5 ≡ x
+            → pick x (record { place = b .part .place + skipOf u b n; bytes = record { 0 = b .part .bytes .0 - skipOf u b n } }) (b .part)
+            ≡ pick x (cutPart u (b .part) n (b .length .0 - n)) (b .part)
+        go true k =
+            let t = bytesIn u (b .part) in
+            let c : cuts b n ≡ true = text-cuts some k in
+            let e = skipOf u b n in
+            let p = cut-took c in
+            let first : e ≡ before t n = sym (ap bytesFor p) in
+            let rest : b .part .bytes .0 - e ≡ before (drop (before t n) t) (b .length .0 - n) =
+            sym (ap bytesFor (rest-taken n e (cuts-text c) p .taken)) ∙ ap (λ (x : ℕ). before (drop x t) (b .length .0 - n)) first in
+            let part : ℕ → ℕ → Part = λ x y. record { place = b .part .place + x; bytes = record { 0 = y } } in
+            ap₂ part first rest
+        go false k = refl
+
+    -- the piece that is left is the row cut
+    pub first-left : laterPart b n (skipOf u b n) ≡ cutRow u (piece b n (b .length .0))
+    unfolding laterPart cutRow isWhole
+    first-left = rw (eq-eqb (b .length .0) (b .length .0) refl) (go (eqb n 0) refl)
+      where
+        later : Part → Block
+        later part = record {
+          client = b .client;
+          clock = b .clock + n;
+          length = record { 0 = b .length .0 - n };
+          kind = b .kind;
+          «has_left» = ltb 2 (b .kind);
+          left = leftOf b n;
+          «has_right» = b .«has_right»;
+          right = b .right;
+          «has_parent» = false;
+          parent = noId;
+          «has_name» = false;
+          name = noPart;
+          «has_key» = b .«has_key»;
+          key = b .key;
+          part = part;
+        }
+
+        go : (x : Bool) → eqb n 0 ≡ x
+            → pick x b (later (partAfter b (skipOf u b n)))
+            ≡ pick (pick x true false) b (pick x (shortened u (piece b n (b .length .0))) (begunLater u (piece b n (b .length .0))))
+        go true e = refl
+        go false e = ap later (part-left e)
+
+  -- ---- a whole row
+
+  pub whole-sane : length u < brim → sane b 0 0 ≡ true
+  unfolding sane
+  whole-sane short =
+      rw (le-leb 0 (b .length .0) (omega arith), le-leb (b .clock + b .length .0) maxClock (sound .end), le-leb 0 (b .part .bytes .0) (omega arith))
+      (lt-ltb (b .part .place + b .part .bytes .0) brim (omega (arith, sound .stored .lies)))
+
+  pub whole-left : laterPart b 0 0 ≡ cutRow u (wholePiece b)
+  unfolding laterPart cutRow isWhole
+  whole-left = rw (eq-eqb (b .length .0) (b .length .0) refl)

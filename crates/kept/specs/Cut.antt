@@ -1,0 +1,82 @@
+-- A piece of a block as a record. A piece that does not begin with its block has the id before it as its left id, and no parent; its key is no longer
+-- spelled, but the info byte still says that it had one. A text is cut by its units.
+use Prim.Native.Nat.{ℕ, _+_, _-_}
+use mathlib.Core.Bool.{Bool, true, false}
+use mathlib.Core.List.{List, [], _∷_}
+use lib.Dec.{ltb, eqb}
+use lib.ListN.{drop}
+use Rattle.numbers.specs.Number.{pick}
+use Rattle.text.specs.declared.Part.{Part}
+use Rattle.text.specs.declared.Taken.{Taken}
+use Rattle.text.specs.declared.Taken.the-variants as units
+use Rattle.text.specs.Utf8.{takeUnits}
+use Rattle.block.specs.declared.Id.{Id}
+use Rattle.block.specs.declared.Block.{Block}
+use Rattle.block.specs.Row.{noId, noPart}
+use Rattle.readings.specs.Sound.{bytesIn}
+use Rattle.kept.specs.Kept.{Piece, Section}
+
+-- ---- a text's bytes, by units; 9 inside a pair
+
+unfoldable pub bytesFor : Taken → ℕ
+bytesFor (units.Took b) = b .0
+bytesFor (units.Refused why) = 0
+
+unfoldable pub broken : Taken → Bool
+broken (units.Took b) = false
+broken (units.Refused why) = true
+
+-- the bytes that the first n units take
+abbrev pub before : List ℕ → ℕ → ℕ
+before t n = bytesFor (takeUnits 9 n t)
+
+-- the part of a text from unit `from` on, `n` units
+unfoldable pub cutPart : List ℕ → Part → ℕ → ℕ → Part
+cutPart u p from n =
+    let t = bytesIn u p in
+    record { place = p .place + before t from; bytes = record { 0 = before (drop (before t from) t) n } }
+
+-- whether one of its ends lies inside a pair
+unfoldable pub tornText : List ℕ → Part → ℕ → ℕ → Bool
+tornText u p from n =
+    let t = bytesIn u p in
+    pick (broken (takeUnits 9 from t)) true (broken (takeUnits 9 n (drop (before t from) t)))
+
+-- ---- a piece
+
+unfoldable pub isWhole : Piece → Bool
+isWhole p = pick (eqb (p .from) 0) (eqb (p .to) (p .row .length .0)) false
+
+-- what a text has left; all else keeps its part
+unfoldable pub partOf : List ℕ → Piece → Part
+partOf u p = pick (eqb (p .row .kind) 5) (cutPart u (p .row .part) (p .from) (p .to - p .from)) (p .row .part)
+
+abbrev pub shortened : List ℕ → Piece → Block
+shortened u p =
+    let b = p .row in
+    record { client = b .client; clock = b .clock; length = record { 0 = p .to }; kind = b .kind; «has_left» = b .«has_left»; left = b .left; «has_right» = b .«has_right»; right = b .right; «has_parent» = b .«has_parent»; parent = b .parent; «has_name» = b .«has_name»; name = b .name; «has_key» = b .«has_key»; key = b .key; part = partOf u p }
+
+-- GC (1) and Skip (2) have no ids
+abbrev pub idBefore : Piece → Id
+idBefore p = pick (ltb 2 (p .row .kind)) (record { client = p .row .client; clock = p .row .clock + p .from - 1 }) noId
+
+abbrev pub begunLater : List ℕ → Piece → Block
+begunLater u p =
+    let b = p .row in
+    record { client = b .client; clock = b .clock + p .from; length = record { 0 = p .to - p .from }; kind = b .kind; «has_left» = ltb 2 (b .kind); left = idBefore p; «has_right» = b .«has_right»; right = b .right; «has_parent» = false; parent = noId; «has_name» = false; name = noPart; «has_key» = b .«has_key»; key = b .key; part = partOf u p }
+
+unfoldable pub cutRow : List ℕ → Piece → Block
+cutRow u p = pick (isWhole p) (p .row) (pick (eqb (p .from) 0) (shortened u p) (begunLater u p))
+
+-- a diff would cut inside a pair
+unfoldable pub torn : List ℕ → Piece → Bool
+torn u p = pick (isWhole p) false (pick (eqb (p .row .kind) 5) (tornText u (p .row .part) (p .from) (p .to - p .from)) false)
+
+-- one of these would
+unfoldable pub tornPieces : List ℕ → List Piece → Bool
+tornPieces u [] = false
+tornPieces u (p ∷ ps) = pick (torn u p) true (tornPieces u ps)
+
+unfoldable pub anyTorn : List ℕ → List Section → Bool
+anyTorn u [] = false
+anyTorn u (s ∷ ss) = pick (tornPieces u (s .pieces)) true (anyTorn u ss)

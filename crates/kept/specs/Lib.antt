@@ -1,0 +1,4 @@
+-- What a diff keeps (Kept), a piece of a block as a record (Cut), and how rows are planned and gone through (Plan).
+pub mod Kept
+pub mod Cut
+pub mod Plan

@@ -1,0 +1,2 @@
+-- The bound below which all places stay.
+pub mod Brim

@@ -1,0 +1,3 @@
+-- What the blocks and the ranges of an update have, whatever the update.
+pub mod Groups
+pub mod Sound

@@ -1,0 +1,98 @@
+-- What every block of an update has: its numbers within the limits, its parts inside the update, texts that are UTF-8 of so many units, and nothing
+-- where nothing was read. And how the blocks of one update lie to each other.
+use Prim.Native.Nat.{ℕ, _+_, _≤_, _<_}
+use mathlib.Core.Path.{_≡_}
+use mathlib.Core.Logic.{_⊎_, _≢_}
+use mathlib.Core.Bool.{Bool, true, false}
+use mathlib.Core.List.{List, [], _∷_}
+use lib.ListN.{length}
+use lib.Seq.{slice}
+use Rattle.numbers.specs.Number.{pick}
+use Rattle.numbers.specs.Limits.{maxClock, maxValue}
+use Rattle.text.specs.declared.Part.{Part}
+use Rattle.text.specs.Utf8.{wellFormed, unitsOf}
+use Rattle.block.specs.declared.Id.{Id}
+use Rattle.block.specs.declared.Block.{Block}
+use Rattle.block.specs.Row.{noId, noPart}
+
+-- ---- a part and an id
+
+-- the bytes of a part of u
+unfoldable pub bytesIn : List ℕ → Part → List ℕ
+bytesIn u p = slice (p .place) (p .place + p .bytes .0) u
+
+abbrev pub Lies : List ℕ → Part → Type 0
+Lies u p = p .place + p .bytes .0 ≤ length u
+
+pub record SoundId (there : Bool) (i : Id) : Type 0 where
+  pub client : i .client ≤ maxValue
+  pub clock : i .clock ≤ maxClock
+  pub absent : there ≡ false → i ≡ noId
+
+pub record SoundText (u : List ℕ) (there : Bool) (p : Part) : Type 0 where
+  pub lies : Lies u p
+  pub formed : wellFormed (bytesIn u p) ≡ true
+  pub absent : there ≡ false → p ≡ noPart
+
+-- ---- a block
+
+unfoldable pub linked : Block → Bool
+linked b = pick (b .«has_left») true (b .«has_right»)
+
+-- GC and Skip have nothing beside their length; an item has ids beside it, or else a parent, by name or by id, and perhaps a key
+pub record Shape (b : Block) : Type 0 where
+  pub bare : b .kind ≤ 2 → (linked b ≡ false) × (b .«has_parent» ≡ false) × (b .«has_name» ≡ false) × (b .«has_key» ≡ false)
+  pub rootless : 2 < b .kind → linked b ≡ true → (b .«has_parent» ≡ false) × (b .«has_name» ≡ false) × (b .«has_key» ≡ false)
+  pub rooted : 2 < b .kind → linked b ≡ false → b .«has_name» ≡ pick (b .«has_parent») false true
+
+-- kinds: gc 1, skip 2, deleted 3, binary 4, text 5
+pub record Stored (u : List ℕ) (b : Block) : Type 0 where
+  pub lies : Lies u (b .part)
+  pub nothing : b .kind ≤ 3 → b .part ≡ noPart
+  pub binary : b .kind ≡ 4 → b .length .0 ≡ 1
+  pub text : b .kind ≡ 5 → (wellFormed (bytesIn u (b .part)) ≡ true) × (unitsOf (bytesIn u (b .part)) ≡ b .length .0)
+  pub some : 2 < b .kind → 0 < b .length .0
+
+pub record Sound (u : List ℕ) (b : Block) : Type 0 where
+  pub client : b .client ≤ maxValue
+  pub end : b .clock + b .length .0 ≤ maxClock
+  pub kind : (1 ≤ b .kind) × (b .kind ≤ 5)
+  pub left : SoundId (b .«has_left») (b .left)
+  pub right : SoundId (b .«has_right») (b .right)
+  pub parent : SoundId (b .«has_parent») (b .parent)
+  pub name : SoundText u (b .«has_name») (b .name)
+  pub key : SoundText u (b .«has_key») (b .key)
+  pub shape : Shape b
+  pub stored : Stored u b
+
+-- ---- blocks in a row
+
+abbrev pub owner : Block → ℕ
+owner b = b .client
+
+abbrev pub All : {A : Type 0} → (A → Type 0) → List A → Type 0
+All P [] = Unit {0}
+All P (a ∷ rest) = P a × All P rest
+
+-- a block starts where its client's block before it ended
+unfoldable pub Follows : Block → List Block → Type 0
+Follows b [] = Unit {0}
+Follows b (c ∷ cs) = c .client ≡ b .client → c .clock ≡ b .clock + b .length .0
+
+-- a client's blocks stand together
+unfoldable pub Stays : Block → List Block → Type 0
+Stays b [] = Unit {0}
+Stays b (c ∷ cs) = (c .client ≡ b .client) ⊎ All (λ (d : Block). d .client ≢ b .client) (c ∷ cs)
+
+unfoldable pub Ordered : List Block → Type 0
+Ordered [] = Unit {0}
+Ordered (b ∷ bs) = Follows b bs × Stays b bs × Ordered bs
+
+-- blocks of one client, each starting where the one before ended
+unfoldable pub Adjoins : Block → List Block → Type 0
+Adjoins b [] = Unit {0}
+Adjoins b (c ∷ cs) = (c .client ≡ b .client) × (c .clock ≡ b .clock + b .length .0)
+
+unfoldable pub Chain : List Block → Type 0
+Chain [] = Unit {0}
+Chain (b ∷ bs) = Adjoins b bs × Chain bs

@@ -1,0 +1,25 @@
+-- `write_parent_info` meets its contract: a parent info has a column, and is no info.
+use native.Mathlib.Omega.{arith}
+use mathlib.Core.Path.{refl}
+use Rattle.tokens.specs.Tokens.{inLine}
+use borrow.Author.Needs.{needs}
+use Rattle.tokens.proofs.fields.write_parent_info.Statement.{statement}
+use Rattle.tokens.proofs.fields.write_parent_info.Tie as tie
+
+write-field-requires : tie.Need-write-field-requires
+unfolding inLine
+write-field-requires c κs = (c .before .before .pre, refl, λ p. omega arith)
+
+same-length : tie.Need-same-length
+same-length c = search needs
+
+returns : tie.Need-returns
+returns c = search needs
+
+pub write-parent-info-spec : {M : Type 1} → statement M
+write-parent-info-spec =
+    tie.close
+    (tie.spec
+    write-field-requires
+    same-length
+    returns)

@@ -1,0 +1,82 @@
+-- `put_part` meets its contract: at the brim, without room, with room.
+use Prim.Native.Nat.{_+_}
+use native.Mathlib.Omega.{arith}
+use mathlib.Core.Path.{_≡_, sym, _∙_}
+use mathlib.Core.Bool.{true}
+use borrow.Author.Tests.{not-true, not-false, leb-true}
+use lib.Dec.{leb}
+use lib.ListN.{length}
+use Rattle.readings.specs.Sound.{bytesIn}
+use Rattle.tokens.proofs.Laying.{at-brim, moved-on, bytes-short, bytes-laid}
+use Rattle.tokens.proofs.Parts.{part-slice}
+use borrow.Author.Needs.{needs}
+use Rattle.tokens.proofs.put_part.Statement.{statement}
+use Rattle.tokens.proofs.put_part.Tie as tie
+
+returns : tie.Need-returns
+returns c = let a = c .before .before .before .before .args in at-brim (a .out .now) (a .e) (bytesIn (a .update .now) (a .part)) (c .if1 .taken)
+
+bytes-inside-requires : tie.Need-bytes-inside-requires
+bytes-inside-requires c κs = search needs
+
+add-next : tie.Need-add-next
+add-next c = search needs
+
+fits-requires : tie.Need-fits-requires
+fits-requires c κs = search needs
+
+moved-requires : tie.Need-moved-requires
+moved-requires c κs = search needs
+
+returns-2 : tie.Need-returns-2
+returns-2 c =
+    let a = c .before .before .before .before .before .before .before .before .args in
+    let b = bytesIn (a .update .now) (a .part) in
+    let n = c .before .before .before .bytes-inside in
+    let f = c .before .before .fits2 in (
+      c .moved .ensures ∙ moved-on (a .out .now) (a .e) b (a .e .run .at + n .result) (c .before .before .before .before .if1 .left) (omega (arith, n .ensures .0)),
+      bytes-short (a .out .now) (a .e) b (n .result) (n .ensures .0) (sym (f .ensures) ∙ not-true (f .result) (c .before .if2 .taken)),
+    )
+
+-- there is room
+room : (c : tie.Else2)
+    → leb (c .before .before .before .before .before .before .before .args .e .run .at + c .before .before .bytes-inside .result) (length (c .before .before .before .before .before .before .before .args .out .now)) ≡ true
+room c = let f = c .before .fits2 in sym (f .ensures) ∙ not-false (f .result) (c .if2 .left)
+
+copy-requires : tie.Need-copy-requires
+copy-requires c κs =
+    let a = c .before .before .before .before .before .before .before .before .args in
+    let n = c .before .before .before .bytes-inside in
+    (leb-true (a .e .run .at + n .result) (length (a .out .now)) (room (c .before)), n .ensures .1)
+
+moved-requires-2 : tie.Need-moved-requires-2
+moved-requires-2 c κs = search needs
+
+same-length : tie.Need-same-length
+same-length c = search needs
+
+returns-3 : tie.Need-returns-3
+returns-3 c =
+    let a = c .before .before .before .before .before .before .before .before .before .before .before .before .args in
+    let u = a .update .now in
+    let b = bytesIn u (a .part) in
+    let n = c .before .before .before .before .before .before .before .bytes-inside in
+    let low = c .before .before .before .before .before .before .before .before .if1 .left in (
+      c .moved2 .ensures ∙ moved-on (a .out .now) (a .e) b (a .e .run .at + n .result) low (omega (arith, n .ensures .0)),
+      c .before .before .before .copy .ensures ∙ rw (part-slice u (a .part) (n .result) (n .ensures .0)) (bytes-laid (a .out .now) (a .e) b (n .result) low (n .ensures .0) (room (c .before .before .before .before .before))),
+    )
+
+pub put-part-spec : {M : Type 1} → statement M
+put-part-spec =
+    tie.close
+    (tie.spec
+    returns
+    bytes-inside-requires
+    add-next
+    fits-requires
+    moved-requires
+    returns-2
+    copy-requires
+    moved-requires-2
+    same-length
+    returns-3)
