@@ -1,0 +1,173 @@
+-- A cursor goes through the rows that a plan names: what it has before it, row by row.
+use Prim.Native.Nat.{ℕ, zero, suc, _+_, _-_, _*_, _≤_, _<_}
+use mathlib.Core.Path.{_≡_, refl, sym, ap, _∙_}
+use mathlib.Core.Bool.{Bool, true, false}
+use mathlib.Core.List.{List, [], _∷_, _++_}
+use native.Mathlib.Omega.{arith}
+use lib.Dec.{ltb, leb, eqb}
+use lib.ListN.{length, getD}
+use borrow.Author.Tests.{lt-ltb, le-ltb, le-leb, ne-eqb, eq-eqb, eqb-true, ltb-true, ltb-false}
+use Rattle.numbers.specs.Number.{pick}
+use Rattle.block.specs.declared.Block.{Block}
+use Rattle.block.specs.Row.{noBlock}
+use Rattle.tokens.specs.Tokens.{Token}
+use Rattle.kept.specs.declared.cursor.Cursor.{Cursor}
+use Rattle.kept.specs.Plan.{Planned, Stop, stop, planned, plannedFrom, onward, stopsOf, nowhere, atEnd, openedAt, advanced}
+use Rattle.records.specs.Stops.{rowTokens, stopsTokens}
+
+-- the rows from the cursor on
+abbrev pub ahead : List ℕ → ℕ → Cursor → List Stop
+ahead w n c = stop (c .row) (c .from) (c .skip) (c .head) ∷ (onward (c .row + 1) (c .left) ++ stopsOf (plannedFrom w (c .next) (n - c .next)))
+
+unfoldable pub stopsAt : List ℕ → ℕ → Cursor → List Stop
+stopsAt w n c = pick (eqb (c .row) nowhere) [] (ahead w n c)
+
+-- the sections from section k on: the first of them, and those after it
+first-of : (w : List ℕ) (n k : ℕ) → k < n → plannedFrom w k (n - k) ≡ planned w k ∷ plannedFrom w (k + 1) (n - (k + 1))
+unfolding plannedFrom
+first-of w n k l = go (n - k) refl
+  where
+    go : (m : ℕ) → n - k ≡ m → plannedFrom w k m ≡ planned w k ∷ plannedFrom w (k + 1) (n - (k + 1))
+    go zero e = absurd (omega (arith, e, l))
+    go (suc m) e =
+        let q : m ≡ n - (k + 1) = omega (arith, e) in
+        let r : suc k ≡ k + 1 = omega arith in
+        ap (λ (ps : List Planned). planned w k ∷ ps) (rw (q, r))
+
+none-of : (w : List ℕ) (n k : ℕ) → n ≤ k → plannedFrom w k (n - k) ≡ []
+unfolding plannedFrom
+none-of w n k l =
+    let q : n - k ≡ 0 = omega (arith, l) in
+    rw q
+
+-- where the cursor stands at the first row of section k
+abbrev startOf : List ℕ → ℕ → Cursor
+startOf w k =
+    let p = planned w k in
+    record { row = p .first; from = p .from; skip = p .skip; head = p .count; left = p .count - 1; next = k + 1 }
+
+opened-on : (w : List ℕ) (n k : ℕ) → 5 * n ≤ length w → k < n → openedAt w n k ≡ startOf w k
+unfolding openedAt
+opened-on w n k room l = rw (lt-ltb k n l, le-leb (5 * (k + 1)) (length w) (omega (arith, l, room)))
+
+opened-end : (w : List ℕ) (n k : ℕ) → n ≤ k → openedAt w n k ≡ atEnd
+unfolding openedAt
+opened-end w n k l = rw (le-ltb k n l)
+
+ahead-first : (w : List ℕ) (n k : ℕ) → k < n → ahead w n (startOf w k) ≡ stopsOf (plannedFrom w k (n - k))
+unfolding stopsOf
+ahead-first w n k l = rw (first-of w n k l)
+
+stops-none : stopsOf [] ≡ []
+unfolding stopsOf
+stops-none = refl
+
+onward-none : (i : ℕ) → onward i 0 ≡ []
+unfolding onward
+onward-none i = refl
+
+onward-one : (i m : ℕ) → onward i (suc m) ≡ stop i 0 0 0 ∷ onward (i + 1) m
+unfolding onward
+onward-one i m = refl
+
+-- the cursor after: the next section, or the next row
+next-section : (w : List ℕ) (n : ℕ) (c : Cursor) → c .row < nowhere → c .left ≡ 0 → advanced w n c ≡ openedAt w n (c .next)
+unfolding advanced
+next-section w n c l e = rw (ne-eqb (c .row) nowhere (λ q. absurd (omega (arith, q, l))), eq-eqb (c .left) 0 e)
+
+next-row : (w : List ℕ) (n m : ℕ) (c : Cursor) → c .row < nowhere → c .left ≡ suc m
+    → advanced w n c ≡ record { row = c .row + 1; from = 0; skip = 0; head = 0; left = c .left - 1; next = c .next }
+unfolding advanced
+next-row w n m c l e = rw (ne-eqb (c .row) nowhere (λ q. absurd (omega (arith, q, l))), ne-eqb (c .left) 0 (λ q. absurd (omega (arith, q, e))))
+
+module _ (u : List ℕ) (rows : List Block) (L : ℕ) (most : L ≤ nowhere) where
+  abbrev tokens : List Stop → List Token
+  tokens ss = stopsTokens u rows L ss
+
+  abbrev own : Stop → List Token
+  own s = rowTokens u (s .head) (s .from) (s .skip) (getD rows (s .row) noBlock)
+
+  -- a row that is not in the table ends them
+  beyond : (s : Stop) (ss : List Stop) → L ≤ s .row → tokens (s ∷ ss) ≡ []
+  unfolding stopsTokens
+  beyond s ss l = rw (le-ltb (s .row) L l)
+
+  inside : (s : Stop) (ss : List Stop) → s .row < L → tokens (s ∷ ss) ≡ own s ++ tokens ss
+  unfolding stopsTokens
+  inside s ss l = rw (lt-ltb (s .row) L l)
+
+  nothing : tokens [] ≡ []
+  unfolding stopsTokens
+  nothing = refl
+
+  -- the test for the end changes nothing
+  seen : (w : List ℕ) (n : ℕ) (c : Cursor) → tokens (stopsAt w n c) ≡ tokens (ahead w n c)
+  unfolding stopsAt
+  seen w n c = go (eqb (c .row) nowhere) refl
+    where
+      go : (b : Bool) → eqb (c .row) nowhere ≡ b → tokens (pick b [] (ahead w n c)) ≡ tokens (ahead w n c)
+      go true e = nothing ∙ sym (beyond _ _ (omega (arith, most, eqb-true (c .row) nowhere e)))
+      go false e = refl
+
+  pub ends : (w : List ℕ) (n : ℕ) (c : Cursor) → L ≤ c .row → tokens (stopsAt w n c) ≡ []
+  ends w n c l = seen w n c ∙ beyond _ _ l
+
+  -- at the first row of section k
+  pub opens : (w : List ℕ) (n k : ℕ) → 5 * n ≤ length w → tokens (stopsAt w n (openedAt w n k)) ≡ tokens (stopsOf (plannedFrom w k (n - k)))
+  opens w n k room = seen w n (openedAt w n k) ∙ go (ltb k n) refl
+    where
+      go : (b : Bool) → ltb k n ≡ b → tokens (ahead w n (openedAt w n k)) ≡ tokens (stopsOf (plannedFrom w k (n - k)))
+      go true e = rw (opened-on w n k room (ltb-true k n e)) (ap tokens (ahead-first w n k (ltb-true k n e)))
+      go false e = rw (opened-end w n k (ltb-false k n e), none-of w n k (ltb-false k n e), stops-none) (beyond _ _ most ∙ sym nothing)
+
+  -- what is before the cursor after this row
+  after : (w : List ℕ) (n : ℕ) (c : Cursor) → 5 * n ≤ length w → c .row < nowhere
+      → tokens (stopsAt w n (advanced w n c)) ≡ tokens (onward (c .row + 1) (c .left) ++ stopsOf (plannedFrom w (c .next) (n - c .next)))
+  after w n c room l = go (c .left) refl
+    where
+      go : (m : ℕ) → c .left ≡ m → tokens (stopsAt w n (advanced w n c)) ≡ tokens (onward (c .row + 1) m ++ stopsOf (plannedFrom w (c .next) (n - c .next)))
+      go zero e = rw (next-section w n c l e, onward-none (c .row + 1)) (opens w n (c .next) room)
+      go (suc m) e = rw (next-row w n m c l e, onward-one (c .row + 1) m) (let q : c .left - 1 ≡ m = omega (arith, e) in seen w n _ ∙ rw q)
+
+  -- a row further
+  pub goes : (w : List ℕ) (n : ℕ) (c : Cursor) → 5 * n ≤ length w → c .row < L
+      → tokens (stopsAt w n c) ≡ rowTokens u (c .head) (c .from) (c .skip) (getD rows (c .row) noBlock) ++ tokens (stopsAt w n (advanced w n c))
+  goes w n c room l =
+      seen w n c ∙ inside _ _ l
+      ∙ ap (λ (ts : List Token). rowTokens u (c .head) (c .from) (c .skip) (getD rows (c .row) noBlock) ++ ts) (sym (after w n c room (omega (arith, l, most))))
+
+-- ---- fewer rows are before the cursor after each
+
+count-at : (w : List ℕ) (n : ℕ) (c : Cursor) → length (stopsAt w n c) ≤ length (ahead w n c)
+unfolding stopsAt
+count-at w n c = go (eqb (c .row) nowhere)
+  where
+    go : (b : Bool) → length (pick b [] (ahead w n c)) ≤ length (ahead w n c)
+    go true = search arith
+    go false = search arith
+
+count-end : (w : List ℕ) (n : ℕ) → length (stopsAt w n atEnd) ≡ 0
+unfolding stopsAt
+count-end w n = refl
+
+count-opened : (w : List ℕ) (n k : ℕ) → 5 * n ≤ length w → length (stopsAt w n (openedAt w n k)) ≤ length (stopsOf (plannedFrom w k (n - k)))
+count-opened w n k room = go (ltb k n) refl
+  where
+    go : (b : Bool) → ltb k n ≡ b → length (stopsAt w n (openedAt w n k)) ≤ length (stopsOf (plannedFrom w k (n - k)))
+    go true e = rw (opened-on w n k room (ltb-true k n e), ← ahead-first w n k (ltb-true k n e)) (count-at w n (startOf w k))
+    go false e = rw (opened-end w n k (ltb-false k n e)) (omega (arith, count-end w n))
+
+count-row : (w : List ℕ) (n : ℕ) (c : Cursor) → c .row < nowhere → length (stopsAt w n c) ≡ suc (length (onward (c .row + 1) (c .left) ++ stopsOf (plannedFrom w (c .next) (n - c .next))))
+unfolding stopsAt
+count-row w n c l = rw (ne-eqb (c .row) nowhere (λ q. absurd (omega (arith, q, l))))
+
+pub fewer : (w : List ℕ) (n : ℕ) (c : Cursor) → 5 * n ≤ length w → c .row < nowhere → length (stopsAt w n (advanced w n c)) < length (stopsAt w n c)
+fewer w n c room l = go (c .left) refl
+  where
+    go : (m : ℕ) → c .left ≡ m → length (stopsAt w n (advanced w n c)) < length (stopsAt w n c)
+    go zero e =
+        rw (next-section w n c l e, count-row w n c l, e, onward-none (c .row + 1)) (omega (arith, count-opened w n (c .next) room))
+    go (suc m) e =
+        let q : c .left - 1 ≡ m = omega (arith, e) in
+        let d : Cursor = record { row = c .row + 1; from = 0; skip = 0; head = 0; left = m; next = c .next } in
+        rw (next-row w n m c l e, q, count-row w n c l, e, onward-one (c .row + 1) m) (omega (arith, count-at w n d))

@@ -1,0 +1,94 @@
+-- The types that walks meet, as kinds of plain data, and the facts on their parts (tools/walkgen.py sorts). Assumes nothing.
+use mathlib.Core.Path.{refl}
+use Prim.Native.Nat.{ℕ}
+use mathlib.Core.Bool.{Bool}
+use denote.Struct.Laws as LL
+use Rattle.walks.proofs.Rows.{Kind, Has, word, bool-kind}
+use Rattle.encoder.specs.declared.steps.Outcome.{Outcome}
+use Rattle.kept.specs.declared.cursor.Cursor.{Cursor}
+use Rattle.tokens.proofs.Lane as Lane₁
+use Rattle.tokens.proofs.Lane.Laws as Lane₂
+use Rattle.kept.proofs.cursor.Cursor as Cursor₁
+use Rattle.kept.proofs.cursor.Cursor.Laws as Cursor₂
+use Rattle.kept.proofs.plan.Planning as Planning₁
+use Rattle.kept.proofs.plan.Planning.Laws as Planning₂
+use Rattle.encoder.proofs.steps.Outcome as Outcome₁
+use Rattle.encoder.proofs.steps.Outcome.Laws as Outcome₂
+
+abbrev pub lane : Kind
+lane = record {
+  row = Lane₁.the-row;
+  val = LL.val Lane₁.the-type Lane₂.the-laws;
+  tells = LL.tells Lane₁.the-type Lane₂.the-laws;
+  copy = λ M 𝓤 H A W. LL.copy Lane₁.the-type Lane₂.the-copy 𝓤 H A W;
+  makes = λ M 𝓤 H A W. LL.makes Lane₁.the-type Lane₂.the-plain 𝓤 H A;
+  lawful = λ M 𝓤 H A W. LL.lawful Lane₁.the-type Lane₂.the-laws 𝓤 H A W;
+  last = λ x. tt;
+  silent = λ x w. refl;
+}
+
+abbrev pub cursor : Kind
+cursor = record {
+  row = Cursor₁.the-row;
+  val = LL.val Cursor₁.the-type Cursor₂.the-laws;
+  tells = LL.tells Cursor₁.the-type Cursor₂.the-laws;
+  copy = λ M 𝓤 H A W. LL.copy Cursor₁.the-type Cursor₂.the-copy 𝓤 H A W;
+  makes = λ M 𝓤 H A W. LL.makes Cursor₁.the-type Cursor₂.the-plain 𝓤 H A;
+  lawful = λ M 𝓤 H A W. LL.lawful Cursor₁.the-type Cursor₂.the-laws 𝓤 H A W;
+  last = λ x. tt;
+  silent = λ x w. refl;
+}
+
+pub cursor-has : (row₀ : ℕ) (g-row : Has word row₀) (from₀ : ℕ) (g-from : Has word from₀) (skip₀ : ℕ) (g-skip : Has word skip₀) (head₀ : ℕ) (g-head : Has word head₀) (left₀ : ℕ) (g-left : Has word left₀) (next₀ : ℕ) (g-next : Has word next₀) → Has cursor (record { row = row₀; from = from₀; skip = skip₀; head = head₀; left = left₀; next = next₀ })
+cursor-has row₀ g-row from₀ g-from skip₀ g-skip head₀ g-head left₀ g-left next₀ g-next = LL.owes Cursor₁.the-type Cursor₂.the-laws (record { row = row₀; from = from₀; skip = skip₀; head = head₀; left = left₀; next = next₀ }) (g-row, (g-from, (g-skip, (g-head, (g-left, (g-next, tt))))))
+
+pub cursor-row : (x : Cursor) → Has cursor x → Has word (x .row)
+cursor-row x g = LL.owed Cursor₁.the-type Cursor₂.the-laws x _ g .0
+
+pub cursor-from : (x : Cursor) → Has cursor x → Has word (x .from)
+cursor-from x g = LL.owed Cursor₁.the-type Cursor₂.the-laws x _ g .1 .0
+
+pub cursor-skip : (x : Cursor) → Has cursor x → Has word (x .skip)
+cursor-skip x g = LL.owed Cursor₁.the-type Cursor₂.the-laws x _ g .1 .1 .0
+
+pub cursor-head : (x : Cursor) → Has cursor x → Has word (x .head)
+cursor-head x g = LL.owed Cursor₁.the-type Cursor₂.the-laws x _ g .1 .1 .1 .0
+
+pub cursor-left : (x : Cursor) → Has cursor x → Has word (x .left)
+cursor-left x g = LL.owed Cursor₁.the-type Cursor₂.the-laws x _ g .1 .1 .1 .1 .0
+
+pub cursor-next : (x : Cursor) → Has cursor x → Has word (x .next)
+cursor-next x g = LL.owed Cursor₁.the-type Cursor₂.the-laws x _ g .1 .1 .1 .1 .1 .0
+
+abbrev pub planning : Kind
+planning = record {
+  row = Planning₁.the-row;
+  val = LL.val Planning₁.the-type Planning₂.the-laws;
+  tells = LL.tells Planning₁.the-type Planning₂.the-laws;
+  copy = λ M 𝓤 H A W. LL.copy Planning₁.the-type Planning₂.the-copy 𝓤 H A W;
+  makes = λ M 𝓤 H A W. LL.makes Planning₁.the-type Planning₂.the-plain 𝓤 H A;
+  lawful = λ M 𝓤 H A W. LL.lawful Planning₁.the-type Planning₂.the-laws 𝓤 H A W;
+  last = λ x. tt;
+  silent = λ x w. refl;
+}
+
+abbrev pub outcome : Kind
+outcome = record {
+  row = Outcome₁.the-row;
+  val = LL.val Outcome₁.the-type Outcome₂.the-laws;
+  tells = LL.tells Outcome₁.the-type Outcome₂.the-laws;
+  copy = λ M 𝓤 H A W. LL.copy Outcome₁.the-type Outcome₂.the-copy 𝓤 H A W;
+  makes = λ M 𝓤 H A W. LL.makes Outcome₁.the-type Outcome₂.the-plain 𝓤 H A;
+  lawful = λ M 𝓤 H A W. LL.lawful Outcome₁.the-type Outcome₂.the-laws 𝓤 H A W;
+  last = λ x. tt;
+  silent = λ x w. refl;
+}
+
+pub outcome-has : (sections₀ : ℕ) (g-sections : Has word sections₀) (torn₀ : Bool) (g-torn : Has bool-kind torn₀) → Has outcome (record { sections = sections₀; torn = torn₀ })
+outcome-has sections₀ g-sections torn₀ g-torn = LL.owes Outcome₁.the-type Outcome₂.the-laws (record { sections = sections₀; torn = torn₀ }) (g-sections, (g-torn, tt))
+
+pub outcome-sections : (x : Outcome) → Has outcome x → Has word (x .sections)
+outcome-sections x g = LL.owed Outcome₁.the-type Outcome₂.the-laws x _ g .0
+
+pub outcome-torn : (x : Outcome) → Has outcome x → Has bool-kind (x .torn)
+outcome-torn x g = LL.owed Outcome₁.the-type Outcome₂.the-laws x _ g .1 .0

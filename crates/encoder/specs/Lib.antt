@@ -1,0 +1,2 @@
+-- What the passes over the block table make.
+pub mod Passes

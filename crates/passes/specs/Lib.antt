@@ -1,0 +1,2 @@
+-- What the passes over all lanes of a form make.
+pub mod Forms

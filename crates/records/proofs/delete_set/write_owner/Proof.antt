@@ -1,0 +1,61 @@
+-- `write_owner` meets its contract: two numbers, or none.
+use Prim.Native.Nat.{_+_, _-_}
+use mathlib.Core.Path.{sym, _∙_}
+use borrow.Author.Tests.{not-true, not-false}
+use Rattle.records.proofs.Deletes.{owner-none, owner-some}
+use borrow.Author.Needs.{needs}
+use Rattle.records.proofs.delete_set.write_owner.Statement.{statement}
+use Rattle.records.proofs.delete_set.write_owner.Tie as tie
+
+is-first-requires : tie.Need-is-first-requires
+is-first-requires c κs = search needs
+
+returns : tie.Need-returns
+returns c =
+    let p1 = c .before in
+    let p4 = p1 .before .before .before in
+    let a = p4 .args in
+    owner-none (a .out .now) (a .e) (a .ranges .now) (a .i) (a .n - (a .i + 1))
+    (sym (p1 .is-first .ensures) ∙ not-true (p1 .is-first .result) (c .if1 .taken)) (p4 .pre .0)
+
+client-at-requires : tie.Need-client-at-requires
+client-at-requires c κs = search needs
+
+count-ranges-requires : tie.Need-count-ranges-requires
+count-ranges-requires c κs = search needs
+
+write-var-requires : tie.Need-write-var-requires
+write-var-requires c κs = search needs
+
+write-var-requires-2 : tie.Need-write-var-requires-2
+write-var-requires-2 c κs = search needs
+
+same-length : tie.Need-same-length
+same-length c = search needs
+
+returns-2 : tie.Need-returns-2
+returns-2 c =
+    let p2 = c .before .before in
+    let p6 = p2 .before .before .before .before in
+    let p8 = p6 .before .before in
+    let p9 = p8 .before in
+    let p10 = p9 .before in
+    let p11 = p10 .before in
+    let p14 = p11 .before .before .before in
+    let a = p14 .args in
+    owner-some (a .out .now) (a .e) (a .ranges .now) (a .i) (a .n - (a .i + 1))
+    (sym (p11 .is-first .ensures) ∙ not-false (p11 .is-first .result) (p10 .if1 .left))
+    (rw (p9 .client-at .ensures) at (p6 .write-var .ensures)) (rw (p8 .count-ranges .ensures) at (p2 .write-var2 .ensures))
+
+pub write-owner-spec : {M : Type 1} → statement M
+write-owner-spec =
+    tie.close
+    (tie.spec
+    is-first-requires
+    returns
+    client-at-requires
+    count-ranges-requires
+    write-var-requires
+    write-var-requires-2
+    same-length
+    returns-2)

@@ -1,0 +1,44 @@
+-- `write_left` meets its contract: two tokens, or none.
+use borrow.Author.Tests.{not-true, not-false}
+use mathlib.Core.List.{[]}
+use Rattle.records.proofs.Writes.{left-none, left-some}
+use borrow.Author.Needs.{needs}
+use Rattle.records.proofs.write_left.Statement.{statement}
+use Rattle.records.proofs.write_left.Tie as tie
+
+returns : tie.Need-returns
+returns c =
+    let a = c .before .before .before .args in
+    left-none (a .out .now) [] (a .e) (a .b) (not-true (a .b .«has_left») (c .if1 .taken)) (c .before .before .before .pre)
+
+write-client-requires : tie.Need-write-client-requires
+write-client-requires c κs = search needs
+
+cast-write-left-clock : tie.Need-cast-write-left-clock
+cast-write-left-clock c = search needs
+
+write-left-clock-requires : tie.Need-write-left-clock-requires
+write-left-clock-requires c κs = search needs
+
+same-length : tie.Need-same-length
+same-length c = search needs
+
+returns-2 : tie.Need-returns-2
+returns-2 c =
+    let p2 = c .before .before in
+    let p7 = p2 .before .before .before .before .before in
+    let p10 = p7 .before .before .before in
+    let p13 = p10 .before .before .before in
+    let a = p13 .args in
+    left-some (a .out .now) [] (a .e) (a .b) (not-false (a .b .«has_left») (p10 .if1 .left)) (p7 .write-client .ensures) (p2 .write-left-clock .ensures)
+
+pub write-left-spec : {M : Type 1} → statement M
+write-left-spec =
+    tie.close
+    (tie.spec
+    returns
+    write-client-requires
+    cast-write-left-clock
+    write-left-clock-requires
+    same-length
+    returns-2)

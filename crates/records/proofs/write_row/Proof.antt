@@ -1,0 +1,64 @@
+-- `write_row` meets its contract: a row whose cut lies within it, its head before it.
+use mathlib.Core.Path.{sym, _∙_}
+use borrow.Author.Tests.{not-true, not-false}
+use Rattle.records.proofs.Writes.{row-none, row-some}
+use Rattle.records.proofs.Sane.{sane-limits}
+use borrow.Author.Needs.{needs}
+use Rattle.records.proofs.write_row.Statement.{statement}
+use Rattle.records.proofs.write_row.Tie as tie
+
+is-sane-requires : tie.Need-is-sane-requires
+is-sane-requires c κs = search needs
+
+returns : tie.Need-returns
+returns c =
+    let p1 = c .before in
+    let p4 = p1 .before .before .before in
+    let a = p4 .args in
+    row-none (a .out .now) (a .update .now) (a .e) (a .b) (a .c .head) (a .c .from) (a .c .skip)
+    (sym (p1 .is-sane .ensures) ∙ not-true (p1 .is-sane .result) (c .if1 .taken)) (p4 .pre)
+
+write-head-requires : tie.Need-write-head-requires
+write-head-requires c κs =
+    let p1 = c .before in
+    let p2 = p1 .before in
+    let p5 = p2 .before .before .before in
+    let a = p5 .args in
+    (p5 .pre, sane-limits (a .b) (a .c .from) (a .c .skip) (sym (p2 .is-sane .ensures) ∙ not-false (p2 .is-sane .result) (p1 .if1 .left)))
+
+cut-requires : tie.Need-cut-requires
+cut-requires c κs =
+    let p4 = c .before .before .before .before in
+    let p5 = p4 .before in
+    sym (p5 .is-sane .ensures) ∙ not-false (p5 .is-sane .result) (p4 .if1 .left)
+
+write-block-requires : tie.Need-write-block-requires
+write-block-requires c κs = search needs
+
+same-length : tie.Need-same-length
+same-length c = search needs
+
+returns-2 : tie.Need-returns-2
+returns-2 c =
+    let p2 = c .before .before in
+    let p4 = p2 .before .before in
+    let p7 = p4 .before .before .before in
+    let p9 = p7 .before .before in
+    let p10 = p9 .before in
+    let p13 = p10 .before .before .before in
+    let a = p13 .args in
+    row-some (a .out .now) (a .update .now) (a .e) (a .b) (a .c .head) (a .c .from) (a .c .skip)
+    (sym (p10 .is-sane .ensures) ∙ not-false (p10 .is-sane .result) (p9 .if1 .left))
+    (p7 .write-head .ensures) (rw (p4 .cut .ensures) at (p2 .write-block .ensures))
+
+pub write-row-spec : {M : Type 1} → statement M
+write-row-spec =
+    tie.close
+    (tie.spec
+    is-sane-requires
+    returns
+    write-head-requires
+    cut-requires
+    write-block-requires
+    same-length
+    returns-2)

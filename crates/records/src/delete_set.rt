@@ -1,0 +1,163 @@
+// The delete set written: ranges in normal form, three words each, a client's together.
+use tokens::Lane;
+ghost use mathlib.Core.Path.{_≡_};
+ghost use Prim.Native.Nat.{_+_, _-_, _*_, _≤_, _<_};
+ghost use lib.ListN.{length};
+ghost use Rattle.runs.specs.Writer.{Sound};
+ghost use Rattle.ranges.specs.Table.{row, rowsFrom};
+ghost use Rattle.readings.specs.Groups.{groups};
+ghost use Rattle.tokens.specs.Lanes.{putAll, laidAll};
+ghost use Rattle.records.specs.Records.{ownerOf, deleteTokens};
+ghost use Rattle.records.specs.DeleteRows.{isFirst, endBefore, siblings, ownerTokens, rangeTokens, hasNumbers};
+ghost use Rattle.records.specs.Stops.{formOf};
+
+fn client_at(ranges: &[u64], i: usize) -> u64
+    requires { ⌜ 3 * i + 3 ≤ length (now ranges) ⌝ }
+    ensures { λ r. ⌜ r ≡ row (now (ranges .entry)) i .client ⌝ }
+{
+    ranges[3 * i]
+}
+
+fn clock_at(ranges: &[u64], i: usize) -> u64
+    requires { ⌜ 3 * i + 3 ≤ length (now ranges) ⌝ }
+    ensures { λ r. ⌜ r ≡ row (now (ranges .entry)) i .clock ⌝ }
+{
+    ranges[3 * i + 1]
+}
+
+fn length_at(ranges: &[u64], i: usize) -> u64
+    requires { ⌜ 3 * i + 3 ≤ length (now ranges) ⌝ }
+    ensures { λ r. ⌜ r ≡ row (now (ranges .entry)) i .len ⌝ }
+{
+    ranges[3 * i + 2]
+}
+
+// Whether range i is its client's first.
+fn is_first(ranges: &[u64], i: usize) -> bool
+    requires { ⌜ 3 * i + 3 ≤ length (now ranges) ⌝ }
+    ensures { λ r. ⌜ r ≡ isFirst (now (ranges .entry)) i ⌝ }
+{
+    if i == 0 {
+        return true;
+    }
+    let before = client_at(ranges, i - 1);
+    before != client_at(ranges, i)
+}
+
+// The number of clients among the first n ranges.
+fn count_clients(ranges: &[u64], n: usize) -> usize
+    requires { ⌜ 3 * n ≤ length (now ranges) ⌝ }
+    ensures { λ r. ⌜ r ≡ length (groups ownerOf (rowsFrom (now (ranges .entry)) 0 n)) ⌝ }
+{
+    let mut count: usize = 0;
+    let mut i: usize = 0;
+    while i < n {
+        let first = is_first(ranges, i);
+        i += 1;
+        if first {
+            count += 1;
+        }
+    }
+    count
+}
+
+// How many ranges range i's client has, if range i is its first: those up to n that have it, one after the other.
+fn count_ranges(ranges: &[u64], i: usize, n: usize) -> usize
+    requires { ⌜ (i < n) × (3 * n ≤ length (now ranges)) ⌝ }
+    ensures { λ r. ⌜ r ≡ siblings (now (ranges .entry)) i (n - (i + 1)) ⌝ }
+{
+    let client = client_at(ranges, i);
+    let mut j = i + 1;
+    while j < n {
+        if client_at(ranges, j) != client {
+            return j - i;
+        }
+        j += 1;
+    }
+    n - i
+}
+
+// a less b, and 0 where b is more.
+fn less(a: u64, b: u64) -> u64
+    ensures { λ r. ⌜ r ≡ a - b ⌝ }
+{
+    if a < b {
+        return 0;
+    }
+    a - b
+}
+
+// Range i's clock less the end of the range before it, from 0 at its client's first. The end need not fit a word, so it is taken off in two steps.
+fn increase(ranges: &[u64], i: usize) -> u64
+    requires { ⌜ 3 * i + 3 ≤ length (now ranges) ⌝ }
+    ensures { λ r. ⌜ r ≡ row (now (ranges .entry)) i .clock - endBefore (now (ranges .entry)) i ⌝ }
+{
+    let clock = clock_at(ranges, i);
+    if is_first(ranges, i) {
+        return clock;
+    }
+    let since = less(clock, clock_at(ranges, i - 1));
+    less(since, length_at(ranges, i - 1))
+}
+
+// Before a client's first range: the client, and how many ranges it has.
+fn write_owner(out: &mut [u8], e: Lane, ranges: &[u64], i: usize, n: usize) -> Lane
+    requires { ⌜ Sound (e .run) × (i < n) × (3 * n ≤ length (now ranges)) ⌝ }
+    ensures { λ r. ⌜ (r ≡ putAll e (ownerTokens (now (ranges .entry)) i (n - (i + 1))))
+        × (now (out .exit) ≡ laidAll (now (out .entry)) e (ownerTokens (now (ranges .entry)) i (n - (i + 1)))) × Sound (r .run) ⌝ }
+{
+    if !is_first(ranges, i) {
+        return e;
+    }
+    let client = client_at(ranges, i);
+    let count = count_ranges(ranges, i, n);
+    let named = tokens::fields::write_var(out, e, client);
+    tokens::fields::write_var(out, named, count as u64)
+}
+
+// Range i of n.
+fn write_range(out: &mut [u8], e: Lane, ranges: &[u64], i: usize, n: usize) -> Lane
+    requires { ⌜ Sound (e .run) × (i < n) × (3 * n ≤ length (now ranges)) ⌝ }
+    ensures { λ r. ⌜ (r ≡ putAll e (rangeTokens (formOf (e .lane)) (now (ranges .entry)) i (n - (i + 1))))
+        × (now (out .exit) ≡ laidAll (now (out .entry)) e (rangeTokens (formOf (e .lane)) (now (ranges .entry)) i (n - (i + 1)))) × Sound (r .run) ⌝ }
+{
+    let len = length_at(ranges, i);
+    let owned = write_owner(out, e, ranges, i, n);
+    if e.lane == tokens::LINE {
+        let clock = clock_at(ranges, i);
+        let begun = tokens::fields::write_var(out, owned, clock);
+        return tokens::fields::write_var(out, begun, len);
+    }
+    let clock = increase(ranges, i);
+    let begun = tokens::fields::write_var(out, owned, clock);
+    tokens::fields::write_var(out, begun, less(len, 1))
+}
+
+// Whether a lane takes numbers without columns.
+fn has_numbers(lane: u8) -> bool
+    ensures { λ r. ⌜ r ≡ hasNumbers lane ⌝ }
+{
+    if lane == tokens::LINE {
+        return true;
+    }
+    lane == tokens::REST
+}
+
+// The first n ranges. They are numbers without columns: the columns' lanes take nothing of them.
+pub fn write_delete_set(out: &mut [u8], e: Lane, ranges: &[u64], n: usize) -> Lane
+    requires { ⌜ Sound (e .run) × (3 * n ≤ length (now ranges)) ⌝ }
+    ensures { λ r. ⌜ (r ≡ putAll e (deleteTokens (formOf (e .lane)) (rowsFrom (now (ranges .entry)) 0 n)))
+        × (now (out .exit) ≡ laidAll (now (out .entry)) e (deleteTokens (formOf (e .lane)) (rowsFrom (now (ranges .entry)) 0 n))) × Sound (r .run) ⌝ }
+{
+    if !has_numbers(e.lane) {
+        return e;
+    }
+    let clients = count_clients(ranges, n);
+    let mut written = tokens::fields::write_var(out, e, clients as u64);
+    let mut i: usize = 0;
+    while i < n {
+        written = write_range(out, written, ranges, i, n);
+        i += 1;
+    }
+    written
+}

@@ -1,0 +1,109 @@
+-- Sections read again: their clients differ, so none is refused, and their pieces are no more than may be announced.
+use Prim.Native.Nat.{ℕ, suc, _+_, _-_, _≤_, _<_}
+use mathlib.Core.Path.{_≡_, refl, sym, ap, _∙_}
+use mathlib.Core.Logic.{_⊎_, inl, inr, _≢_}
+use mathlib.Core.Bool.{Bool, true, false}
+use mathlib.Core.List.{List, [], _∷_, _++_, map}
+use native.Mathlib.Omega.{arith}
+use lib.Dec.{eqb}
+use lib.ListN.{length}
+use borrow.Author.Tests.{ne-eqb}
+use Rattle.numbers.specs.Number.{pick}
+use Rattle.numbers.specs.Limits.{maxClock}
+use Rattle.block.specs.declared.Block.{Block}
+use Rattle.decoder.specs.declared.State.{State}
+use Rattle.decoder.specs.Fields.{varAt, clockAt}
+use Rattle.decoder.specs.Course.{Course, over, drawn}
+use Rattle.numbers.specs.Words.{among}
+use Rattle.update.specs.Update.{blocks, sections}
+use Rattle.readings.specs.Sound.{All}
+use Rattle.readings.specs.Groups.{Distinct}
+use Rattle.draws.specs.Draws.{fieldOf, Draws}
+use Rattle.kept.specs.Kept.{Piece, Section}
+use Rattle.records.specs.Records.{piecesTokens, startOf, sectionTokens, sectionsTokens}
+use Rattle.written.specs.Written.{piecesRead, sectionsRead, Goes, AlikeIn}
+use Rattle.written.specs.Kept.{KeptPiece, KeptSection, clientIn, pieceCount}
+use Rattle.written.proofs.Forms.{split}
+use Rattle.written.proofs.Ids.{bounded-on}
+use Rattle.written.proofs.Courses.{drawn-on, goes-from, goes-append}
+use Rattle.written.proofs.Pieces.{runs, pieces-read}
+
+-- ---- clients not seen
+
+abbrev pub New : List ℕ → List ℕ → Type 0
+New seen cs = All (λ (c : ℕ). among c seen ≡ false) cs
+
+among-none : (c client : ℕ) (seen : List ℕ) → among c seen ≡ false → c ≢ client → among c (seen ++ (client ∷ [])) ≡ false
+unfolding among
+among-none c client [] h n = rw (ne-eqb client c (λ e. n (sym e)))
+among-none c client (x ∷ seen) h n = go (eqb x c) h (λ e. among-none c client seen e n)
+  where
+    go : (t : Bool) → pick t true (among c seen) ≡ false → (among c seen ≡ false → among c (seen ++ (client ∷ [])) ≡ false)
+        → pick t true (among c (seen ++ (client ∷ []))) ≡ false
+    go true e on = e
+    go false e on = on e
+
+still-new : (client : ℕ) (seen cs : List ℕ) → New seen cs → All (λ (c : ℕ). c ≢ client) cs → New (seen ++ (client ∷ [])) cs
+still-new client seen [] h n = tt
+still-new client seen (c ∷ cs) h n = (among-none c client seen (h .0) (n .0), still-new client seen cs (h .1) (n .1))
+
+pub all-new : (cs : List ℕ) → New [] cs
+unfolding among
+all-new [] = tt
+all-new (c ∷ cs) = (refl, all-new cs)
+
+-- ---- a section
+
+-- its first clock is a clock
+pub start-fits : (u : List ℕ) (ps : List Piece) → All (KeptPiece u) ps → startOf ps ≤ maxClock
+unfolding startOf
+start-fits u [] k = omega arith
+start-fits u (p ∷ ps) k = go (k .0 .from)
+  where
+    go : (p .from ≡ 0) ⊎ (p .from < p .row .length .0) → p .row .clock + p .from ≤ maxClock
+    go (inl e) = omega (arith, k .0 .sound .end)
+    go (inr l) = omega (arith, k .0 .sound .end)
+
+module _ (d u : List ℕ) where
+  -- up to its first block
+  record Head (n : ℕ) (seen : List ℕ) (room : ℕ) (x : Section) (s m : State) : Type 0 where
+    from : State
+    is : sections (suc n) d seen room s
+        ≡ blocks (length (x .pieces)) d (x .client) (startOf (x .pieces)) from (sections n d (seen ++ (x .client ∷ [])) (room - length (x .pieces)))
+    drawn : Draws d from (piecesTokens u (x .pieces)) m
+
+  head-read : (n : ℕ) (seen : List ℕ) (room : ℕ) (x : Section) (s m : State) → KeptSection u x → length (x .pieces) ≤ room → among (x .client) seen ≡ false
+      → Draws d s (sectionTokens u x) m → Head n seen room x s m
+  unfolding sectionTokens sections clockAt fieldOf Draws
+  head-read n seen room x s m k l new h =
+      let a = h .3 in
+      let b = a .3 in
+      let clock = bounded-on maxClock (varAt d (a .1)) (startOf (x .pieces)) (b .0) (b .1) (b .2) (start-fits u (x .pieces) (k .each)) in
+      record {
+        from = b .1;
+        is = drawn-on _ (length (x .pieces)) (h .0) (h .1) _ (bounded-on room (varAt d s) _ _ _ (h .2) l)
+            ∙ drawn-on _ (x .client) (a .0) (a .1) _ (a .2)
+            ∙ rw new (drawn-on _ (startOf (x .pieces)) (b .0) (b .1) _ clock);
+        drawn = b .3;
+      }
+
+  ended : (seen : List ℕ) (room : ℕ) (s m : State) → Draws d s [] m → Goes (AlikeIn d u) [] (sections 0 d seen room s) (over m)
+  unfolding sections Draws Goes
+  ended seen room s m h = ap over h
+
+  pub sections-read : (ss : List Section) (seen : List ℕ) (room : ℕ) (s m : State) → All (KeptSection u) ss → Distinct (map clientIn ss)
+      → New seen (map clientIn ss) → pieceCount ss ≤ room → Draws d s (sectionsTokens u ss) m
+      → Goes (AlikeIn d u) (sectionsRead u ss) (sections (length ss) d seen room s) (over m)
+  unfolding sectionsTokens sectionsRead pieceCount Distinct
+  sections-read [] seen room s m k e new l h = ended seen room s m h
+  sections-read (x ∷ ss) seen room s m k e new l h =
+      let two = split d (sectionTokens u x) (sectionsTokens u ss) s m h in
+      let n : ℕ = length (x .pieces) in
+      let t = two .between in
+      let head = head-read (length ss) seen room x s t (k .0) (omega arith) (new .0) (two .first) in
+      let on : State → Course Block = sections (length ss) d (seen ++ (x .client ∷ [])) (room - n) in
+      let here = pieces-read d u (x .client) on (x .pieces) (startOf (x .pieces)) (head .from) t (k .0 .each) (k .0 .client)
+      (runs (x .pieces) (k .0 .chain) (k .0 .later)) (head .drawn) in
+      let later = still-new (x .client) seen (map clientIn ss) (new .1) (e .0) in
+      let there = sections-read ss (seen ++ (x .client ∷ [])) (room - n) t m (k .1) (e .1) later (omega arith) (two .then) in
+      goes-from (AlikeIn d u) _ _ _ _ (head .is) (goes-append (AlikeIn d u) (piecesRead u (x .pieces)) (sectionsRead u ss) _ (on t) (over m) here there)

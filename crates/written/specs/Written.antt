@@ -1,0 +1,81 @@
+-- What a reader finds in records that were written: the same records. Their names, keys and stored parts lie elsewhere and have the same bytes; a key
+-- beside a left or a right id is gone, for nothing of it was spelled.
+use Prim.Native.Nat.{ℕ}
+use mathlib.Core.Path.{_≡_}
+use mathlib.Core.Bool.{false}
+use mathlib.Core.List.{List, [], _∷_, _++_}
+use Rattle.numbers.specs.Number.{pick}
+use Rattle.block.specs.declared.Block.{Block}
+use Rattle.block.specs.Row.{noPart}
+use Rattle.decoder.specs.declared.State.{State}
+use Rattle.decoder.specs.Course.{Course, item, over}
+use Rattle.update.specs.Update.{blocksOf}
+use Rattle.ranges.specs.Ranges.{Range}
+use Rattle.deletes.specs.DeleteSet.{deleteSet}
+use Rattle.readings.specs.Sound.{bytesIn, linked, Sound}
+use Rattle.kept.specs.Kept.{Piece, Section}
+use Rattle.kept.specs.Cut.{cutRow}
+
+-- ---- the same record
+
+-- b, whose parts lie in d, and c, whose parts lie in u, differ at most in where these lie
+pub record Alike (d : List ℕ) (b : Block) (u : List ℕ) (c : Block) : Type 0 where
+  pub client : b .client ≡ c .client
+  pub clock : b .clock ≡ c .clock
+  pub length : b .length ≡ c .length
+  pub kind : b .kind ≡ c .kind
+  pub «has_left» : b .«has_left» ≡ c .«has_left»
+  pub left : b .left ≡ c .left
+  pub «has_right» : b .«has_right» ≡ c .«has_right»
+  pub right : b .right ≡ c .right
+  pub «has_parent» : b .«has_parent» ≡ c .«has_parent»
+  pub parent : b .parent ≡ c .parent
+  pub «has_name» : b .«has_name» ≡ c .«has_name»
+  pub name : bytesIn d (b .name) ≡ bytesIn u (c .name)
+  pub «has_key» : b .«has_key» ≡ c .«has_key»
+  pub key : bytesIn d (b .key) ≡ bytesIn u (c .key)
+  pub part : bytesIn d (b .part) ≡ bytesIn u (c .part)
+
+-- one by one
+unfoldable pub AllAlike : List ℕ → List Block → List ℕ → List Block → Type 0
+AllAlike d [] u [] = Unit {0}
+AllAlike d [] u (c ∷ cs) = ⊥
+AllAlike d (b ∷ bs) u [] = ⊥
+AllAlike d (b ∷ bs) u (c ∷ cs) = Alike d b u c × AllAlike d bs u cs
+
+-- ---- a record as it is read again
+
+abbrev pub keyless : Block → Block
+keyless b = record { client = b .client; clock = b .clock; length = b .length; kind = b .kind; «has_left» = b .«has_left»; left = b .left; «has_right» = b .«has_right»; right = b .right; «has_parent» = b .«has_parent»; parent = b .parent; «has_name» = b .«has_name»; name = b .name; «has_key» = false; key = noPart; part = b .part }
+
+unfoldable pub reread : Block → Block
+reread b = pick (linked b) (keyless b) b
+
+-- it can be written if it is sound without the key that is not spelled
+abbrev pub Writable : List ℕ → Block → Type 0
+Writable u b = Sound u (reread b)
+
+-- the records of pieces and of sections, one after the other, as they are read again
+unfoldable pub piecesRead : List ℕ → List Piece → List Block
+piecesRead u [] = []
+piecesRead u (p ∷ ps) = reread (cutRow u p) ∷ piecesRead u ps
+
+unfoldable pub sectionsRead : List ℕ → List Section → List Block
+sectionsRead u [] = []
+sectionsRead u (s ∷ ss) = piecesRead u (s .pieces) ++ sectionsRead u ss
+
+-- ---- a reading
+
+-- the course c gives something for each of these, each as R says, and goes on with `rest`
+unfoldable pub Goes : {A B : Type 0} → (A → B → Type 0) → List B → Course A → Course A → Type 0
+Goes R [] c rest = c ≡ rest
+Goes {A} R (b ∷ bs) c rest = (a : A) × (p : ℕ) × (on : Course A) × (c ≡ item a p on) × R a b × Goes R bs on rest
+
+abbrev pub AlikeIn : List ℕ → List ℕ → Block → Block → Type 0
+AlikeIn d u b c = Alike d b u c
+
+-- the update d of a form is read: its blocks are the records of the sections, up to a state from where its delete set is the ranges, up to the state t
+pub record WrittenReads (form : ℕ) (d u : List ℕ) (ss : List Section) (rs : List Range) (t : State) : Type 0 where
+  pub between : State
+  pub blocks : Goes (AlikeIn d u) (sectionsRead u ss) (blocksOf form d) (over between)
+  pub ranges : Goes (λ (a b : Range). a ≡ b) rs (deleteSet d between) (over t)

@@ -1,0 +1,1 @@
+// No code: a diff that is written is read again.
