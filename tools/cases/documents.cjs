@@ -1,12 +1,22 @@
 // Updates made by the real Yjs: several documents edit, send, miss and merge. The same every time: client ids and edits come from our random numbers.
 'use strict'
 const { Y } = require('./yjs.cjs')
+const { hex } = require('./stream.cjs')
 const { many } = require('./random.cjs')
 
 const words = ['a', 'hi', 'wairo', ' ', 'é', 'ß€', '日本', '😀', 'a😀b', '𝄞𝄞', 'x'.repeat(40), '\u0000', '\ud7ff\ue000', 'naïve café', '👩‍👧']
 const names = ['t', 'title', 'ä😀']
 const keys = ['k', 'key 2', '鍵', '😀', '']
 const types = [() => new Y.Text(), () => new Y.Array(), () => new Y.Map()]
+const ways = [
+  { clients: [5], steps: 5, edits: 2 },
+  { clients: [1, 2, 3], steps: 8, edits: 3 },
+  { clients: [300, 70000, 9, 4], steps: 10, edits: 2 },
+  { clients: [0, 127, 128], steps: 7, edits: 4 },
+  { clients: [4294967295, 2147483648, 1234567890], steps: 8, edits: 3 },
+  { clients: [9007199254740991, 9007199254740990, 4294967296], steps: 8, edits: 2 },
+  { clients: [9007199254740991, 0, 1099511627776, 2 ** 31 - 1, 72], steps: 12, edits: 2 }
+]
 
 const begin = ({ random, pick }) => {
   const binary = () => Uint8Array.from(many(pick([0, 1, 3, 9, 30]), () => random(256)))
@@ -106,6 +116,23 @@ const begin = ({ random, pick }) => {
     return { updates: out, vectors: [Y.encodeStateVector(doc), someVector(doc), someVector(doc)].map(v => [...v]) }
   }
 
+  // As many histories, by all ways in turn: each update once, and all vectors.
+  const histories = n => {
+    const seen = new Set()
+    const made = []
+    const vectors = []
+    for (let k = 0; k < n; k++) {
+      const h = history({ ...ways[k % ways.length], gc: k % 5 !== 4, nested: k % 2 === 1 })
+      vectors.push(...h.vectors)
+      for (const { form, update } of h.updates) {
+        const key = form + hex(update)
+        if (!seen.has(key)) made.push({ form, update })
+        seen.add(key)
+      }
+    }
+    return { made, vectors }
+  }
+
   // A document from an update, with all its content deleted: in both forms, whole and without one client.
   const emptied = (update, type) => {
     const doc = document(77, true)
@@ -122,7 +149,7 @@ const begin = ({ random, pick }) => {
     ]
   }
 
-  return { document, history, emptied }
+  return { document, histories, emptied }
 }
 
 module.exports = { begin }

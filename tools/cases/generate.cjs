@@ -6,11 +6,11 @@ const path = require('path')
 const encoding = require('/usr/share/nodejs/lib0/encoding.cjs')
 const model = require('./model.cjs')
 const c = require('./cases.cjs')
+const { bytes } = require('./stream.cjs')
 const { begin, many } = require('./random.cjs')
 
 const folder = process.argv[2]
 const p = (...bits) => bits.reduce((sum, k) => sum + 2n ** BigInt(k), 0n)
-const bytes = text => [...Buffer.from(text.replace(/ /g, ''), 'hex')]
 const utf8 = text => [...Buffer.from(text, 'utf8')]
 
 // ---- random numbers

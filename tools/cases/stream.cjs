@@ -26,6 +26,7 @@ const LONG = 524288
 const SHORT = 65536
 
 const hex = bytes => bytes.length === 0 ? '-' : Buffer.from(bytes).toString('hex')
+const bytes = text => [...Buffer.from(text.replace(/ /g, ''), 'hex')]
 
 // `add` gives the expected line back. `counts` has how many cases an operation has, `refused` how many lines begin with a number.
 const begin = () => {
@@ -59,4 +60,4 @@ const worked = (line, expected) => {
   if (line !== expected) throw new Error(`worked by hand: ${expected}, by the model: ${line}`)
 }
 
-module.exports = { number, limited, sized, list, roomOf, LONG, SHORT, hex, begin, worked }
+module.exports = { number, limited, sized, list, roomOf, LONG, SHORT, hex, bytes, begin, worked }

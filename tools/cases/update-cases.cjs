@@ -46,7 +46,7 @@ const content = (form, n, update) => {
 const list = input => add(18, [sized(input, LONG)], [0, hex(Buffer.from(model.listing(input), 'ascii')), 'zero'])
 
 module.exports = {
-  readVector, read, content, list, whole, stream, output, refused,
+  readVector, read, content, list, whole, tables, stream, output, refused,
   told: () => [
     `cases of an operation: ${told(counts)}`,
     `the number of a line: ${told(refused)}`,

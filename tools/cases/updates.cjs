@@ -8,6 +8,7 @@ const yjs = require('./yjs.cjs')
 const c = require('./update-cases.cjs')
 const s = require('./spelling.cjs')
 const stream = require('./stream.cjs')
+const { gc, skip, gone, section, replaced, letters, ...shape } = require('./shapes.cjs')
 const { begin, many } = require('./random.cjs')
 const fixtures = require('./yjs-fixtures.json').fixtures
 
@@ -16,8 +17,9 @@ const { Y } = yjs
 const loose = begin(0x1f123bb5)
 const { random, pick } = loose
 const documents = require('./documents.cjs').begin(loose)
+const { some, damaged } = shape.begin(loose)
+const { bytes } = stream
 const p = k => 2n ** BigInt(k)
-const bytes = text => [...Buffer.from(text.replace(/ /g, ''), 'hex')]
 const forms = [1, 2]
 const w = stream.worked
 const SAFE = p(53) - 1n
@@ -271,27 +273,7 @@ w(vector('0205000501'), '4 zero')
 
 // ---- updates by Yjs
 
-const ways = [
-  { clients: [5], steps: 5, edits: 2 },
-  { clients: [1, 2, 3], steps: 8, edits: 3 },
-  { clients: [300, 70000, 9, 4], steps: 10, edits: 2 },
-  { clients: [0, 127, 128], steps: 7, edits: 4 },
-  { clients: [4294967295, 2147483648, 1234567890], steps: 8, edits: 3 },
-  { clients: [9007199254740991, 9007199254740990, 4294967296], steps: 8, edits: 2 },
-  { clients: [9007199254740991, 0, 1099511627776, 2 ** 31 - 1, 72], steps: 12, edits: 2 }
-]
-const seen = new Set()
-const made = []
-const fresh = (form, update) => {
-  const key = form + stream.hex(update)
-  return seen.has(key) ? false : seen.add(key)
-}
-const vectors = []
-for (let k = 0; k < 56; k++) {
-  const h = documents.history({ ...ways[k % ways.length], gc: k % 5 !== 4, nested: k % 2 === 1 })
-  vectors.push(...h.vectors)
-  for (const { form, update } of h.updates) if (fresh(form, update)) made.push({ form, update })
-}
+const { made, vectors } = documents.histories(56)
 // Rows that are just enough, or plenty; now and then one too few of either.
 const enough = ({ form, update }, k) => {
   const r = c.whole(form, update)
@@ -354,48 +336,10 @@ for (const f of fixtures) {
 
 // ---- updates put together by hand: shapes and spellings that Yjs does not write
 
-const letters = ['a', 'z', '\u0000', '\u007f', '\u0080', 'é', '\u07ff', '\u0800', '€', '\ud7ff', '\ue000', '\ufeff', '\uffff', '\u{10000}', '😀', '\u{10ffff}']
-const string = most => many(random(most + 1), () => pick(letters)).join('')
-const someClient = () => pick([0n, 1n, 5n, 9n, 127n, 128n, 70000n, p(31), p(32) - 1n, p(53) - 1n, BigInt(random(1000))])
-const someClock = () => BigInt(pick([0, 1, 2, random(100), random(100000), random(2 ** 29)]))
-const someId = () => [someClient(), someClock()]
-const someLength = () => pick([0, 0, 1, 1, 2, 3, random(200), random(100000)])
-const someBlock = form => {
-  switch (random(8)) {
-    case 0: return { info: 0, length: someLength() }
-    case 1: return { info: 10, length: someLength() }
-    default: {
-      const kind = pick([1, 3, 4])
-      const info = kind | pick([0, 0, 64, 128, 192]) | pick([0, 32])
-      const named = random(2) === 0
-      return {
-        info,
-        left: someId(),
-        right: someId(),
-        parentInfo: named ? 1 : pick([0, 0, 2, 127, 128, 255, form === 1 ? 2 ** 31 - 1 : 3]),
-        ...(named ? { name: string(4) } : { parent: someId() }),
-        key: string(3),
-        ...(kind === 1 ? { length: someLength() } : kind === 3 ? { binary: many(random(6), () => random(256)) } : { text: string(5) })
-      }
-    }
-  }
-}
-// Ranges: in form 1 in any order and empty too; in form 2 they only rise and are not empty, but a client may come again.
-const someRanges = form => {
-  let at = 0
-  return many(random(5), () => {
-    if (form === 1) return [random(40), random(8)]
-    at += random(5)
-    const length = 1 + random(6)
-    at += length
-    return [at - length, length]
-  })
-}
-const someSections = form => [...new Set(many(random(5), someClient))].map(client => ({ client, clock: someClock(), blocks: many(random(6), () => someBlock(form)) }))
 const shapes = []
 for (let k = 0; k < 400; k++) {
   const form = forms[k % 2]
-  const update = s.update(form, { sections: someSections(form), deletes: many(random(4), () => [pick([5n, 9n, someClient()]), someRanges(form)]) }, k % 4 < 2 ? null : loose)
+  const update = s.update(form, some(form), k % 4 < 2 ? null : loose)
   shapes.push({ form, update })
   const r = c.whole(form, update)
   if (r.number !== 0) throw new Error(`an update that should read is refused ${r.number}: form ${form}, ${stream.hex(update)}`)
@@ -443,10 +387,6 @@ for (const form of forms) {
 
 const clients = [0n, 127n, 128n, p(31) - 1n, p(31), p(32), p(53) - 2n, p(53) - 1n, p(53), p(53) + 1n, p(62) - 1n]
 const clocks = [0n, 1n, p(30) - 1n, p(30), p(31) - 2n, p(31) - 1n, p(31), p(32) - 1n, p(32), p(53) - 1n, p(53)]
-const gc = length => ({ info: 0, length })
-const skip = length => ({ info: 10, length })
-const gone = length => ({ info: 129, left: [5, 0], length })
-const section = (client, clock, ...blocks) => ({ client, clock, blocks })
 for (const form of forms) {
   const all = (sections, deletes = []) => c.read(form, s.update(form, { sections, deletes }))
   for (const x of clients) {
@@ -670,7 +610,6 @@ for (const form of forms) {
   const found = ['skip', 'gc', 'parent id', 'key', 'right id', 'several clients'].map(what => fits.find(m => features[what](c.whole(m.form, m.update), m.update)))
   short.push(...new Set(found.filter(m => m !== undefined)))
 }
-const replaced = (update, k, ...put) => [...update.slice(0, k), ...put, ...update.slice(k + 1)]
 short.forEach(({ form, update }, j) => {
   for (let n = 0; n < update.length; n++) {
     c.read(form, update.slice(0, n))
@@ -687,11 +626,6 @@ short.forEach(({ form, update }, j) => {
   c.read(form, [...update, 0])
 })
 // The updates by Yjs and by hand: one or two bytes changed anywhere, an end anywhere, the other form.
-const damaged = update => {
-  const k = random(update.length)
-  const b = update[k]
-  return replaced(update, k, pick([random(256), b ^ 128, b ^ 64, b ^ (1 << random(8)), 0, 10, 255]))
-}
 ;[...made, ...shapes].forEach(({ form, update }, k) => {
   if (update.length > 600) return
   if (k % 2 === 0) c.read(form, damaged(update))

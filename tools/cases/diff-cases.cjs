@@ -1,0 +1,42 @@
+// A case of operation 16 with the line that is expected: from the model, and compared with Yjs's own diffs.
+'use strict'
+const model = require('./diff-model.cjs')
+const { readVector } = require('./update-model.cjs')
+const { whole, tables } = require('./update-cases.cjs')
+const yjs = require('./yjs.cjs')
+const yjsDiffs = require('./yjs-diffs.cjs')
+const { limited, sized, roomOf, LONG, SHORT, hex, begin } = require('./stream.cjs')
+
+const { add, stream, output, counts, refused, told } = begin()
+const known = form => form === 1 || form === 2
+
+// The model's answer with rows and room without end, compared with Yjs, once for each diff.
+const answers = new Map()
+const answer = (form, written, update, vector) => {
+  const key = [form, written, hex(update), hex(vector)].join()
+  if (!answers.has(key)) {
+    if (known(form)) whole(form, update)
+    yjs.compareVector(vector, readVector(vector))
+    const r = model.diff(form, written, update, vector)
+    yjsDiffs.compare(form, written, update, vector, r)
+    answers.set(key, r)
+  }
+  return answers.get(key)
+}
+
+const diff = (form, written, update, vector, { blockRows = 512, rangeRows = 1024, room = 65536 } = {}) => {
+  answer(form, written, update, vector)
+  const r = model.diff(form, written, update, vector, { blockRows, rangeRows, room })
+  const parts = [limited('form', form, 255), limited('form written', written, 255), limited('block rows', blockRows, 512), limited('range rows', rangeRows, 1024),
+    roomOf(room), sized(update, LONG), sized(vector, SHORT)]
+  return add(16, parts, r.number === 0 ? [0, hex(r.bytes), ';', ...tables(r.read), 'zero'] : [r.number, 'zero'])
+}
+
+module.exports = {
+  diff, answer, stream, output, counts, refused,
+  told: () => [
+    `cases of an operation: ${told(counts)}`,
+    `the number of a line: ${told(refused)}`,
+    `${answers.size} diffs, with Yjs ${yjs.version}: ${yjsDiffs.told()}`
+  ].join('\n')
+}

@@ -1,0 +1,62 @@
+// What updates put together by hand are made of: blocks and sections by their names, random ones in shapes that Yjs does not write, and damage.
+'use strict'
+const { many } = require('./random.cjs')
+
+const p = k => 2n ** BigInt(k)
+const gc = length => ({ info: 0, length })
+const skip = length => ({ info: 10, length })
+const gone = length => ({ info: 129, left: [5, 0], length })
+const section = (client, clock, ...blocks) => ({ client, clock, blocks })
+const replaced = (update, k, ...put) => [...update.slice(0, k), ...put, ...update.slice(k + 1)]
+const letters = ['a', 'z', '\u0000', '\u007f', '\u0080', 'é', '\u07ff', '\u0800', '€', '\ud7ff', '\ue000', '\ufeff', '\uffff', '\u{10000}', '😀', '\u{10ffff}']
+
+const begin = ({ random, pick }) => {
+  const string = most => many(random(most + 1), () => pick(letters)).join('')
+  const someClient = () => pick([0n, 1n, 5n, 9n, 127n, 128n, 70000n, p(31), p(32) - 1n, p(53) - 1n, BigInt(random(1000))])
+  const someClock = () => BigInt(pick([0, 1, 2, random(100), random(100000), random(2 ** 29)]))
+  const someId = () => [someClient(), someClock()]
+  const someLength = () => pick([0, 0, 1, 1, 2, 3, random(200), random(100000)])
+  const someBlock = form => {
+    switch (random(8)) {
+      case 0: return gc(someLength())
+      case 1: return skip(someLength())
+      default: {
+        const kind = pick([1, 3, 4])
+        const info = kind | pick([0, 0, 64, 128, 192]) | pick([0, 32])
+        const named = random(2) === 0
+        return {
+          info,
+          left: someId(),
+          right: someId(),
+          parentInfo: named ? 1 : pick([0, 0, 2, 127, 128, 255, form === 1 ? 2 ** 31 - 1 : 3]),
+          ...(named ? { name: string(4) } : { parent: someId() }),
+          key: string(3),
+          ...(kind === 1 ? { length: someLength() } : kind === 3 ? { binary: many(random(6), () => random(256)) } : { text: string(5) })
+        }
+      }
+    }
+  }
+  // Ranges: in form 1 in any order and empty too; in form 2 they only rise and are not empty, but a client may come again.
+  const someRanges = form => {
+    let at = 0
+    return many(random(5), () => {
+      if (form === 1) return [random(40), random(8)]
+      at += random(5)
+      const length = 1 + random(6)
+      at += length
+      return [at - length, length]
+    })
+  }
+  const someSections = form => [...new Set(many(random(5), someClient))].map(client => ({ client, clock: someClock(), blocks: many(random(6), () => someBlock(form)) }))
+  // What an update is spelt from.
+  const some = form => ({ sections: someSections(form), deletes: many(random(4), () => [pick([5n, 9n, someClient()]), someRanges(form)]) })
+
+  const damaged = update => {
+    const k = random(update.length)
+    const b = update[k]
+    return replaced(update, k, pick([random(256), b ^ 128, b ^ 64, b ^ (1 << random(8)), 0, 10, 255]))
+  }
+  return { some, someClient, damaged }
+}
+
+module.exports = { gc, skip, gone, section, replaced, letters, begin }
