@@ -1,0 +1,2 @@
+-- What the public calls that write updates promise.
+pub mod Promises

@@ -1,0 +1,59 @@
+-- What the public calls that write updates promise: a diff has a number, its bytes, and the reading that it was made of; a refusal has its number alone.
+use Prim.Native.Nat.{ℕ, _/_}
+use mathlib.Core.Path.{_≡_}
+use mathlib.Core.List.{List, [], _∷_}
+use lib.Dec.{eqb}
+use lib.ListN.{length}
+use Rattle.numbers.specs.Number.{pick}
+use Rattle.numbers.specs.Output.{verdict, padded}
+use Rattle.block.specs.declared.Block.{Block}
+use Rattle.decoder.specs.Course.{Course, items, ending}
+use Rattle.vector.specs.Vector.{Entry, vectorOf}
+use Rattle.updates.specs.Promises.{Reading, refused, known, reading, rowsOf, wordsOf}
+use Rattle.writing.specs.Diff.{diffWhy, diffBytes}
+use Rattle.diffs.specs.declared.Diff.{Diff}
+
+pub record Diffed : Type 0 where
+  pub number : ℕ
+  pub bytes : List ℕ
+  pub reading : Reading
+
+abbrev pub refusedWith : ℕ → Diffed
+refusedWith n = record { number = n; bytes = []; reading = refused n }
+
+-- ---- the diff of an update of one form, against a vector, in another, with so many rows and bytes lent
+
+-- 9, 13, then 10
+unfoldable pub whyNot : List ℕ → List Entry → ℕ → ℕ → Reading → ℕ
+whyNot u v to room r = verdict (diffWhy to u v (r .blocks) (r .ranges)) room (diffBytes to u v (r .blocks) (r .ranges))
+
+unfoldable pub kept : List ℕ → List Entry → ℕ → ℕ → Reading → Diffed
+kept u v to room r =
+    pick (eqb (whyNot u v to room r) 0) (record { number = 0; bytes = diffBytes to u v (r .blocks) (r .ranges); reading = r }) (refusedWith (whyNot u v to room r))
+
+-- the vector is read after the update
+unfoldable pub against : List ℕ → Course Entry → ℕ → ℕ → Reading → Diffed
+against u c to room r = ending c (λ s. kept u (items c) to room r) (λ why. refusedWith (why .number))
+
+unfoldable pub afterReading : List ℕ → Course Entry → ℕ → ℕ → Reading → Diffed
+afterReading u c to room r = pick (eqb (r .number) 0) (against u c to room r) (refusedWith (r .number))
+
+unfoldable pub diffOf : ℕ → List ℕ → List ℕ → ℕ → ℕ → ℕ → ℕ → Diffed
+diffOf form u v to blockRows rangeRows room = pick (known to) (afterReading u (vectorOf v) to room (reading form u blockRows rangeRows)) (refusedWith 12)
+
+-- ---- what `encode_diff` gives, and what it leaves in all that is lent
+
+unfoldable pub answered : Diffed → Diff
+answered d = record { number = d .number; bytes = length (d .bytes); blocks = length (d .reading .blocks); ranges = length (d .reading .ranges) }
+
+-- the answer r, with these rows, words and bytes at entry and at exit
+abbrev pub Diffs : ℕ → List ℕ → List ℕ → ℕ → List Block → List ℕ → List ℕ → Diff → List Block → List ℕ → List ℕ → Type 0
+Diffs form u v to rows ranges out r rows₁ ranges₁ out₁ =
+    (r ≡ answered (diffOf form u v to (length rows) (length ranges / 3) (length out)))
+    × (rows₁ ≡ rowsOf (length rows) (diffOf form u v to (length rows) (length ranges / 3) (length out) .reading))
+    × (ranges₁ ≡ wordsOf (length ranges) (diffOf form u v to (length rows) (length ranges / 3) (length out) .reading))
+    × (out₁ ≡ padded (length out) (diffOf form u v to (length rows) (length ranges / 3) (length out) .bytes))
+
+-- a vector that names no client
+abbrev pub emptyVector : List ℕ
+emptyVector = 0 ∷ []

@@ -1,0 +1,105 @@
+// The public calls that write updates. None asks anything of its caller. An answer begins with its number in document 01, 0 for done; a refusal has
+// zeros for counts and leaves zeros in what was lent.
+use block::Block;
+ghost use mathlib.Core.Path.{_≡_};
+ghost use mathlib.Core.List.{[]};
+ghost use lib.ListN.{length};
+ghost use Rattle.numbers.specs.Output.{padded};
+ghost use Rattle.updates.specs.Promises.{known, refused, rowsOf, wordsOf};
+ghost use Rattle.diffs.specs.Promises.{refusedWith, answered, Diffs, emptyVector};
+
+// How many bytes were written, and how many blocks and delete ranges were read.
+pub struct Diff {
+    pub number: u8,
+    pub bytes: usize,
+    pub blocks: usize,
+    pub ranges: usize,
+}
+
+fn is_known(form: u8) -> bool
+    ensures { λ r. ⌜ r ≡ known form ⌝ }
+{
+    if form == 1 {
+        return true;
+    }
+    form == 2
+}
+
+// A refusal: its number, and counts of 0.
+fn none(number: u8) -> Diff
+    ensures { λ r. ⌜ r ≡ answered (refusedWith number) ⌝ }
+{
+    Diff {
+        number,
+        bytes: 0,
+        blocks: 0,
+        ranges: 0,
+    }
+}
+
+// A refusal, and zeros in all that was lent.
+fn refuse(rows: &mut [Block], ranges: &mut [u64], out: &mut [u8], number: u8) -> Diff
+    ensures { λ r. ⌜ (r ≡ answered (refusedWith number)) × (now (rows .exit) ≡ rowsOf (length (now (rows .entry))) (refused number))
+        × (now (ranges .exit) ≡ wordsOf (length (now (ranges .entry))) (refused number)) × (now (out .exit) ≡ padded (length (now (out .entry))) []) ⌝ }
+{
+    table::clear(rows, 0);
+    numbers::words::clear(ranges, 0);
+    numbers::clear(out, 0);
+    none(number)
+}
+
+// An update of one form, less what a state vector says that the other side has, written in the form `to`; both tables are filled with what was read.
+pub fn encode_diff(
+    form: u8,
+    update: &[u8],
+    vector: &[u8],
+    to: u8,
+    rows: &mut [Block],
+    ranges: &mut [u64],
+    out: &mut [u8],
+) -> Diff
+    ensures { λ r. ⌜ Diffs form (now (update .entry)) (now (vector .entry)) to (now (rows .entry)) (now (ranges .entry)) (now (out .entry)) r (now (rows .exit)) (now (ranges .exit)) (now (out .exit)) ⌝ }
+{
+    if !is_known(to) {
+        return refuse(rows, ranges, out, 12);
+    }
+    let read = updates::read_update(form, update, rows, ranges);
+    if read.number != 0 {
+        return refuse(rows, ranges, out, read.number);
+    }
+    let written = writing::encode_read(
+        update,
+        vector,
+        to,
+        rows,
+        read.blocks,
+        ranges,
+        read.ranges,
+        out,
+    );
+    if written.number != 0 {
+        return refuse(rows, ranges, out, written.number);
+    }
+    Diff {
+        number: 0,
+        bytes: written.bytes,
+        blocks: read.blocks,
+        ranges: read.ranges,
+    }
+}
+
+// A whole update written in the form `to`: the diff against a vector that names no client.
+pub fn encode_update(
+    form: u8,
+    update: &[u8],
+    to: u8,
+    rows: &mut [Block],
+    ranges: &mut [u64],
+    out: &mut [u8],
+) -> Diff
+    ensures { λ r. ⌜ Diffs form (now (update .entry)) emptyVector to (now (rows .entry)) (now (ranges .entry)) (now (out .entry)) r (now (rows .exit)) (now (ranges .exit)) (now (out .exit)) ⌝ }
+{
+    let mut zeros = [0u8; 16];
+    let vector = &mut zeros[..];
+    encode_diff(form, update, vector, to, rows, ranges, out)
+}

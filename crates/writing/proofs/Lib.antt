@@ -1,0 +1,13 @@
+-- The plan has room (Room) and names the sections kept (Rows); the tokens of a diff are legal and few (SmallLegal, SmallSize, SmallRanges); what is written
+-- is the diff (Planned, Meaning); the ways out (Exits), and what the walks share (Sorts, Cards).
+pub mod Room
+pub mod Rows
+pub mod SmallLegal
+pub mod SmallSize
+pub mod SmallRanges
+pub mod Planned
+pub mod Meaning
+pub mod Exits
+pub mod Entries
+pub mod Sorts
+pub mod Cards
