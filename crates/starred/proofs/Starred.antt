@@ -31,6 +31,8 @@ use Rattle.deletes.specs.DeleteSet as deletes
 use Rattle.updates.specs.Promises as promises
 use Rattle.updates.specs.Promises.{reading}
 use Rattle.text.specs.Utf8 as utf8
+use Rattle.diffs.specs.Promises.{Diffed, diffOf}
+use Rattle.rereading.proofs.CaseE.{case-e}
 use Rattle.lines.specs.Lines.{digits, decimal}
 use Rattle.listing_text.specs.Listing as listing
 use Rattle.listed.specs.Listed as listings
@@ -70,6 +72,10 @@ updateC = 0x01 ∷ 0x01 ∷ 0x05 ∷ 0x00 ∷ 0x04 ∷ 0x01 ∷ 0x01 ∷ 0x74 �
 abbrev pub updateD : List ℕ
 updateD = 0x00 ∷ 0x00 ∷ 0x01 ∷ 0x05 ∷ 0x00 ∷ 0x00 ∷ 0x01 ∷ 0x04 ∷ 0x06 ∷ 0x03 ∷ 0x74 ∷ 0x68 ∷ 0x69 ∷ 0x01 ∷ 0x02 ∷ 0x01 ∷ 0x01 ∷ 0x00 ∷ 0x00 ∷ 0x01 ∷ 0x01 ∷ 0x00 ∷ 0x00 ∷ []
 
+-- a diff of C that is written: its bytes, and what was read
+abbrev pub diffed : List ℕ → Diffed
+diffed b = record { number = 0; bytes = b; reading = blocksRead (hi 7 9 ∷ []) }
+
 -- "empty" and a new line
 abbrev pub emptyText : List ℕ
 emptyText = 101 ∷ 109 ∷ 112 ∷ 116 ∷ 121 ∷ 10 ∷ []
@@ -89,6 +95,9 @@ pub record Starred : Type 0 where
   pub D : (n m : ℕ) → reading 2 updateD (suc n) m ≡ blocksRead (hi 10 11 ∷ [])
   pub listedC : listed (1 ∷ updateC) ≡ oneText 49
   pub listedD : listed (2 ∷ updateD) ≡ oneText 50
+  -- C against 01 05 01 is its second unit, with the first as left id; against 01 05 02 nothing
+  pub E1 : (n m : ℕ) → diffOf 1 updateC (0x01 ∷ 0x05 ∷ 0x01 ∷ []) 1 (suc n) m 64 ≡ diffed (0x01 ∷ 0x01 ∷ 0x05 ∷ 0x01 ∷ 0x84 ∷ 0x05 ∷ 0x00 ∷ 0x01 ∷ 0x69 ∷ 0x00 ∷ [])
+  pub E2 : (n m : ℕ) → diffOf 1 updateC (0x01 ∷ 0x05 ∷ 0x02 ∷ []) 1 (suc n) m 64 ≡ diffed (0x00 ∷ 0x00 ∷ [])
   -- 40 03: five zeros, a sixth read gives 1
   pub F : readNumbers 6 (0x40 ∷ 0x03 ∷ []) (number.startAt 0) ≡ gives (0 ∷ 0 ∷ 0 ∷ 0 ∷ 0 ∷ []) 1
   -- 45 00: 5, 5
@@ -136,6 +145,8 @@ starred = record {
   listedB = lists .1;
   listedC = lists .2;
   listedD = lists .3;
+  E1 = case-e .one;
+  E2 = case-e .all;
   F = refl;
   G = refl;
   H = refl;

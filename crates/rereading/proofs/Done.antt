@@ -1,0 +1,143 @@
+-- A diff with the number 0 was made: form, update and vector were good, nothing was cut inside a pair, every difference could be spelled.
+use Prim.Native.Nat.{ℕ, zero, suc}
+use mathlib.Core.Path.{_≡_, refl, sym, ap, _∙_}
+use mathlib.Core.Bool.{Bool, true, false}
+use mathlib.Core.List.{List, [], _∷_, _++_}
+use native.Mathlib.Omega.{arith}
+use lib.Dec.{leb, eqb}
+use lib.ListN.{length}
+use borrow.Author.Tests.{eqb-true, eqb-false}
+use Rattle.numbers.specs.Number.{pick}
+use Rattle.numbers.specs.Limits.{maxClients}
+use Rattle.numbers.specs.Output.{verdict}
+use Rattle.decoder.specs.declared.State.{State}
+use Rattle.decoder.specs.Fields.{startAt, varAt, client1, clockAt}
+use Rattle.decoder.specs.Course.{Course, item, over, stopped, ending}
+use Rattle.vector.specs.Vector.{Entry, entry, holds, entries, vectorOf}
+use Rattle.updates.specs.Promises.{Reading, known, reading}
+use Rattle.agreement.specs.Numbered.{Low, Stops}
+use Rattle.agreement.proofs.NumberedColumns.{chosen}
+use Rattle.agreement.proofs.NumberedFields.{bounded-numbered, var-numbered, client1-numbered, clock-numbered}
+use Rattle.agreement.proofs.NumberedCourses.{drawn-stops}
+use Rattle.writing.specs.Diff.{diffBytes, diffWhy}
+use Rattle.diffs.specs.Promises.{Diffed, refusedWith, whyNot, kept, against, afterReading, diffOf}
+use Rattle.rereading.specs.Vectors.{Reads, entriesIn}
+use Rattle.rereading.proofs.Elsewhere.{vector-read}
+
+-- ---- a vector is never refused with 0
+
+low4 : Low 4
+low4 = (omega arith, omega arith)
+
+repeated : (p : ℕ) → Stops {A = Entry} (stopped (record { number = 4; place = p }))
+unfolding Stops
+repeated p = low4
+
+over-stops : (s : State) → Stops {A = Entry} (over s)
+unfolding Stops
+over-stops s = tt
+
+item-stops : (e : Entry) (p : ℕ) (c : Course Entry) → Stops c → Stops (item e p c)
+unfolding Stops
+item-stops e p c h = h
+
+module _ (v : List ℕ) where
+  entries-stop : (n : ℕ) (seen : List Entry) (s : State) → Stops (entries n v seen s)
+  unfolding entries
+  entries-stop zero seen s = over-stops s
+  entries-stop (suc n) seen s =
+      drawn-stops (client1 v s) _ (client1-numbered v s) (λ c p t.
+      chosen Stops (holds c seen) (repeated p)
+      (drawn-stops (clockAt v t) _ (clock-numbered v t) (λ k q w. item-stops (entry c k) p _ (entries-stop n (seen ++ (entry c k ∷ [])) w))))
+
+  vector-numbered : Stops (vectorOf v)
+  unfolding vectorOf
+  vector-numbered = drawn-stops _ _ (bounded-numbered maxClients (varAt v (startAt 1 0)) (var-numbered v (startAt 1 0))) (λ n p s. entries-stop n [] s)
+
+read-whole : (c : Course Entry) (d : Diffed) → Stops c → ending c (λ s. d) (λ why. refusedWith (why .number)) .number ≡ 0
+    → ending c (λ s. true) (λ why. false) ≡ true
+unfolding ending Stops
+read-whole (item e p c) d h z = read-whole c d h z
+read-whole (over s) d h z = refl
+read-whole (stopped why) d h z = absurd (omega (arith, h .0, z))
+
+-- ---- what 0 says of a diff
+
+pub record Done (form : ℕ) (u v : List ℕ) (to m n room : ℕ) : Type 0 where
+  pub target : known to ≡ true
+  pub read : reading form u m n .number ≡ 0
+  pub vector : Reads v
+  pub why : diffWhy to u (entriesIn v) (reading form u m n .blocks) (reading form u m n .ranges) ≡ 0
+  pub bytes : diffOf form u v to m n room .bytes ≡ diffBytes to u (entriesIn v) (reading form u m n .blocks) (reading form u m n .ranges)
+  pub source : diffOf form u v to m n room .reading ≡ reading form u m n
+
+not-refused : (why room : ℕ) (b : List ℕ) → verdict why room b ≡ 0 → why ≡ 0
+unfolding verdict
+not-refused why room b z = go (eqb why 0) refl z
+  where
+    go : (x : Bool) → eqb why 0 ≡ x → pick x (pick (leb (length b) room) 0 10) why ≡ 0 → why ≡ 0
+    go true e z = eqb-true why 0 e
+    go false e z = z
+
+module _ (u v : List ℕ) (to room : ℕ) (r : Reading) where
+  abbrev bytes : List ℕ
+  bytes = diffBytes to u (entriesIn v) (r .blocks) (r .ranges)
+
+  record Made (d : Diffed) : Type 0 where
+    why : diffWhy to u (entriesIn v) (r .blocks) (r .ranges) ≡ 0
+    same : d ≡ record { number = 0; bytes = diffBytes to u (entriesIn v) (r .blocks) (r .ranges); reading = r }
+
+  made : kept u (entriesIn v) to room r .number ≡ 0 → Made (kept u (entriesIn v) to room r)
+  unfolding kept whyNot
+  made z = go (eqb (whyNot u (entriesIn v) to room r) 0) refl z
+    where
+      go : (x : Bool) → eqb (whyNot u (entriesIn v) to room r) 0 ≡ x
+          → pick x (record { number = 0; bytes = bytes; reading = r }) (refusedWith (whyNot u (entriesIn v) to room r)) .number ≡ 0
+          → Made (pick x (record { number = 0; bytes = bytes; reading = r }) (refusedWith (whyNot u (entriesIn v) to room r)))
+      go true e z = record { why = not-refused _ room bytes (eqb-true (whyNot u (entriesIn v) to room r) 0 e); same = refl }
+      go false e z = absurd (eqb-false (whyNot u (entriesIn v) to room r) 0 e z)
+
+  record MadeAfter (d : Diffed) : Type 0 where
+    read : r .number ≡ 0
+    vector : Reads v
+    made : Made d
+
+  reads-then : against u (vectorOf v) to room r .number ≡ 0 → Reads v
+  unfolding against
+  reads-then z = read-whole (vectorOf v) (kept u (entriesIn v) to room r) (vector-numbered v) z
+
+  made-after : afterReading u (vectorOf v) to room r .number ≡ 0 → MadeAfter (afterReading u (vectorOf v) to room r)
+  unfolding afterReading
+  made-after z = go (eqb (r .number) 0) refl z
+    where
+      go : (x : Bool) → eqb (r .number) 0 ≡ x → pick x (against u (vectorOf v) to room r) (refusedWith (r .number)) .number ≡ 0
+          → MadeAfter (pick x (against u (vectorOf v) to room r) (refusedWith (r .number)))
+      go true e z =
+          let reads = reads-then z in
+          let same = vector-read u to room r v reads in
+          let k = made (ap (λ (d : Diffed). d .number) (sym same) ∙ z) in
+          record { read = eqb-true (r .number) 0 e; vector = reads; made = record { why = k .why; same = same ∙ k .same } }
+      go false e z = absurd (eqb-false (r .number) 0 e z)
+
+module _ (form : ℕ) (u v : List ℕ) (to m n room : ℕ) where
+  abbrev R : Reading
+  R = reading form u m n
+
+  pub done : diffOf form u v to m n room .number ≡ 0 → Done form u v to m n room
+  unfolding diffOf
+  done z = go (known to) refl z refl
+    where
+      go : (x : Bool) → known to ≡ x → pick x (afterReading u (vectorOf v) to room R) (refusedWith 12) .number ≡ 0
+          → diffOf form u v to m n room ≡ pick x (afterReading u (vectorOf v) to room R) (refusedWith 12) → Done form u v to m n room
+      go true e z same =
+          let k = made-after u v to room R z in
+          let all = same ∙ k .made .same in
+          record {
+            target = e;
+            read = k .read;
+            vector = k .vector;
+            why = k .made .why;
+            bytes = ap (λ (d : Diffed). d .bytes) all;
+            source = ap (λ (d : Diffed). d .reading) all;
+          }
+      go false e z same = absurd (omega (arith, z))

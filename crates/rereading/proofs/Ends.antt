@@ -1,0 +1,102 @@
+-- What a diff has where the other side has everything, and where it has nothing.
+use Prim.Native.Nat.{ℕ, _≤_}
+use mathlib.Core.Path.{_≡_, refl, ap, _∙_}
+use mathlib.Core.Logic.{_≢_}
+use mathlib.Core.Bool.{Bool, true, false}
+use mathlib.Core.List.{List, [], _∷_}
+use native.Mathlib.Omega.{arith}
+use lib.Dec.{eqb}
+use lib.ListN.{length}
+use borrow.Author.Tests.{le-leb}
+use Rattle.numbers.specs.Number.{pick, spelt, after, placed, readUnsigned}
+use Rattle.numbers.specs.Output.{verdict}
+use Rattle.runs.specs.Runs.{spellable}
+use Rattle.decoder.specs.Course.{drawn, items}
+use Rattle.decoder.specs.Fields.{bounded, varDraw, varAt}
+use Rattle.vector.specs.Vector.{Entry, entries, vectorOf}
+use Rattle.ranges.specs.Ranges.{Range}
+use Rattle.updates.specs.Promises.{known, reading}
+use Rattle.readings.specs.Groups.{groups}
+use Rattle.tokens.specs.Tokens.{var, lefts, rights, rest, whole, taken, takenAll}
+use Rattle.tokens.specs.Bytes.{bytesOf, nearIn, near}
+use Rattle.kept.specs.Kept.{Section, falling, clientOf, sectionsOf, wholeEach}
+use Rattle.kept.specs.Cut.{anyTorn}
+use Rattle.kept.proofs.SectionsRemote.{nothing-kept, against-nothing}
+use Rattle.records.specs.Records.{sectionsTokens, deleteTokens, updateTokens}
+use Rattle.records.proofs.Deletes.{deletes-taken}
+use Rattle.writing.specs.Diff.{diffTokens, diffBytes, diffWhy}
+use Rattle.diffs.specs.Promises.{refusedWith, whyNot, kept, against, afterReading, diffOf, emptyVector}
+use Rattle.rereading.specs.Vectors.{Reads, entriesIn, HasAll}
+use Rattle.rereading.proofs.Elsewhere.{vector-read}
+use Rattle.rereading.proofs.Done.{done}
+
+-- numbers without columns need no differences
+numbers-near : (form : ℕ) (rs : List Range) → near form (var 0 ∷ deleteTokens form rs) ≡ true
+unfolding near nearIn takenAll taken spellable
+numbers-near form rs = rw (none lefts (λ e. omega (arith, e)) (λ e. omega (arith, e)), none rights (λ e. omega (arith, e)) (λ e. omega (arith, e))) (go (eqb form 1))
+  where
+    none : (k : ℕ) → k ≢ whole → k ≢ rest → takenAll k (deleteTokens form rs) ≡ []
+    none k n m = deletes-taken k n m form rs
+
+    go : (x : Bool) → pick x true true ≡ true
+    go true = refl
+    go false = refl
+
+module _ (form : ℕ) (u : List ℕ) (to m n room : ℕ) where
+  -- a diff that is made is the bytes of the sections kept, and of the whole delete set
+  pub sections-written : (v : List ℕ) (ss : List Section) → sectionsOf (entriesIn v) (reading form u m n .blocks) ≡ ss
+      → diffOf form u v to m n room .number ≡ 0
+      → diffOf form u v to m n room .bytes ≡ bytesOf to (updateTokens to u ss (reading form u m n .ranges))
+  unfolding diffBytes diffTokens
+  sections-written v ss e z =
+      done form u v to m n room z .bytes ∙ ap (λ (ss : List Section). bytesOf to (updateTokens to u ss (reading form u m n .ranges))) e
+
+  -- ---- everything: no sections, and the whole delete set
+
+  pub no-sections : (v : List ℕ) → HasAll v (reading form u m n .blocks)
+      → diffTokens to u (entriesIn v) (reading form u m n .blocks) (reading form u m n .ranges) ≡ var 0 ∷ deleteTokens to (reading form u m n .ranges)
+  unfolding diffTokens updateTokens sectionsTokens
+  no-sections v h = rw (nothing-kept (entriesIn v) (reading form u m n .blocks) h)
+
+  pub has-all : (v : List ℕ) → HasAll v (reading form u m n .blocks) → diffOf form u v to m n room .number ≡ 0
+      → diffOf form u v to m n room .bytes ≡ bytesOf to (var 0 ∷ deleteTokens to (reading form u m n .ranges))
+  unfolding updateTokens sectionsTokens
+  has-all v h z = sections-written v [] (nothing-kept (entriesIn v) (reading form u m n .blocks) h) z
+
+  -- and it is refused only for want of room
+  abbrev bytes : List ℕ
+  bytes = bytesOf to (var 0 ∷ deleteTokens to (reading form u m n .ranges))
+
+  has-why : (v : List ℕ) → HasAll v (reading form u m n .blocks) → length bytes ≤ room → whyNot u (entriesIn v) to room (reading form u m n) ≡ 0
+  unfolding whyNot diffWhy diffBytes diffTokens anyTorn updateTokens sectionsTokens verdict
+  has-why v h fits =
+      rw (nothing-kept (entriesIn v) (reading form u m n .blocks) h, numbers-near to (reading form u m n .ranges), le-leb (length bytes) room fits)
+
+  has-kept : (v : List ℕ) → HasAll v (reading form u m n .blocks) → length bytes ≤ room
+      → kept u (entriesIn v) to room (reading form u m n) ≡ record { number = 0; bytes = bytes; reading = reading form u m n }
+  unfolding kept diffBytes diffTokens updateTokens sectionsTokens
+  has-kept v h fits = rw (has-why v h fits, nothing-kept (entriesIn v) (reading form u m n .blocks) h)
+
+  pub has-all-made : (v : List ℕ) → known to ≡ true → reading form u m n .number ≡ 0 → Reads v → HasAll v (reading form u m n .blocks)
+      → length (bytesOf to (var 0 ∷ deleteTokens to (reading form u m n .ranges))) ≤ room
+      → diffOf form u v to m n room
+      ≡ record { number = 0; bytes = bytesOf to (var 0 ∷ deleteTokens to (reading form u m n .ranges)); reading = reading form u m n }
+  unfolding diffOf afterReading
+  has-all-made v e z reads h fits =
+      ap (λ (x : Bool). pick x (afterReading u (vectorOf v) to room (reading form u m n)) (refusedWith 12)) e
+      ∙ ap (λ (k : ℕ). pick (eqb k 0) (against u (vectorOf v) to room (reading form u m n)) (refusedWith (reading form u m n .number))) z
+      ∙ vector-read u to room (reading form u m n) v reads
+      ∙ has-kept v h fits
+
+  -- ---- nothing: every block, but for a client's leading Skips and leading blocks that end at 0
+
+  no-entries : entriesIn emptyVector ≡ []
+  unfolding vectorOf entries bounded varAt varDraw drawn items readUnsigned placed spelt after
+  no-entries = refl
+
+  pub against-empty : diffOf form u emptyVector to m n room .number ≡ 0
+      → diffOf form u emptyVector to m n room .bytes
+      ≡ bytesOf to (updateTokens to u (falling (wholeEach (groups clientOf (reading form u m n .blocks)))) (reading form u m n .ranges))
+  against-empty z =
+      sections-written emptyVector _
+      (ap (λ (es : List Entry). sectionsOf es (reading form u m n .blocks)) no-entries ∙ against-nothing (reading form u m n .blocks)) z

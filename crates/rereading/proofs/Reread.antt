@@ -1,0 +1,167 @@
+-- A diff is read again, with rows enough, if it is not longer than an update may be: the same delete ranges, and the records of the pieces kept.
+use Prim.Native.Nat.{ℕ, _+_, _≤_}
+use mathlib.Core.Path.{_≡_, refl, sym, ap, subst, _∙_}
+use mathlib.Core.Logic.{_⊎_, inl, inr}
+use mathlib.Core.Bool.{Bool, true, false}
+use mathlib.Core.List.{List, [], _∷_}
+use native.Mathlib.Omega.{arith}
+use lib.Dec.{eqb}
+use lib.ListN.{length}
+use borrow.Author.Tests.{eqb-true}
+use Rattle.numbers.specs.Number.{pick}
+use Rattle.numbers.specs.Limits.{maxUpdate}
+use Rattle.block.specs.declared.Block.{Block}
+use Rattle.decoder.specs.Course.{items}
+use Rattle.ranges.specs.Ranges.{Range}
+use Rattle.update.specs.Update.{blocksOf}
+use Rattle.updates.specs.Promises.{Reading, refused, withRanges, withBlocks, known, reading}
+use Rattle.readings.specs.Sound.{All}
+use Rattle.tokens.specs.Tokens.{Token}
+use Rattle.tokens.specs.Bytes.{bytesOf, near}
+use Rattle.draws.proofs.Drawn.{draws}
+use Rattle.kept.specs.Kept.{Piece, Section, sectionsOf, pieceCount as kept-count}
+use Rattle.kept.specs.Cut.{torn, tornPieces, anyTorn}
+use Rattle.kept.proofs.SectionsKept.{sections-count}
+use Rattle.records.specs.Records.{updateTokens}
+use Rattle.written.specs.Written.{AllAlike, sectionsRead}
+use Rattle.written.specs.Kept.{pieceCount, Kept, Clean, KeptRanges}
+use Rattle.written.proofs.LegalUpdate.{update-legal}
+use Rattle.written.proofs.KeepingAll.{kept-sections, kept-ranges}
+use Rattle.written.proofs.Whole.{written-reads, records-alike, reading-written}
+use Rattle.writing.specs.Diff.{diffTokens, diffBytes, diffWhy}
+use Rattle.writing.proofs.SmallRanges.{found-few}
+use Rattle.diffs.specs.Promises.{Diffed, diffOf}
+use Rattle.rereading.specs.Vectors.{entriesIn}
+use Rattle.rereading.specs.Again.{keptBy, ReadAgain}
+use Rattle.rereading.proofs.Few.{few-tokens}
+use Rattle.rereading.proofs.Done.{Done, done}
+use Rattle.rereading.proofs.Wholes.{AllRead, in-time, read-on, all-read}
+
+one-or-two : (to : ℕ) → known to ≡ true → (to ≡ 1) ⊎ (to ≡ 2)
+unfolding known
+one-or-two to e = go (eqb to 1) refl e
+  where
+    go : (x : Bool) → eqb to 1 ≡ x → pick x true (eqb to 2) ≡ true → (to ≡ 1) ⊎ (to ≡ 2)
+    go true one e = inl (eqb-true to 1 one)
+    go false one e = inr (eqb-true to 2 e)
+
+-- ---- nothing is torn
+
+abbrev Clear : List ℕ → List Piece → Type 0
+Clear u ps = All (λ (p : Piece). torn u p ≡ false) ps
+
+clean-pieces : (u : List ℕ) (ps : List Piece) → tornPieces u ps ≡ false → Clear u ps
+unfolding tornPieces
+clean-pieces u [] e = tt
+clean-pieces u (p ∷ ps) e = go (torn u p) refl e (clean-pieces u ps)
+  where
+    go : (x : Bool) → torn u p ≡ x → pick x true (tornPieces u ps) ≡ false → (tornPieces u ps ≡ false → Clear u ps) → Clear u (p ∷ ps)
+    go true t e more = absurd (omega (arith, ap (λ (b : Bool). pick {A = ℕ} b 1 0) e))
+    go false t e more = (t, more e)
+
+clean-sections : (u : List ℕ) (ss : List Section) → anyTorn u ss ≡ false → Clean u ss
+unfolding anyTorn
+clean-sections u [] e = tt
+clean-sections u (s ∷ ss) e = go (tornPieces u (s .pieces)) refl e (clean-sections u ss)
+  where
+    go : (x : Bool) → tornPieces u (s .pieces) ≡ x → pick x true (anyTorn u ss) ≡ false → (anyTorn u ss ≡ false → Clean u ss) → Clean u (s ∷ ss)
+    go true t e more = absurd (omega (arith, ap (λ (b : Bool). pick {A = ℕ} b 1 0) e))
+    go false t e more = (clean-pieces u (s .pieces) t, more e)
+
+-- ---- what is written of sections and ranges is read again
+
+record Found (to : ℕ) (u d : List ℕ) (ss : List Section) (rs : List Range) (r : Reading) : Type 0 where
+  same : r ≡ record { number = 0; blocks = items (blocksOf to d); ranges = rs }
+  alike : AllAlike d (items (blocksOf to d)) u (sectionsRead u ss)
+
+module _ (to : ℕ) (u : List ℕ) (ss : List Section) (rs : List Range) (k : Kept u ss) (l : KeptRanges rs) where
+  abbrev ts : List Token
+  ts = updateTokens to u ss rs
+
+  abbrev d : List ℕ
+  d = bytesOf to ts
+
+  found : known to ≡ true → length u ≤ maxUpdate → length rs ≤ length u → near to (updateTokens to u ss rs) ≡ true
+      → length (bytesOf to (updateTokens to u ss rs)) ≤ maxUpdate → (m n : ℕ) → pieceCount ss ≤ m → length rs ≤ n
+      → Found to u (bytesOf to (updateTokens to u ss rs)) ss rs (reading to (bytesOf to (updateTokens to u ss rs)) m n)
+  unfolding withBlocks withRanges
+  found e short few close small m n rows ranges =
+      let drawn = draws to (one-or-two to e) ts (update-legal to u ss rs short k l) close (few-tokens to u ss rs short k few) (omega arith) in
+      let reads = written-reads to d u ss rs (drawn .0) (drawn .1) (drawn .2) (drawn .4) k l (drawn .3) in
+      record {
+        same = read-on to d m n (in-time to d e small)
+            ∙ reading-written to d u ss rs (drawn .1) reads {X = Reading} (λ bs rs. record { number = 0; blocks = bs; ranges = rs }) (λ why. refused (why .number))
+            m n rows ranges (l .normal);
+        alike = records-alike to d u ss rs (drawn .1) reads;
+      }
+
+-- ---- a diff
+
+record Good (to : ℕ) (u : List ℕ) (ss : List Section) (rs : List Range) : Type 0 where
+  clean : anyTorn u ss ≡ false
+  close : near to (updateTokens to u ss rs) ≡ true
+
+good : (to : ℕ) (u : List ℕ) (ss : List Section) (rs : List Range)
+    → _≡_ {A = ℕ} (pick (anyTorn u ss) 9 (pick (near to (updateTokens to u ss rs)) 0 13)) 0 → Good to u ss rs
+good to u ss rs z = go (anyTorn u ss) (near to (updateTokens to u ss rs)) refl refl z
+  where
+    go : (x y : Bool) → anyTorn u ss ≡ x → near to (updateTokens to u ss rs) ≡ y → _≡_ {A = ℕ} (pick x 9 (pick y 0 13)) 0 → Good to u ss rs
+    go true y t c z = absurd (omega (arith, z))
+    go false true t c z = record { clean = t; close = c }
+    go false false t c z = absurd (omega (arith, z))
+
+module _ (form : ℕ) (u v : List ℕ) (to m n room : ℕ) where
+  abbrev R : Reading
+  R = reading form u m n
+
+  abbrev D : Diffed
+  D = diffOf form u v to m n room
+
+  -- as the update was read
+  from-reading : Done form u v to m n room → AllRead form u R m n → length (diffBytes to u (entriesIn v) (R .blocks) (R .ranges)) ≤ maxUpdate
+      → (m′ n′ : ℕ) → pieceCount (keptBy v R) ≤ m′ → length (R .ranges) ≤ n′
+      → Found to u (diffBytes to u (entriesIn v) (R .blocks) (R .ranges)) (keptBy v R) (R .ranges)
+      (reading to (diffBytes to u (entriesIn v) (R .blocks) (R .ranges)) m′ n′)
+  unfolding diffWhy diffBytes diffTokens
+  from-reading h a small m′ n′ rows ranges =
+      let g = good to u (keptBy v R) (R .ranges) (h .why) in
+      let k = subst (λ (bs : List Block). Clean u (sectionsOf (entriesIn v) bs) → Kept u (sectionsOf (entriesIn v) bs)) (sym (a .blocks))
+      (kept-sections form u (entriesIn v)) (clean-sections u (keptBy v R) (g .clean)) in
+      let l = subst KeptRanges (sym (a .ranges)) (kept-ranges u (a .middle) n) in
+      let few : length (R .ranges) ≤ length u = omega (arith, ap length (a .ranges), found-few u (a .middle) n) in
+      found to u (keptBy v R) (R .ranges) k l (h .target) (a .short) few (g .close) small m′ n′ rows ranges
+
+  pub reread : diffOf form u v to m n room .number ≡ 0 → length (diffOf form u v to m n room .bytes) ≤ maxUpdate
+      → (m′ n′ : ℕ) → pieceCount (keptBy v (diffOf form u v to m n room .reading)) ≤ m′ → length (diffOf form u v to m n room .reading .ranges) ≤ n′
+      → ReadAgain u v (diffOf form u v to m n room) (reading to (diffOf form u v to m n room .bytes) m′ n′)
+  reread z small m′ n′ rows ranges =
+      let h = done form u v to m n room z in
+      let b = h .bytes in
+      let s = h .source in
+      let f = from-reading h (all-read form u m n (h .read)) (subst (λ (x : List ℕ). length x ≤ maxUpdate) b small) m′ n′
+      (subst (λ (r : Reading). pieceCount (keptBy v r) ≤ m′) s rows) (subst (λ (r : Reading). length (r .ranges) ≤ n′) s ranges) in
+      let same = ap (λ (x : List ℕ). reading to x m′ n′) b ∙ f .same in
+      record {
+        number = ap (λ (r : Reading). r .number) same;
+        ranges = ap (λ (r : Reading). r .ranges) same ∙ sym (ap (λ (r : Reading). r .ranges) s);
+        blocks = subst (λ (r : Reading). AllAlike (D .bytes) (reading to (D .bytes) m′ n′ .blocks) u (sectionsRead u (keptBy v r))) (sym s)
+            (subst (λ (x : List ℕ). AllAlike x (reading to x m′ n′ .blocks) u (sectionsRead u (keptBy v R))) (sym b)
+            (subst (λ (r : Reading). AllAlike (diffBytes to u (entriesIn v) (R .blocks) (R .ranges)) (r .blocks) u (sectionsRead u (keptBy v R))) (sym (f .same))
+            (f .alike)));
+      }
+
+  -- ---- the rows that took the update take the diff
+
+  piece-counts : (ss : List Section) → pieceCount ss ≡ kept-count ss
+  unfolding pieceCount kept-count
+  piece-counts [] = refl
+  piece-counts (s ∷ ss) = ap (λ (k : ℕ). length (s .pieces) + k) (piece-counts ss)
+
+  pub reread-there : diffOf form u v to m n room .number ≡ 0 → length (diffOf form u v to m n room .bytes) ≤ maxUpdate
+      → ReadAgain u v (diffOf form u v to m n room) (reading to (diffOf form u v to m n room .bytes) m n)
+  reread-there z small =
+      let h = done form u v to m n room z in
+      let s = sym (h .source) in
+      let a = all-read form u m n (h .read) in
+      let rows : pieceCount (keptBy v R) ≤ m = omega (arith, piece-counts (keptBy v R), sections-count (entriesIn v) (R .blocks), a .rows) in
+      reread z small m n (subst (λ (r : Reading). pieceCount (keptBy v r) ≤ m) s rows) (subst (λ (r : Reading). length (r .ranges) ≤ n) s (a .range-rows))

@@ -1,0 +1,1 @@
+// No code: theorems about diffs that are written.
