@@ -39,6 +39,7 @@ fn case(
         13 => vectors::read(source, place, sink, used),
         14 => tables::read(source, place, bytes, sink, used),
         15 => parts::read(source, place, bytes, sink, used),
+        16 => diff_cases::read(source, place, bytes, sink, used),
         18 => listings::read(source, place, bytes, sink, used),
         _ => {
             let place = input::spoiled(place);

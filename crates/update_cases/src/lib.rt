@@ -2,6 +2,6 @@
 mod lines;
 pub mod listings;
 pub mod parts;
-mod rows;
+pub mod rows;
 pub mod tables;
 pub mod vectors;

@@ -5,7 +5,7 @@ use stream::input;
 use stream::input::Place;
 use stream::line;
 
-fn bytes_zero(bytes: &[u8], from: usize) -> bool {
+pub fn bytes_zero(bytes: &[u8], from: usize) -> bool {
     let mut i = from;
     while i < bytes.len() {
         if bytes[i] != 0 {

@@ -1,4 +1,4 @@
-// Operation 14's line: the rows of a table, seen one at a time by value, and what stands before and after them.
+// The lines of operations 14 and 16: the rows of a table, seen one at a time by value, and what stands before and after them.
 use crate::lines;
 use crate::lines::Listed;
 use block::Block;
@@ -88,14 +88,19 @@ pub fn put_row(sink: &mut [u8], told: Told, b: Block, i: usize, n: usize) -> Tol
     }
 }
 
+// What stands before the rows of a table.
+pub fn blocks(sink: &mut [u8], used: usize, count: usize) -> usize {
+    let named = line::text(sink, used, b" blocks");
+    line::number(sink, named, count as u64)
+}
+
 // The line up to the rows.
 pub fn begin(sink: &mut [u8], used: usize, answer: Update) -> usize {
     let begun = line::decimal(sink, used, answer.number as u64);
     if answer.number != 0 {
         return begun;
     }
-    let named = line::text(sink, begun, b" blocks");
-    line::number(sink, named, answer.blocks as u64)
+    blocks(sink, begun, answer.blocks)
 }
 
 fn ranges(sink: &mut [u8], used: usize, count: usize, words: &[u64]) -> Listed {
