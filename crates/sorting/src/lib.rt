@@ -1,0 +1,1 @@
+// No code: what sorting is, and that it has one outcome.
