@@ -1,0 +1,2 @@
+-- The slots of a sorter: its clients, highest first.
+pub mod Slots
