@@ -1,0 +1,17 @@
+-- Words that overlay others, one more at a time.
+use Prim.Native.Nat.{ℕ}
+use mathlib.Core.Path.{_≡_, refl, ap}
+use mathlib.Core.List.{List, [], _∷_, _++_}
+use lib.ListN.{length, set}
+use lib.Seq.{take-nil, drop-nil}
+use Rattle.outcome.specs.Tie.{overlaid}
+
+pub overlaid-none : (w : List ℕ) → overlaid w [] ≡ w
+unfolding overlaid
+overlaid-none w = rw (take-nil {A = ℕ} (length w)) refl
+
+pub overlaid-more : (w ws : List ℕ) (x : ℕ) → set (overlaid w ws) (length ws) x ≡ overlaid w (ws ++ (x ∷ []))
+unfolding overlaid
+overlaid-more [] ws x = rw (drop-nil {A = ℕ} (length ws), drop-nil {A = ℕ} (length (ws ++ (x ∷ [])))) refl
+overlaid-more (a ∷ w) [] x = rw (take-nil {A = ℕ} (length w)) refl
+overlaid-more (a ∷ w) (b ∷ ws) x = ap (λ (l : List ℕ). b ∷ l) (overlaid-more w ws x)

@@ -1,0 +1,3 @@
+-- Fronts in words, their reaches and the first front that is due (FrontLaws); what a look finds and leaves (Looks).
+pub mod FrontLaws
+pub mod Looks

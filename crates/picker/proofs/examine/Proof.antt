@@ -1,0 +1,78 @@
+-- `picker::examine` meets its contract: what is found from dependency `k` on is what is found.
+use mathlib.Core.Path.{_≡_, refl, _∙_}
+use Prim.Native.Nat.{_+_, _-_}
+use native.Mathlib.Numerals.{add-one}
+use lib.ListN.{drop}
+use Rattle.slots.specs.Slots.{slotsFrom}
+use Rattle.picker.specs.Picker.{dependencies, lookedFrom, looked}
+use Rattle.picker.proofs.Looks.{look-waits, look-on, look-ended}
+use borrow.Author.Needs.{needs}
+use Rattle.picker.proofs.examine.Statement.{statement}
+use Rattle.picker.proofs.examine.Tie as tie
+
+abbrev Inv-loop : tie.InvT-loop
+Inv-loop slots n reach f b k₀ k = lookedFrom (b .client) (slotsFrom slots 0 n) reach f k (drop k (dependencies b)) ≡ looked (slotsFrom slots 0 n) reach f b
+
+abbrev μ-loop : tie.MeasureT-loop
+μ-loop slots n reach f b k₀ k = 3 - k
+
+loop-holds : tie.Need-loop-holds Inv-loop μ-loop
+unfolding looked
+loop-holds c = refl
+
+dependency-at-requires : tie.Need-dependency-at-requires Inv-loop μ-loop
+dependency-at-requires c κs = search needs
+
+add-k : tie.Need-add-k Inv-loop μ-loop
+add-k c = search needs
+
+consider-requires : tie.Need-consider-requires Inv-loop μ-loop
+consider-requires c κs = c .before .before .before .before .before .pre
+
+returns : tie.Need-returns Inv-loop μ-loop
+returns c =
+    let a = c .before .before .before .before .before .before .before .before .args in
+    let l = c .before .before .before .before .before .loop in
+    let d = c .before .before .before .dependency-at in
+    let g = c .before .before .consider in
+    look-waits (slotsFrom (a .slots .now) 0 (a .n)) (a .reach .now) (a .f) (a .b) (l .k) (l .k + 1) (d .result) (g .result) (add-one (l .k)) (d .ensures)
+    (g .ensures) (c .if1 .taken)
+    ∙ l .inv
+
+loop-less : tie.Need-loop-less Inv-loop μ-loop
+loop-less c = search needs
+
+loop-again : tie.Need-loop-again Inv-loop μ-loop
+loop-again c =
+    let a = c .before .before .before .before .before .before .before .before .args in
+    let l = c .before .before .before .before .before .loop in
+    let d = c .before .before .before .dependency-at in
+    let g = c .before .before .consider in
+    look-on (slotsFrom (a .slots .now) 0 (a .n)) (a .reach .now) (a .f) (a .b) (l .k) (l .k + 1) (d .result) (g .result) (add-one (l .k)) (d .ensures)
+    (g .ensures) (c .if1 .left)
+    ∙ l .inv
+
+set-ready-requires : tie.Need-set-ready-requires Inv-loop μ-loop
+set-ready-requires c κs = search needs
+
+returns-2 : tie.Need-returns-2 Inv-loop μ-loop
+returns-2 c =
+    let a = c .before .before .before .before .before .args in
+    let l = c .before .before .loop in
+    c .set-ready .ensures ∙ look-ended (slotsFrom (a .slots .now) 0 (a .n)) (a .reach .now) (a .f) (a .b) (l .k) (c .before .loop-test .left) ∙ l .inv
+
+pub examine-spec : {M : Type 1} → statement M
+examine-spec =
+    tie.close
+    (tie.spec
+    Inv-loop
+    μ-loop
+    loop-holds
+    dependency-at-requires
+    add-k
+    consider-requires
+    returns
+    loop-less
+    loop-again
+    set-ready-requires
+    returns-2)

@@ -1,0 +1,283 @@
+// A sorter looks at one front after another: it takes the front's block, or finds what the front waits for.
+pub mod fronts;
+
+use block::Block;
+use block::Id;
+use fronts::Front;
+ghost use mathlib.Core.Path.{_≡_};
+ghost use Prim.Native.Nat.{_-_, _*_, _≤_};
+ghost use lib.ListN.{length};
+ghost use Rattle.slots.specs.Slots.{slotsFrom, Falling};
+ghost use Rattle.picker.specs.Picker.{noDependency, dependencyAt, isOther, metAt, awaitingAt, considered, ready, looked};
+ghost use Rattle.picker.specs.Picker.{moved, lift, oneMore, pointed, looks, desk, offered};
+
+// A dependency that a block may have.
+pub struct Dependency {
+    pub there: bool,
+    pub id: Id,
+}
+
+// The front that is looked at: its slot and its row, or NOWHERE; how many steps were made; how many looks are left.
+pub struct Look {
+    pub slot: usize,
+    pub row: usize,
+    pub steps: usize,
+    pub left: usize,
+}
+
+pub const NOWHERE: usize = 18446744073709551615;
+
+// ---- what a block hangs on
+
+fn no_dependency() -> Dependency
+    ensures { λ r. ⌜ r ≡ noDependency ⌝ }
+{
+    let id = Id {
+        client: 0,
+        clock: 0,
+    };
+    Dependency { there: false, id }
+}
+
+// Dependency k: left id, right id, parent id. Nothing holds a Skip.
+fn dependency_at(b: Block, k: usize) -> Dependency
+    ensures { λ r. ⌜ r ≡ dependencyAt b k ⌝ }
+{
+    if b.kind == block::SKIP {
+        return no_dependency();
+    }
+    let left = b.left;
+    let right = b.right;
+    let parent = b.parent;
+    match k {
+        0 => Dependency {
+            there: b.has_left,
+            id: left,
+        },
+        1 => Dependency {
+            there: b.has_right,
+            id: right,
+        },
+        2 => Dependency {
+            there: b.has_parent,
+            id: parent,
+        },
+        _ => no_dependency(),
+    }
+}
+
+// Whether a dependency is there, and of another client.
+fn is_other(client: u64, a: Dependency) -> bool
+    ensures { λ r. ⌜ r ≡ isOther client a ⌝ }
+{
+    let id = a.id;
+    if id.client == client {
+        return false;
+    }
+    a.there
+}
+
+// A front that waits for an id, whose client has slot p, if it is named.
+fn wait_for(f: Front, stage: usize, p: usize, named: bool, id: Id) -> Front
+    ensures { λ r. ⌜ r ≡ awaitingAt f stage p named id ⌝ }
+{
+    let mut next = f;
+    next.stage = stage;
+    next.missing = id.client;
+    next.slot = 0;
+    next.need = fronts::NEVER;
+    if named {
+        next.slot = p;
+        next.need = id.clock as u64 + 1;
+        return next;
+    }
+    next
+}
+
+// Whether an id is met where its client has slot p, if it is named.
+fn is_met(reach: &[u64], p: usize, named: bool, id: Id) -> bool
+    ensures { λ r. ⌜ r ≡ metAt (now (reach .entry)) p named id ⌝ }
+{
+    if !named {
+        return false;
+    }
+    if reach.len() <= p {
+        return false;
+    }
+    (id.clock as u64) < reach[p]
+}
+
+// The front of a block that nothing holds.
+fn set_ready(f: Front) -> Front
+    ensures { λ r. ⌜ r ≡ ready f ⌝ }
+{
+    let mut next = f;
+    next.need = 0;
+    next
+}
+
+// A front, so many dependencies having been looked at, this one last: it is ready, or it waits.
+fn consider(
+    slots: &[u64],
+    n: usize,
+    reach: &[u64],
+    f: Front,
+    client: u64,
+    k: usize,
+    a: Dependency,
+) -> Front
+    requires { ⌜ (3 * n ≤ length (now slots)) × Falling (slotsFrom (now slots) 0 n) ⌝ }
+    ensures { λ r. ⌜ r ≡ considered client (slotsFrom (now (slots .entry)) 0 n) (now (reach .entry)) f k a ⌝ }
+{
+    let id = a.id;
+    if !is_other(client, a) {
+        return set_ready(f);
+    }
+    let p = slots::rank_of(slots, n, id.client);
+    let named = slots::is_at(slots, n, p, id.client);
+    if is_met(reach, p, named, id) {
+        return set_ready(f);
+    }
+    wait_for(f, k, p, named, id)
+}
+
+// A front whose block is looked at: it is ready (its need is 0), or it waits. What was met once is not asked for again.
+fn examine(slots: &[u64], n: usize, reach: &[u64], f: Front, b: Block) -> Front
+    requires { ⌜ (3 * n ≤ length (now slots)) × Falling (slotsFrom (now slots) 0 n) ⌝ }
+    ensures { λ r. ⌜ r ≡ looked (slotsFrom (now (slots .entry)) 0 n) (now (reach .entry)) f b ⌝ }
+{
+    let mut k = f.stage;
+    while k < 3 {
+        let a = dependency_at(b, k);
+        k += 1;
+        let g = consider(slots, n, reach, f, b.client, k, a);
+        if g.need != 0 {
+            return g;
+        }
+    }
+    set_ready(f)
+}
+
+// ---- a block that is taken
+
+// Places and counts stay below the brim.
+fn one_more(n: usize) -> usize
+    ensures { λ r. ⌜ r ≡ oneMore n ⌝ }
+{
+    if n < parts::BRIM {
+        return n + 1;
+    }
+    n
+}
+
+fn less_one(n: usize) -> usize
+    ensures { λ r. ⌜ r ≡ n - 1 ⌝ }
+{
+    if n == 0 {
+        return 0;
+    }
+    n - 1
+}
+
+// The front after row i was taken.
+fn move_on(f: Front, i: usize) -> Front
+    ensures { λ r. ⌜ r ≡ moved f i ⌝ }
+{
+    let next = one_more(i);
+    if f.left <= 1 {
+        let mut last = fronts::none();
+        last.next = next;
+        return last;
+    }
+    fronts::begin(next, f.left - 1)
+}
+
+// The reach of slot p rises to the block's end. A Skip lifts nothing.
+fn raise(reach: &mut [u64], p: usize, b: Block)
+    ensures { λ _. ⌜ now (reach .exit) ≡ lift (now (reach .entry)) p b ⌝ }
+{
+    let kind = b.kind;
+    let length = b.length;
+    if kind == block::SKIP {
+        return;
+    }
+    if numbers::MAX_CLOCK < length.0 {
+        return;
+    }
+    if reach.len() <= p {
+        return;
+    }
+    let end = b.clock as u64 + length.0;
+    if reach[p] < end {
+        reach[p] = end;
+    }
+}
+
+// ---- one look after another
+
+// The front that is looked at next, if a look is left.
+fn point(fronts: &[u64], reach: &[u64], n: usize, steps: usize, left: usize) -> Look
+    ensures { λ r. ⌜ r ≡ pointed (now (fronts .entry)) (now (reach .entry)) n steps left ⌝ }
+{
+    let nowhere = Look {
+        slot: 0,
+        row: NOWHERE,
+        steps,
+        left,
+    };
+    if left == 0 {
+        return nowhere;
+    }
+    let slot = fronts::first_due(fronts, reach, n);
+    if n <= slot {
+        return nowhere;
+    }
+    let f = fronts::front_at(fronts, slot);
+    Look {
+        slot,
+        row: f.next,
+        steps,
+        left,
+    }
+}
+
+// The first front that is looked at. Every block is looked at four times at most: once for each thing that it waits for, and once to be taken.
+pub fn begin(fronts: &[u64], reach: &[u64], n: usize, blocks: usize) -> Look
+    ensures { λ r. ⌜ r ≡ pointed (now (fronts .entry)) (now (reach .entry)) n 0 (looks blocks) ⌝ }
+{
+    if numbers::MAX_BLOCKS < blocks as u64 {
+        return point(fronts, reach, n, 0, 0);
+    }
+    point(fronts, reach, n, 0, 4 * blocks)
+}
+
+// The front has this block: it waits, or the block is taken. Then the next front.
+pub fn offer(
+    slots: &[u64],
+    n: usize,
+    p: Look,
+    reach: &mut [u64],
+    fronts: &mut [u64],
+    order: &mut [u64],
+    b: Block,
+) -> Look
+    requires { ⌜ (3 * n ≤ length (now slots)) × Falling (slotsFrom (now slots) 0 n) ⌝ }
+    ensures { λ r. ⌜ (r ≡ offered (slotsFrom (now (slots .entry)) 0 n) (desk p (now (reach .entry)) (now (fronts .entry)) (now (order .entry))) b .at)
+        × (now (reach .exit) ≡ offered (slotsFrom (now (slots .entry)) 0 n) (desk p (now (reach .entry)) (now (fronts .entry)) (now (order .entry))) b .reach)
+        × (now (fronts .exit) ≡ offered (slotsFrom (now (slots .entry)) 0 n) (desk p (now (reach .entry)) (now (fronts .entry)) (now (order .entry))) b .fronts)
+        × (now (order .exit) ≡ offered (slotsFrom (now (slots .entry)) 0 n) (desk p (now (reach .entry)) (now (fronts .entry)) (now (order .entry))) b .order) ⌝ }
+{
+    let f = fronts::front_at(fronts, p.slot);
+    let left = less_one(p.left);
+    let g = examine(slots, n, reach, f, b);
+    if g.need != 0 {
+        fronts::put_front(fronts, p.slot, g);
+        return point(fronts, reach, n, p.steps, left);
+    }
+    let m = move_on(f, p.row);
+    raise(reach, p.slot, b);
+    fronts::put_front(fronts, p.slot, m);
+    fronts::put_word(order, p.steps, p.row as u64);
+    let steps = one_more(p.steps);
+    point(fronts, reach, n, steps, left)
+}

@@ -1,0 +1,71 @@
+-- `reports::report_counts` meets its contract: what is still to be stored leaves what all the words would leave.
+use Prim.Native.Nat.{_-_, _*_, _≤_}
+use mathlib.Core.Path.{_≡_, _∙_}
+use native.Mathlib.Omega.{arith}
+use Rattle.reports.specs.Reports.{countsFrom}
+use Rattle.reports.proofs.Turns.{Underway, counts, begun, turn, ended-place, ended-words}
+use borrow.Author.Needs.{needs}
+use Rattle.reports.proofs.report_counts.Statement.{statement}
+use Rattle.reports.proofs.report_counts.Tie as tie
+
+abbrev Inv-loop : tie.InvT-loop
+Inv-loop slots n fronts out₀ at₀ i₀ out at i = Underway (λ k ss. countsFrom k ss fronts) slots n out₀ out at i × (i ≤ n) × (at ≤ 2 * i)
+
+abbrev μ-loop : tie.MeasureT-loop
+μ-loop slots n fronts out₀ at₀ i₀ out at i = n - i
+
+loop-holds : tie.Need-loop-holds Inv-loop μ-loop
+loop-holds c =
+    let a = c .before .before .before .args in
+    (begun (counts (a .fronts .now)) (a .slots .now) (a .n) (a .out .now), omega arith, omega arith)
+
+report-count-requires : tie.Need-report-count-requires Inv-loop μ-loop
+report-count-requires c κs = search needs
+
+add-i : tie.Need-add-i Inv-loop μ-loop
+add-i c = search needs
+
+loop-less : tie.Need-loop-less Inv-loop μ-loop
+loop-less c = search needs
+
+loop-again : tie.Need-loop-again Inv-loop μ-loop
+loop-again c =
+    let call = c .before .before .report-count in
+    let at = c .before .before .before .before .before in
+    let a = at .before .before .before .before .args in
+    let l = at .loop in
+    let next = turn (counts (a .fronts .now)) (l .inv .0) (omega arith) in
+    (rw (call .ensures .2, call .ensures .0) next, omega arith, omega (arith, call .ensures .1))
+
+clear-after-requires : tie.Need-clear-after-requires Inv-loop μ-loop
+clear-after-requires c κs = search needs
+
+same-length : tie.Need-same-length Inv-loop μ-loop
+same-length c = search needs
+
+returns : tie.Need-returns Inv-loop μ-loop
+returns c =
+    let call = c .before .before .clear-after in
+    let at = c .before .before .before .before .before in
+    let a = at .before .before .before .before .args in
+    let l = at .loop in
+    let u = l .inv .0 in
+    let e : l .i ≡ a .n = omega arith in (
+      ended-place (counts (a .fronts .now)) u e,
+      call .ensures ∙ ended-words (counts (a .fronts .now)) u e,
+    )
+
+pub report-counts-spec : {M : Type 1} → statement M
+report-counts-spec =
+    tie.close
+    (tie.spec
+    Inv-loop
+    μ-loop
+    loop-holds
+    report-count-requires
+    add-i
+    loop-less
+    loop-again
+    clear-after-requires
+    same-length
+    returns)

@@ -1,0 +1,88 @@
+-- `reports::report_waiting` meets its contract: no words, or three.
+use Prim.Native.Nat.{suc, _+_}
+use mathlib.Core.Path.{_≡_, refl, sym}
+use native.Mathlib.Nat.{add-zero}
+use native.Mathlib.Numerals.{add-one}
+use native.Mathlib.Omega.{arith}
+use Rattle.reports.proofs.Words.{pending-none, pending-some}
+use borrow.Author.Needs.{needs}
+use Rattle.reports.proofs.report_waiting.Statement.{statement}
+use Rattle.reports.proofs.report_waiting.Tie as tie
+
+front-at-requires : tie.Need-front-at-requires
+front-at-requires c κs = search needs
+
+returns : tie.Need-returns
+returns c =
+    let front = c .before .before in
+    let a = front .before .before .before .before .before .args in
+    let e = pending-none (a .slots .now) (a .i) (front .front-at .result) (a .reach .now) (c .if1 .taken) in
+    rw (← front .front-at .ensures, e) (sym (add-zero (a .at)), omega arith, refl)
+
+mul-client : tie.Need-mul-client
+mul-client c = search needs
+
+mul-client-2 : tie.Need-mul-client-2
+mul-client-2 c = search needs
+
+shared-slice-read-client : tie.Need-shared-slice-read-client
+shared-slice-read-client c = search needs
+
+awaited-reach-requires : tie.Need-awaited-reach-requires
+awaited-reach-requires c κs = search needs
+
+push-requires : tie.Need-push-requires
+push-requires c κs = search needs
+
+add-push : tie.Need-add-push
+add-push c = search needs
+
+push-requires-2 : tie.Need-push-requires-2
+push-requires-2 c κs = search needs
+
+add-push-2 : tie.Need-add-push-2
+add-push-2 c = search needs
+
+push-requires-3 : tie.Need-push-requires-3
+push-requires-3 c κs = search needs
+
+add-result : tie.Need-add-result
+add-result c = search needs
+
+same-length : tie.Need-same-length
+same-length c = search needs
+
+returns-2 : tie.Need-returns-2
+returns-2 c =
+    let third = c .before .before in
+    let second = third .before .before .before .before in
+    let first = second .before .before .before .before in
+    let awaited = first .before .before in
+    let front = awaited .before .before .before .before in
+    let a = front .before .before .before .before .before .args in
+    let e = pending-some (a .slots .now) (a .i) (front .front-at .result) (a .reach .now) (awaited .before .before .if1 .left) in
+    let two : a .at + 2 ≡ suc (suc (a .at)) = omega arith in
+    rw (← front .front-at .ensures, e) (
+      refl,
+      omega arith,
+      rw (third .push3 .ensures, second .push2 .ensures, first .push .ensures, awaited .awaited-reach .ensures, two, add-one),
+    )
+
+pub report-waiting-spec : {M : Type 1} → statement M
+report-waiting-spec =
+    tie.close
+    (tie.spec
+    front-at-requires
+    returns
+    mul-client
+    mul-client-2
+    shared-slice-read-client
+    awaited-reach-requires
+    push-requires
+    add-push
+    push-requires-2
+    add-push-2
+    push-requires-3
+    add-result
+    same-length
+    returns-2)

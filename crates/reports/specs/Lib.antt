@@ -1,0 +1,2 @@
+-- What a sorter reports when no front can be taken.
+pub mod Reports
