@@ -143,7 +143,7 @@ module _ {M : Type 1} (𝓤 : URA M) (H : Heap 𝓤) (A : Atoms 𝓤) (mem : Mem
       said = λ ns r ws. since 𝓤 (λ e. (e, tt));
     }
 
-    pub encoder·steps·put-row! : Triple 𝓤 (C #encoder·steps·put-row) Encoder·steps·put-row → (at-out : Seat) (out₀ : List ℕ) (at-update : Seat) (update₀ : List ℕ) (e₀ : Lane) (g-e : Has lane e₀) (c₀ : Cursor) (g-c : Has cursor c₀) (b₀ : Block) (g-b : Has block b₀) → (Sound (e₀ .run)) → Card 𝓤 H A C #encoder·steps·put-row (mut byte at-out out₀ (laidAll out₀ e₀ (rowTokens update₀ (c₀ .head) (c₀ .from) (c₀ .skip) b₀)) ∷ pass byte at-update update₀ ∷ val lane e₀ g-e ∷ val cursor c₀ g-c ∷ val block b₀ g-b ∷ []) lane (putAll e₀ (rowTokens update₀ (c₀ .head) (c₀ .from) (c₀ .skip) b₀))
+    pub encoder·steps·put-row! : Triple 𝓤 (C #encoder·steps·put-row) Encoder·steps·put-row → (at-out : Seat) (out₀ : List ℕ) (at-update : Seat) (update₀ : List ℕ) (e₀ : Lane) (g-e : Has lane e₀) (c₀ : Cursor) (g-c : Has cursor c₀) (b₀ : Block) (g-b : Has block b₀) → (Sound (e₀ .run)) → Card 𝓤 H A C #encoder·steps·put-row (mut byte at-out out₀ (laidAll out₀ e₀ (rowTokens update₀ (c₀ .head) (c₀ .from .0) (c₀ .skip .0) b₀)) ∷ pass byte at-update update₀ ∷ val lane e₀ g-e ∷ val cursor c₀ g-c ∷ val block b₀ g-b ∷ []) lane (putAll e₀ (rowTokens update₀ (c₀ .head) (c₀ .from .0) (c₀ .skip .0) b₀))
     encoder·steps·put-row! known at-out out₀ at-update update₀ e₀ g-e c₀ g-c b₀ g-b h = record {
       contract = Encoder·steps·put-row;
       known = known;

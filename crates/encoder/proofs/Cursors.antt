@@ -12,12 +12,12 @@ use Rattle.block.specs.declared.Block.{Block}
 use Rattle.block.specs.Row.{noBlock}
 use Rattle.tokens.specs.Tokens.{Token}
 use Rattle.kept.specs.declared.cursor.Cursor.{Cursor}
-use Rattle.kept.specs.Plan.{Planned, Stop, stop, planned, plannedFrom, onward, stopsOf, nowhere, atEnd, openedAt, advanced}
+use Rattle.kept.specs.Plan.{Planned, Stop, stop, planned, plannedFrom, onward, stopsOf, noUnits, noBytes, nowhere, atEnd, openedAt, advanced}
 use Rattle.records.specs.Stops.{rowTokens, stopsTokens}
 
 -- the rows from the cursor on
 abbrev pub ahead : List ℕ → ℕ → Cursor → List Stop
-ahead w n c = stop (c .row) (c .from) (c .skip) (c .head) ∷ (onward (c .row + 1) (c .left) ++ stopsOf (plannedFrom w (c .next) (n - c .next)))
+ahead w n c = stop (c .row) (c .from .0) (c .skip .0) (c .head) ∷ (onward (c .row + 1) (c .left) ++ stopsOf (plannedFrom w (c .next) (n - c .next)))
 
 unfoldable pub stopsAt : List ℕ → ℕ → Cursor → List Stop
 stopsAt w n c = pick (eqb (c .row) nowhere) [] (ahead w n c)
@@ -44,7 +44,7 @@ none-of w n k l =
 abbrev startOf : List ℕ → ℕ → Cursor
 startOf w k =
     let p = planned w k in
-    record { row = p .first; from = p .from; skip = p .skip; head = p .count; left = p .count - 1; next = k + 1 }
+    record { row = p .first; from = record { 0 = p .from }; skip = record { 0 = p .skip }; head = p .count; left = p .count - 1; next = k + 1 }
 
 opened-on : (w : List ℕ) (n k : ℕ) → 5 * n ≤ length w → k < n → openedAt w n k ≡ startOf w k
 unfolding openedAt
@@ -76,7 +76,7 @@ unfolding advanced
 next-section w n c l e = rw (ne-eqb (c .row) nowhere (λ q. absurd (omega (arith, q, l))), eq-eqb (c .left) 0 e)
 
 next-row : (w : List ℕ) (n m : ℕ) (c : Cursor) → c .row < nowhere → c .left ≡ suc m
-    → advanced w n c ≡ record { row = c .row + 1; from = 0; skip = 0; head = 0; left = c .left - 1; next = c .next }
+    → advanced w n c ≡ record { row = c .row + 1; from = noUnits; skip = noBytes; head = 0; left = c .left - 1; next = c .next }
 unfolding advanced
 next-row w n m c l e = rw (ne-eqb (c .row) nowhere (λ q. absurd (omega (arith, q, l))), ne-eqb (c .left) 0 (λ q. absurd (omega (arith, q, e))))
 
@@ -131,10 +131,10 @@ module _ (u : List ℕ) (rows : List Block) (L : ℕ) (most : L ≤ nowhere) whe
 
   -- a row further
   pub goes : (w : List ℕ) (n : ℕ) (c : Cursor) → 5 * n ≤ length w → c .row < L
-      → tokens (stopsAt w n c) ≡ rowTokens u (c .head) (c .from) (c .skip) (getD rows (c .row) noBlock) ++ tokens (stopsAt w n (advanced w n c))
+      → tokens (stopsAt w n c) ≡ rowTokens u (c .head) (c .from .0) (c .skip .0) (getD rows (c .row) noBlock) ++ tokens (stopsAt w n (advanced w n c))
   goes w n c room l =
       seen w n c ∙ inside _ _ l
-      ∙ ap (λ (ts : List Token). rowTokens u (c .head) (c .from) (c .skip) (getD rows (c .row) noBlock) ++ ts) (sym (after w n c room (omega (arith, l, most))))
+      ∙ ap (λ (ts : List Token). rowTokens u (c .head) (c .from .0) (c .skip .0) (getD rows (c .row) noBlock) ++ ts) (sym (after w n c room (omega (arith, l, most))))
 
 -- ---- fewer rows are before the cursor after each
 
@@ -169,5 +169,5 @@ fewer w n c room l = go (c .left) refl
         rw (next-section w n c l e, count-row w n c l, e, onward-none (c .row + 1)) (omega (arith, count-opened w n (c .next) room))
     go (suc m) e =
         let q : c .left - 1 ≡ m = omega (arith, e) in
-        let d : Cursor = record { row = c .row + 1; from = 0; skip = 0; head = 0; left = m; next = c .next } in
+        let d : Cursor = record { row = c .row + 1; from = noUnits; skip = noBytes; head = 0; left = m; next = c .next } in
         rw (next-row w n m c l e, q, count-row w n c l, e, onward-one (c .row + 1) m) (omega (arith, count-at w n d))

@@ -48,9 +48,9 @@ module _ (out₀ u : List ℕ) (rows : List Block) (w : List ℕ) (n k at : ℕ)
     }
 
     pub turns : (e : Lane) (c : Cursor) (out : List ℕ) → Going e c out → c .row < length rows
-        → let ts = rowTokens u (c .head) (c .from) (c .skip) (getD rows (c .row) noBlock) in Going (putAll e ts) (advanced w n c) (laidAll out e ts)
+        → let ts = rowTokens u (c .head) (c .from .0) (c .skip .0) (getD rows (c .row) noBlock) in Going (putAll e ts) (advanced w n c) (laidAll out e ts)
     turns e c out g l =
-        let ts = rowTokens u (c .head) (c .from) (c .skip) (getD rows (c .row) noBlock) in
+        let ts = rowTokens u (c .head) (c .from .0) (c .skip .0) (getD rows (c .row) noBlock) in
         let on = goes u rows (length rows) most w n c room l in
         record {
           sound = sound-all e ts (g .sound);

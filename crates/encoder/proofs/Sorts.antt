@@ -6,6 +6,12 @@ use denote.Struct.Laws as LL
 use Rattle.walks.proofs.Rows.{Kind, Has, word, bool-kind}
 use Rattle.encoder.specs.declared.steps.Outcome.{Outcome}
 use Rattle.kept.specs.declared.cursor.Cursor.{Cursor}
+use Rattle.text.specs.declared.Units.{Units}
+use Rattle.text.specs.declared.Bytes.{Bytes as text·Bytes}
+use Rattle.text.proofs.Units as Units₁
+use Rattle.text.proofs.Units.Laws as Units₂
+use Rattle.text.proofs.Bytes as text·Bytes₁
+use Rattle.text.proofs.Bytes.Laws as text·Bytes₂
 use Rattle.tokens.proofs.Lane as Lane₁
 use Rattle.tokens.proofs.Lane.Laws as Lane₂
 use Rattle.kept.proofs.cursor.Cursor as Cursor₁
@@ -14,6 +20,30 @@ use Rattle.kept.proofs.plan.Planning as Planning₁
 use Rattle.kept.proofs.plan.Planning.Laws as Planning₂
 use Rattle.encoder.proofs.steps.Outcome as Outcome₁
 use Rattle.encoder.proofs.steps.Outcome.Laws as Outcome₂
+
+abbrev pub units : Kind
+units = record {
+  row = Units₁.the-row;
+  val = LL.val Units₁.the-type Units₂.the-laws;
+  tells = LL.tells Units₁.the-type Units₂.the-laws;
+  copy = λ M 𝓤 H A W. LL.copy Units₁.the-type Units₂.the-copy 𝓤 H A W;
+  makes = λ M 𝓤 H A W. LL.makes Units₁.the-type Units₂.the-plain 𝓤 H A;
+  lawful = λ M 𝓤 H A W. LL.lawful Units₁.the-type Units₂.the-laws 𝓤 H A W;
+  last = λ x. tt;
+  silent = λ x w. refl;
+}
+
+abbrev pub text·bytes : Kind
+text·bytes = record {
+  row = text·Bytes₁.the-row;
+  val = LL.val text·Bytes₁.the-type text·Bytes₂.the-laws;
+  tells = LL.tells text·Bytes₁.the-type text·Bytes₂.the-laws;
+  copy = λ M 𝓤 H A W. LL.copy text·Bytes₁.the-type text·Bytes₂.the-copy 𝓤 H A W;
+  makes = λ M 𝓤 H A W. LL.makes text·Bytes₁.the-type text·Bytes₂.the-plain 𝓤 H A;
+  lawful = λ M 𝓤 H A W. LL.lawful text·Bytes₁.the-type text·Bytes₂.the-laws 𝓤 H A W;
+  last = λ x. tt;
+  silent = λ x w. refl;
+}
 
 abbrev pub lane : Kind
 lane = record {
@@ -39,16 +69,16 @@ cursor = record {
   silent = λ x w. refl;
 }
 
-pub cursor-has : (row₀ : ℕ) (g-row : Has word row₀) (from₀ : ℕ) (g-from : Has word from₀) (skip₀ : ℕ) (g-skip : Has word skip₀) (head₀ : ℕ) (g-head : Has word head₀) (left₀ : ℕ) (g-left : Has word left₀) (next₀ : ℕ) (g-next : Has word next₀) → Has cursor (record { row = row₀; from = from₀; skip = skip₀; head = head₀; left = left₀; next = next₀ })
+pub cursor-has : (row₀ : ℕ) (g-row : Has word row₀) (from₀ : Units) (g-from : Has units from₀) (skip₀ : text·Bytes) (g-skip : Has text·bytes skip₀) (head₀ : ℕ) (g-head : Has word head₀) (left₀ : ℕ) (g-left : Has word left₀) (next₀ : ℕ) (g-next : Has word next₀) → Has cursor (record { row = row₀; from = from₀; skip = skip₀; head = head₀; left = left₀; next = next₀ })
 cursor-has row₀ g-row from₀ g-from skip₀ g-skip head₀ g-head left₀ g-left next₀ g-next = LL.owes Cursor₁.the-type Cursor₂.the-laws (record { row = row₀; from = from₀; skip = skip₀; head = head₀; left = left₀; next = next₀ }) (g-row, (g-from, (g-skip, (g-head, (g-left, (g-next, tt))))))
 
 pub cursor-row : (x : Cursor) → Has cursor x → Has word (x .row)
 cursor-row x g = LL.owed Cursor₁.the-type Cursor₂.the-laws x _ g .0
 
-pub cursor-from : (x : Cursor) → Has cursor x → Has word (x .from)
+pub cursor-from : (x : Cursor) → Has cursor x → Has units (x .from)
 cursor-from x g = LL.owed Cursor₁.the-type Cursor₂.the-laws x _ g .1 .0
 
-pub cursor-skip : (x : Cursor) → Has cursor x → Has word (x .skip)
+pub cursor-skip : (x : Cursor) → Has cursor x → Has text·bytes (x .skip)
 cursor-skip x g = LL.owed Cursor₁.the-type Cursor₂.the-laws x _ g .1 .1 .0
 
 pub cursor-head : (x : Cursor) → Has cursor x → Has word (x .head)

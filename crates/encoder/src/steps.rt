@@ -26,7 +26,7 @@ pub fn begin_lane(out: &mut [u8], lane: u8, at: usize, sections: usize) -> Lane
 // The row at a cursor.
 pub fn put_row(out: &mut [u8], update: &[u8], e: Lane, c: Cursor, b: Block) -> Lane
     requires { ⌜ Sound (e .run) ⌝ }
-    ensures { λ r. ⌜ (r ≡ putAll e (rowTokens (now (update .entry)) (c .head) (c .from) (c .skip) b)) × (now (out .exit) ≡ laidAll (now (out .entry)) e (rowTokens (now (update .entry)) (c .head) (c .from) (c .skip) b)) ⌝ }
+    ensures { λ r. ⌜ (r ≡ putAll e (rowTokens (now (update .entry)) (c .head) (c .from .0) (c .skip .0) b)) × (now (out .exit) ≡ laidAll (now (out .entry)) e (rowTokens (now (update .entry)) (c .head) (c .from .0) (c .skip .0) b)) ⌝ }
 {
     records::write_row(out, update, e, c, b)
 }

@@ -94,7 +94,17 @@ run-same u v w c s i (b ∷ g) rest h all =
 
 abbrev pub stateOf : ℕ → Bool → ℕ → ℕ → ℕ → ℕ → ℕ → ℕ → Planning
 stateOf n torn client remote first count from skip =
-    record { sections = n; torn = torn; going = true; client = client; remote = remote; first = first; count = count; from = from; skip = skip }
+    record {
+      sections = n;
+      torn = torn;
+      going = true;
+      client = client;
+      remote = remote;
+      first = first;
+      count = count;
+      from = record { 0 = from };
+      skip = record { 0 = skip };
+    }
 
 -- the bytes of the first piece's row that fall away
 unfoldable pub skipOf : List ℕ → Block → ℕ → ℕ

@@ -14,8 +14,8 @@ ghost use Prim.Native.Nat.{_-_, _<_};
 // how many rows of the section are left behind it; and the section after it.
 pub struct Cursor {
     pub row: usize,
-    pub from: u64,
-    pub skip: usize,
+    pub from: Units,
+    pub skip: Bytes,
     pub head: usize,
     pub left: usize,
     pub next: usize,
@@ -28,8 +28,8 @@ fn ended() -> Cursor
 {
     Cursor {
         row: NOWHERE,
-        from: 0,
-        skip: 0,
+        from: Units(0),
+        skip: Bytes(0),
         head: 0,
         left: 0,
         next: 0,
@@ -64,8 +64,8 @@ pub fn open(plan: &[u64], n: usize, k: usize) -> Cursor
     let next = k + 1;
     Cursor {
         row,
-        from,
-        skip,
+        from: Units(from),
+        skip: Bytes(skip),
         head,
         left,
         next,
@@ -82,23 +82,25 @@ pub fn advance(plan: &[u64], n: usize, c: Cursor) -> Cursor
     if c.left == 0 {
         return open(plan, n, c.next);
     }
+    let from = Units(0);
+    let skip = Bytes(0);
     let mut next = c;
     next.row = c.row + 1;
-    next.from = 0;
-    next.skip = 0;
+    next.from = from;
+    next.skip = skip;
     next.head = 0;
     next.left = c.left - 1;
     next
 }
 
 // Whether a cut lies in its row, and the row within the limits: it always does.
-pub fn is_sane(b: Block, from: u64, skip: usize) -> bool
-    ensures { λ r. ⌜ r ≡ sane b from skip ⌝ }
+pub fn is_sane(b: Block, from: Units, skip: Bytes) -> bool
+    ensures { λ r. ⌜ r ≡ sane b (from .0) (skip .0) ⌝ }
 {
     let part = b.part;
     let bytes = part.bytes;
     let length = b.length;
-    if length.0 < from {
+    if length.0 < from.0 {
         return false;
     }
     if numbers::MAX_CLOCK < length.0 {
@@ -108,7 +110,7 @@ pub fn is_sane(b: Block, from: u64, skip: usize) -> bool
     if numbers::MAX_CLOCK < end {
         return false;
     }
-    if bytes.0 < skip {
+    if bytes.0 < skip.0 {
         return false;
     }
     if parts::BRIM <= part.place {
@@ -128,14 +130,14 @@ fn no_id() -> Id
 }
 
 // The id before the cut; GC and Skip have none.
-fn left_of(b: Block, from: u64) -> Id
-    requires { ⌜ (sane b from 0 ≡ true) × (0 < from) ⌝ }
-    ensures { λ r. ⌜ r ≡ leftOf b from ⌝ }
+fn left_of(b: Block, from: Units) -> Id
+    requires { ⌜ (sane b (from .0) 0 ≡ true) × (0 < from .0) ⌝ }
+    ensures { λ r. ⌜ r ≡ leftOf b (from .0) ⌝ }
 {
     if b.kind <= block::SKIP {
         return no_id();
     }
-    let start = b.clock as u64 + from;
+    let start = b.clock as u64 + from.0;
     let clock = (start - 1) as u32;
     Id {
         client: b.client,
@@ -143,15 +145,15 @@ fn left_of(b: Block, from: u64) -> Id
     }
 }
 
-fn part_of(b: Block, skip: usize) -> Part
-    requires { ⌜ sane b 0 skip ≡ true ⌝ }
-    ensures { λ r. ⌜ r ≡ partAfter b skip ⌝ }
+fn part_of(b: Block, skip: Bytes) -> Part
+    requires { ⌜ sane b 0 (skip .0) ≡ true ⌝ }
+    ensures { λ r. ⌜ r ≡ partAfter b (skip .0) ⌝ }
 {
     let part = b.part;
     let bytes = part.bytes;
     if b.kind == block::TEXT {
-        let place = part.place + skip;
-        let rest = bytes.0 - skip;
+        let place = part.place + skip.0;
+        let rest = bytes.0 - skip.0;
         return Part {
             place,
             bytes: Bytes(rest),
@@ -161,11 +163,11 @@ fn part_of(b: Block, skip: usize) -> Part
 }
 
 // What is left of a row without its first units, which take so many bytes of its text.
-pub fn cut(b: Block, from: u64, skip: usize) -> Block
-    requires { ⌜ sane b from skip ≡ true ⌝ }
-    ensures { λ r. ⌜ r ≡ laterPart b from skip ⌝ }
+pub fn cut(b: Block, from: Units, skip: Bytes) -> Block
+    requires { ⌜ sane b (from .0) (skip .0) ≡ true ⌝ }
+    ensures { λ r. ⌜ r ≡ laterPart b (from .0) (skip .0) ⌝ }
 {
-    if from == 0 {
+    if from.0 == 0 {
         return b;
     }
     let none = no_id();
@@ -176,9 +178,9 @@ pub fn cut(b: Block, from: u64, skip: usize) -> Block
     let length = b.length;
     let left = left_of(b, from);
     let part = part_of(b, skip);
-    let start = b.clock as u64 + from;
+    let start = b.clock as u64 + from.0;
     let clock = start as u32;
-    let rest = length.0 - from;
+    let rest = length.0 - from.0;
     let right = b.right;
     let key = b.key;
     Block {

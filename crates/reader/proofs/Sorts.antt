@@ -27,6 +27,10 @@ use Rattle.update.proofs.Begun as Begun₁
 use Rattle.update.proofs.Begun.Laws as Begun₂
 use Rattle.reader.proofs.Filled as Filled₁
 use Rattle.reader.proofs.Filled.Laws as Filled₂
+use Rattle.vector.specs.declared.Entries.{Entries}
+use Rattle.vector.specs.declared.Entries.the-variants.{Read as Entries·Read, Refused as Entries·Refused}
+use Rattle.vector.proofs.Entries as Entries₁
+use Rattle.vector.proofs.Entries.Laws as Entries₂
 
 abbrev pub decoder·state : Kind
 decoder·state = record {
@@ -179,3 +183,31 @@ filled·refused-0 x0 g = EL.owed Filled₁.the-type Filled₂.the-laws (Filled·
 pub filled-cases {ℓ} : {X : Type ℓ} (r : Filled) → ((x0 : ℕ) → (x1 : decoder·State) → r ≡ Filled·Rows x0 x1 → X) → ((x0 : Refusal) → r ≡ Filled·Refused x0 → X) → X
 filled-cases (Filled·Rows x0 x1) k0 k1 = k0 x0 x1 refl
 filled-cases (Filled·Refused x0) k0 k1 = k1 x0 refl
+
+abbrev pub entries : Kind
+entries = record {
+  row = Entries₁.the-row;
+  val = EL.val Entries₁.the-type Entries₂.the-laws;
+  tells = EL.tells Entries₁.the-type Entries₂.the-laws;
+  copy = λ M 𝓤 H A W. EL.copy Entries₁.the-type Entries₂.the-copy 𝓤 H A W;
+  makes = λ M 𝓤 H A W. EL.makes Entries₁.the-type Entries₂.the-plain 𝓤 H A;
+  lawful = λ M 𝓤 H A W. EL.lawful Entries₁.the-type Entries₂.the-laws 𝓤 H A W tt;
+  last = λ x. tt;
+  silent = λ x w. refl;
+}
+
+pub entries·read-has : (x0 : ℕ) (g0 : Has word x0) → Has entries (Entries·Read x0)
+entries·read-has x0 g0 = EL.owes Entries₁.the-type Entries₂.the-laws (Entries·Read x0) (g0, tt)
+
+pub entries·read-0 : (x0 : ℕ) → Has entries (Entries·Read x0) → Has word x0
+entries·read-0 x0 g = EL.owed Entries₁.the-type Entries₂.the-laws (Entries·Read x0) _ g .0
+
+pub entries·refused-has : (x0 : Refusal) (g0 : Has refusal x0) → Has entries (Entries·Refused x0)
+entries·refused-has x0 g0 = EL.owes Entries₁.the-type Entries₂.the-laws (Entries·Refused x0) (g0, tt)
+
+pub entries·refused-0 : (x0 : Refusal) → Has entries (Entries·Refused x0) → Has refusal x0
+entries·refused-0 x0 g = EL.owed Entries₁.the-type Entries₂.the-laws (Entries·Refused x0) _ g .0
+
+pub entries-cases {ℓ} : {X : Type ℓ} (r : Entries) → ((x0 : ℕ) → r ≡ Entries·Read x0 → X) → ((x0 : Refusal) → r ≡ Entries·Refused x0 → X) → X
+entries-cases (Entries·Read x0) k0 k1 = k0 x0 refl
+entries-cases (Entries·Refused x0) k0 k1 = k1 x0 refl

@@ -184,14 +184,14 @@ pub fn write_block(out: &mut [u8], update: &[u8], e: Lane, b: Block) -> Lane
 }
 
 // A section's head: how many blocks, the client, the first clock.
-fn write_head(out: &mut [u8], e: Lane, count: usize, from: u64, b: Block) -> Lane
-    requires { ⌜ Sound (e .run) × (b .clock + from ≤ maxClock) ⌝ }
-    ensures { λ r. ⌜ (r ≡ putAll e (headTokens count from b)) × (now (out .exit) ≡ laidAll (now (out .entry)) e (headTokens count from b)) × Sound (r .run) ⌝ }
+fn write_head(out: &mut [u8], e: Lane, count: usize, from: Units, b: Block) -> Lane
+    requires { ⌜ Sound (e .run) × (b .clock + from .0 ≤ maxClock) ⌝ }
+    ensures { λ r. ⌜ (r ≡ putAll e (headTokens count (from .0) b)) × (now (out .exit) ≡ laidAll (now (out .entry)) e (headTokens count (from .0) b)) × Sound (r .run) ⌝ }
 {
     if count == 0 {
         return e;
     }
-    let clock = b.clock as u64 + from;
+    let clock = b.clock as u64 + from.0;
     let counted = tokens::fields::write_var(out, e, count as u64);
     let named = tokens::fields::write_client(out, counted, b.client);
     tokens::fields::write_var(out, named, clock)
@@ -200,13 +200,15 @@ fn write_head(out: &mut [u8], e: Lane, count: usize, from: u64, b: Block) -> Lan
 // The row of the table at a cursor.
 pub fn write_row(out: &mut [u8], update: &[u8], e: Lane, c: Cursor, b: Block) -> Lane
     requires { ⌜ Sound (e .run) ⌝ }
-    ensures { λ r. ⌜ (r ≡ putAll e (rowTokens (now (update .entry)) (c .head) (c .from) (c .skip) b))
-        × (now (out .exit) ≡ laidAll (now (out .entry)) e (rowTokens (now (update .entry)) (c .head) (c .from) (c .skip) b)) × Sound (r .run) ⌝ }
+    ensures { λ r. ⌜ (r ≡ putAll e (rowTokens (now (update .entry)) (c .head) (c .from .0) (c .skip .0) b))
+        × (now (out .exit) ≡ laidAll (now (out .entry)) e (rowTokens (now (update .entry)) (c .head) (c .from .0) (c .skip .0) b)) × Sound (r .run) ⌝ }
 {
-    if !kept::cursor::is_sane(b, c.from, c.skip) {
+    let from = c.from;
+    let skip = c.skip;
+    if !kept::cursor::is_sane(b, from, skip) {
         return e;
     }
-    let headed = write_head(out, e, c.head, c.from, b);
-    let piece = kept::cursor::cut(b, c.from, c.skip);
+    let headed = write_head(out, e, c.head, from, b);
+    let piece = kept::cursor::cut(b, from, skip);
     write_block(out, update, headed, piece)
 }

@@ -19,15 +19,13 @@ use Rattle.walks.proofs.Refs.{Seat, val, mut, read, pass, Card, since}
 use Rattle.block.specs.declared.Block.{Block}
 use Rattle.encoder.specs.Passes.{outcomeFor, wordsFor}
 use Rattle.kept.specs.Plan.{entriesOf}
-use Rattle.numbers.specs.Limits.{maxClients}
 use Rattle.numbers.specs.Output.{done, padded, refusal}
 use Rattle.passes.specs.Forms.{endFrom, farFrom, firstLane, job, lanesOf, outFrom, sizesFrom, totalFrom}
 use Rattle.ranges.specs.Table.{rowsFrom}
-use Rattle.vector.specs.Vector.{clientsIn, clocksIn, entriesOf as vectorEntries, kept, vectorOf}
 use Rattle.writing.specs.Writing.{keptAnswer, keptOut, plannedAnswer, plannedOut}
 use Rattle.encoder.proofs.Sorts.{outcome}
 use Rattle.table.proofs.Sorts.{block}
-use Rattle.writing.proofs.Sorts.{written, entries}
+use Rattle.writing.proofs.Sorts.{written}
 use Rattle.passes.proofs.leads.first_lane as passes·leads·first-lane-fn
 use Rattle.passes.proofs.leads.first_lane.Symbol.{name as #passes·leads·first-lane}
 use Rattle.passes.proofs.leads.lanes_end as passes·leads·lanes-end-fn
@@ -46,8 +44,6 @@ use Rattle.encoder.proofs.plan_rows as encoder·plan-rows-fn
 use Rattle.encoder.proofs.plan_rows.Symbol.{name as #encoder·plan-rows}
 use Rattle.writing.proofs.encode_planned as writing·encode-planned-fn
 use Rattle.writing.proofs.encode_planned.Symbol.{name as #writing·encode-planned}
-use Rattle.vector.proofs.read_entries as vector·read-entries-fn
-use Rattle.vector.proofs.read_entries.Symbol.{name as #vector·read-entries}
 use Rattle.writing.proofs.encode_kept as writing·encode-kept-fn
 use Rattle.writing.proofs.encode_kept.Symbol.{name as #writing·encode-kept}
 
@@ -78,9 +74,6 @@ module _ {M : Type 1} (𝓤 : URA M) (H : Heap 𝓤) (A : Atoms 𝓤) (mem : Mem
 
   abbrev pub Writing·encode-planned : Contract 𝓤
   Writing·encode-planned = tripleOf 𝓤 H A writing·encode-planned-fn.signature (writing·encode-planned-fn.spec 𝓤 H A mem run)
-
-  abbrev pub Vector·read-entries : Contract 𝓤
-  Vector·read-entries = tripleOf 𝓤 H A vector·read-entries-fn.signature (vector·read-entries-fn.spec 𝓤 H A mem run)
 
   abbrev pub Writing·encode-kept : Contract 𝓤
   Writing·encode-kept = tripleOf 𝓤 H A writing·encode-kept-fn.signature (writing·encode-kept-fn.spec 𝓤 H A mem run)
@@ -210,20 +203,6 @@ module _ {M : Type 1} (𝓤 : URA M) (H : Heap 𝓤) (A : Atoms 𝓤) (mem : Mem
       ensured = λ x r ws. writing·encode-planned-fn.clauses 𝓤 H A mem run (x .0) (x .3) .ensures tt r (atExit writing·encode-planned-fn.ended (x .0) (x .3) ws);
       out = λ ns v. id⊢ 𝓤 _;
       said = λ ns r ws. since 𝓤 (λ e. (e .0, (e .1, tt)));
-    }
-
-    pub vector·read-entries! : Triple 𝓤 (C #vector·read-entries) Vector·read-entries → (at-vector : Seat) (vector₀ : List ℕ) (at-clients : Seat) (clients₀ : List ℕ) (at-clocks : Seat) (clocks₀ : List ℕ) → ((maxClients ≤ length clients₀) × (maxClients ≤ length clocks₀)) → Card 𝓤 H A C #vector·read-entries (pass byte at-vector vector₀ ∷ mut word at-clients clients₀ (padded (length clients₀) (clientsIn (kept (vectorOf vector₀)))) ∷ mut word at-clocks clocks₀ (padded (length clocks₀) (clocksIn (kept (vectorOf vector₀)))) ∷ []) entries (vectorEntries (vectorOf vector₀))
-    vector·read-entries! known at-vector vector₀ at-clients clients₀ at-clocks clocks₀ h = record {
-      contract = Vector·read-entries;
-      known = known;
-      ghost = λ x. (x, tt);
-      args = λ ns. refl;
-      asked = fact 𝓤 ((maxClients ≤ length clients₀) × (maxClients ≤ length clocks₀));
-      asks = factI 𝓤 ((maxClients ≤ length clients₀) × (maxClients ≤ length clocks₀)) (emp 𝓤) h;
-      into = λ ns. id⊢ 𝓤 _;
-      ensured = λ x r ws. vector·read-entries-fn.clauses 𝓤 H A mem run (x .0) (x .3) .ensures tt r (atExit vector·read-entries-fn.ended (x .0) (x .3) ws);
-      out = λ ns v. id⊢ 𝓤 _;
-      said = λ ns r ws. since 𝓤 (λ e. (e .0, (e .1, (e .2, tt))));
     }
 
     pub writing·encode-kept-clients-clocks! : Triple 𝓤 (C #writing·encode-kept) Writing·encode-kept → (at-update : Seat) (update₀ : List ℕ) (at-clients : Seat) (clients₀ : List ℕ) (at-clocks : Seat) (clocks₀ : List ℕ) (m₀ : ℕ) (g-m : Has word m₀) (form₀ : ℕ) (g-form : Has byte form₀) (at-rows : Seat) (rows₀ : List Block) (blocks₀ : ℕ) (g-blocks : Has word blocks₀) (at-ranges : Seat) (ranges₀ : List ℕ) (n₀ : ℕ) (g-n : Has word n₀) (at-out : Seat) (out₀ : List ℕ) → ((blocks₀ ≤ length rows₀) × (3 * n₀ ≤ length ranges₀)) → Card 𝓤 H A C #writing·encode-kept (pass byte at-update update₀ ∷ read word at-clients clients₀ ∷ read word at-clocks clocks₀ ∷ val word m₀ g-m ∷ val byte form₀ g-form ∷ pass block at-rows rows₀ ∷ val word blocks₀ g-blocks ∷ pass word at-ranges ranges₀ ∷ val word n₀ g-n ∷ mut byte at-out out₀ (keptOut update₀ (entriesOf m₀ clients₀ clocks₀) form₀ rows₀ blocks₀ (rowsFrom ranges₀ 0 n₀) out₀) ∷ []) written (keptAnswer update₀ (entriesOf m₀ clients₀ clocks₀) form₀ rows₀ blocks₀ (rowsFrom ranges₀ 0 n₀) (length out₀))

@@ -198,9 +198,9 @@ module _ {M : Type 1} (𝓤 : URA M) (H : Heap 𝓤) (A : Atoms 𝓤) (W : Given
         assigns ! (agg ! (and-then ! (load ! (from ! (stop !)) (look ! 7 refl)) (and-then ! (load ! (from ! (fld ! refl (stop !))) (look-in ! 39 (sub ! 1 refl (whole !)))) (no-more !)))) (from ! (stop !)) (init ! 5 refl (tt, (tt, (record { fits = are .0 .0 .1 .0 }, tt)))) $
         calls-by ! (fmOf 𝓤 H (W .laws) 𝓣) (0 ∷ 1 ∷ []) (hs (t .out)) (encoder·steps·put-row! 𝓤 H A mem run (𝓣 .C) known-encoder·steps·put-row at-out (t .out) at-update update₀ (t .v10) (t .g10) (t .v11) (t .g11) (getD rows₀ ((t .v11) .row) noBlock) (g₄ .0) (t .known .sound)) refl (λ P. and-then ! (load ! (from ! (stop !)) (look ! 5 refl)) (and-then ! (load ! (from ! (stop !)) (look ! 37 refl)) (and-then ! (load ! (from ! (stop !)) (look ! 21 refl)) (and-then ! (load ! (from ! (stop !)) (look ! 19 refl)) (and-then ! (load ! (from ! (stop !)) (look ! 17 refl)) (no-more !)))))) (λ g₅.
         land ! (from ! (stop !)) (store ! 21 refl (g₅ .1 .0)) $
-        calls-by-last ! (fmOf 𝓤 H (W .laws) 𝓣) (3 ∷ []) (hs (laidAll (t .out) (t .v10) (rowTokens update₀ ((t .v11) .head) ((t .v11) .from) ((t .v11) .skip) (getD rows₀ ((t .v11) .row) noBlock)))) (kept·cursor·advance! 𝓤 H A mem run (𝓣 .C) known-kept·cursor·advance at-plan plan₀ sections₀ (are .1 .1 .1 .1 .0) (t .v11) (t .g11)) refl (λ P. and-then ! (load ! (from ! (stop !)) (look ! 33 refl)) (and-then ! (load ! (from ! (stop !)) (look ! 31 refl)) (and-then ! (load ! (from ! (stop !)) (look ! 19 refl)) (no-more !)))) (λ g₆.
+        calls-by-last ! (fmOf 𝓤 H (W .laws) 𝓣) (3 ∷ []) (hs (laidAll (t .out) (t .v10) (rowTokens update₀ ((t .v11) .head) ((t .v11) .from .0) ((t .v11) .skip .0) (getD rows₀ ((t .v11) .row) noBlock)))) (kept·cursor·advance! 𝓤 H A mem run (𝓣 .C) known-kept·cursor·advance at-plan plan₀ sections₀ (are .1 .1 .1 .1 .0) (t .v11) (t .g11)) refl (λ P. and-then ! (load ! (from ! (stop !)) (look ! 33 refl)) (and-then ! (load ! (from ! (stop !)) (look ! 31 refl)) (and-then ! (load ! (from ! (stop !)) (look ! 19 refl)) (no-more !)))) (λ g₆.
         land-last ! (from ! (stop !)) (store ! 19 refl (g₆ .1 .0)) $
-        forget ! 5 refl $ forget ! 7 refl $ forget ! 9 refl $ forget ! 11 refl $ forget ! 17 refl $ again-by ! μ (Inv ls) t (record { v10 = putAll (t .v10) (rowTokens update₀ ((t .v11) .head) ((t .v11) .from) ((t .v11) .skip) (getD rows₀ ((t .v11) .row) noBlock)); g10 = g₅ .0; v11 = advanced plan₀ sections₀ (t .v11); g11 = g₆ .0; out = laidAll (t .out) (t .v10) (rowTokens update₀ ((t .v11) .head) ((t .v11) .from) ((t .v11) .skip) (getD rows₀ ((t .v11) .row) noBlock)); known = turns out₀ update₀ rows₀ plan₀ sections₀ lane₀ at₀ rows-fit (req .1) (t .v10) (t .v11) (t .out) (t .known) (under t y₃) }) (fewer plan₀ sections₀ (t .v11) (req .1) (omega (arith, under t y₃, rows-fit)))))))
+        forget ! 5 refl $ forget ! 7 refl $ forget ! 9 refl $ forget ! 11 refl $ forget ! 17 refl $ again-by ! μ (Inv ls) t (record { v10 = putAll (t .v10) (rowTokens update₀ ((t .v11) .head) ((t .v11) .from .0) ((t .v11) .skip .0) (getD rows₀ ((t .v11) .row) noBlock)); g10 = g₅ .0; v11 = advanced plan₀ sections₀ (t .v11); g11 = g₆ .0; out = laidAll (t .out) (t .v10) (rowTokens update₀ ((t .v11) .head) ((t .v11) .from .0) ((t .v11) .skip .0) (getD rows₀ ((t .v11) .row) noBlock)); known = turns out₀ update₀ rows₀ plan₀ sections₀ lane₀ at₀ rows-fit (req .1) (t .v10) (t .v11) (t .out) (t .known) (under t y₃) }) (fewer plan₀ sections₀ (t .v11) (req .1) (omega (arith, under t y₃, rows-fit)))))))
         (λ y₃.
         exit-on ! $
         exec ! (𝓣 .C) (𝓣 .Λ) En (part (1 ∷ 1 ∷ 1 ∷ 1 ∷ 1 ∷ []) (fn .body)) (atRet En Post) $

@@ -8,7 +8,7 @@ use Rattle.records.proofs.write_head.Tie as tie
 returns : tie.Need-returns
 returns c =
     let a = c .before .before .args in
-    head-none (a .out .now) [] (a .e) (a .b) (a .count) (a .from) (c .if1 .taken) (c .before .before .pre .0)
+    head-none (a .out .now) [] (a .e) (a .b) (a .count) (a .from .0) (c .if1 .taken) (c .before .before .pre .0)
 
 cast-clock : tie.Need-cast-clock
 cast-clock c = search needs
@@ -33,10 +33,10 @@ returns-2 c =
     let p2 = c .before .before in
     let p6 = p2 .before .before .before .before in
     let p10 = p6 .before .before .before .before in
-    let p13 = p10 .before .before .before in
-    let p15 = p13 .before .before in
-    let a = p15 .args in
-    head-some (a .out .now) [] (a .e) (a .b) (a .count) (a .from) (p13 .if1 .left) (p10 .write-var .ensures) (p6 .write-client .ensures)
+    let p14 = p10 .before .before .before .before in
+    let p16 = p14 .before .before in
+    let a = p16 .args in
+    head-some (a .out .now) [] (a .e) (a .b) (a .count) (a .from .0) (p14 .if1 .left) (p10 .write-var .ensures) (p6 .write-client .ensures)
     (p2 .write-var2 .ensures)
 
 pub write-head-spec : {M : Type 1} → statement M

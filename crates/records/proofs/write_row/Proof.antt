@@ -13,18 +13,18 @@ is-sane-requires c κs = search needs
 returns : tie.Need-returns
 returns c =
     let p1 = c .before in
-    let p4 = p1 .before .before .before in
-    let a = p4 .args in
-    row-none (a .out .now) (a .update .now) (a .e) (a .b) (a .c .head) (a .c .from) (a .c .skip)
-    (sym (p1 .is-sane .ensures) ∙ not-true (p1 .is-sane .result) (c .if1 .taken)) (p4 .pre)
+    let p6 = p1 .before .before .before .before .before in
+    let a = p6 .args in
+    row-none (a .out .now) (a .update .now) (a .e) (a .b) (a .c .head) (a .c .from .0) (a .c .skip .0)
+    (sym (p1 .is-sane .ensures) ∙ not-true (p1 .is-sane .result) (c .if1 .taken)) (p6 .pre)
 
 write-head-requires : tie.Need-write-head-requires
 write-head-requires c κs =
     let p1 = c .before in
     let p2 = p1 .before in
-    let p5 = p2 .before .before .before in
-    let a = p5 .args in
-    (p5 .pre, sane-limits (a .b) (a .c .from) (a .c .skip) (sym (p2 .is-sane .ensures) ∙ not-false (p2 .is-sane .result) (p1 .if1 .left)))
+    let p7 = p2 .before .before .before .before .before in
+    let a = p7 .args in
+    (p7 .pre, sane-limits (a .b) (a .c .from .0) (a .c .skip .0) (sym (p2 .is-sane .ensures) ∙ not-false (p2 .is-sane .result) (p1 .if1 .left)))
 
 cut-requires : tie.Need-cut-requires
 cut-requires c κs =
@@ -45,9 +45,9 @@ returns-2 c =
     let p7 = p4 .before .before .before in
     let p9 = p7 .before .before in
     let p10 = p9 .before in
-    let p13 = p10 .before .before .before in
-    let a = p13 .args in
-    row-some (a .out .now) (a .update .now) (a .e) (a .b) (a .c .head) (a .c .from) (a .c .skip)
+    let p15 = p10 .before .before .before .before .before in
+    let a = p15 .args in
+    row-some (a .out .now) (a .update .now) (a .e) (a .b) (a .c .head) (a .c .from .0) (a .c .skip .0)
     (sym (p10 .is-sane .ensures) ∙ not-false (p10 .is-sane .result) (p9 .if1 .left))
     (p7 .write-head .ensures) (rw (p4 .cut .ensures) at (p2 .write-block .ensures))
 

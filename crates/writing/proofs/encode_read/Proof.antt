@@ -46,8 +46,10 @@ use Rattle.vector.specs.Vector.{clientsIn, clocksIn, entriesOf as vectorEntries
 use Rattle.writing.specs.Writing.{keptAnswer, keptOut, readAnswer, readOut}
 use Rattle.reader.proofs.Sorts.{refusal as refusal-kind, refusal-number}
 use Rattle.table.proofs.Sorts.{block}
-use Rattle.writing.proofs.Sorts.{written, entries, entries·read-0, entries·refused-0, entries-cases}
-use Rattle.writing.proofs.Cards.{Numbers·refuse, Vector·read-entries, Writing·encode-kept, numbers·refuse!, vector·read-entries!, writing·encode-kept-clients-clocks! }
+use Rattle.writing.proofs.Sorts.{written}
+use Rattle.reader.proofs.Sorts.{entries, entries·read-0, entries·refused-0, entries-cases}
+use Rattle.reader.proofs.Cards.{Vector·read-entries, vector·read-entries!}
+use Rattle.writing.proofs.Cards.{Numbers·refuse, Writing·encode-kept, numbers·refuse!, writing·encode-kept-clients-clocks!}
 use Rattle.vector.proofs.read_entries.Symbol as vector·read-entries-def
 use Rattle.vector.proofs.read_entries.Symbol.{name as #vector·read-entries}
 use Rattle.vector.proofs.read_entries.Met as vector·read-entries-thm

@@ -10,51 +10,52 @@ use Rattle.kept.proofs.cursor.cut.Tie as tie
 
 returns : tie.Need-returns
 unfolding laterPart
-returns c = rw (eq-eqb (c .before .args .from) 0 (c .if1 .taken)) refl
+returns c = rw (eq-eqb (c .before .before .args .from .0) 0 (c .if1 .taken)) refl
 
 no-id-requires : tie.Need-no-id-requires
 no-id-requires c κs = search needs
 
 left-of-requires : tie.Need-left-of-requires
 left-of-requires c κs =
-    let s = c .before .before .before in
-    (sane-less (s .args .b) (s .args .from) (s .args .skip) (s .args .from) 0 (omega arith) (omega arith) (s .pre), omega (arith, c .before .before .if1 .left))
+    let s = c .before .before .before .before in
+    let a = s .args in
+    (sane-less (a .b) (a .from .0) (a .skip .0) (a .from .0) 0 (omega arith) (omega arith) (s .pre), omega (arith, c .before .before .if1 .left))
 
 part-of-requires : tie.Need-part-of-requires
 part-of-requires c κs =
-    let s = c .before .before .before .before in
-    sane-less (s .args .b) (s .args .from) (s .args .skip) 0 (s .args .skip) (omega arith) (omega arith) (s .pre)
+    let s = c .before .before .before .before .before in
+    sane-less (s .args .b) (s .args .from .0) (s .args .skip .0) 0 (s .args .skip .0) (omega arith) (omega arith) (s .pre)
 
 cast-start : tie.Need-cast-start
 cast-start c = search needs
 
 add-start : tie.Need-add-start
 add-start c =
-    let s = c .before .before .before .before .before .before in
-    let w = sane-within (s .args .b) (s .args .from) (s .args .skip) (s .pre) in
+    let s = c .before .before .before .before .before .before .before .before in
+    let w = sane-within (s .args .b) (s .args .from .0) (s .args .skip .0) (s .pre) in
     omega (arith, w .units, w .end)
 
 cast-clock : tie.Need-cast-clock
 cast-clock c =
-    let s = c .before .before .before .before .before .before in
-    let w = sane-within (s .args .b) (s .args .from) (s .args .skip) (s .pre) in
+    let s = c .before .before .before .before .before .before .before .before in
+    let w = sane-within (s .args .b) (s .args .from .0) (s .args .skip .0) (s .pre) in
     omega (arith, w .units, w .end)
 
 sub-rest : tie.Need-sub-rest
 sub-rest c =
-    let s = c .before .before .before .before .before .before .before in
-    let w = sane-within (s .args .b) (s .args .from) (s .args .skip) (s .pre) in
+    let s = c .before .before .before .before .before .before .before .before .before .before in
+    let w = sane-within (s .args .b) (s .args .from .0) (s .args .skip .0) (s .pre) in
     omega (arith, w .units)
 
 returns-2 : tie.Need-returns-2
 unfolding laterPart
 returns-2 c =
-    let a = c .before .before .before .before .before .before .before .before .before .before .args in
+    let a = c .before .before .before .before .before .before .before .before .before .before .before .before .before .args in
     rw (
-      ne-eqb (a .from) 0 (c .before .before .before .before .before .before .before .before .before .if1 .left),
-      c .before .before .before .before .before .before .left-of .ensures,
-      c .before .before .before .before .before .part-of .ensures,
-      c .before .before .before .before .before .before .before .before .no-id .ensures,
+      ne-eqb (a .from .0) 0 (c .before .before .before .before .before .before .before .before .before .before .before .if1 .left),
+      c .before .before .before .before .before .before .before .before .left-of .ensures,
+      c .before .before .before .before .before .before .before .part-of .ensures,
+      c .before .before .before .before .before .before .before .before .before .before .no-id .ensures,
     )
     refl
 

@@ -11,13 +11,13 @@ use Rattle.kept.proofs.cursor.is_sane.Tie as tie
 
 returns : tie.Need-returns
 returns c =
-    let a = c .before .before .before .before .before .args in
-    sym (not-units (a .b) (a .from) (a .skip) (c .if1 .taken))
+    let a = c .before .before .before .before .before .before .args in
+    sym (not-units (a .b) (a .from .0) (a .skip .0) (c .if1 .taken))
 
 returns-2 : tie.Need-returns-2
 returns-2 c =
-    let a = c .before .before .before .before .before .before .before .args in
-    sym (not-end (a .b) (a .from) (a .skip) (omega (arith, c .if2 .taken)))
+    let a = c .before .before .before .before .before .before .before .before .args in
+    sym (not-end (a .b) (a .from .0) (a .skip .0) (omega (arith, c .if2 .taken)))
 
 cast-end : tie.Need-cast-end
 cast-end c = search needs
@@ -27,20 +27,20 @@ add-end c = search needs
 
 returns-3 : tie.Need-returns-3
 returns-3 c =
-    let a = c .before .before .before .before .before .before .before .before .before .before .args in
-    sym (not-end (a .b) (a .from) (a .skip) (c .if3 .taken))
+    let a = c .before .before .before .before .before .before .before .before .before .before .before .args in
+    sym (not-end (a .b) (a .from .0) (a .skip .0) (c .if3 .taken))
 
 returns-4 : tie.Need-returns-4
 returns-4 c =
-    let a = c .before .before .before .before .before .before .before .before .before .before .before .before .args in
-    sym (not-bytes (a .b) (a .from) (a .skip) (c .before .before .before .before .before .before .before .if1 .left) (c .before .before .if3 .left)
-    (c .if4 .taken))
+    let a = c .before .before .before .before .before .before .before .before .before .before .before .before .before .before .args in
+    sym (not-bytes (a .b) (a .from .0) (a .skip .0) (c .before .before .before .before .before .before .before .before .if1 .left)
+    (c .before .before .before .if3 .left) (c .if4 .taken))
 
 returns-5 : tie.Need-returns-5
 returns-5 c =
-    let a = c .before .before .before .before .before .before .before .before .before .before .before .before .before .before .args in
-    sym (last-test (a .b) (a .from) (a .skip) (c .before .before .before .before .before .before .before .before .before .if1 .left)
-    (c .before .before .before .before .if3 .left) (c .before .before .if4 .left)
+    let a = c .before .before .before .before .before .before .before .before .before .before .before .before .before .before .before .before .args in
+    sym (last-test (a .b) (a .from .0) (a .skip .0) (c .before .before .before .before .before .before .before .before .before .before .if1 .left)
+    (c .before .before .before .before .before .if3 .left) (c .before .before .if4 .left)
     ∙ le-ltb (a .b .part .place + a .b .part .bytes .0) brim (omega (arith, c .if5 .taken)))
 
 sub-room : tie.Need-sub-room
@@ -48,10 +48,10 @@ sub-room c = search needs
 
 returns-6 : tie.Need-returns-6
 returns-6 c =
-    let a = c .before .before .before .before .before .before .before .before .before .before .before .before .before .before .before .before .args in
+    let a = c .before .before .before .before .before .before .before .before .before .before .before .before .before .before .before .before .before .before .args in
     ltb-moved (a .b .part .bytes .0) (a .b .part .place) brim (omega (arith, c .before .before .if5 .left))
-    ∙ sym (last-test (a .b) (a .from) (a .skip) (c .before .before .before .before .before .before .before .before .before .before .before .if1 .left)
-    (c .before .before .before .before .before .before .if3 .left) (c .before .before .before .before .if4 .left))
+    ∙ sym (last-test (a .b) (a .from .0) (a .skip .0) (c .before .before .before .before .before .before .before .before .before .before .before .before .if1 .left)
+    (c .before .before .before .before .before .before .before .if3 .left) (c .before .before .before .before .if4 .left))
 
 pub is-sane-spec : {M : Type 1} → statement M
 is-sane-spec =

@@ -20,8 +20,8 @@ cast-start c = search needs
 
 add-start : tie.Need-add-start
 add-start c =
-    let s = c .before .before .before in
-    let w = sane-within (s .args .b) (s .args .from) 0 (s .pre .0) in
+    let s = c .before .before .before .before in
+    let w = sane-within (s .args .b) (s .args .from .0) 0 (s .pre .0) in
     omega (arith, w .units, w .end)
 
 sub-clock : tie.Need-sub-clock
@@ -29,14 +29,14 @@ sub-clock c = search needs
 
 cast-clock : tie.Need-cast-clock
 cast-clock c =
-    let s = c .before .before .before in
-    let w = sane-within (s .args .b) (s .args .from) 0 (s .pre .0) in
+    let s = c .before .before .before .before in
+    let w = sane-within (s .args .b) (s .args .from .0) 0 (s .pre .0) in
     omega (arith, w .units, w .end)
 
 returns-2 : tie.Need-returns-2
 returns-2 c =
-    let a = c .before .before .before .args in
-    rw (lt-ltb 2 (a .b .kind) (c .before .if1 .left)) refl
+    let a = c .before .before .before .before .args in
+    rw (lt-ltb 2 (a .b .kind) (c .before .before .if1 .left)) refl
 
 pub left-of-spec : {M : Type 1} → statement M
 left-of-spec =

@@ -9,21 +9,21 @@ use Rattle.kept.proofs.cursor.part_of.Tie as tie
 
 add-place : tie.Need-add-place
 add-place c =
-    let s = c .before .before .before .before .before in
-    let w = sane-within (s .args .b) 0 (s .args .skip) (s .pre) in
+    let s = c .before .before .before .before .before .before in
+    let w = sane-within (s .args .b) 0 (s .args .skip .0) (s .pre) in
     omega (arith, w .bytes, w .place)
 
 sub-rest : tie.Need-sub-rest
 sub-rest c =
-    let s = c .before .before .before .before .before .before in
-    let w = sane-within (s .args .b) 0 (s .args .skip) (s .pre) in
+    let s = c .before .before .before .before .before .before .before .before in
+    let w = sane-within (s .args .b) 0 (s .args .skip .0) (s .pre) in
     omega (arith, w .bytes)
 
 returns : tie.Need-returns
 unfolding partAfter
 returns c =
-    let a = c .before .before .before .before .before .before .args in
-    rw (eq-eqb (a .b .kind) 5 (c .before .before .if1 .taken)) refl
+    let a = c .before .before .before .before .before .before .before .before .args in
+    rw (eq-eqb (a .b .kind) 5 (c .before .before .before .before .if1 .taken)) refl
 
 returns-2 : tie.Need-returns-2
 unfolding partAfter

@@ -1,0 +1,6 @@
+-- The loops over rows and fronts (Noting, Looking), what the functions come to (Exits), and what the walks share (Sorts, Cards).
+pub mod Noting
+pub mod Looking
+pub mod Exits
+pub mod Sorts
+pub mod Cards
