@@ -133,6 +133,32 @@ const begin = ({ random, pick }) => {
     return { made, vectors }
   }
 
+  // Documents that hear of each other's edits, of each one after those that it rests on: turn by turn `who` edits, and before it hears what `hears` says.
+  // What was sent, in order: { one, two, rests }, both forms and which ones before it the sender held.
+  const conversation = ({ clients, gc, turns, who, hears, say }) => {
+    const docs = clients.map(client => document(client, gc))
+    const held = docs.map(() => new Set())
+    const sent = []
+    for (let turn = 0; turn < turns; turn++) {
+      const k = who(turn)
+      const wanted = closed(sent, sent.map((_, n) => n).filter(n => hears(n, turn)))
+      for (const n of wanted.filter(n => !held[k].has(n))) {
+        Y.applyUpdate(docs[k], sent[n].one)
+        held[k].add(n)
+      }
+      const update = { one: null, two: null, rests: [...held[k]] }
+      docs[k].once('update', one => { update.one = one })
+      docs[k].once('updateV2', two => { update.two = two })
+      docs[k].transact(() => say(docs[k], turn))
+      if (update.two === null) continue // nothing was edited
+      held[k].add(sent.length)
+      sent.push(update)
+    }
+    return sent
+  }
+  // Some of what was sent, with all that it rests on, in order.
+  const closed = (sent, some) => [...new Set(some.flatMap(n => [...sent[n].rests, n]))].sort((a, b) => a - b)
+
   // A document from an update, with all its content deleted: in both forms, whole and without one client.
   const emptied = (update, type) => {
     const doc = document(77, true)
@@ -149,7 +175,7 @@ const begin = ({ random, pick }) => {
     ]
   }
 
-  return { document, histories, emptied }
+  return { names, document, edit, histories, conversation, closed, emptied }
 }
 
 module.exports = { begin }

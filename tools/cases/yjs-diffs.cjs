@@ -77,4 +77,4 @@ const compare = (form, written, update, vector, r) => {
   counts.bytes++
 }
 
-module.exports = { compare, theirs, told: () => Object.entries(counts).map(([what, n]) => `${what} ${n}`).join('  ') }
+module.exports = { compare, theirs, ordered, told: () => Object.entries(counts).map(([what, n]) => `${what} ${n}`).join('  ') }

@@ -102,7 +102,7 @@ const compareVector = (vector, r) => {
 }
 
 module.exports = {
-  Y, own, attempt, read, kept, theirRecord, theirIds, compare, compareVector,
+  Y, own, attempt, read, kept, ourRecord, theirRecord, theirIds, compare, compareVector,
   version: require('/usr/share/nodejs/yjs/package.json').version,
   told: () => Object.entries(counts).map(([what, n]) => `${what} ${n}`).join('  ')
 }

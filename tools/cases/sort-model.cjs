@@ -1,0 +1,59 @@
+// What document 01 and docs/DECISIONS.md say of sorting, in plain JavaScript: the update and the vector as update-model.cjs reads them, which blocks are
+// taken, one after another, and what is reported. Made without our Rattle code and without Yjs.
+'use strict'
+const { readUpdate, readVector } = require('./update-model.cjs')
+
+const highestFirst = clients => [...new Set(clients)].sort((a, b) => a > b ? -1 : 1)
+const ids = b => [b.left, b.right, b.parent].filter(id => id !== null)
+
+// Blocks in reading order, and a vector's entries. `choose` has the clients whose front is ready, highest first, and says which one is taken. `rule` is
+// 28, document 01's, or 13, by which a block above its own client's reach is held as well (W-210, and Yjs's own). Beside what is reported: `fronts` has
+// what each pending client waits with, `rest` all blocks left pending, highest client first; `across`, that a block above its own client's reach was taken;
+// `hung`, that a block was taken which names an id of its own client that is not there yet.
+const sorted = (blocks, entries, { rule = 28, choose = ([highest]) => highest } = {}) => {
+  const clients = highestFirst(blocks.map(b => b.client))
+  const queues = new Map(clients.map(client => [client, blocks.flatMap((b, n) => b.client === client ? [n] : [])]))
+  const taken = new Map(clients.map(client => [client, 0]))
+  const reaches = new Map(entries.map(e => [e.client, e.clock]))
+  const reach = client => reaches.get(client) ?? 0n
+  const met = id => id.clock < reach(id.client)
+  const front = client => blocks[queues.get(client)[taken.get(client)]]
+  const above = b => b.kind !== 'skip' && b.clock > reach(b.client)
+  // The client that a block waits for: that of its first dependency on another client that is not met; by rule 13, else its own.
+  const waits = b => ids(b).find(id => id.client !== b.client && !met(id))?.client ?? (rule === 13 && above(b) ? b.client : null)
+  const order = []
+  let [across, hung] = [false, false]
+  for (;;) {
+    const ready = clients.filter(client => front(client) !== undefined && waits(front(client)) === null)
+    if (ready.length === 0) break
+    const client = choose(ready)
+    const b = front(client)
+    order.push(queues.get(client)[taken.get(client)])
+    across = across || above(b)
+    hung = hung || ids(b).some(id => id.client === client && !met(id))
+    taken.set(client, taken.get(client) + 1)
+    if (b.kind !== 'skip' && b.clock + b.length > reach(client)) reaches.set(client, b.clock + b.length)
+  }
+  const pending = clients.filter(client => front(client) !== undefined)
+  return {
+    order,
+    taken: clients.map(client => [client, taken.get(client)]),
+    reaches: highestFirst([...clients, ...entries.map(e => e.client)]).map(client => [client, reach(client)]),
+    pending: pending.map(client => [client, waits(front(client)), reach(waits(front(client)))]),
+    fronts: pending.map(front),
+    rest: pending.flatMap(client => queues.get(client).slice(taken.get(client)).map(n => blocks[n])),
+    across,
+    hung
+  }
+}
+
+const sort = (form, update, vector, { blockRows, rangeRows, orderRows = Infinity } = {}) => {
+  const read = readUpdate(form, update, blockRows, rangeRows)
+  if (read.number !== 0) return read
+  const remote = readVector(vector)
+  if (remote.number !== 0) return remote
+  const r = sorted(read.blocks, remote.entries)
+  return r.order.length > orderRows ? { number: 8 } : { number: 0, read, entries: remote.entries, ...r }
+}
+
+module.exports = { sort, sorted }
