@@ -266,7 +266,7 @@ def unfolded(t, here):
     params, body = re.search(r'^%s ([^=\n]*)=\s*(.*?)(?:\n\n|\s*\Z)' % words[0], text, re.M | re.S).groups()
     at = dict(zip(params.split(), words[1:]))
     UNFOLDED.setdefault(here, []).append((spec.group(1), set(re.findall(NAME, body))))
-    return re.sub(NAME, lambda m: at.get(m.group(0), m.group(0)), re.sub(r'\s+', ' ', body))
+    return re.sub(r'(?<![^\s(){};,⌜⌝])' + NAME, lambda m: at.get(m.group(0), m.group(0)), re.sub(r'\s+', ' ', body))  # no field
 
 
 # ---------------------------------------------------------------- imports

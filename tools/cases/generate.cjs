@@ -64,6 +64,10 @@ w(c.readUnsigned(bytes('ff ff ff ff ff ff ff ff 7f 05'), 0), '0 9223372036854775
 w(c.readSigned(bytes('ff ff ff ff ff ff ff ff 7f'), 0), '0 1 4611686018427387903 9')
 // Where lib0 goes on and document 01 does not (docs/DIFFERENCES.md): ten bytes, a value of 2^53, a count over its limit, e of 2^31, a difference of 2^30.
 w(c.readUnsigned(bytes('80 80 80 80 80 80 80 80 80 00'), 0), '2')
+w(c.readUnsigned(bytes('80 80 80 80 80 80 80 80 80 80 01'), 0), '2')
+w(c.readUnsigned(bytes('ff ff ff ff ff ff ff 1f'), 0), '0 18014398509481983 8')
+w(c.readNumbers(bytes('42 ff ff ff ff 0f 05'), 2), '3')
+w(c.readNumbers(bytes('42'), 2), '1')
 w(c.readNumbers(bytes('80 80 80 80 80 80 80 20'), 1), '3')
 w(c.readNumbers(bytes('42 fe ff ff ff 07'), 1), '3')
 w(c.readDifferences(bytes('80 80 80 80 10'), 1), '3')

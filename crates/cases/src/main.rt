@@ -1,10 +1,8 @@
 // Runs calls of the public library from standard input, a case at a time, and prints a line a case: what the call answered.
-mod column_cases;
-mod lent;
-mod number_cases;
-
-use column_cases::Column;
-use lent::Writer;
+use column_cases::columns_of;
+use column_cases::columns_of::Column;
+use column_cases::lent::Writer;
+use column_cases::numbers_of;
 use stream::Done;
 use stream::input;
 use stream::input::Place;
@@ -24,22 +22,23 @@ fn case(
     used: usize,
 ) -> Done {
     match operation {
-        1 => number_cases::read(false, source, place, bytes, sink, used),
-        2 => number_cases::read(true, source, place, bytes, sink, used),
-        3 => number_cases::write_unsigned(source, place, sink, used),
-        4 => number_cases::write_signed(source, place, sink, used),
-        5 => column_cases::read(Column::Numbers, source, place, sink, used),
-        6 => column_cases::read(Column::Differences, source, place, sink, used),
-        7 => column_cases::read(Column::Bytes, source, place, sink, used),
-        8 => column_cases::read_texts(source, place, sink, used),
-        9 => column_cases::write(Writer::Numbers, source, place, sink, used),
-        10 => column_cases::write(Writer::Differences, source, place, sink, used),
-        11 => column_cases::write_bytes(source, place, bytes, sink, used),
-        12 => column_cases::write_texts(source, place, sink, used),
+        1 => numbers_of::read(false, source, place, bytes, sink, used),
+        2 => numbers_of::read(true, source, place, bytes, sink, used),
+        3 => numbers_of::write_unsigned(source, place, sink, used),
+        4 => numbers_of::write_signed(source, place, sink, used),
+        5 => columns_of::read(Column::Numbers, source, place, sink, used),
+        6 => columns_of::read(Column::Differences, source, place, sink, used),
+        7 => columns_of::read(Column::Bytes, source, place, sink, used),
+        8 => columns_of::read_texts(source, place, sink, used),
+        9 => columns_of::write(Writer::Numbers, source, place, sink, used),
+        10 => columns_of::write(Writer::Differences, source, place, sink, used),
+        11 => columns_of::write_bytes(source, place, bytes, sink, used),
+        12 => columns_of::write_texts(source, place, sink, used),
         13 => vectors::read(source, place, sink, used),
         14 => tables::read(source, place, bytes, sink, used),
         15 => parts::read(source, place, bytes, sink, used),
         16 => diff_cases::read(source, place, bytes, sink, used),
+        17 => sort_cases::read(source, place, bytes, sink, used),
         18 => listings::read(source, place, bytes, sink, used),
         _ => {
             let place = input::spoiled(place);

@@ -20,12 +20,11 @@ use Prim.Native.Nat.{_/_}
 use Rattle.diffs.specs.Promises.{answered, diffOf, refusedWith}
 use Rattle.numbers.specs.Output.{padded}
 use Rattle.ranges.specs.Table.{rowsFrom}
-use Rattle.updates.specs.Promises.{answer, known, reading, refused, rowsOf, wordsOf}
+use Rattle.updates.specs.Promises.{known, reading, refused, rowsOf, wordsOf}
 use Rattle.vector.specs.Vector.{vectorOf}
 use Rattle.writing.specs.Writing.{readAnswer, readOut}
 use Rattle.diffs.proofs.Sorts.{diff}
 use Rattle.table.proofs.Sorts.{block}
-use Rattle.updates.proofs.Sorts.{update}
 use Rattle.writing.proofs.Sorts.{written}
 use Rattle.diffs.proofs.none as diffs·none-fn
 use Rattle.diffs.proofs.none.Symbol.{name as #diffs·none}
@@ -35,8 +34,6 @@ use Rattle.diffs.proofs.refuse as diffs·refuse-fn
 use Rattle.diffs.proofs.refuse.Symbol.{name as #diffs·refuse}
 use Rattle.diffs.proofs.is_known as diffs·is-known-fn
 use Rattle.diffs.proofs.is_known.Symbol.{name as #diffs·is-known}
-use Rattle.updates.proofs.read_update as updates·read-update-fn
-use Rattle.updates.proofs.read_update.Symbol.{name as #updates·read-update}
 use Rattle.writing.proofs.encode_read as writing·encode-read-fn
 use Rattle.writing.proofs.encode_read.Symbol.{name as #writing·encode-read}
 use Rattle.diffs.proofs.encode_diff as diffs·encode-diff-fn
@@ -54,9 +51,6 @@ module _ {M : Type 1} (𝓤 : URA M) (H : Heap 𝓤) (A : Atoms 𝓤) (mem : Mem
 
   abbrev pub Diffs·is-known : Contract 𝓤
   Diffs·is-known = tripleOf 𝓤 H A diffs·is-known-fn.signature (diffs·is-known-fn.spec 𝓤 H A mem run)
-
-  abbrev pub Updates·read-update : Contract 𝓤
-  Updates·read-update = tripleOf 𝓤 H A updates·read-update-fn.signature (updates·read-update-fn.spec 𝓤 H A mem run)
 
   abbrev pub Writing·encode-read : Contract 𝓤
   Writing·encode-read = tripleOf 𝓤 H A writing·encode-read-fn.signature (writing·encode-read-fn.spec 𝓤 H A mem run)
@@ -119,20 +113,6 @@ module _ {M : Type 1} (𝓤 : URA M) (H : Heap 𝓤) (A : Atoms 𝓤) (mem : Mem
       ensured = λ x r ws. diffs·is-known-fn.clauses 𝓤 H A mem run (x .0) (x .3) .ensures tt r (atExit diffs·is-known-fn.ended (x .0) (x .3) ws);
       out = λ ns v. id⊢ 𝓤 _;
       said = λ ns r ws. since 𝓤 (λ e. (e, tt));
-    }
-
-    pub updates·read-update! : Triple 𝓤 (C #updates·read-update) Updates·read-update → (form₀ : ℕ) (g-form : Has byte form₀) (at-update : Seat) (update₀ : List ℕ) (at-rows : Seat) (rows₀ : List Block) (at-ranges : Seat) (ranges₀ : List ℕ) → Card 𝓤 H A C #updates·read-update (val byte form₀ g-form ∷ pass byte at-update update₀ ∷ mut block at-rows rows₀ (rowsOf (length rows₀) (reading form₀ update₀ (length rows₀) (length ranges₀ / 3))) ∷ mut word at-ranges ranges₀ (wordsOf (length ranges₀) (reading form₀ update₀ (length rows₀) (length ranges₀ / 3))) ∷ []) update (answer (reading form₀ update₀ (length rows₀) (length ranges₀ / 3)))
-    updates·read-update! known form₀ g-form at-update update₀ at-rows rows₀ at-ranges ranges₀ = record {
-      contract = Updates·read-update;
-      known = known;
-      ghost = λ x. (x, tt);
-      args = λ ns. refl;
-      asked = emp 𝓤;
-      asks = id⊢ 𝓤 _;
-      into = λ ns. id⊢ 𝓤 _;
-      ensured = λ x r ws. updates·read-update-fn.clauses 𝓤 H A mem run (x .0) (x .3) .ensures tt r (atExit updates·read-update-fn.ended (x .0) (x .3) ws);
-      out = λ ns v. id⊢ 𝓤 _;
-      said = λ ns r ws. since 𝓤 (λ e. (e .0, (e .1, (e .2, tt))));
     }
 
     pub writing·encode-read-rows-ranges! : Triple 𝓤 (C #writing·encode-read) Writing·encode-read → (at-update : Seat) (update₀ : List ℕ) (at-vector : Seat) (vector₀ : List ℕ) (form₀ : ℕ) (g-form : Has byte form₀) (at-rows : Seat) (rows₀ : List Block) (blocks₀ : ℕ) (g-blocks : Has word blocks₀) (at-ranges : Seat) (ranges₀ : List ℕ) (n₀ : ℕ) (g-n : Has word n₀) (at-out : Seat) (out₀ : List ℕ) → ((blocks₀ ≤ length rows₀) × (3 * n₀ ≤ length ranges₀)) → Card 𝓤 H A C #writing·encode-read (pass byte at-update update₀ ∷ pass byte at-vector vector₀ ∷ val byte form₀ g-form ∷ read block at-rows rows₀ ∷ val word blocks₀ g-blocks ∷ read word at-ranges ranges₀ ∷ val word n₀ g-n ∷ mut byte at-out out₀ (readOut update₀ (vectorOf vector₀) form₀ rows₀ blocks₀ (rowsFrom ranges₀ 0 n₀) out₀) ∷ []) written (readAnswer update₀ (vectorOf vector₀) form₀ rows₀ blocks₀ (rowsFrom ranges₀ 0 n₀) (length out₀))

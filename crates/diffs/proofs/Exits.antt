@@ -17,7 +17,9 @@ use Rattle.decoder.specs.Course.{items}
 use Rattle.ranges.specs.Table.{rowsFrom}
 use Rattle.vector.specs.Vector.{Entry, vectorOf}
 use Rattle.passes.proofs.Wholes.{IsForm}
+use Rattle.kept.proofs.Vectors.{whyVector, by-number}
 use Rattle.updates.specs.Promises.{Reading, refused, known, reading, rowsOf, wordsOf}
+use Rattle.updates.proofs.Read.{Good, reading-good, short, rows-length, words-length, rows-back, words-back, length-padded}
 use Rattle.writing.specs.Diff.{diffWhy, diffBytes}
 use Rattle.writing.specs.Writing.{keptAnswer, keptOut, readAnswer, readOut}
 use Rattle.writing.proofs.Meaning.{answer-is, out-is}
@@ -25,8 +27,7 @@ use Rattle.writing.proofs.SmallLegal.{legal-diff}
 use Rattle.writing.proofs.SmallSize.{few-diff}
 use Rattle.diffs.specs.declared.Diff.{Diff}
 use Rattle.diffs.specs.Promises.{Diffed, refusedWith, whyNot, kept, against, afterReading, diffOf, answered, Diffs}
-use Rattle.diffs.proofs.Refusals.{whyVector, by-number}
-use Rattle.diffs.proofs.Read.{Good, reading-good, short, rows-length, words-length, rows-back, words-back, length-padded}
+use Rattle.diffs.proofs.Read.{reading-few}
 
 form-of : (to : ℕ) → known to ≡ true → IsForm to
 unfolding known
@@ -141,14 +142,14 @@ module _ (form : ℕ) (u v : List ℕ) (to : ℕ) (rows₀ : List Block) (ranges
         answer-is u es (R .blocks) (rowsOf M R) (R .ranges) to (form-of to k) (rows-back form u M N) fits (good .ordered) (good .sound) (good .count)
         (good .clients) (short form u M (N / 3) z)
         (λ _. legal-diff to u es (R .blocks) (R .ranges) (short form u M (N / 3) z) (good .sound) (good .ordered))
-        (λ _. few-diff to u es (R .blocks) (R .ranges) (short form u M (N / 3) z) (good .count) (good .clients) (good .few)) room
+        (λ _. few-diff to u es (R .blocks) (R .ranges) (short form u M (N / 3) z) (good .count) (good .clients) (reading-few form u M (N / 3))) room
 
     kept-out : keptOut u es to (rowsOf M R) (length (R .blocks)) (R .ranges) out₀ ≡ put why room bytes
     kept-out =
         out-is u es (R .blocks) (rowsOf M R) (R .ranges) to (form-of to k) (rows-back form u M N) fits (good .ordered) (good .sound) (good .count)
         (good .clients) (short form u M (N / 3) z)
         (λ _. legal-diff to u es (R .blocks) (R .ranges) (short form u M (N / 3) z) (good .sound) (good .ordered))
-        (λ _. few-diff to u es (R .blocks) (R .ranges) (short form u M (N / 3) z) (good .count) (good .clients) (good .few)) out₀
+        (λ _. few-diff to u es (R .blocks) (R .ranges) (short form u M (N / 3) z) (good .count) (good .clients) (reading-few form u M (N / 3))) out₀
 
     -- the vector's refusal, then the diffOf's
     abbrev w : ℕ

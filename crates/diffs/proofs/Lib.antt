@@ -1,6 +1,4 @@
--- What a refusal leaves (Zeros), the refusals of a vector (Refusals), what was read (Read), the ways out (Exits), that zeros name no client (Empty), that no other answer fits (Unique), and what the walks share (Sorts, Cards).
-pub mod Zeros
-pub mod Refusals
+-- How many ranges were read (Read), the ways out (Exits), that zeros name no client (Empty), that no other answer fits (Unique), and what the walks share (Sorts, Cards).
 pub mod Read
 pub mod Exits
 pub mod Empty

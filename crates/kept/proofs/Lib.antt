@@ -1,9 +1,10 @@
--- Five words a section (Words), the entries of a vector that are left to look through (Entries), that a vector was read (VectorRead), what it is for a cut to lie in its row (Sane); what is
+-- Five words a section (Words), the entries of a vector that are left to look through (Entries), that a vector was read (VectorRead), what every vector has (Vectors), what it is for a cut to lie in its row (Sane); what is
 -- kept (SectionsRemote, SectionsPlaced, SectionsKept), how rows are planned (SectionsWords, SectionsRun, SectionsPlan, SectionsCut), and that the plan is
 -- what is kept (SectionsTorn, SectionsGoes).
 pub mod Words
 pub mod Entries
 pub mod VectorRead
+pub mod Vectors
 pub mod Sane
 pub mod SectionsRemote
 pub mod SectionsPlaced

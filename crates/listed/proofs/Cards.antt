@@ -16,15 +16,10 @@ use denote.Triple.Clauses.{atExit}
 use Rattle.walks.proofs.Rows.{Has, byte, word}
 use Rattle.walks.proofs.Refs.{Seat, val, mut, read, pass, Card, since}
 use Rattle.block.specs.declared.Block.{Block}
-use Prim.Native.Nat.{_/_}
 use Rattle.lines.specs.Lines.{overlay}
 use Rattle.listing_text.specs.Listing.{blockLines, endLine, header, listing, rangeLines, refusedLine}
 use Rattle.ranges.specs.Table.{rowsFrom}
-use Rattle.updates.specs.Promises.{answer, reading, rowsOf, wordsOf}
 use Rattle.table.proofs.Sorts.{block}
-use Rattle.updates.proofs.Sorts.{update}
-use Rattle.updates.proofs.read_update as updates·read-update-fn
-use Rattle.updates.proofs.read_update.Symbol.{name as #updates·read-update}
 use Rattle.listing_text.proofs.put_refused as listing-text·put-refused-fn
 use Rattle.listing_text.proofs.put_refused.Symbol.{name as #listing-text·put-refused}
 use Rattle.listing_text.proofs.put_header as listing-text·put-header-fn
@@ -39,9 +34,6 @@ use Rattle.listed.proofs.put_tables as listed·put-tables-fn
 use Rattle.listed.proofs.put_tables.Symbol.{name as #listed·put-tables}
 
 module _ {M : Type 1} (𝓤 : URA M) (H : Heap 𝓤) (A : Atoms 𝓤) (mem : Memory → SProp 𝓤) (run : Routine → Fun 𝓤) where
-  abbrev pub Updates·read-update : Contract 𝓤
-  Updates·read-update = tripleOf 𝓤 H A updates·read-update-fn.signature (updates·read-update-fn.spec 𝓤 H A mem run)
-
   abbrev pub Listing-text·put-refused : Contract 𝓤
   Listing-text·put-refused = tripleOf 𝓤 H A listing-text·put-refused-fn.signature (listing-text·put-refused-fn.spec 𝓤 H A mem run)
 
@@ -61,20 +53,6 @@ module _ {M : Type 1} (𝓤 : URA M) (H : Heap 𝓤) (A : Atoms 𝓤) (mem : Mem
   Listed·put-tables = tripleOf 𝓤 H A listed·put-tables-fn.signature (listed·put-tables-fn.spec 𝓤 H A mem run)
 
   module _ (C : Calls 𝓤 H) where
-    pub updates·read-update! : Triple 𝓤 (C #updates·read-update) Updates·read-update → (form₀ : ℕ) (g-form : Has byte form₀) (at-update : Seat) (update₀ : List ℕ) (at-rows : Seat) (rows₀ : List Block) (at-ranges : Seat) (ranges₀ : List ℕ) → Card 𝓤 H A C #updates·read-update (val byte form₀ g-form ∷ pass byte at-update update₀ ∷ mut block at-rows rows₀ (rowsOf (length rows₀) (reading form₀ update₀ (length rows₀) (length ranges₀ / 3))) ∷ mut word at-ranges ranges₀ (wordsOf (length ranges₀) (reading form₀ update₀ (length rows₀) (length ranges₀ / 3))) ∷ []) update (answer (reading form₀ update₀ (length rows₀) (length ranges₀ / 3)))
-    updates·read-update! known form₀ g-form at-update update₀ at-rows rows₀ at-ranges ranges₀ = record {
-      contract = Updates·read-update;
-      known = known;
-      ghost = λ x. (x, tt);
-      args = λ ns. refl;
-      asked = emp 𝓤;
-      asks = id⊢ 𝓤 _;
-      into = λ ns. id⊢ 𝓤 _;
-      ensured = λ x r ws. updates·read-update-fn.clauses 𝓤 H A mem run (x .0) (x .3) .ensures tt r (atExit updates·read-update-fn.ended (x .0) (x .3) ws);
-      out = λ ns v. id⊢ 𝓤 _;
-      said = λ ns r ws. since 𝓤 (λ e. (e .0, (e .1, (e .2, tt))));
-    }
-
     pub listing-text·put-refused! : Triple 𝓤 (C #listing-text·put-refused) Listing-text·put-refused → (at-out : Seat) (out₀ : List ℕ) (used₀ : ℕ) (g-used : Has word used₀) (why₀ : ℕ) (g-why : Has byte why₀) → (used₀ + 29 < 2 ^ 63) → Card 𝓤 H A C #listing-text·put-refused (mut byte at-out out₀ (overlay out₀ used₀ (refusedLine why₀)) ∷ val word used₀ g-used ∷ val byte why₀ g-why ∷ []) word (used₀ + length (refusedLine why₀))
     listing-text·put-refused! known at-out out₀ used₀ g-used why₀ g-why h = record {
       contract = Listing-text·put-refused;

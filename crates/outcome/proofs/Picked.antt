@@ -131,7 +131,7 @@ module _ {bs : List Block} {v : List Entry} {ss : List Slot} (given : Given bs v
 -- ---- look after look
 
 module _ {bs : List Block} {v : List Entry} {ss : List Slot} (given : Given bs v ss) (rows : List Block) (agree : take (length bs) rows ≡ bs)
-    (short : length rows < nowhere) (before : List ℕ) where
+    (short : length rows ≤ nowhere) (before : List ℕ) where
   -- so many looks come to the outcome from wherever the looks before them have come to
   abbrev Onward : ℕ → Type 0
   Onward k = (reach fronts words : List ℕ) (made : ℕ) → Reached bs v ss before reach fronts words made k
@@ -182,7 +182,7 @@ sound-clocks u [] all = tt
 sound-clocks u (b ∷ bs) all = ((all .0 .left .clock, all .0 .right .clock, all .0 .parent .clock), sound-clocks u bs (all .1))
 
 pub picked-outcome : (u : List ℕ) (bs rows : List Block) (v : List Entry) (ss : List Slot) (reach fronts words : List ℕ) → take (length bs) rows ≡ bs
-    → length rows < nowhere → Sortable bs → All (Sound u) bs → All (λ (e : Entry). e .clock ≤ maxClock) v → Slotted bs v ss → Opened v ss reach fronts
+    → length rows ≤ nowhere → Sortable bs → All (Sound u) bs → All (λ (e : Entry). e .clock ≤ maxClock) v → Slotted bs v ss → Opened v ss reach fronts
     → Came bs v ss words (allPicked ss rows (length bs) reach fronts words)
 unfolding allPicked looks after Run Highest numbersBy
 picked-outcome u bs rows v ss reach fronts words agree short sortable sound low slotted opened =

@@ -30,7 +30,7 @@ pointed-points fronts reach n steps left = go (ltb 0 left) refl (ltb (dueFrom fr
         → Points left
         (pick x
         (pick y (record { slot = dueFrom fronts reach 0 n; row = frontAt fronts (dueFrom fronts reach 0 n) .next; steps = steps; left = left })
-          (record { slot = 0; row = nowhere; steps = steps; left = left }))
+        (record { slot = 0; row = nowhere; steps = steps; left = left }))
         (record { slot = 0; row = nowhere; steps = steps; left = left }))
     go true e true = record { left-is = refl; ends = λ z. absurd (omega (arith, z, ltb-true 0 left e)) }
     go true e false = record { left-is = refl; ends = λ z. refl }

@@ -57,7 +57,7 @@ unmet met c (d ∷ ds) = pick (eqb (d .client) c || met d) (unmet met c ds) (som
 abbrev pub below : (ℕ → ℕ) → Id → Bool
 below reach d = ltb (d .clock) (reach (d .client))
 
--- yrs 0.28.0's rule (W-210 adds one): a block waits for what it hangs on, and lifts its own client's reach to its end
+-- the rule of demand 3, which W-210 calls 28: a block waits for what it hangs on at other clients, and lifts its own client's reach to its end
 unfoldable pub rule28 : Rule ℕ
 rule28 = record {
   waits = λ reach c b. unmet (below reach) c (deps b);

@@ -55,7 +55,7 @@ orderOf bs v = numbersBy bs (start (remote v)) (order bs v)
 
 -- ---- the reports on a state, of these clients: two words each, three of a client that waits
 
--- how many blocks were taken, of each client that has any
+-- how many blocks were taken of each client that has blocks, 0 too
 unfoldable pub countsIn : List Block → State ℕ → List ℕ → List ℕ
 countsIn bs s [] = []
 countsIn bs s (c ∷ cs) = pick (ltb 0 (length (queue bs c))) (c ∷ (s .taken c ∷ countsIn bs s cs)) (countsIn bs s cs)

@@ -1,6 +1,6 @@
 -- The starred cases of document 01, "Numbers worked by hand", as one table under one theorem about the definitions.
 use Prim.Native.Nat.{ℕ, zero, suc, _+_}
-use mathlib.Core.Path.{_≡_, refl, ap}
+use mathlib.Core.Path.{_≡_, refl, ap, _∙_}
 use mathlib.Core.Bool.{true, false}
 use mathlib.Core.List.{List, [], _∷_}
 use lib.ListN.{replicate}
@@ -33,6 +33,15 @@ use Rattle.updates.specs.Promises.{reading}
 use Rattle.text.specs.Utf8 as utf8
 use Rattle.diffs.specs.Promises.{Diffed, diffOf}
 use Rattle.rereading.proofs.CaseE.{case-e}
+use Rattle.vector.specs.Vector as vector
+use Rattle.vector.specs.Vector.{vectorOf}
+use Rattle.kept.specs.Kept.{remote}
+use Rattle.sorting.specs.Steps as steps
+use Rattle.sorting.specs.Rules as rules
+use Rattle.sorting.specs.Quick as quick
+use Rattle.sorting.specs.Sorted as outcomes
+use Rattle.sorts.specs.Promises as sort-promises
+use Rattle.sorts.specs.Promises.{Sort, sortOf, afterReading}
 use Rattle.lines.specs.Lines.{digits, decimal}
 use Rattle.listing_text.specs.Listing as listing
 use Rattle.listed.specs.Listed as listings
@@ -84,6 +93,30 @@ emptyText = 101 ∷ 109 ∷ 112 ∷ 116 ∷ 121 ∷ 10 ∷ []
 abbrev pub oneText : ℕ → List ℕ
 oneText digit = 117 ∷ 112 ∷ 100 ∷ 97 ∷ 116 ∷ 101 ∷ 32 ∷ 102 ∷ 111 ∷ 114 ∷ 109 ∷ 32 ∷ digit ∷ 32 ∷ 98 ∷ 108 ∷ 111 ∷ 99 ∷ 107 ∷ 115 ∷ 32 ∷ 49 ∷ 32 ∷ 114 ∷ 97 ∷ 110 ∷ 103 ∷ 101 ∷ 115 ∷ 32 ∷ 48 ∷ 10 ∷ 53 ∷ 32 ∷ 48 ∷ 32 ∷ 50 ∷ 32 ∷ 116 ∷ 101 ∷ 120 ∷ 116 ∷ 10 ∷ 101 ∷ 110 ∷ 100 ∷ 10 ∷ []
 
+-- a binary of one unit at clock 0, with an id that it hangs on, and one in a parent with a name
+abbrev pub after-id : ℕ → ℕ → ℕ → Block
+after-id c d part = record { client = c; clock = 0; length = record { 0 = 1 }; kind = 4; «has_left» = true; left = record { client = d; clock = 0 }; «has_right» = false; right = noId; «has_parent» = false; parent = noId; «has_name» = false; name = noPart; «has_key» = false; key = noPart; part = record { place = part; bytes = record { 0 = 1 } } }
+
+abbrev pub in-parent : ℕ → ℕ → ℕ → Block
+in-parent c name part = record { client = c; clock = 0; length = record { 0 = 1 }; kind = 4; «has_left» = false; left = noId; «has_right» = false; right = noId; «has_parent» = false; parent = noId; «has_name» = true; name = record { place = name; bytes = record { 0 = 1 } }; «has_key» = false; key = noPart; part = record { place = part; bytes = record { 0 = 1 } } }
+
+-- 5's block has left id (9,0), 9's none; without 9; 9's has left id (5,0)
+abbrev pub updateM1 : List ℕ
+updateM1 = 0x02 ∷ 0x01 ∷ 0x05 ∷ 0x00 ∷ 0x83 ∷ 0x09 ∷ 0x00 ∷ 0x01 ∷ 0x61 ∷ 0x01 ∷ 0x09 ∷ 0x00 ∷ 0x03 ∷ 0x01 ∷ 0x01 ∷ 0x74 ∷ 0x01 ∷ 0x62 ∷ 0x00 ∷ []
+
+abbrev pub updateM2 : List ℕ
+updateM2 = 0x01 ∷ 0x01 ∷ 0x05 ∷ 0x00 ∷ 0x83 ∷ 0x09 ∷ 0x00 ∷ 0x01 ∷ 0x61 ∷ 0x00 ∷ []
+
+abbrev pub updateM3 : List ℕ
+updateM3 = 0x02 ∷ 0x01 ∷ 0x05 ∷ 0x00 ∷ 0x83 ∷ 0x09 ∷ 0x00 ∷ 0x01 ∷ 0x61 ∷ 0x01 ∷ 0x09 ∷ 0x00 ∷ 0x83 ∷ 0x05 ∷ 0x00 ∷ 0x01 ∷ 0x62 ∷ 0x00 ∷ []
+
+-- sorted against the empty vector, in words that suffice: the order, how many were taken, the reaches, what waits
+abbrev pub sorts : List ℕ → ℕ → ℕ → Sort
+sorts u n m = sortOf 1 u (0x00 ∷ []) (suc (suc n)) m (record { order = 2; counts = 4; reaches = 4; pending = 6 })
+
+abbrev pub sorted : List ℕ → List ℕ → List ℕ → List ℕ → List Block → Sort
+sorted order counts reaches pending bs = record { number = 0; order = order; counts = counts; reaches = reaches; pending = pending; reading = blocksRead bs }
+
 pub record Starred : Type 0 where
   -- nothing, in either form, however many rows there are
   pub A : (n m : ℕ) → reading 1 updateA n m ≡ blocksRead []
@@ -114,16 +147,23 @@ pub record Starred : Type 0 where
   pub L1 : texts (0x04 ∷ 0xf0 ∷ 0x9f ∷ 0x98 ∷ 0x80 ∷ 0x01 ∷ []) ≡ record { texts = []; number = 7 }
   pub L2 : texts (0x04 ∷ 0xf0 ∷ 0x9f ∷ 0x98 ∷ 0x80 ∷ 0x02 ∷ []) ≡ record { texts = (0xf0 ∷ 0x9f ∷ 0x98 ∷ 0x80 ∷ []) ∷ []; number = 0 }
   pub L3 : texts (0x04 ∷ 0xf0 ∷ 0x9f ∷ 0x98 ∷ 0x80 ∷ 0x03 ∷ []) ≡ record { texts = []; number = 7 }
+  -- both taken, 9's first; without 9 pending, 9 at reach 0; both pending
+  pub M1 : (n m : ℕ) → sorts updateM1 n m ≡ sorted (1 ∷ 0 ∷ []) (9 ∷ 1 ∷ 5 ∷ 1 ∷ []) (9 ∷ 1 ∷ 5 ∷ 1 ∷ []) [] (after-id 5 9 8 ∷ in-parent 9 15 17 ∷ [])
+  pub M2 : (n m : ℕ) → sorts updateM2 n m ≡ sorted [] (5 ∷ 0 ∷ []) (5 ∷ 0 ∷ []) (5 ∷ 9 ∷ 0 ∷ []) (after-id 5 9 8 ∷ [])
+  pub M3 : (n m : ℕ) → sorts updateM3 n m ≡ sorted [] (9 ∷ 0 ∷ 5 ∷ 0 ∷ []) (9 ∷ 0 ∷ 5 ∷ 0 ∷ []) (9 ∷ 5 ∷ 0 ∷ 5 ∷ 9 ∷ 0 ∷ []) (after-id 5 9 8 ∷ after-id 9 5 16 ∷ [])
 
 abbrev Updates : ℕ → ℕ → Type 0
-Updates n m = (reading 1 updateA n m ≡ blocksRead []) × (reading 2 updateB n m ≡ blocksRead []) × (reading 1 updateC (suc n) m ≡ blocksRead (hi 7 9 ∷ [])) × (reading 2 updateD (suc n) m ≡ blocksRead (hi 10 11 ∷ []))
+Updates n m =
+    (reading 1 updateA n m ≡ blocksRead []) × (reading 2 updateB n m ≡ blocksRead []) × (reading 1 updateC (suc n) m ≡ blocksRead (hi 7 9 ∷ [])) × (reading 2 updateD (suc n) m ≡ blocksRead (hi 10 11 ∷ []))
+    × (reading 1 updateM1 (suc (suc n)) m ≡ blocksRead (after-id 5 9 8 ∷ in-parent 9 15 17 ∷ [])) × (reading 1 updateM2 (suc (suc n)) m ≡ blocksRead (after-id 5 9 8 ∷ []))
+    × (reading 1 updateM3 (suc (suc n)) m ≡ blocksRead (after-id 5 9 8 ∷ after-id 9 5 16 ∷ []))
 
 updates : (n m : ℕ) → Updates n m
 unfolding field.bounded field.varDraw field.varAt field.byteAt field.clockAt field.bytesAfter field.bufAt field.client1 field.idOf field.idDraw field.id1 field.checkedText field.textIn1 field.text1 field.clientDrawn field.client2 field.infoDrawn field.infoDraw field.parentDrawn field.parentDraw field.lenDrawn field.lenColumn field.len2 field.textDrawn field.text2 field.restoredBy field.dsClock field.dsLen field.putDifferences field.putNumbers field.putBytes field.holdsDifferences field.holdsBytes field.putColumn field.onPart field.cutFrom field.textIn field.textOpened field.onOpened field.afterFlag field.opened2 course.drawn course.fit course.items course.ending fields.openedOf fields.clientOf fields.leftIdOf fields.rightIdOf fields.infoOf fields.parentInfoOf fields.lenOf fields.textOf block.number block.id block.bytes block.words block.andThen block.leftOf block.rightOf block.parentAfter block.parentOf block.keyOf block.placeOf block.deletedOf block.binaryOf block.stringOf block.contentOf block.itemOf block.skipOf block.gcOf block.bodyOf update.atPlace update.afterInfo update.blockOf update.dropped update.kept update.ended update.blocks words.among update.sections update.fromOpened update.blocksOf deletes.clockIn deletes.lenIn deletes.ranges deletes.clients deletes.deleteSet ranges.normal promises.withRanges promises.withBlocks promises.known promises.early promises.reading utf8.charsFrom utf8.chars utf8.sum utf8.unitsOf utf8.lead utf8.next utf8.width utf8.after utf8.settled utf8.wellFormed utf8.gain utf8.takeFrom utf8.takeUnits spelling.after spelt placed readUnsigned readSigned speltSigned minusOf withSign number.drawn number.counted number.begun number.nextNumber byte.counted byte.begun byte.nextByte string.opened string.openText string.ending string.taken string.drawn string.nextText utf8.ended
-updates zero zero = (refl, refl, refl, refl)
-updates zero (suc m) = (refl, refl, refl, refl)
-updates (suc n) zero = (refl, refl, refl, refl)
-updates (suc n) (suc m) = (refl, refl, refl, refl)
+updates zero zero = (refl, refl, refl, refl, refl, refl, refl)
+updates zero (suc m) = (refl, refl, refl, refl, refl, refl, refl)
+updates (suc n) zero = (refl, refl, refl, refl, refl, refl, refl)
+updates (suc n) (suc m) = (refl, refl, refl, refl, refl, refl, refl)
 
 lists : (listed (1 ∷ updateA) ≡ emptyText) × (listed (2 ∷ updateB) ≡ emptyText) × (listed (1 ∷ updateC) ≡ oneText 49) × (listed (2 ∷ updateD) ≡ oneText 50)
 unfolding listings.same listings.isEmpty listings.linesOf listings.listedReading listings.listedUpdate listings.listedParts listings.listed listing.number listing.named listing.kindName listing.blockLine listing.blockLines listing.rangeLine listing.rangeLines listing.header listing.endLine listing.listing listing.emptyLine listing.refusedLine digits decimal
@@ -132,6 +172,26 @@ lists = (
   refl,
   ap (linesOf 1) (updates 511 1024 .2),
   ap (linesOf 2) (updates 511 1024 .3),
+)
+
+-- what the vector of no entries and a reading come to
+abbrev against : promises.Reading → Sort
+against r = afterReading (record { order = 2; counts = 4; reaches = 4; pending = 6 }) (vectorOf (0x00 ∷ [])) r
+
+sorting : (against (blocksRead (after-id 5 9 8 ∷ in-parent 9 15 17 ∷ [])) ≡ sorted (1 ∷ 0 ∷ []) (9 ∷ 1 ∷ 5 ∷ 1 ∷ []) (9 ∷ 1 ∷ 5 ∷ 1 ∷ []) [] (after-id 5 9 8 ∷ in-parent 9 15 17 ∷ []))
+    × (against (blocksRead (after-id 5 9 8 ∷ [])) ≡ sorted [] (5 ∷ 0 ∷ []) (5 ∷ 0 ∷ []) (5 ∷ 9 ∷ 0 ∷ []) (after-id 5 9 8 ∷ []))
+    × (against (blocksRead (after-id 5 9 8 ∷ after-id 9 5 16 ∷ [])) ≡ sorted [] (9 ∷ 0 ∷ 5 ∷ 0 ∷ []) (9 ∷ 0 ∷ 5 ∷ 0 ∷ []) (9 ∷ 5 ∷ 0 ∷ 5 ∷ 9 ∷ 0 ∷ []) (after-id 5 9 8 ∷ after-id 9 5 16 ∷ []))
+unfolding sort-promises.whyNot sort-promises.whole sort-promises.whySort sort-promises.fitting sort-promises.against sort-promises.afterReading vector.holds vector.entries vector.vectorOf field.bounded field.varDraw field.varAt field.client1 field.clockAt spelling.after spelt placed readUnsigned course.drawn course.items course.ending remote outcomes.insert outcomes.insertAll outcomes.clients outcomes.order outcomes.outcome outcomes.numbersFrom outcomes.numbersBy outcomes.orderOf outcomes.countsIn outcomes.countsOf outcomes.reachesIn outcomes.reachesOf outcomes.pendingIn outcomes.pendingOf quick.order quick.left quick.best quick.quick steps.can steps.step steps.after rules.queue rules.deps rules.system rules.unmet rules.rule28 rules.report
+sorting = (refl, refl, refl)
+
+sorts-M : (n m : ℕ) → (sorts updateM1 n m ≡ sorted (1 ∷ 0 ∷ []) (9 ∷ 1 ∷ 5 ∷ 1 ∷ []) (9 ∷ 1 ∷ 5 ∷ 1 ∷ []) [] (after-id 5 9 8 ∷ in-parent 9 15 17 ∷ []))
+    × (sorts updateM2 n m ≡ sorted [] (5 ∷ 0 ∷ []) (5 ∷ 0 ∷ []) (5 ∷ 9 ∷ 0 ∷ []) (after-id 5 9 8 ∷ []))
+    × (sorts updateM3 n m ≡ sorted [] (9 ∷ 0 ∷ 5 ∷ 0 ∷ []) (9 ∷ 0 ∷ 5 ∷ 0 ∷ []) (9 ∷ 5 ∷ 0 ∷ 5 ∷ 9 ∷ 0 ∷ []) (after-id 5 9 8 ∷ after-id 9 5 16 ∷ []))
+unfolding sortOf
+sorts-M n m = (
+  ap against (updates n m .4) ∙ sorting .0,
+  ap against (updates n m .5) ∙ sorting .1,
+  ap against (updates n m .6) ∙ sorting .2,
 )
 
 pub starred : Starred
@@ -156,4 +216,7 @@ starred = record {
   L1 = refl;
   L2 = refl;
   L3 = refl;
+  M1 = λ n m. sorts-M n m .0;
+  M2 = λ n m. sorts-M n m .1;
+  M3 = λ n m. sorts-M n m .2;
 }

@@ -1,5 +1,5 @@
 // Operations 13, 14, 15 and 18 of the case program: state vectors, updates read into tables, contents, listings.
-mod lines;
+pub mod lines;
 pub mod listings;
 pub mod parts;
 pub mod rows;

@@ -4,7 +4,7 @@ use block::Id;
 use stream::line;
 use text::Part;
 
-fn id(sink: &mut [u8], used: usize, client: u64, clock: u64) -> usize {
+pub fn id(sink: &mut [u8], used: usize, client: u64, clock: u64) -> usize {
     let begun = line::decimal(sink, used, client);
     let parted = line::put(sink, begun, b':');
     line::decimal(sink, parted, clock)

@@ -1,4 +1,4 @@
-// The lines of operations 14 and 16: the rows of a table, seen one at a time by value, and what stands before and after them.
+// The lines of operations 14, 16 and 17: the rows of a table, seen one at a time by value, and what stands before and after them.
 use crate::lines;
 use crate::lines::Listed;
 use block::Block;

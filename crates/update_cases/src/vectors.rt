@@ -6,7 +6,7 @@ use stream::input;
 use stream::input::Place;
 use stream::line;
 
-fn entries(sink: &mut [u8], used: usize, count: usize, words: &[u64]) -> Listed {
+pub fn entries(sink: &mut [u8], used: usize, count: usize, words: &[u64]) -> Listed {
     let mut used = used;
     let mut at = 0;
     let mut left = count;

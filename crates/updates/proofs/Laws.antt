@@ -79,7 +79,7 @@ module _ {A X : Type 0} (done : State → X) (not : Refusal → X) (m : ℕ) whe
 
 -- ---- a refusal leaves rows without a block, and zeros
 
-rows-none : (rows : List Block) (n number : ℕ) → length rows ≡ n → clearedFrom 0 rows ≡ rowsOf n (refused number)
+pub rows-none : (rows : List Block) (n number : ℕ) → length rows ≡ n → clearedFrom 0 rows ≡ rowsOf n (refused number)
 unfolding clearedFrom rowsOf
 rows-none rows n number size = ap (λ (k : ℕ). replicate (k - 0) noBlock) size
 
@@ -94,7 +94,7 @@ zeros-none : (n number : ℕ) → padded n [] ≡ wordsOf n (refused number)
 unfolding wordsOf flat
 zeros-none n number = refl
 
-words-none : (words : List ℕ) (number : ℕ) → take 0 words ++ replicate (length words - 0) 0 ≡ wordsOf (length words) (refused number)
+pub words-none : (words : List ℕ) (number : ℕ) → take 0 words ++ replicate (length words - 0) 0 ≡ wordsOf (length words) (refused number)
 words-none words number = padded-none words ∙ zeros-none (length words) number
 
 -- ---- the ways out, of n rows and of m words

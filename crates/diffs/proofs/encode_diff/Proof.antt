@@ -49,7 +49,8 @@ use Rattle.diffs.proofs.Sorts.{diff, diff-has}
 use Rattle.table.proofs.Sorts.{block}
 use Rattle.updates.proofs.Sorts.{update, update-number, update-blocks, update-ranges}
 use Rattle.writing.proofs.Sorts.{written, written-number, written-bytes}
-use Rattle.diffs.proofs.Cards.{Diffs·refuse, Diffs·is-known, Updates·read-update, Writing·encode-read, diffs·refuse!, diffs·is-known!, updates·read-update!, writing·encode-read-rows-ranges! }
+use Rattle.diffs.proofs.Cards.{Diffs·refuse, Diffs·is-known, Writing·encode-read, diffs·refuse!, diffs·is-known!, writing·encode-read-rows-ranges! }
+use Rattle.updates.proofs.Cards.{Updates·read-update, updates·read-update! }
 use Rattle.diffs.proofs.is_known.Symbol as diffs·is-known-def
 use Rattle.diffs.proofs.is_known.Symbol.{name as #diffs·is-known}
 use Rattle.diffs.proofs.is_known.Met as diffs·is-known-thm
@@ -67,7 +68,7 @@ use Rattle.diffs.proofs.encode_diff as f
 use Rattle.diffs.proofs.encode_diff.Statement as stated
 use Rattle.diffs.proofs.encode_diff.Code as code
 use borrow.Author.Tests.{eqb-true, eqb-false, not-true, not-false}
-use Rattle.diffs.proofs.Read.{rows-fit, words-fit, rows-length, words-length}
+use Rattle.updates.proofs.Read.{rows-fit, words-fit, rows-length, words-length}
 use Rattle.diffs.proofs.Exits.{exit-unknown, exit-unread, exit-refused, exit-done}
 
 abbrev fs : List (Form 5)

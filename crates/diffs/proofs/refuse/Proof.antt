@@ -1,6 +1,7 @@
 -- `diffs::refuse` meets its contract: all that was lent is cleared.
 -- A walk of its MIR by hand (tools/walkgen.py walk). Assumes nothing.
 use mathlib.Core.Path.{_≡_, refl}
+use native.Mathlib.Omega.{arith}
 use Prim.Native.Nat.{ℕ, _-_}
 use mathlib.Core.List.{List, [], _∷_, _++_}
 use mathlib.Core.Option.{some}
@@ -60,7 +61,8 @@ use Rattle.diffs.proofs.refuse.Key.{name as #it}
 use Rattle.diffs.proofs.refuse as f
 use Rattle.diffs.proofs.refuse.Statement as stated
 use Rattle.diffs.proofs.refuse.Code as code
-use Rattle.diffs.proofs.Zeros.{rows-cleared, words-cleared, bytes-cleared, none-less}
+use Rattle.numbers.proofs.Output.{padded-none}
+use Rattle.updates.proofs.Laws.{rows-none, words-none}
 
 abbrev fs : List (Form 3)
 fs = by-mut 0 tt block ∷ by-mut 1 tt word ∷ by-mut 2 tt byte ∷ by-value byte ∷ []
@@ -125,16 +127,16 @@ module _ {M : Type 1} (𝓤 : URA M) (H : Heap 𝓤) (A : Atoms 𝓤) (W : Given
         land ! (from ! (stop !)) (init ! 13 refl (g₁ .1 .0)) $
         assigns ! (addr ! (from ! (fld ! refl (hop ! (look-in ! 19 (sub ! 0 refl (whole !))) (stop !))))) (from ! (stop !)) (init ! 7 refl (tt, tt)) $
         assigns ! (agg ! (and-then ! (load ! (from ! (stop !)) (look ! 7 refl)) (and-then ! (load ! (from ! (fld ! refl (stop !))) (look-in ! 19 (sub ! 1 refl (whole !)))) (no-more !)))) (from ! (stop !)) (init ! 5 refl (tt, (tt, (record { fits = are .1 .0 .0 .1 .0 }, tt)))) $
-        calls-by ! (fmOf 𝓤 H (W .laws) 𝓣) (1 ∷ []) (hs (clearedFrom 0 rows₀) ranges₀ out₀) (numbers·words·clear! 𝓤 H A mem run (𝓣 .C) known-numbers·words·clear at-ranges ranges₀ 0 (refl, lit< tt) (none-less ranges₀)) refl (λ P. and-then ! (load ! (from ! (stop !)) (look ! 5 refl)) (and-then ! (lit ! tt) (no-more !))) (λ g₂.
+        calls-by ! (fmOf 𝓤 H (W .laws) 𝓣) (1 ∷ []) (hs (clearedFrom 0 rows₀) ranges₀ out₀) (numbers·words·clear! 𝓤 H A mem run (𝓣 .C) known-numbers·words·clear at-ranges ranges₀ 0 (refl, lit< tt) (omega arith)) refl (λ P. and-then ! (load ! (from ! (stop !)) (look ! 5 refl)) (and-then ! (lit ! tt) (no-more !))) (λ g₂.
         land ! (from ! (stop !)) (store ! 13 refl (g₂ .1 .0)) $
         assigns ! (addr ! (from ! (fld ! refl (hop ! (look-in ! 17 (sub ! 0 refl (whole !))) (stop !))))) (from ! (stop !)) (init ! 3 refl (tt, tt)) $
         assigns ! (agg ! (and-then ! (load ! (from ! (stop !)) (look ! 3 refl)) (and-then ! (load ! (from ! (fld ! refl (stop !))) (look-in ! 17 (sub ! 1 refl (whole !)))) (no-more !)))) (from ! (stop !)) (init ! 1 refl (tt, (tt, (record { fits = are .1 .1 .0 .0 .1 .0 }, tt)))) $
-        calls-by ! (fmOf 𝓤 H (W .laws) 𝓣) (2 ∷ []) (hs (clearedFrom 0 rows₀) (take 0 ranges₀ ++ replicate (length ranges₀ - 0) 0) out₀) (numbers·clear! 𝓤 H A mem run (𝓣 .C) known-numbers·clear at-out out₀ 0 (refl, lit< tt) (none-less out₀)) refl (λ P. and-then ! (load ! (from ! (stop !)) (look ! 1 refl)) (and-then ! (lit ! tt) (no-more !))) (λ g₃.
+        calls-by ! (fmOf 𝓤 H (W .laws) 𝓣) (2 ∷ []) (hs (clearedFrom 0 rows₀) (take 0 ranges₀ ++ replicate (length ranges₀ - 0) 0) out₀) (numbers·clear! 𝓤 H A mem run (𝓣 .C) known-numbers·clear at-out out₀ 0 (refl, lit< tt) (omega arith)) refl (λ P. and-then ! (load ! (from ! (stop !)) (look ! 1 refl)) (and-then ! (lit ! tt) (no-more !))) (λ g₃.
         land ! (from ! (stop !)) (store ! 13 refl (g₃ .1 .0)) $
         calls-by ! (fmOf 𝓤 H (W .laws) 𝓣) ([]) (hs (clearedFrom 0 rows₀) (take 0 ranges₀ ++ replicate (length ranges₀ - 0) 0) (take 0 out₀ ++ replicate (length out₀ - 0) 0)) (diffs·none! 𝓤 H A mem run (𝓣 .C) known-diffs·none number₀ (are .1 .1 .1 .0)) refl (λ P. and-then ! (load ! (from ! (stop !)) (look ! 15 refl)) (no-more !)) (λ g₄.
         land ! (from ! (stop !)) (init ! 23 refl (g₄ .1 .0)) $
         returns-within ! Post refl (look ! 23 refl) $
-        free-all ! (_ ∷ []) En (has _ ∷ has _ ∷ has _ ∷ has _ ∷ has _ ∷ has _ ∷ has _ ∷ has _ ∷ has _ ∷ has _ ∷ has _ ∷ has _ ∷ []) [] $ by ! (exits (answered (refusedWith number₀)) (clearedFrom 0 rows₀) (take 0 ranges₀ ++ replicate (length ranges₀ - 0) 0) (take 0 out₀ ++ replicate (length out₀ - 0) 0) (g₄ .0) (refl, rows-cleared rows₀ number₀, words-cleared ranges₀ number₀, bytes-cleared out₀)))))))
+        free-all ! (_ ∷ []) En (has _ ∷ has _ ∷ has _ ∷ has _ ∷ has _ ∷ has _ ∷ has _ ∷ has _ ∷ has _ ∷ has _ ∷ has _ ∷ has _ ∷ []) [] $ by ! (exits (answered (refusedWith number₀)) (clearedFrom 0 rows₀) (take 0 ranges₀ ++ replicate (length ranges₀ - 0) 0) (take 0 out₀ ++ replicate (length out₀ - 0) 0) (g₄ .0) (refl, rows-none rows₀ (length rows₀) number₀ refl, words-none ranges₀ number₀, padded-none out₀)))))))
 
 pub refuse-spec : {M : Type 1} → stated.statement M
 unfolding code.routine tablesOf

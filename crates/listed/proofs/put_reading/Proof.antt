@@ -52,7 +52,8 @@ use Rattle.ranges.specs.Table.{rowsFrom}
 use Rattle.updates.specs.Promises.{answer, reading, rowsOf, wordsOf}
 use Rattle.table.proofs.Sorts.{block}
 use Rattle.updates.proofs.Sorts.{update-number, update-blocks, update-ranges}
-use Rattle.listed.proofs.Cards.{Updates·read-update, Listing-text·put-refused, Listed·put-tables, updates·read-update!, listing-text·put-refused!, listed·put-tables-rows-words! }
+use Rattle.listed.proofs.Cards.{Listing-text·put-refused, Listed·put-tables, listing-text·put-refused!, listed·put-tables-rows-words! }
+use Rattle.updates.proofs.Cards.{Updates·read-update, updates·read-update! }
 use Rattle.table.proofs.Cards.{Block·none, block·none! }
 use Rattle.block.proofs.none.Symbol as block·none-def
 use Rattle.block.proofs.none.Symbol.{name as #block·none}

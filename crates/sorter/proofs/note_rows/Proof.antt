@@ -45,8 +45,8 @@ use Rattle.slots.specs.Slots.{more, notedAll, notedAt, notedIn, slotsFrom, stor
 use Rattle.sorter.specs.Sorter.{notedBy}
 use Rattle.sorter.proofs.Sorts.{noted}
 use Rattle.table.proofs.Sorts.{block}
-use Rattle.sorter.proofs.Cards.{Slots·begin, Slots·note, slots·begin!, slots·note!}
-use Rattle.table.proofs.Cards.{Table·fetch, table·fetch!}
+use Rattle.sorter.proofs.Cards.{Slots·begin, Slots·note, slots·begin!, slots·note! }
+use Rattle.table.proofs.Cards.{Table·fetch, table·fetch! }
 use Rattle.slots.proofs.begin.Symbol as slots·begin-def
 use Rattle.slots.proofs.begin.Symbol.{name as #slots·begin}
 use Rattle.slots.proofs.begin.Met as slots·begin-thm
@@ -138,7 +138,7 @@ module _ {M : Type 1} (𝓤 : URA M) (H : Heap 𝓤) (A : Atoms 𝓤) (W : Given
         first ! $ blocks ! $
         loops-by ! 𝓣 μ (Inv ls) (λ t. knows ! (hs (t .slots)) (λ sz.
         assigns ! (bin ! (load ! (from ! (stop !)) (look ! 9 refl)) (load ! (from ! (stop !)) (look ! 15 refl)) tt) (from ! (stop !)) (init ! 5 refl (tt, tt)) $
-        tests ! (load ! (from ! (stop !)) (look ! 5 refl))   -- ltb (t .v5) blocks₀
+        tests ! (load ! (from ! (stop !)) (look ! 5 refl))  -- ltb (t .v5) blocks₀
         (λ y₂.
         skip-on ! $
         calls-by ! (fmOf 𝓤 H (W .laws) 𝓣) (0 ∷ []) (hs (t .slots)) (table·fetch! 𝓤 H A mem run (𝓣 .C) known-table·fetch at-rows rows₀ (t .v5) (t .g5) (inside t y₂)) refl (λ P. and-then ! (load ! (from ! (stop !)) (look ! 17 refl)) (and-then ! (load ! (from ! (stop !)) (look ! 9 refl)) (no-more !))) (λ g₃.

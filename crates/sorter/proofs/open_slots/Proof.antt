@@ -38,7 +38,7 @@ use Rattle.slots.specs.Slots.{namedAll, notedAll, slotsFrom, stored}
 use Rattle.sorter.specs.Sorter.{notedBy, slotsFor}
 use Rattle.sorter.proofs.Sorts.{noted, noted-slots}
 use Rattle.table.proofs.Sorts.{block}
-use Rattle.sorter.proofs.Cards.{Slots·name-all, Sorter·note-rows, slots·name-all!, sorter·note-rows!}
+use Rattle.sorter.proofs.Cards.{Slots·name-all, Sorter·note-rows, slots·name-all!, sorter·note-rows! }
 use Rattle.sorter.proofs.note_rows.Symbol as sorter·note-rows-def
 use Rattle.sorter.proofs.note_rows.Symbol.{name as #sorter·note-rows}
 use Rattle.sorter.proofs.note_rows.Met as sorter·note-rows-thm

@@ -44,8 +44,8 @@ use Rattle.picker.specs.Picker.{allPicked, desk, looks, offered, pointed}
 use Rattle.slots.specs.Slots.{Falling, slotsFrom}
 use Rattle.sorter.proofs.Sorts.{picker·look, picker·look-row}
 use Rattle.table.proofs.Sorts.{block}
-use Rattle.sorter.proofs.Cards.{Picker·begin, Picker·offer, picker·begin-fronts-reach!, picker·offer!}
-use Rattle.table.proofs.Cards.{Table·fetch, table·fetch!}
+use Rattle.sorter.proofs.Cards.{Picker·begin, Picker·offer, picker·begin-fronts-reach!, picker·offer! }
+use Rattle.table.proofs.Cards.{Table·fetch, table·fetch! }
 use Rattle.picker.proofs.begin.Symbol as picker·begin-def
 use Rattle.picker.proofs.begin.Symbol.{name as #picker·begin}
 use Rattle.picker.proofs.begin.Met as picker·begin-thm
@@ -168,7 +168,7 @@ module _ {M : Type 1} (𝓤 : URA M) (H : Heap 𝓤) (A : Atoms 𝓤) (W : Given
         loops-by ! 𝓣 μ (Inv ls) (λ t. knows ! (hs (t .reach) (t .fronts) (t .order)) (λ sz.
         assigns ! (of-opd ! (load ! (from ! (fld ! refl (stop !))) (look-in ! 41 (sub ! 1 refl (whole !))))) (from ! (stop !)) (init ! 15 refl (tt, record { fits = are .0 .0 .1 .0 })) $
         assigns ! (bin ! (load ! (from ! (fld ! refl (stop !))) (look-in ! 27 (sub ! 1 refl (whole !)))) (load ! (from ! (stop !)) (look ! 15 refl)) tt) (from ! (stop !)) (init ! 13 refl (tt, tt)) $
-        tests ! (load ! (from ! (stop !)) (look ! 13 refl))   -- ltb ((t .v8) .row) (at-rows .count)
+        tests ! (load ! (from ! (stop !)) (look ! 13 refl))  -- ltb ((t .v8) .row) (at-rows .count)
         (λ y₂.
         skip-on ! $
         calls-by ! (fmOf 𝓤 H (W .laws) 𝓣) (0 ∷ []) (hs (t .reach) (t .fronts) (t .order)) (table·fetch! 𝓤 H A mem run (𝓣 .C) known-table·fetch at-rows rows₀ ((t .v8) .row) (picker·look-row (t .v8) (t .g8)) (under t y₂)) refl (λ P. and-then ! (load ! (from ! (stop !)) (look ! 41 refl)) (and-then ! (load ! (from ! (fld ! refl (stop !))) (look-in ! 27 (sub ! 1 refl (whole !)))) (no-more !))) (λ g₃.

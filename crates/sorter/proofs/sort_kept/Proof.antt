@@ -44,7 +44,7 @@ use Rattle.slots.specs.Slots.{slotsFrom, stored}
 use Rattle.sorter.specs.Sorter.{countsOn, maxReaches, orderOn, pendingOn, reachesOn, slotsFor, sortingOn}
 use Rattle.sorter.proofs.Sorts.{sorting}
 use Rattle.table.proofs.Sorts.{block}
-use Rattle.sorter.proofs.Cards.{Sorter·open-slots, Sorter·sort-slots, sorter·open-slots!, sorter·sort-slots-slots!}
+use Rattle.sorter.proofs.Cards.{Sorter·open-slots, Sorter·sort-slots, sorter·open-slots!, sorter·sort-slots-slots! }
 use Rattle.sorter.proofs.open_slots.Symbol as sorter·open-slots-def
 use Rattle.sorter.proofs.open_slots.Symbol.{name as #sorter·open-slots}
 use Rattle.sorter.proofs.open_slots.Met as sorter·open-slots-thm

@@ -47,8 +47,8 @@ use Rattle.vector.specs.Vector.{clientsIn, clocksIn, entriesOf as vectorEntries
 use Rattle.reader.proofs.Sorts.{refusal, refusal-number, entries, entries·read-0, entries·refused-0, entries-cases}
 use Rattle.sorter.proofs.Sorts.{sorting}
 use Rattle.table.proofs.Sorts.{block}
-use Rattle.reader.proofs.Cards.{Vector·read-entries, vector·read-entries!}
-use Rattle.sorter.proofs.Cards.{Sorter·refused, Sorter·sort-kept, sorter·refused!, sorter·sort-kept-clients-clocks!}
+use Rattle.reader.proofs.Cards.{Vector·read-entries, vector·read-entries! }
+use Rattle.sorter.proofs.Cards.{Sorter·refused, Sorter·sort-kept, sorter·refused!, sorter·sort-kept-clients-clocks! }
 use Rattle.vector.proofs.read_entries.Symbol as vector·read-entries-def
 use Rattle.vector.proofs.read_entries.Symbol.{name as #vector·read-entries}
 use Rattle.vector.proofs.read_entries.Met as vector·read-entries-thm
@@ -157,7 +157,7 @@ module _ {M : Type 1} (𝓤 : URA M) (H : Heap 𝓤) (A : Atoms 𝓤) (W : Given
         calls-by ! (fmOf 𝓤 H (W .laws) 𝓣) (2 ∷ 1 ∷ 0 ∷ []) (tab word (own-seat l₁₀ 64 ν₁₀ δ₁₀) (replicate 64 0) ∷ tab word (own-seat l₈ 64 ν₈ δ₈) (replicate 64 0) ∷ hs order₀ counts₀ reaches₀ pending₀) (vector·read-entries! 𝓤 H A mem run (𝓣 .C) known-vector·read-entries at-vector vector₀ (own-seat l₈ 64 ν₈ δ₈) (replicate 64 0) (own-seat l₁₀ 64 ν₁₀ δ₁₀) (replicate 64 0) (omega (arith, length-replicate {A = ℕ} 64 0), omega (arith, length-replicate {A = ℕ} 64 0))) refl (λ P. and-then ! (load ! (from ! (stop !)) (look ! 65 refl)) (and-then ! (load ! (from ! (stop !)) (look ! 31 refl)) (and-then ! (load ! (from ! (stop !)) (look ! 27 refl)) (no-more !)))) (λ g₁.
         land ! (from ! (stop !)) (init ! 35 refl (g₁ .1 .0)) $
         entries-cases (vectorEntries (vectorOf vector₀))
-        (λ x₂ e₂.   -- Read
+        (λ x₂ e₂.  -- Read
         revalue ! 35 (entries .val) e₂ refl $ switches-to ! (load ! (from ! (vrt ! refl (fld ! refl (stop !)))) (look-tag ! 35 (whole !))) refl $
         flat ! $
         assigns ! (of-opd ! (load ! (from ! (vrt ! refl (fld ! refl (stop !)))) (look-in ! 35 (in-variant ! 0 0 refl refl (whole !))))) (from ! (stop !)) (init ! 43 refl (tt, record { fits = (entries·read-0 x₂ (subst (Has entries) e₂ (g₁ .0))) .1 })) $
@@ -192,7 +192,7 @@ module _ {M : Type 1} (𝓤 : URA M) (H : Heap 𝓤) (A : Atoms 𝓤) (W : Given
         move ! (0 ∷ 51 ∷ []) $ own-back ! tt word 64 64 (omega (arith)) 0 (padded (length (replicate {A = ℕ} 64 0)) (clientsIn (kept (vectorOf vector₀)))) l₈ ν₈ δ₈ (hs (orderOn (slotsFor maxReaches (take blocks₀ rows₀) (take x₂ (padded (length (replicate {A = ℕ} 64 0)) (clientsIn (kept (vectorOf vector₀)))))) rows₀ blocks₀ (entriesOf x₂ (padded (length (replicate {A = ℕ} 64 0)) (clientsIn (kept (vectorOf vector₀)))) (padded (length (replicate {A = ℕ} 64 0)) (clocksIn (kept (vectorOf vector₀))))) order₀) (fitted (length counts₀) (countsOn (slotsFor maxReaches (take blocks₀ rows₀) (take x₂ (padded (length (replicate {A = ℕ} 64 0)) (clientsIn (kept (vectorOf vector₀)))))) rows₀ blocks₀ (entriesOf x₂ (padded (length (replicate {A = ℕ} 64 0)) (clientsIn (kept (vectorOf vector₀)))) (padded (length (replicate {A = ℕ} 64 0)) (clocksIn (kept (vectorOf vector₀))))) order₀)) (fitted (length reaches₀) (reachesOn (slotsFor maxReaches (take blocks₀ rows₀) (take x₂ (padded (length (replicate {A = ℕ} 64 0)) (clientsIn (kept (vectorOf vector₀)))))) rows₀ blocks₀ (entriesOf x₂ (padded (length (replicate {A = ℕ} 64 0)) (clientsIn (kept (vectorOf vector₀)))) (padded (length (replicate {A = ℕ} 64 0)) (clocksIn (kept (vectorOf vector₀))))) order₀)) (fitted (length pending₀) (pendingOn (slotsFor maxReaches (take blocks₀ rows₀) (take x₂ (padded (length (replicate {A = ℕ} 64 0)) (clientsIn (kept (vectorOf vector₀)))))) rows₀ blocks₀ (entriesOf x₂ (padded (length (replicate {A = ℕ} 64 0)) (clientsIn (kept (vectorOf vector₀)))) (padded (length (replicate {A = ℕ} 64 0)) (clocksIn (kept (vectorOf vector₀))))) order₀))) $ move ! (0 ∷ 2 ∷ 3 ∷ 4 ∷ 5 ∷ 6 ∷ 7 ∷ 8 ∷ 9 ∷ 10 ∷ 11 ∷ 12 ∷ 13 ∷ 14 ∷ 15 ∷ 16 ∷ 17 ∷ 18 ∷ 19 ∷ 20 ∷ 21 ∷ 22 ∷ 23 ∷ 24 ∷ 25 ∷ 26 ∷ 27 ∷ 28 ∷ 29 ∷ 30 ∷ 31 ∷ 32 ∷ 33 ∷ 34 ∷ 35 ∷ 36 ∷ 37 ∷ 38 ∷ 39 ∷ 40 ∷ 41 ∷ 42 ∷ 43 ∷ 44 ∷ 45 ∷ 46 ∷ 47 ∷ 48 ∷ 49 ∷ 50 ∷ 51 ∷ 1 ∷ []) $
         returns-within ! Post refl (look ! 67 refl) $
         free-all ! (_ ∷ []) En (has _ ∷ has _ ∷ has _ ∷ has _ ∷ has _ ∷ has _ ∷ has _ ∷ has _ ∷ has _ ∷ has _ ∷ has _ ∷ has _ ∷ has _ ∷ bare ∷ has _ ∷ has _ ∷ has _ ∷ has _ ∷ has _ ∷ has _ ∷ has _ ∷ has _ ∷ has _ ∷ has _ ∷ has _ ∷ has _ ∷ has _ ∷ has _ ∷ has _ ∷ has _ ∷ has _ ∷ has _ ∷ has _ ∷ has _ ∷ []) [] $ by ! (exits (sortingOn (slotsFor maxReaches (take blocks₀ rows₀) (take x₂ (padded (length (replicate {A = ℕ} 64 0)) (clientsIn (kept (vectorOf vector₀)))))) rows₀ blocks₀ (entriesOf x₂ (padded (length (replicate {A = ℕ} 64 0)) (clientsIn (kept (vectorOf vector₀)))) (padded (length (replicate {A = ℕ} 64 0)) (clocksIn (kept (vectorOf vector₀))))) order₀) (orderOn (slotsFor maxReaches (take blocks₀ rows₀) (take x₂ (padded (length (replicate {A = ℕ} 64 0)) (clientsIn (kept (vectorOf vector₀)))))) rows₀ blocks₀ (entriesOf x₂ (padded (length (replicate {A = ℕ} 64 0)) (clientsIn (kept (vectorOf vector₀)))) (padded (length (replicate {A = ℕ} 64 0)) (clocksIn (kept (vectorOf vector₀))))) order₀) (fitted (length counts₀) (countsOn (slotsFor maxReaches (take blocks₀ rows₀) (take x₂ (padded (length (replicate {A = ℕ} 64 0)) (clientsIn (kept (vectorOf vector₀)))))) rows₀ blocks₀ (entriesOf x₂ (padded (length (replicate {A = ℕ} 64 0)) (clientsIn (kept (vectorOf vector₀)))) (padded (length (replicate {A = ℕ} 64 0)) (clocksIn (kept (vectorOf vector₀))))) order₀)) (fitted (length reaches₀) (reachesOn (slotsFor maxReaches (take blocks₀ rows₀) (take x₂ (padded (length (replicate {A = ℕ} 64 0)) (clientsIn (kept (vectorOf vector₀)))))) rows₀ blocks₀ (entriesOf x₂ (padded (length (replicate {A = ℕ} 64 0)) (clientsIn (kept (vectorOf vector₀)))) (padded (length (replicate {A = ℕ} 64 0)) (clocksIn (kept (vectorOf vector₀))))) order₀)) (fitted (length pending₀) (pendingOn (slotsFor maxReaches (take blocks₀ rows₀) (take x₂ (padded (length (replicate {A = ℕ} 64 0)) (clientsIn (kept (vectorOf vector₀)))))) rows₀ blocks₀ (entriesOf x₂ (padded (length (replicate {A = ℕ} 64 0)) (clientsIn (kept (vectorOf vector₀)))) (padded (length (replicate {A = ℕ} 64 0)) (clocksIn (kept (vectorOf vector₀))))) order₀)) (g₃ .0) (exit-read (vectorOf vector₀) rows₀ blocks₀ order₀ counts₀ reaches₀ pending₀ x₂ (length (replicate {A = ℕ} 64 0)) (length (replicate {A = ℕ} 64 0)) e₂))))
-        (λ x₂ e₂.   -- Refused
+        (λ x₂ e₂.  -- Refused
         revalue ! 35 (entries .val) e₂ refl $ switches-to ! (load ! (from ! (vrt ! refl (fld ! refl (stop !)))) (look-tag ! 35 (whole !))) refl $
         flat ! $
         assigns ! (of-opd ! (load ! (from ! (vrt ! refl (fld ! refl (stop !)))) (look-in ! 35 (in-variant ! 1 0 refl refl (whole !))))) (from ! (stop !)) (init ! 41 refl (refusal .lawful M 𝓤 H A W .typed x₂ _ (entries·refused-0 x₂ (subst (Has entries) e₂ (g₁ .0))) .0)) $

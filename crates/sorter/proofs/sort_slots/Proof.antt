@@ -45,7 +45,7 @@ use Rattle.slots.specs.Slots.{Falling, slotsFrom}
 use Rattle.sorter.specs.Sorter.{countsOn, orderOn, pendingOn, reachesOn, sortingOf, sortingOn}
 use Rattle.sorter.proofs.Sorts.{picker·look, picker·look-steps, sorting}
 use Rattle.table.proofs.Sorts.{block}
-use Rattle.sorter.proofs.Cards.{Picker·fronts·fill-reaches, Picker·fronts·open, Reports·clear-after, Reports·report-counts, Reports·report-reaches, Reports·report-pending, Sorter·sorted, Sorter·pick-rows, picker·fronts·fill-reaches!, picker·fronts·open!, reports·clear-after!, reports·report-counts-fronts!, reports·report-reaches-reach!, reports·report-pending-fronts-reach!, sorter·sorted!, sorter·pick-rows!}
+use Rattle.sorter.proofs.Cards.{Picker·fronts·fill-reaches, Picker·fronts·open, Reports·clear-after, Reports·report-counts, Reports·report-reaches, Reports·report-pending, Sorter·sorted, Sorter·pick-rows, picker·fronts·fill-reaches!, picker·fronts·open!, reports·clear-after!, reports·report-counts-fronts!, reports·report-reaches-reach!, reports·report-pending-fronts-reach!, sorter·sorted!, sorter·pick-rows! }
 use Rattle.picker.proofs.fronts.fill_reaches.Symbol as picker·fronts·fill-reaches-def
 use Rattle.picker.proofs.fronts.fill_reaches.Symbol.{name as #picker·fronts·fill-reaches}
 use Rattle.picker.proofs.fronts.fill_reaches.Met as picker·fronts·fill-reaches-thm

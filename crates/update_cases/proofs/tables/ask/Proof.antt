@@ -41,7 +41,8 @@ use Rattle.updates.specs.declared.Update.{Update}
 use Rattle.updates.specs.Promises.{Reading, reading, answer, rowsOf, wordsOf}
 use Rattle.table.proofs.Sorts.{block}
 use Rattle.updates.proofs.Sorts.{update-blocks}
-use Rattle.update_cases.proofs.Cards.{Update-cases·rows·full, Update-cases·rows·begin, Updates·read-update, Update-cases·tables·put-rows, Update-cases·rows·end, update-cases·rows·full!, update-cases·rows·begin!, updates·read-update!, update-cases·tables·put-rows-rows!, update-cases·rows·end-words! }
+use Rattle.update_cases.proofs.Cards.{Update-cases·rows·full, Update-cases·rows·begin, Update-cases·tables·put-rows, Update-cases·rows·end, update-cases·rows·full!, update-cases·rows·begin!, update-cases·tables·put-rows-rows!, update-cases·rows·end-words! }
+use Rattle.updates.proofs.Cards.{Updates·read-update, updates·read-update! }
 use Rattle.update_cases.proofs.rows.full.Symbol as update-cases·rows·full-def
 use Rattle.update_cases.proofs.rows.full.Symbol.{name as #update-cases·rows·full}
 use Rattle.update_cases.proofs.rows.full.Met as update-cases·rows·full-thm

@@ -1,0 +1,5 @@
+-- What walks of readers cite, that no other answer fits, and what reading on gives.
+pub mod Sorts
+pub mod Cards
+pub mod Unique
+pub mod Reading

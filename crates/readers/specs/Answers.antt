@@ -1,0 +1,30 @@
+-- Reading on: what k reads of a reader give, one after the other, and the same said of a column that is read by value.
+use Prim.Native.Nat.{ℕ, zero, suc, _+_}
+use mathlib.Core.List.{List, [], _∷_, map}
+use lib.Seq.{slice}
+use Rattle.columns.specs.Reading.{Reading}
+use Rattle.columns.specs.String.{Texts}
+use Rattle.readers.specs.declared.Column.{Column}
+use Rattle.readers.specs.declared.Answer.{Answer}
+use Rattle.readers.specs.Readers.{valued, refused, answerOf, after}
+
+unfoldable pub answers : ℕ → Column → List Answer
+answers zero c = []
+answers (suc k) c = answerOf c ∷ answers k (after c)
+
+-- the first k of these: xs, then y again and again
+unfoldable pub onwards : {A : Type 0} → ℕ → List A → A → List A
+onwards zero xs y = []
+onwards (suc k) [] y = y ∷ onwards k [] y
+onwards (suc k) (x ∷ xs) y = x ∷ onwards k xs y
+
+-- the values that were drawn, and then the refusal that ended them
+abbrev pub told : ℕ → Reading → List Answer
+told k r = onwards k (map valued (r .values)) (refused (r .number))
+
+-- of texts, each answer as its number and its text: where the part lies in the column's bytes s is left out
+abbrev pub worded : List ℕ → Answer → ℕ × List ℕ
+worded s a = (a .number, slice (a .part .place) (a .part .place + a .part .bytes .0) s)
+
+abbrev pub toldTexts : ℕ → Texts → List (ℕ × List ℕ)
+toldTexts k r = onwards k (map (λ t. (0, t)) (r .texts)) (r .number, [])

@@ -1,0 +1,279 @@
+// Operation 17 of the case program: a sort, its reports, and the tables that its update was read into.
+use block::Block;
+use sorts::Sorted;
+use stream::Done;
+use stream::input;
+use stream::input::Place;
+use stream::line;
+use update_cases::lines;
+use update_cases::lines::Listed;
+use update_cases::rows;
+use update_cases::rows::Told;
+use update_cases::tables;
+use update_cases::vectors;
+use updates::Update;
+
+// The numbers of the blocks taken; more than there is room for, which the library never says, are not printed.
+fn put_order(sink: &mut [u8], used: usize, steps: usize, order: &[u64]) -> Told {
+    if order.len() < steps {
+        return Told { used, zero: false };
+    }
+    let told = line::numbers(sink, used, &order[..steps]);
+    let zero = lines::are_zero(order, steps);
+    Told { used: told, zero }
+}
+
+// Clients, each with a number.
+fn put_entries(sink: &mut [u8], told: Told, count: usize, words: &[u64]) -> Told {
+    let parted = line::text(sink, told.used, b" ;");
+    let listed = vectors::entries(sink, parted, count, words);
+    let zero = told.zero && lines::are_zero(words, listed.at);
+    Told {
+        used: listed.used,
+        zero,
+    }
+}
+
+// A client that waits, with the space before it, the client that it waits for, and how far that reaches.
+fn wait(sink: &mut [u8], used: usize, client: u64, missing: u64, reach: u64) -> usize {
+    let begun = line::number(sink, used, client);
+    let parted = line::put(sink, begun, b'>');
+    lines::id(sink, parted, missing, reach)
+}
+
+fn waits(sink: &mut [u8], used: usize, count: usize, words: &[u64]) -> Listed {
+    let mut used = used;
+    let mut at = 0;
+    let mut left = count;
+    while 0 < left {
+        if words.len() - at < 3 {
+            return Listed { used, at };
+        }
+        used = wait(sink, used, words[at], words[at + 1], words[at + 2]);
+        at += 3;
+        left -= 1;
+    }
+    Listed { used, at }
+}
+
+fn put_pending(sink: &mut [u8], told: Told, count: usize, words: &[u64]) -> Told {
+    let parted = line::text(sink, told.used, b" ;");
+    let listed = waits(sink, parted, count, words);
+    let zero = told.zero && lines::are_zero(words, listed.at);
+    Told {
+        used: listed.used,
+        zero,
+    }
+}
+
+fn put_reports(
+    sink: &mut [u8],
+    told: Told,
+    answer: Sorted,
+    counts: &[u64],
+    reaches: &[u64],
+    pending: &[u64],
+) -> Told {
+    let counted = put_entries(sink, told, answer.counts, counts);
+    let reached = put_entries(sink, counted, answer.reaches, reaches);
+    put_pending(sink, reached, answer.pending, pending)
+}
+
+fn are_zero(order: &[u64], counts: &[u64], reaches: &[u64], pending: &[u64]) -> bool {
+    lines::are_zero(order, 0)
+        && lines::are_zero(counts, 0)
+        && lines::are_zero(reaches, 0)
+        && lines::are_zero(pending, 0)
+}
+
+// The line up to the rows, and whether all words lent for the order and the reports that hold nothing are zero; those of a refusal hold nothing,
+// whatever it says.
+fn begin(
+    sink: &mut [u8],
+    used: usize,
+    answer: Sorted,
+    order: &[u64],
+    counts: &[u64],
+    reaches: &[u64],
+    pending: &[u64],
+) -> Told {
+    let begun = line::decimal(sink, used, answer.number as u64);
+    if answer.number != 0 {
+        let zero = are_zero(order, counts, reaches, pending);
+        return Told { used: begun, zero };
+    }
+    let ordered = put_order(sink, begun, answer.steps, order);
+    let told = put_reports(sink, ordered, answer, counts, reaches, pending);
+    let parted = line::text(sink, told.used, b" ;");
+    let used = rows::blocks(sink, parted, answer.blocks);
+    Told {
+        used,
+        zero: told.zero,
+    }
+}
+
+// The line from the ranges on: as that of the update read, but the last word is on the order and the reports too.
+fn end(sink: &mut [u8], begun: Told, told: Told, answer: Sorted, words: &[u64]) -> usize {
+    let seen = Told {
+        used: told.used,
+        zero: begun.zero && told.zero,
+    };
+    let read = Update {
+        number: answer.number,
+        blocks: answer.blocks,
+        ranges: answer.ranges,
+    };
+    rows::end(sink, seen, read, words)
+}
+
+// The line of a sort with n rows lent; more than there are is not asked.
+fn ask(
+    form: u8,
+    update: &[u8],
+    vector: &[u8],
+    n: usize,
+    words: &mut [u64],
+    order: &mut [u64],
+    counts: &mut [u64],
+    reaches: &mut [u64],
+    pending: &mut [u64],
+    sink: &mut [u8],
+    used: usize,
+) -> usize {
+    if 512 < n {
+        return used;
+    }
+    let row = rows::full();
+    let mut rows = [row; 512];
+    let answer = sorts::sort(
+        form,
+        update,
+        vector,
+        &mut rows[..n],
+        words,
+        order,
+        counts,
+        reaches,
+        pending,
+    );
+    let begun = begin(sink, used, answer, order, counts, reaches, pending);
+    let told = tables::put_rows(&rows[..n], answer.blocks, sink, begun.used);
+    end(sink, begun, told, answer, words)
+}
+
+// What a case asks beside its update and its vector: the form, and how many rows and words are lent.
+struct Asked {
+    form: u8,
+    rows: usize,
+    words: usize,
+    order: usize,
+    place: Place,
+}
+
+// The line with words lent for the reports: as many as any update and vector can need.
+fn lend_reports(
+    case: Asked,
+    update: &[u8],
+    vector: &[u8],
+    words: &mut [u64],
+    order: &mut [u64],
+    sink: &mut [u8],
+    used: usize,
+) -> usize {
+    let mut counts = [0xA5A5A5A5A5A5A5A5u64; 256];
+    let mut reaches = [0xA5A5A5A5A5A5A5A5u64; 256];
+    let mut pending = [0xA5A5A5A5A5A5A5A5u64; 192];
+    ask(
+        case.form,
+        update,
+        vector,
+        case.rows,
+        words,
+        order,
+        &mut counts,
+        &mut reaches,
+        &mut pending,
+        sink,
+        used,
+    )
+}
+
+// The same with so many words lent for the order.
+fn lend_order(
+    case: Asked,
+    update: &[u8],
+    vector: &[u8],
+    words: &mut [u64],
+    sink: &mut [u8],
+    used: usize,
+) -> usize {
+    let lent = case.order;
+    if 512 < lent {
+        return used;
+    }
+    let mut order = [0xA5A5A5A5A5A5A5A5u64; 512];
+    lend_reports(case, update, vector, words, &mut order[..lent], sink, used)
+}
+
+// The same with so many words lent for the ranges.
+fn lend(case: Asked, update: &[u8], vector: &[u8], sink: &mut [u8], used: usize) -> usize {
+    let lent = case.words;
+    if 3072 < lent {
+        return used;
+    }
+    let mut words = [0xA5A5A5A5A5A5A5A5u64; 3072];
+    lend_order(case, update, vector, &mut words[..lent], sink, used)
+}
+
+fn arguments(source: &mut [u8], place: Place) -> Asked {
+    let form = input::number(source, place, 255);
+    let rows = input::number(source, form.place, 512);
+    let ranges = input::number(source, rows.place, 1024);
+    let order = input::number(source, ranges.place, 512);
+    let place = order.place;
+    Asked {
+        form: form.value as u8,
+        rows: rows.value as usize,
+        words: ranges.value as usize * 3,
+        order: order.value as usize,
+        place,
+    }
+}
+
+// The case, all but its vector read.
+fn finish(
+    case: Asked,
+    update: &[u8],
+    source: &mut [u8],
+    place: Place,
+    sink: &mut [u8],
+    used: usize,
+) -> Done {
+    let mut vector = [0u8; 65536];
+    let taken = input::bytes(source, place, &mut vector);
+    let place = taken.place;
+    if !place.good {
+        return Done { place, used };
+    }
+    let count = taken.count;
+    let used = lend(case, update, &vector[..count], sink, used);
+    Done { place, used }
+}
+
+// 17: form, block rows, range rows, order rows, update, vector.
+pub fn read(
+    source: &mut [u8],
+    place: Place,
+    bytes: &mut [u8],
+    sink: &mut [u8],
+    used: usize,
+) -> Done {
+    let case = arguments(source, place);
+    let taken = input::bytes(source, case.place, bytes);
+    let place = taken.place;
+    if !place.good {
+        return Done { place, used };
+    }
+    let count = taken.count;
+    finish(case, &bytes[..count], source, place, sink, used)
+}

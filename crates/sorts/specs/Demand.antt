@@ -1,0 +1,49 @@
+-- Demand 3 of document 01, of a sort that is done: what its words say of every allowed order.
+use Prim.Native.Nat.{ℕ, _≤_, _<_}
+use mathlib.Core.Path.{_≡_}
+use mathlib.Core.Logic.{_≢_}
+use mathlib.Core.Bool.{true, false}
+use mathlib.Core.List.{List}
+use mathlib.Core.Option.{some}
+use lib.ListN.{length}
+use Rattle.block.specs.declared.Id.{Id}
+use Rattle.decoder.specs.Course.{Course, items, ending}
+use Rattle.vector.specs.Vector.{Entry}
+use Rattle.kept.specs.Kept.{remote}
+use Rattle.sorting.specs.Steps.{State, start, after, Ends, Highest, Sorts}
+use Rattle.sorting.specs.Rules.{queue, rule28, report}
+use Rattle.sorting.specs.Sorted.{clients, steps, numbersBy, countsIn, reachesIn, pendingIn}
+use Rattle.updates.specs.Promises.{Reading}
+use Rattle.sorts.specs.Promises.{Sort}
+
+-- ---- a reading r and a vector c
+
+-- each step is allowed, and after the last none is possible
+abbrev pub Whole : Reading → Course Entry → List ℕ → Type 0
+Whole r c cs = Ends (steps (r .blocks)) (start (remote (items c))) cs
+
+-- where it ends
+abbrev pub endOf : Reading → Course Entry → List ℕ → State ℕ
+endOf r c cs = after (steps (r .blocks)) (start (remote (items c))) cs
+
+-- the sort s of r against c
+pub record Demand3 (r : Reading) (c : Course Entry) (s : Sort) : Type 0 where
+  -- both were read whole
+  pub read : (r .number ≡ 0) × (ending c (λ _. true) (λ _. false) ≡ true)
+  pub reading : s .reading ≡ r
+  -- the client of each step: every other whole run takes the same blocks and ends in the same reaches, and a block is left pending exactly when no
+  -- allowed run takes it
+  pub run : List ℕ
+  pub sorts : Sorts (steps (r .blocks)) (remote (items c)) run
+  -- each step takes the highest client that may be taken, and no other whole run does
+  pub highest : Highest (steps (r .blocks)) (start (remote (items c))) run
+  pub only : (cs : List ℕ) → Whole r c cs → Highest (steps (r .blocks)) (start (remote (items c))) cs → cs ≡ run
+  -- the numbers of the blocks that are taken
+  pub order : s .order ≡ numbersBy (r .blocks) (start (remote (items c))) run
+  -- the reports, on the end of every whole run
+  pub counts : (cs : List ℕ) → Whole r c cs → s .counts ≡ countsIn (r .blocks) (endOf r c cs) (clients (r .blocks) (items c))
+  pub reaches : (cs : List ℕ) → Whole r c cs → s .reaches ≡ reachesIn (endOf r c cs) (clients (r .blocks) (items c))
+  pub pending : (cs : List ℕ) → Whole r c cs → s .pending ≡ pendingIn (r .blocks) (endOf r c cs) (clients (r .blocks) (items c))
+  -- a client with blocks left is reported: it waits for something of another client that is not below that client's reach
+  pub waits : (k : ℕ) → endOf r c run .taken k < length (queue (r .blocks) k)
+      → (d : Id) × (report rule28 (queue (r .blocks)) (endOf r c run) k ≡ some d) × (d .client ≢ k) × (endOf r c run .known (d .client) ≤ d .clock)

@@ -1,0 +1,133 @@
+// The public call that sorts. It asks nothing of its caller. An answer begins with its number in document 01, 0 for done; a refusal has zeros for counts
+// and leaves zeros in what was lent.
+use block::Block;
+use sorter::Sorting;
+use updates::Update;
+ghost use mathlib.Core.Path.{_≡_};
+ghost use mathlib.Core.List.{[]};
+ghost use lib.ListN.{length};
+ghost use Rattle.numbers.specs.Output.{padded};
+ghost use Rattle.updates.specs.Promises.{refused, rowsOf, wordsOf};
+ghost use Rattle.sorts.specs.Promises.{refusedWith, answered, judged, answerTo, SortUpdate};
+
+// How many blocks were taken, how many clients each report names, and how many blocks and delete ranges were read.
+pub struct Sorted {
+    pub number: u8,
+    pub steps: usize,
+    pub counts: usize,
+    pub reaches: usize,
+    pub pending: usize,
+    pub blocks: usize,
+    pub ranges: usize,
+}
+
+// A refusal: its number, and counts of 0.
+fn none(number: u8) -> Sorted
+    ensures { λ r. ⌜ r ≡ answered (refusedWith number) ⌝ }
+{
+    Sorted {
+        number,
+        steps: 0,
+        counts: 0,
+        reaches: 0,
+        pending: 0,
+        blocks: 0,
+        ranges: 0,
+    }
+}
+
+// A refusal, and zeros in all that was lent.
+fn refuse(
+    rows: &mut [Block],
+    ranges: &mut [u64],
+    order: &mut [u64],
+    counts: &mut [u64],
+    reaches: &mut [u64],
+    pending: &mut [u64],
+    number: u8,
+) -> Sorted
+    ensures { λ r. ⌜ (r ≡ answered (refusedWith number)) × (now (rows .exit) ≡ rowsOf (length (now (rows .entry))) (refused number))
+        × (now (ranges .exit) ≡ wordsOf (length (now (ranges .entry))) (refused number)) × (now (order .exit) ≡ padded (length (now (order .entry))) [])
+        × (now (counts .exit) ≡ padded (length (now (counts .entry))) []) × (now (reaches .exit) ≡ padded (length (now (reaches .entry))) [])
+        × (now (pending .exit) ≡ padded (length (now (pending .entry))) []) ⌝ }
+{
+    table::clear(rows, 0);
+    numbers::words::clear(ranges, 0);
+    numbers::words::clear(order, 0);
+    numbers::words::clear(counts, 0);
+    numbers::words::clear(reaches, 0);
+    numbers::words::clear(pending, 0);
+    none(number)
+}
+
+// The number of a refusal, or 0: a sorting that was refused, too few words for the order (8), or for a report (10).
+fn judge(s: Sorting, order: usize, counts: usize, reaches: usize, pending: usize) -> u8
+    ensures { λ r. ⌜ r ≡ judged s order counts reaches pending ⌝ }
+{
+    if s.number != 0 {
+        return s.number;
+    }
+    if order < s.steps {
+        return 8;
+    }
+    if counts < s.counts {
+        return 10;
+    }
+    if reaches < s.reaches {
+        return 10;
+    }
+    if pending < s.pending {
+        return 10;
+    }
+    0
+}
+
+// What is answered of a sorting that is not refused.
+fn done(read: Update, s: Sorting) -> Sorted
+    ensures { λ r. ⌜ r ≡ answerTo read s ⌝ }
+{
+    Sorted {
+        number: 0,
+        steps: s.steps,
+        counts: s.counts / 2,
+        reaches: s.reaches / 2,
+        pending: s.pending / 3,
+        blocks: read.blocks,
+        ranges: read.ranges,
+    }
+}
+
+// The blocks of an update of one form, sorted against a state vector: their numbers in the order in which they are taken (a word each); and, highest
+// client first, how many blocks were taken of each client that has any (two words each), how far each client reaches, the vector's too (two words),
+// and what each client waits for that has blocks left: the client of its first unmet dependency, and how far that reaches (three words). Both tables
+// are filled with what was read.
+pub fn sort(
+    form: u8,
+    update: &[u8],
+    vector: &[u8],
+    rows: &mut [Block],
+    ranges: &mut [u64],
+    order: &mut [u64],
+    counts: &mut [u64],
+    reaches: &mut [u64],
+    pending: &mut [u64],
+) -> Sorted
+    ensures { λ r. ⌜ SortUpdate form (now (update .entry)) (now (vector .entry)) (now (rows .entry)) (now (ranges .entry)) (now (order .entry)) (now (counts .entry)) (now (reaches .entry)) (now (pending .entry)) r (now (rows .exit)) (now (ranges .exit)) (now (order .exit)) (now (counts .exit)) (now (reaches .exit)) (now (pending .exit)) ⌝ }
+{
+    let read = updates::read_update(form, update, rows, ranges);
+    if read.number != 0 {
+        return refuse(rows, ranges, order, counts, reaches, pending, read.number);
+    }
+    let sorted = sorter::sort_read(vector, rows, read.blocks, order, counts, reaches, pending);
+    let why = judge(
+        sorted,
+        order.len(),
+        counts.len(),
+        reaches.len(),
+        pending.len(),
+    );
+    if why != 0 {
+        return refuse(rows, ranges, order, counts, reaches, pending, why);
+    }
+    done(read, sorted)
+}
