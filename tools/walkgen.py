@@ -240,11 +240,11 @@ def ghosts(here, crate):
     """the names that the contracts of a source cite: name -> module, seen from crate"""
     r = {}
     cited = [m.groups() for m in re.finditer(r'ghost use (\S+?)\.\{(.*?)\};', SOURCES[here], re.S)]
-    for spec, words in UNFOLDED.get(here, ()):
-        text = open('crates/%s/specs/%s.antt' % (here[0], spec)).read()
-        own = 'Rattle.%s.specs.%s' % (here[0], spec), ','.join(re.findall(r'^(?:abbrev|unfoldable) pub (%s)' % NAME, text, re.M))
+    for owner, spec, words in UNFOLDED.get(here, ()):
+        text = open('crates/%s/specs/%s.antt' % (owner, spec)).read()
+        own = 'Rattle.%s.specs.%s' % (owner, spec), ','.join(re.findall(r'^(?:abbrev|unfoldable) pub (%s)' % NAME, text, re.M))
         for mod, names in re.findall(r'^use (\S+?)\.\{(.*)\}$', text, re.M) + [own]:
-            cited.append((mod, ','.join(n for n in names.split(',') if n.strip().strip('_') in words and '.declared.' not in mod)))
+            cited.append((seen_from(mod, (owner,), here[0]), ','.join(n for n in names.split(',') if n.strip().strip('_') in words and '.declared.' not in mod)))
     for mod, names in cited:
         for n in names.split(','):
             if n.strip():
@@ -256,16 +256,16 @@ UNFOLDED = {}  # (crate, module) -> the specs whose contracts were unfolded, eac
 
 
 def unfolded(t, here):
-    """a contract that is one name at arguments (`ReadUpdate form ..`), as its crate's specs define it"""
+    """a contract that is one name at arguments (`ReadUpdate form ..`), as the specs of its crate, or of one below, define it"""
     words = split(t, ' ')
     mod = {} if '≡' in t or not words else ghosts(here, here[0])
-    spec = re.match(r'Rattle\.%s\.specs\.(\w+)$' % here[0], mod.get(words[0], ''))
+    spec = re.match(r'Rattle·(\w+)(?:·specs)?\.specs\.(\w+)$', mod.get(words[0], ''))
     if not spec:
         return t
-    text = open('crates/%s/specs/%s.antt' % (here[0], spec.group(1))).read()
+    text = open('crates/%s/specs/%s.antt' % spec.groups()).read()
     params, body = re.search(r'^%s ([^=\n]*)=\s*(.*?)(?:\n\n|\s*\Z)' % words[0], text, re.M | re.S).groups()
     at = dict(zip(params.split(), words[1:]))
-    UNFOLDED.setdefault(here, []).append((spec.group(1), set(re.findall(NAME, body))))
+    UNFOLDED.setdefault(here, []).append((*spec.groups(), set(re.findall(NAME, body))))
     return re.sub(r'(?<![^\s(){};,⌜⌝])' + NAME, lambda m: at.get(m.group(0), m.group(0)), re.sub(r'\s+', ' ', body))  # no field
 
 
@@ -1175,4 +1175,5 @@ def main(words):
         print(Walk(words[1], words[2]).text())
 
 
-main(sys.argv[1:])
+if __name__ == '__main__':
+    main(sys.argv[1:])

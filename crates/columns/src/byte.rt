@@ -10,6 +10,7 @@ ghost use Rattle.runs.specs.Runs.{columnOf, whyOf};
 ghost use Rattle.columns.specs.Byte.{startAt, begun, nextByte, whyByte};
 
 // The next byte, the run's first byte, its value, and how often that still stands, or that it stands without end.
+#[repr(C)]
 pub struct Place {
     pub at: usize,
     pub from: usize,

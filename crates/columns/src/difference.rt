@@ -14,6 +14,7 @@ ghost use Rattle.numbers.specs.Number.{readSigned};
 ghost use Rattle.columns.specs.Difference.{startAt, drawn, outside, keyRead, begun, nextDifference, whyDifference};
 
 // The next byte, the run's first byte, the value before, the difference's key, and how often it still applies.
+#[repr(C)]
 pub struct Place {
     pub at: usize,
     pub from: usize,

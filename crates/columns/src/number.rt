@@ -13,6 +13,7 @@ ghost use Rattle.numbers.specs.Number.{readSigned};
 ghost use Rattle.columns.specs.Number.{startAt, drawn, begun, nextNumber, whyNumber};
 
 // The next byte, the run's first byte, its value, and how often that still stands.
+#[repr(C)]
 pub struct Place {
     pub at: usize,
     pub from: usize,

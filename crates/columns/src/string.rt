@@ -17,6 +17,7 @@ ghost use Rattle.numbers.specs.Output.{written, put};
 ghost use Rattle.columns.specs.String.{openText, taken, nextText, whyText, takeNext, textHead, textColumn, whyTexts};
 
 // The next text's first byte, the end of all texts, and the place of the next unit length.
+#[repr(C)]
 pub struct Place {
     pub at: usize,
     pub end: usize,

@@ -9,7 +9,8 @@ ghost use mathlib.Core.Path.{_≡_};
 ghost use Rattle.contents.specs.Promises.{refusedWhere, whereOf, In, PartOf, Contents};
 
 // A number, and where the part lies that is handed back with it.
-struct Where {
+#[repr(C)]
+pub struct Where {
     pub number: u8,
     pub part: Part,
 }
@@ -26,8 +27,8 @@ fn refused_where(number: u8) -> Where
     }
 }
 
-// All that is decided: the form, then the update's length, then what the update has.
-fn look(form: u8, update: &[u8], n: usize) -> Where
+// All that is decided: the form, then the update's length, then what the update has. Public for C, which cannot be handed the part.
+pub fn look(form: u8, update: &[u8], n: usize) -> Where
     ensures { λ r. ⌜ r ≡ whereOf form (now (update .entry)) n ⌝ }
 {
     if form < 1 {

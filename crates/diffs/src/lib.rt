@@ -9,6 +9,7 @@ ghost use Rattle.updates.specs.Promises.{known, refused, rowsOf, wordsOf};
 ghost use Rattle.diffs.specs.Promises.{refusedWith, answered, Diffs, emptyVector};
 
 // How many bytes were written, and how many blocks and delete ranges were read.
+#[repr(C)]
 pub struct Diff {
     pub number: u8,
     pub bytes: usize,

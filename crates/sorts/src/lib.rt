@@ -11,6 +11,7 @@ ghost use Rattle.updates.specs.Promises.{refused, rowsOf, wordsOf};
 ghost use Rattle.sorts.specs.Promises.{refusedWith, answered, judged, answerTo, SortUpdate};
 
 // How many blocks were taken, how many clients each report names, and how many blocks and delete ranges were read.
+#[repr(C)]
 pub struct Sorted {
     pub number: u8,
     pub steps: usize,

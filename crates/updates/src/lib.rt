@@ -7,6 +7,7 @@ ghost use mathlib.Core.Path.{_≡_};
 ghost use Rattle.updates.specs.Promises.{early, refused, answer, ReadUpdate};
 
 // How many blocks and how many delete ranges were read.
+#[repr(C)]
 pub struct Update {
     pub number: u8,
     pub blocks: usize,

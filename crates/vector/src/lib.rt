@@ -25,6 +25,7 @@ pub enum Next {
 }
 
 // What a caller outside is told: 0 and how many entries, or the number of a refusal and none.
+#[repr(C)]
 pub struct Vector {
     pub number: u8,
     pub count: usize,

@@ -16,6 +16,7 @@ ghost use mathlib.Core.Path.{_≡_};
 
 // ---- numbers
 
+#[repr(C)]
 pub struct Unsigned {
     pub number: u8,
     pub value: u64,
@@ -40,6 +41,7 @@ pub fn read_unsigned(s: &[u8], at: usize) -> Unsigned
 }
 
 // A sign and a size: minus zero keeps its minus.
+#[repr(C)]
 pub struct Signed {
     pub number: u8,
     pub minus: bool,
@@ -96,6 +98,7 @@ pub fn write_signed(out: &mut [u8], minus: bool, magnitude: u64) -> Written
 
 // ---- text
 
+#[repr(C)]
 pub struct Counted {
     pub number: u8,
     pub units: Units,
@@ -116,6 +119,7 @@ pub fn count_units(text: &[u8]) -> Counted
     }
 }
 
+#[repr(C)]
 pub struct Cut {
     pub number: u8,
     pub bytes: Bytes,
@@ -179,6 +183,7 @@ pub fn open_numbers(at: usize) -> number::Place
     number::start(at)
 }
 
+#[repr(C)]
 pub struct NumberNext {
     pub number: u8,
     pub value: u64,
@@ -208,6 +213,7 @@ pub fn open_differences(at: usize) -> difference::Place
     difference::start(at)
 }
 
+#[repr(C)]
 pub struct DifferenceNext {
     pub number: u8,
     pub value: u32,
@@ -237,6 +243,7 @@ pub fn open_bytes(at: usize) -> byte::Place
     byte::start(at)
 }
 
+#[repr(C)]
 pub struct ByteNext {
     pub number: u8,
     pub value: u8,
@@ -260,6 +267,7 @@ pub fn next_byte(column: &[u8], place: byte::Place) -> ByteNext
     }
 }
 
+#[repr(C)]
 pub struct TextOpened {
     pub number: u8,
     pub place: string::Place,
@@ -285,6 +293,7 @@ pub fn open_text(column: &[u8], at: usize) -> TextOpened
     }
 }
 
+#[repr(C)]
 pub struct TextNext {
     pub number: u8,
     pub part: Part,

@@ -1,0 +1,365 @@
+//! The command `wairokabi`: checks, lists, diffs and sorts updates; `help.txt` says how it is called. Its answers are the library's, put into words.
+use std::fmt::{Display, Write as _};
+use std::io::{Read, Write};
+use std::process::ExitCode;
+use std::{env, fs, io};
+use wairokabi::*;
+
+const HELP: &str = include_str!("help.txt");
+
+/// The listing is the library's own up to so many rows; they are the listing program's.
+const LISTED_BLOCKS: usize = 512;
+const LISTED_RANGES: usize = 1024;
+
+const REFUSED: u8 = 1;
+const NOT_RUN: u8 = 2;
+
+/// Why the command ends without an answer.
+struct Stop {
+    status: u8,
+    words: String,
+}
+
+fn not_run(words: impl Display) -> Stop {
+    Stop { status: NOT_RUN, words: words.to_string() }
+}
+
+fn main() -> ExitCode {
+    let bytes = match Words::of_command().and_then(run) {
+        Ok(bytes) => bytes,
+        Err(stop) => return failed(stop),
+    };
+    let mut out = io::stdout();
+    match out.write_all(&bytes).and_then(|()| out.flush()) {
+        Err(e) if e.kind() != io::ErrorKind::BrokenPipe => failed(not_run(format!("standard output: {e}"))),
+        _ => ExitCode::SUCCESS,
+    }
+}
+
+fn failed(stop: Stop) -> ExitCode {
+    eprintln!("wairokabi: {}", stop.words);
+    ExitCode::from(stop.status)
+}
+
+// ---- what is asked
+
+/// The words of the command line: those in their places, and the options.
+#[derive(Default)]
+struct Words {
+    plain: Vec<String>,
+    help: bool,
+    long: bool,
+    to: Option<String>,
+    out: Option<String>,
+}
+
+impl Words {
+    fn of_command() -> Result<Words, Stop> {
+        let mut words = Words::default();
+        let mut rest = env::args_os().skip(1);
+        let mut next = || rest.next().map(|word| word.into_string().map_err(|word| not_run(format!("{word:?} is not UTF-8")))).transpose();
+        while let Some(word) = next()? {
+            match word.as_str() {
+                "-h" | "--help" => words.help = true,
+                "--long" => words.long = true,
+                "--to" => words.to = Some(next()?.ok_or_else(|| not_run("--to needs a form"))?),
+                "--out" => words.out = Some(next()?.ok_or_else(|| not_run("--out needs a file"))?),
+                option if option.starts_with("--") => return Err(not_run(format!("{option}: no such option; see --help"))),
+                _ => words.plain.push(word),
+            }
+        }
+        words.help |= words.plain.is_empty() || words.plain[0] == "help";
+        Ok(words)
+    }
+}
+
+/// Bytes that were given, and what to call them.
+struct Input {
+    name: String,
+    bytes: Vec<u8>,
+}
+
+impl Input {
+    /// A file, `-` for standard input, `hex:..` for bytes that are spelled out.
+    fn of(what: &str, word: &str) -> Result<Input, Stop> {
+        if let Some(digits) = word.strip_prefix("hex:") {
+            let bytes = of_hex(digits).ok_or_else(|| not_run(format!("{word}: not pairs of hex digits")))?;
+            return Ok(Input { name: what.to_string(), bytes });
+        }
+        let bytes = if word == "-" { all(io::stdin()) } else { fs::File::open(word).and_then(all) };
+        let bytes = bytes.map_err(|e| not_run(format!("{word}: {e}")))?;
+        Ok(Input { name: format!("{what} {word}"), bytes })
+    }
+}
+
+/// All bytes, or one more than an update may have.
+fn all(from: impl Read) -> io::Result<Vec<u8>> {
+    let mut bytes = Vec::new();
+    from.take(MAX_UPDATE as u64 + 1).read_to_end(&mut bytes)?;
+    Ok(bytes)
+}
+
+/// What every command works on.
+struct Asked {
+    form: u8,
+    update: Input,
+    vector: Input,
+    vector_given: bool,
+}
+
+impl Asked {
+    fn of(form: &str, update: &str, vector: Option<&str>) -> Result<Asked, Stop> {
+        if update == "-" && vector == Some("-") {
+            return Err(not_run("standard input can be the update or the vector, not both"));
+        }
+        Ok(Asked {
+            form: form_of(form)?,
+            update: Input::of("update", update)?,
+            vector: Input::of("vector", vector.unwrap_or("hex:00"))?,
+            vector_given: vector.is_some(),
+        })
+    }
+
+    /// A refusal in words, with the name of what was refused.
+    fn refused(&self, refused: Refused) -> Stop {
+        let (mut rows, mut ranges) = self.tables();
+        let whose = if read_update(self.form, &self.update.bytes, &mut rows, &mut ranges).err() == Some(refused) {
+            format!("{}: ", self.update.name)
+        } else if read_state_vector(&self.vector.bytes, &mut [Entry::default(); MAX_CLIENTS]).err() == Some(refused) {
+            format!("{}: ", self.vector.name)
+        } else {
+            String::new()
+        };
+        Stop { status: REFUSED, words: format!("{whose}{refused}") }
+    }
+
+    /// Tables that no update of this length overflows.
+    fn tables(&self) -> (Vec<Block>, Vec<Range>) {
+        (rows_for(self.form, &self.update.bytes), ranges_for(&self.update.bytes))
+    }
+}
+
+/// A form is handed on as it is, since it is the library that refuses one.
+fn form_of(word: &str) -> Result<u8, Stop> {
+    word.parse().map_err(|_| not_run(format!("{word}: a form is 1 or 2; see --help")))
+}
+
+fn run(words: Words) -> Result<Vec<u8>, Stop> {
+    if words.help {
+        return Ok(HELP.into());
+    }
+    let plain: Vec<&str> = words.plain.iter().map(String::as_str).collect();
+    let command = plain[0];
+    let misplaced = [("--long", words.long, "list"), ("--to", words.to.is_some(), "diff"), ("--out", words.out.is_some(), "diff content")];
+    if let Some((option, ..)) = misplaced.iter().find(|(_, given, of)| *given && !of.split(' ').any(|c| c == command)) {
+        return Err(not_run(format!("{command} takes no {option}; see --help")));
+    }
+    match plain[..] {
+        ["check", form, update] => check(&Asked::of(form, update, None)?),
+        ["check", form, update, vector] => check(&Asked::of(form, update, Some(vector))?),
+        ["list", form, update] => listing(&Asked::of(form, update, None)?, words.long),
+        ["content", form, update, n] => {
+            let n = n.parse().map_err(|_| not_run(format!("{n}: not the number of a block; see --help")))?;
+            stored(&Asked::of(form, update, None)?, n, words.out.as_deref())
+        }
+        ["diff", form, update] => diff(&Asked::of(form, update, None)?, &words),
+        ["diff", form, update, vector] => diff(&Asked::of(form, update, Some(vector))?, &words),
+        ["sort", form, update] => sorted(&Asked::of(form, update, None)?),
+        ["sort", form, update, vector] => sorted(&Asked::of(form, update, Some(vector))?),
+        _ => Err(not_run(match HELP.lines().find(|line| line.starts_with(&format!("  ./wairokabi {command} FORM "))) {
+            Some(usage) => format!("use {}; see --help", usage.trim()),
+            None => format!("{command}: no such command; see --help"),
+        })),
+    }
+}
+
+// ---- answers
+
+fn check(asked: &Asked) -> Result<Vec<u8>, Stop> {
+    let (form, bytes) = (asked.form, &asked.update.bytes);
+    let (rows, numbers) = measured(form, bytes).map_err(|r| asked.refused(r))?;
+    let mut text = format!("{} reads in form {form}: {}, {numbers}\n", asked.update.name, many(bytes.len(), "byte"));
+    // bytes that are not read are accepted, so an update may read as nothing in the wrong form
+    let other = if form == 1 { 2 } else { 1 };
+    if let (0, Ok((1.., numbers))) = (rows, measured(other, bytes)) {
+        let _ = writeln!(text, "in form {other} it has {numbers}");
+    }
+    if asked.vector_given {
+        let mut entries = [Entry::default(); MAX_CLIENTS];
+        let entries = read_state_vector(&asked.vector.bytes, &mut entries).map_err(|r| asked.refused(r))?;
+        let count = if entries.len() == 1 { "1 entry".to_string() } else { format!("{} entries", entries.len()) };
+        let _ = writeln!(text, "{} reads: {count}", asked.vector.name);
+    }
+    Ok(text.into())
+}
+
+/// How many rows an update has, and the same in words.
+fn measured(form: u8, bytes: &[u8]) -> Result<(usize, String), Refused> {
+    let (mut rows, mut ranges) = (rows_for(form, bytes), ranges_for(bytes));
+    let update = read_update(form, bytes, &mut rows, &mut ranges)?;
+    let mut clients: Vec<u64> = update.blocks.iter().map(|b| b.client).collect();
+    clients.dedup(); // a client's blocks stand together
+    let (blocks, clients) = (many(update.blocks.len(), "block"), many(clients.len(), "client"));
+    let words = format!("{blocks} of {clients}, {}", many(update.ranges.len(), "delete range"));
+    Ok((update.blocks.len() + update.ranges.len(), words))
+}
+
+/// The library's own listing, or lines made here.
+fn listing(asked: &Asked, long: bool) -> Result<Vec<u8>, Stop> {
+    let (form, bytes) = (asked.form, &asked.update.bytes);
+    let (mut rows, mut ranges) = asked.tables();
+    let update = read_update(form, bytes, &mut rows, &mut ranges).map_err(|r| asked.refused(r))?;
+    if long {
+        return Ok(long_lines(form, bytes, &update).into());
+    }
+    if bytes.len() >= MAX_INPUT || update.blocks.len() > LISTED_BLOCKS || update.ranges.len() > LISTED_RANGES {
+        return Ok(lines(form, &update).into());
+    }
+    let mut out = vec![0; MAX_TEXT];
+    let text = list(&[&[form], &bytes[..]].concat(), &mut out).map_err(|r| asked.refused(r))?;
+    Ok(text.into())
+}
+
+/// The lines of a listing, as the library writes them.
+fn lines(form: u8, update: &Update) -> String {
+    let mut text = format!("update form {form} blocks {} ranges {}\n", update.blocks.len(), update.ranges.len());
+    for b in update.blocks {
+        let _ = writeln!(text, "{} {} {} {}", b.client, b.clock, b.length.0, b.kind_name());
+    }
+    for r in update.ranges {
+        let _ = writeln!(text, "{} {} {}", r.client, r.clock, r.length);
+    }
+    text + "end\n"
+}
+
+fn long_lines(form: u8, bytes: &[u8], update: &Update) -> String {
+    let mut text = format!("update form {form} blocks {} ranges {}\n", update.blocks.len(), update.ranges.len());
+    for (n, b) in update.blocks.iter().enumerate() {
+        let _ = writeln!(text, "block {n}: {}", described(b, bytes));
+    }
+    for r in update.ranges {
+        let _ = writeln!(text, "deleted: client {} clock {} length {}", r.client, r.clock, r.length);
+    }
+    text + "end\n"
+}
+
+/// `client 5 clock 0 length 2 text "hi", parent "t"`
+fn described(block: &Block, update: &[u8]) -> String {
+    let bytes = |part: Part| part.of(update).unwrap_or_default();
+    let quoted = |part: Part| format!("{:?}", String::from_utf8_lossy(bytes(part)));
+    let id = |id: Id| format!("({},{})", id.client, id.clock);
+    let mut text = format!("client {} clock {} length {} {}", block.client, block.clock, block.length.0, block.kind_name());
+    if let Some(part) = block.part() {
+        let shown = if block.kind == TEXT { quoted(part) } else { hex(bytes(part)) };
+        let _ = write!(text, " {shown}");
+    }
+    let ids = [("left", block.left().map(id)), ("right", block.right().map(id)), ("parent", block.parent().map(id))];
+    let names = [("parent", block.name().map(quoted)), ("key", block.key().map(quoted))];
+    for (what, shown) in ids.into_iter().chain(names) {
+        if let Some(shown) = shown {
+            let _ = write!(text, ", {what} {shown}");
+        }
+    }
+    text
+}
+
+fn stored(asked: &Asked, n: usize, out: Option<&str>) -> Result<Vec<u8>, Stop> {
+    let (form, bytes) = (asked.form, &asked.update.bytes);
+    let part = content(form, bytes, n).map_err(|r| asked.refused(r))?;
+    if let Some(out) = out {
+        return put(out, part);
+    }
+    let (mut rows, mut ranges) = asked.tables();
+    let update = read_update(form, bytes, &mut rows, &mut ranges).map_err(|r| asked.refused(r))?;
+    match update.blocks[n].kind {
+        TEXT => Ok([part, b"\n"].concat()),
+        _ => Ok(format!("{}\n", hex(part)).into()),
+    }
+}
+
+fn diff(asked: &Asked, words: &Words) -> Result<Vec<u8>, Stop> {
+    let to = words.to.as_deref().map_or(Ok(asked.form), form_of)?;
+    let (mut rows, mut ranges) = asked.tables();
+    let mut out = vec![0; asked.update.bytes.len() + 64];
+    loop {
+        match encode_diff(asked.form, &asked.update.bytes, &asked.vector.bytes, to, &mut rows, &mut ranges, &mut out) {
+            Ok(diff) => {
+                return match words.out.as_deref() {
+                    Some(out) => put(out, diff.bytes),
+                    None => Ok(format!("{}\n", hex(diff.bytes)).into()),
+                };
+            }
+            Err(refused) if refused.number() == 10 => out.resize(2 * out.len(), 0),
+            Err(refused) => return Err(asked.refused(refused)),
+        }
+    }
+}
+
+fn sorted(asked: &Asked) -> Result<Vec<u8>, Stop> {
+    let (form, bytes) = (asked.form, &asked.update.bytes);
+    let (mut rows, mut ranges) = asked.tables();
+    let (mut order, mut counts) = (vec![0; rows.len()], [Count::default(); MAX_CLIENTS]);
+    let (mut reaches, mut pending) = ([Entry::default(); MAX_REACHES], [Pending::default(); MAX_CLIENTS]);
+    let sorted = sort(form, bytes, &asked.vector.bytes, &mut rows, &mut ranges, &mut order, &mut counts, &mut reaches, &mut pending)
+        .map_err(|r| asked.refused(r))?;
+    let blocks = sorted.update.blocks;
+    let mut text = format!("taken, in order: {} of {}\n", sorted.order.len(), many(blocks.len(), "block"));
+    for n in sorted.order {
+        let _ = writeln!(text, "  block {n}: {}", described(&blocks[*n as usize], bytes));
+    }
+    text.push_str("of each client\n");
+    for count in sorted.counts {
+        let of = blocks.iter().filter(|b| b.client == count.client).count();
+        let _ = writeln!(text, "  client {}: {} of {}", count.client, count.taken, many(of, "block"));
+    }
+    text.push_str("reaches\n");
+    for reach in sorted.reaches {
+        let _ = writeln!(text, "  client {}: {}", reach.client, reach.clock);
+    }
+    let _ = writeln!(text, "pending: {}", many(sorted.pending.len(), "client"));
+    for p in sorted.pending {
+        let _ = writeln!(text, "  client {} waits for client {}, which reaches {}", p.client, p.waits_for, p.reach);
+    }
+    Ok(text.into())
+}
+
+// ---- bytes and words
+
+/// Puts bytes into a file, or hands them on for standard output.
+fn put(out: &str, bytes: &[u8]) -> Result<Vec<u8>, Stop> {
+    if out == "-" {
+        return Ok(bytes.to_vec());
+    }
+    fs::write(out, bytes).map_err(|e| not_run(format!("{out}: {e}")))?;
+    Ok(format!("{out}: {}\n", many(bytes.len(), "byte")).into())
+}
+
+fn many(count: usize, what: &str) -> String {
+    format!("{count} {what}{}", if count == 1 { "" } else { "s" })
+}
+
+fn hex(bytes: &[u8]) -> String {
+    bytes.iter().map(|b| format!("{b:02x}")).collect()
+}
+
+/// Pairs of digits; blanks may stand anywhere between them.
+fn of_hex(digits: &str) -> Option<Vec<u8>> {
+    let digits: Vec<u32> = digits.chars().filter(|c| !c.is_whitespace()).map(|c| c.to_digit(16)).collect::<Option<_>>()?;
+    digits.chunks(2).map(|pair| Some((pair[0] * 16 + pair.get(1)?) as u8)).collect()
+}
+
+/// Lines made here are the library's.
+#[test]
+fn lines_are_the_librarys() {
+    let updates: [&[u8]; 3] = [
+        &[0x01, 0x01, 0x05, 0x00, 0x04, 0x01, 0x01, 0x74, 0x02, 0x68, 0x69, 0x00],
+        // a GC, a Skip, a binary and three deleted units of client 5; client 7's ids 3 and 4 deleted, and 9
+        &[1, 4, 5, 2, 0, 3, 10, 2, 3, 1, 1, 0x74, 2, 8, 9, 1, 1, 1, 0x74, 3, 1, 7, 2, 3, 2, 9, 1],
+        &[1, 0, 5, 0, 0],
+    ];
+    for bytes in updates {
+        let (mut rows, mut ranges, mut out) = (rows_for(1, bytes), ranges_for(bytes), vec![0; MAX_TEXT]);
+        let update = read_update(1, bytes, &mut rows, &mut ranges).unwrap();
+        assert_eq!(list(&[&[1], bytes].concat(), &mut out), Ok(&lines(1, &update)[..]));
+    }
+}

@@ -1,0 +1,177 @@
+//! Document 01's worked cases through the binding: C, D, E and M, the columns F to K, and rows for any update.
+mod cases;
+use cases::*;
+use wairokabi::*;
+
+#[test]
+fn case_c_and_d_are_read() {
+    for (form, bytes, name, text) in [(1, &C[..], 7, 9), (2, &D[..], 10, 11)] {
+        let mut l = lent(ROWS, ROWS, 0);
+        let update = read_update(form, bytes, &mut l.rows, &mut l.ranges).unwrap();
+        let hi = Block {
+            client: 5,
+            length: Units(2),
+            kind: TEXT,
+            has_name: true,
+            name: Part { place: name, bytes: Bytes(1) },
+            part: Part { place: text, bytes: Bytes(2) },
+            ..Block::default()
+        };
+        assert_eq!(update, Update { blocks: &[hi], ranges: &[] });
+        assert!(zero(&l.rows[1..]) && zero(&l.ranges));
+        assert_eq!(content(form, bytes, 0), Ok(&b"hi"[..]));
+        assert_eq!(content(form, bytes, 0).unwrap().as_ptr(), bytes[text..].as_ptr());
+    }
+}
+
+#[test]
+fn delete_ranges_are_read() {
+    let mut l = lent(ROWS, ROWS, 0);
+    let update = read_update(1, &GONE, &mut l.rows, &mut l.ranges).unwrap();
+    let gc = Block { client: 5, clock: 2, length: Units(3), kind: GC, ..Block::default() };
+    let ranges = [Range { client: 7, clock: 3, length: 2 }, Range { client: 7, clock: 9, length: 1 }];
+    assert_eq!(update, Update { blocks: &[gc], ranges: &ranges });
+    assert!(zero(&l.rows[1..]) && zero(&l.ranges[2..]));
+}
+
+#[test]
+fn case_e_is_written() {
+    for (vector, expected) in [(&HAS_ONE, &E[..]), (&HAS_ALL, &[0x00, 0x00][..])] {
+        let mut l = lent(ROWS, ROWS, 64);
+        let diff = encode_diff(1, &C, vector, 1, &mut l.rows, &mut l.ranges, &mut l.out).unwrap();
+        assert_eq!((diff.bytes, diff.update.blocks.len()), (expected, 1));
+        assert!(zero(&l.rows[1..]) && zero(&l.ranges) && zero(&l.out[expected.len()..]));
+    }
+    let mut l = lent(ROWS, ROWS, 0);
+    let cut = read_update(1, &E, &mut l.rows, &mut l.ranges).unwrap().blocks[0];
+    assert_eq!((cut.clock, cut.left(), cut.name()), (1, Some(Id { client: 5, clock: 0 }), None));
+    assert_eq!(cut.part().unwrap().of(&E), Some(&b"i"[..]));
+}
+
+#[test]
+fn c_and_d_are_each_other_in_the_other_form() {
+    for (form, bytes, to, expected) in [(1, &C[..], 2, &D[..]), (2, &D[..], 1, &C[..])] {
+        let mut l = lent(ROWS, ROWS, 64);
+        assert_eq!(encode_update(form, bytes, to, &mut l.rows, &mut l.ranges, &mut l.out).unwrap().bytes, expected);
+        assert!(zero(&l.out[expected.len()..]));
+    }
+}
+
+#[test]
+fn case_m_is_sorted() {
+    const NINE: Pending = Pending { client: 9, waits_for: 5, reach: 0 };
+    const FIVE: Pending = Pending { client: 5, waits_for: 9, reach: 0 };
+    type Case = (&'static [u8], &'static [u64], &'static [(u64, u64)], &'static [Pending]);
+    let cases: [Case; 3] =
+        [(&BOTH, &[0, 1], &[(9, 1), (5, 1)], &[]), (&WITHOUT, &[], &[(5, 0)], &[FIVE]), (&RING, &[], &[(9, 0), (5, 0)], &[NINE, FIVE])];
+    for (update, order, clients, pending) in cases {
+        let mut l = lent(ROWS, ROWS, 0);
+        let sorted = sort(1, update, &EMPTY, &mut l.rows, &mut l.ranges, &mut l.order, &mut l.counts, &mut l.reaches, &mut l.pending).unwrap();
+        assert_eq!((sorted.order, sorted.pending), (order, pending));
+        assert_eq!(sorted.counts.iter().map(|c| (c.client, c.taken)).collect::<Vec<_>>(), clients);
+        assert_eq!(sorted.reaches.iter().map(|r| (r.client, r.clock)).collect::<Vec<_>>(), clients);
+        assert_eq!(sorted.update.blocks.len(), clients.len());
+        assert!(zero(&l.order[order.len()..]) && zero(&l.counts[clients.len()..]));
+        assert!(zero(&l.reaches[clients.len()..]) && zero(&l.pending[pending.len()..]));
+    }
+}
+
+#[test]
+fn case_c_is_listed() {
+    let input: Vec<u8> = [&[1][..], &C].concat();
+    let mut out = vec![0xa5; MAX_TEXT];
+    let text = list(&input, &mut out).unwrap();
+    assert_eq!(text, "update form 1 blocks 1 ranges 0\n5 0 2 text\nend\n");
+    let length = text.len();
+    assert!(zero(&out[length..]));
+    assert_eq!(list(&[], &mut out), Ok("refused 1\n"));
+    assert_eq!(list(&[1, 0, 0], &mut out), Ok("empty\n"));
+}
+
+#[test]
+fn a_vector_is_read() {
+    let mut rows = [Entry { client: 7, clock: 7 }; 2];
+    assert_eq!(read_state_vector(&HAS_ALL, &mut rows), Ok(&[Entry { client: 5, clock: 2 }][..]));
+    assert!(zero(&rows[1..]));
+}
+
+#[test]
+fn numbers_are_read_and_written() {
+    let mut out = [0xa5; 9];
+    for value in [0, 127, 128, 16383, 16384, MAX_UNSIGNED] {
+        let bytes = write_unsigned(&mut out, value).unwrap();
+        assert_eq!(read_unsigned(bytes, 0), Ok((value, bytes.len())));
+    }
+    for minus in [false, true] {
+        for magnitude in [0, 63, 64, MAX_SIGNED] {
+            let bytes = write_signed(&mut out, Signed { minus, magnitude }).unwrap();
+            assert_eq!(read_signed(bytes, 0), Ok((Signed { minus, magnitude }, bytes.len())));
+        }
+    }
+    assert_eq!(write_unsigned(&mut out, MAX_UNSIGNED + 1).unwrap_err().number(), 3);
+    assert!(zero(&out));
+}
+
+#[test]
+fn columns_are_read_and_written() {
+    let mut out = [0xa5; 16];
+    for (column, values) in [(&[0x40, 0x03][..], &[0, 0, 0, 0, 0][..]), (&[0x45, 0x00], &[5, 5])] {
+        let mut place = open_numbers(0);
+        for expected in values {
+            let (value, after) = next_number(column, place).unwrap();
+            assert_eq!(value, *expected);
+            place = after;
+        }
+        assert_eq!(next_number(column, place).unwrap_err().number(), 1);
+        assert_eq!(write_numbers(&mut out, values), Ok(column));
+    }
+    for (column, values) in [(&[0x03, 0x01][..], [1, 2, 3]), (&[0x0a, 0x41, 0x00], [5, 4, 3])] {
+        let mut place = open_differences(0);
+        for expected in values {
+            let (value, after) = next_difference(column, place).unwrap();
+            assert_eq!(u64::from(value), expected);
+            place = after;
+        }
+        assert_eq!(write_differences(&mut out, &values), Ok(column));
+    }
+    assert_eq!(next_difference(&[0x44], open_differences(0)).unwrap_err().number(), 3);
+    assert_eq!(write_bytes(&mut out, &[4, 4, 0]), Ok(&[0x04, 0x01, 0x00][..]));
+    let column = [0x03, 0x74, 0x68, 0x69, 0x01, 0x02];
+    assert_eq!(write_texts(&mut out, b"thi", &[1, 2]), Ok(&column[..]));
+    let (_, place) = next_text(&column, open_text(&column, 0).unwrap()).unwrap();
+    let (hi, place) = next_text(&column, place).unwrap();
+    assert_eq!(hi.as_ptr(), column[2..].as_ptr());
+    assert_eq!(next_text(&column, place).unwrap_err().number(), 1);
+}
+
+/// A place that no reading made is answered too: here past the column, where a text of no units is empty.
+#[test]
+fn a_place_past_the_column_has_no_text() {
+    let column = [0x00, 0x00];
+    let mut place = open_text(&column, 0).unwrap();
+    place.at = usize::MAX;
+    place.end = usize::MAX;
+    assert_eq!(next_text(&column, place).unwrap().0, b"");
+}
+
+/// The shortest blocks and ranges, as many as the bytes allow.
+#[test]
+fn rows_for_any_update() {
+    for n in [1, 127, 128, 16384, MAX_BLOCKS] {
+        let mut bytes = vec![1];
+        let mut number = [0; 9];
+        bytes.extend(write_unsigned(&mut number, n as u64).unwrap());
+        bytes.extend([5, 0]);
+        bytes.extend([0x00, 0x00].repeat(n));
+        bytes.extend([1, 7, 60]);
+        bytes.extend((0..60).flat_map(|i| [2 * i, 1]));
+        let (mut rows, mut ranges) = (rows_for(1, &bytes), ranges_for(&bytes));
+        let update = read_update(1, &bytes, &mut rows, &mut ranges).unwrap();
+        assert_eq!((update.blocks.len(), update.ranges.len()), (n, 60));
+    }
+    // form 2: 65,535 GCs of no length, out of runs
+    let bytes =
+        [0x00, 0x00, 0x01, 0x05, 0x00, 0x00, 0x01, 0x00, 0x01, 0x00, 0x00, 0x00, 0x04, 0x40, 0xfd, 0xff, 0x03, 0x01, 0xff, 0xff, 0x03, 0x00, 0x00];
+    let (mut rows, mut ranges) = (rows_for(2, &bytes), ranges_for(&bytes));
+    assert_eq!(read_update(2, &bytes, &mut rows, &mut ranges).unwrap().blocks.len(), MAX_BLOCKS);
+}

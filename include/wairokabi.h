@@ -1,0 +1,376 @@
+// The C interface of Wairokabi: reads, diffs, sorts and lists Yjs updates, proved. The functions are those of crates/capi, and tools/header-check holds
+// this file to them. What "proved" means, call by call, is in docs/PROMISES.md.
+//
+// What is promised. Every call answers every input, in the same way each time: it keeps no state, allocates nothing, reads and writes nothing but what
+// it is lent, and ends. An answer begins with its number: 0 for done, else why it is refused. On a refusal every other field of the answer is zero
+// (a refused `wairokabi_next_..` gives back its place), and so is all that was lent to be written. On 0 what is lent and not used is zero.
+//
+// What is asked, which C cannot say:
+// - A pointer with a count after it leads to that many elements (not bytes) of its type, aligned as C aligns it. It is not null, even if the count is 0.
+// - What is lent holds values of its type: a `bool` is 0 or 1. Memory that was set to zero does.
+// - What is lent to be written (no `const`) shares no byte with anything else that is lent to the same call.
+// Calls may run at the same time in several threads, each on what it alone is lent. `wairokabi_list` takes the most stack, about 128 KiB.
+//
+// Numbers that an answer begins with:
+//
+//  0  done
+//  1  bytes or a column end early
+//  2  the ninth byte of a number says more
+//  3  over a limit, or a clock out of range
+//  4  a client in two sections, or twice in a vector
+//  5  content number not 1, 3, 4
+//  6  not UTF-8
+//  7  units run past the text, or end in a pair
+//  8  kept blocks, non-empty delete ranges or order steps exceed the rows lent
+//  9  a cut, or a diff's, would fall inside a pair
+// 10  output needs more bytes than lent
+// 11  no block n, or it has no binary or text
+// 12  form not 1 or 2
+// 13  form 2, or a difference column, needs a difference outside -2^30 to 2^30-1
+#ifndef WAIROKABI_H
+#define WAIROKABI_H
+
+#include <stdbool.h>
+#include <stddef.h>
+#include <stdint.h>
+
+#ifdef __cplusplus
+extern "C" {
+#endif
+
+// Limits: an update's bytes; the entries of a state vector; the greatest number that `write_unsigned` and `write_signed` take, client ids and the
+// values of a number column, clocks and lengths; the bytes of an input of `list`, and those that no listing exceeds.
+#define WAIROKABI_MAX_UPDATE 16777215
+#define WAIROKABI_MAX_CLIENTS 64
+#define WAIROKABI_MAX_UNSIGNED 9223372036854775807
+#define WAIROKABI_MAX_SIGNED 4611686018427387903
+#define WAIROKABI_MAX_VALUE 9007199254740991
+#define WAIROKABI_MAX_CLOCK 2147483647
+#define WAIROKABI_MAX_INPUT 65536
+#define WAIROKABI_MAX_TEXT 100957
+
+// ---- what answers are made of
+
+// A length in UTF-16 units: two for a character from U+10000 up (a surrogate pair), one for any other.
+typedef struct wairokabi_units {
+    uint64_t count;
+} wairokabi_units;
+
+// A length in bytes.
+typedef struct wairokabi_bytes {
+    size_t count;
+} wairokabi_bytes;
+
+// A part of the bytes that were lent: its first byte's place in them, and its length.
+typedef struct wairokabi_part {
+    size_t place;
+    wairokabi_bytes bytes;
+} wairokabi_part;
+
+typedef struct wairokabi_id {
+    uint64_t client;
+    uint32_t clock;
+} wairokabi_id;
+
+// A row of the block table: one block. `has_left` says whether `left` is there, and so on; what is not there is zero. `part` is the stored part of a
+// binary or a text, zero for the others. A row that has no block is zero.
+typedef struct wairokabi_block {
+    uint64_t client;
+    uint32_t clock;
+    wairokabi_units length;
+    uint8_t kind;
+    bool has_left;
+    wairokabi_id left;
+    bool has_right;
+    wairokabi_id right;
+    bool has_parent;
+    wairokabi_id parent;
+    bool has_name;
+    wairokabi_part name;
+    bool has_key;
+    wairokabi_part key;
+    wairokabi_part part;
+} wairokabi_block;
+
+// What a block's `kind` says.
+#define WAIROKABI_GC 1
+#define WAIROKABI_SKIP 2
+#define WAIROKABI_DELETED 3
+#define WAIROKABI_BINARY 4
+#define WAIROKABI_TEXT 5
+
+// How many bytes were written.
+typedef struct wairokabi_written {
+    uint8_t number;
+    size_t bytes;
+} wairokabi_written;
+
+// ---- updates
+
+// How many blocks and how many delete ranges were read.
+typedef struct wairokabi_update {
+    uint8_t number;
+    size_t blocks;
+    size_t ranges;
+} wairokabi_update;
+
+// Reads an update of form 1 or 2. The blocks kept stand in `rows` in reading order, one a row; the delete ranges in normal form (highest client first,
+// clocks rising, none empty, none touching) in `ranges`, three words each: client, clock, length. 12, 3, then the first refusal of reading: 1 to 8.
+wairokabi_update wairokabi_read_update(
+    uint8_t form,
+    const uint8_t *update, size_t update_count,
+    wairokabi_block *rows, size_t rows_count,
+    uint64_t *ranges, size_t ranges_count);
+
+// Where a part lies in the update.
+typedef struct wairokabi_where {
+    uint8_t number;
+    wairokabi_part part;
+} wairokabi_where;
+
+// Where the text or binary of block n, from 0 in reading order, lies in the update: always inside it. 12, 3, reading's, then 11.
+wairokabi_where wairokabi_content(
+    uint8_t form,
+    const uint8_t *update, size_t update_count,
+    size_t n);
+
+// How many bytes were written, and how many blocks and delete ranges were read.
+typedef struct wairokabi_diff {
+    uint8_t number;
+    size_t bytes;
+    size_t blocks;
+    size_t ranges;
+} wairokabi_diff;
+
+// Writes into `out`, in the form `to`, what an update has beyond a state vector, with its whole delete set. Both tables are filled as `read_update`
+// fills them. 12 (either form), reading's, the vector's, then 9, 13, 10.
+wairokabi_diff wairokabi_encode_diff(
+    uint8_t form,
+    const uint8_t *update, size_t update_count,
+    const uint8_t *vector, size_t vector_count,
+    uint8_t to,
+    wairokabi_block *rows, size_t rows_count,
+    uint64_t *ranges, size_t ranges_count,
+    uint8_t *out, size_t out_count);
+
+// Writes an update whole in the form `to`: the diff against a vector that names no client.
+wairokabi_diff wairokabi_encode_update(
+    uint8_t form,
+    const uint8_t *update, size_t update_count,
+    uint8_t to,
+    wairokabi_block *rows, size_t rows_count,
+    uint64_t *ranges, size_t ranges_count,
+    uint8_t *out, size_t out_count);
+
+// How many blocks are taken, how many clients each report names, and how many blocks and delete ranges were read.
+typedef struct wairokabi_sorted {
+    uint8_t number;
+    size_t steps;
+    size_t counts;
+    size_t reaches;
+    size_t pending;
+    size_t blocks;
+    size_t ranges;
+} wairokabi_sorted;
+
+// Sorts an update's blocks against a state vector into those that can be applied and those that wait. `order` has the numbers of the blocks that are
+// taken, each step taking the highest client whose front is ready, one word a block. Then, highest client first: in `counts` each client with blocks
+// and how many of them are taken, two words a client; in `reaches` each of these and of the vector's clients and how far it reaches, two words; in
+// `pending` each client with blocks left, the client of its first unmet dependency, and how far that reaches, three words. Both tables are filled as
+// `read_update` fills them. 12, 3, reading's, the vector's, then 8 for the order and 10 for a report.
+wairokabi_sorted wairokabi_sort(
+    uint8_t form,
+    const uint8_t *update, size_t update_count,
+    const uint8_t *vector, size_t vector_count,
+    wairokabi_block *rows, size_t rows_count,
+    uint64_t *ranges, size_t ranges_count,
+    uint64_t *order, size_t order_count,
+    uint64_t *counts, size_t counts_count,
+    uint64_t *reaches, size_t reaches_count,
+    uint64_t *pending, size_t pending_count);
+
+// Writes the listing of an update as text. `input` is a form byte, then the update. A refusal of reading is text too (`refused N`); 10 where the text
+// does not fit, which never happens with WAIROKABI_MAX_TEXT bytes.
+wairokabi_written wairokabi_list(
+    const uint8_t *input, size_t input_count,
+    uint8_t *out, size_t out_count);
+
+// How many entries were read.
+typedef struct wairokabi_vector {
+    uint8_t number;
+    size_t count;
+} wairokabi_vector;
+
+// Reads a state vector: its entries in reading order, two words each: client, clock. 1, 2, 3, 4, then 10.
+wairokabi_vector wairokabi_read_state_vector(
+    const uint8_t *vector, size_t vector_count,
+    uint64_t *out, size_t out_count);
+
+// ---- numbers
+
+// A number, and the place after it.
+typedef struct wairokabi_unsigned {
+    uint8_t number;
+    uint64_t value;
+    size_t next;
+} wairokabi_unsigned;
+
+// Reads the unsigned number whose bytes begin at `at`. 1, 2.
+wairokabi_unsigned wairokabi_read_unsigned(const uint8_t *s, size_t s_count, size_t at);
+
+// A sign and a size, minus zero too, and the place after them.
+typedef struct wairokabi_signed {
+    uint8_t number;
+    bool minus;
+    uint64_t magnitude;
+    size_t next;
+} wairokabi_signed;
+
+// Reads the signed number whose bytes begin at `at`. 1, 2.
+wairokabi_signed wairokabi_read_signed(const uint8_t *s, size_t s_count, size_t at);
+
+// Writes the shortest spelling. 3 above WAIROKABI_MAX_UNSIGNED, 10.
+wairokabi_written wairokabi_write_unsigned(uint8_t *out, size_t out_count, uint64_t value);
+
+// Writes the shortest spelling, minus zero too. 3 above WAIROKABI_MAX_SIGNED, 10.
+wairokabi_written wairokabi_write_signed(uint8_t *out, size_t out_count, bool minus, uint64_t magnitude);
+
+// ---- text
+
+typedef struct wairokabi_counted {
+    uint8_t number;
+    wairokabi_units units;
+} wairokabi_counted;
+
+// How many UTF-16 units a UTF-8 text has. 6.
+wairokabi_counted wairokabi_count_units(const uint8_t *text, size_t text_count);
+
+typedef struct wairokabi_cut {
+    uint8_t number;
+    wairokabi_bytes bytes;
+} wairokabi_cut;
+
+// How many bytes the whole characters from `at` on take that use exactly these units. 7, also at a byte that cannot stand there; what follows the last
+// character taken is not looked at.
+wairokabi_cut wairokabi_take_text(const uint8_t *text, size_t text_count, size_t at, wairokabi_units units);
+
+// How many bytes stand before a cut after so many units. 6, 7 past the text, 9 inside a pair.
+wairokabi_cut wairokabi_cut_text(const uint8_t *text, size_t text_count, wairokabi_units units);
+
+// ---- columns, read: from a place to the next. A place is a plain value: keep it, copy it, read from it again. Only `open` and `next` make one; any
+// other is answered too, by what its fields say.
+
+// The next byte, the run's first byte, its value, and how often that still stands.
+typedef struct wairokabi_number_place {
+    size_t at;
+    size_t from;
+    uint64_t last;
+    uint32_t count;
+} wairokabi_number_place;
+
+// The place before the first value of a number column that begins at `at`.
+wairokabi_number_place wairokabi_open_numbers(size_t at);
+
+typedef struct wairokabi_number_next {
+    uint8_t number;
+    uint64_t value;
+    wairokabi_number_place place;
+} wairokabi_number_next;
+
+// The next value of a number column, and the place after it. 1, 2, 3.
+wairokabi_number_next wairokabi_next_number(const uint8_t *column, size_t column_count, wairokabi_number_place place);
+
+// The next byte, the run's first byte, the value before, the difference plus 2^31, and how often it still applies.
+typedef struct wairokabi_difference_place {
+    size_t at;
+    size_t from;
+    uint32_t last;
+    uint32_t key;
+    uint32_t count;
+} wairokabi_difference_place;
+
+// The place before the first value of a difference column that begins at `at`.
+wairokabi_difference_place wairokabi_open_differences(size_t at);
+
+typedef struct wairokabi_difference_next {
+    uint8_t number;
+    uint32_t value;
+    wairokabi_difference_place place;
+} wairokabi_difference_next;
+
+// The next value of a difference column, and the place after it. 1, 2, 3.
+wairokabi_difference_next wairokabi_next_difference(const uint8_t *column, size_t column_count, wairokabi_difference_place place);
+
+// The next byte, the run's first byte, its value, and how often that still stands, or that it stands without end.
+typedef struct wairokabi_byte_place {
+    size_t at;
+    size_t from;
+    uint8_t last;
+    uint32_t count;
+    bool endless;
+} wairokabi_byte_place;
+
+// The place before the first value of a byte column that begins at `at`.
+wairokabi_byte_place wairokabi_open_bytes(size_t at);
+
+typedef struct wairokabi_byte_next {
+    uint8_t number;
+    uint8_t value;
+    wairokabi_byte_place place;
+} wairokabi_byte_next;
+
+// The next value of a byte column, and the place after it; the last value, if it has no count, without end. 1, 2, 3.
+wairokabi_byte_next wairokabi_next_byte(const uint8_t *column, size_t column_count, wairokabi_byte_place place);
+
+// The next text's first byte, the end of all texts, and the place of the next unit length.
+typedef struct wairokabi_string_place {
+    size_t at;
+    size_t end;
+    wairokabi_number_place units;
+} wairokabi_string_place;
+
+typedef struct wairokabi_text_opened {
+    uint8_t number;
+    wairokabi_string_place place;
+} wairokabi_text_opened;
+
+// The place before the first text of a text column that begins at `at`. 1, 2, 6.
+wairokabi_text_opened wairokabi_open_text(const uint8_t *column, size_t column_count, size_t at);
+
+typedef struct wairokabi_text_next {
+    uint8_t number;
+    wairokabi_part part;
+    wairokabi_string_place place;
+} wairokabi_text_next;
+
+// Where the next text lies in a text column, and the place after it. 1, 2, 3, 7.
+wairokabi_text_next wairokabi_next_text(const uint8_t *column, size_t column_count, wairokabi_string_place place);
+
+// ---- columns, written, in the longest runs
+
+// A number column. 3, 10.
+wairokabi_written wairokabi_write_numbers(
+    uint8_t *out, size_t out_count,
+    const uint64_t *values, size_t values_count);
+
+// A difference column of clocks. 3, 13, 10.
+wairokabi_written wairokabi_write_differences(
+    uint8_t *out, size_t out_count,
+    const uint64_t *values, size_t values_count);
+
+// A byte column, its last run without a count. 3, 10.
+wairokabi_written wairokabi_write_bytes(
+    uint8_t *out, size_t out_count,
+    const uint8_t *values, size_t values_count);
+
+// A text column: the text whole, left-over characters too, then the units of each text. 6, 3, 7, 10.
+wairokabi_written wairokabi_write_texts(
+    uint8_t *out, size_t out_count,
+    const uint8_t *text, size_t text_count,
+    const uint64_t *units, size_t units_count);
+
+#ifdef __cplusplus
+}
+#endif
+
+#endif

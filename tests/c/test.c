@@ -1,0 +1,279 @@
+// Links the proved library by its header and holds it to document 01's cases C, D, E and M, to refusals, and each other call to one worked case.
+// What it shows is that C and the library agree on names, parameters and layouts; what the calls answer is proved.
+#include "wairokabi.h"
+
+#include <stdio.h>
+#include <string.h>
+
+#define ROWS 4
+#define WORDS 9
+#define ROOM 64
+
+static const uint8_t C[] = {0x01, 0x01, 0x05, 0x00, 0x04, 0x01, 0x01, 0x74, 0x02, 0x68, 0x69, 0x00};
+static const uint8_t D[] = {0x00, 0x00, 0x01, 0x05, 0x00, 0x00, 0x01, 0x04, 0x06, 0x03, 0x74, 0x68,
+                            0x69, 0x01, 0x02, 0x01, 0x01, 0x00, 0x00, 0x01, 0x01, 0x00, 0x00};
+static const uint8_t E[] = {0x01, 0x01, 0x05, 0x01, 0x84, 0x05, 0x00, 0x01, 0x69, 0x00};
+static const uint8_t EMPTY[] = {0x00, 0x00};
+static const uint8_t HAS_ONE[] = {0x01, 0x05, 0x01};
+static const uint8_t HAS_ALL[] = {0x01, 0x05, 0x02};
+// a GC of client 5, and client 7's ids 3 and 4 deleted
+static const uint8_t GONE[] = {0x01, 0x01, 0x05, 0x02, 0x00, 0x03, 0x01, 0x07, 0x01, 0x03, 0x02};
+
+static wairokabi_block rows[ROWS];
+static uint64_t words[WORDS];
+static uint8_t out[ROOM];
+
+static int failed, tried;
+
+static void expect(bool holds, int line, const char *what) {
+    tried++;
+    if (!holds) {
+        failed++;
+        printf("line %d: %s\n", line, what);
+    }
+}
+
+#define EXPECT(x) expect(x, __LINE__, #x)
+
+// Nothing that is lent is zero before a call, so that zeros after it mean something.
+static void fill(void) {
+    const wairokabi_part part = {3, {4}};
+    const wairokabi_id id = {5, 6};
+    for (size_t i = 0; i < ROWS; i++)
+        rows[i] = (wairokabi_block){1, 2, {7}, WAIROKABI_TEXT, true, id, true, id, true, id, true, part, true, part, part};
+    memset(words, 0xa5, sizeof words);
+    memset(out, 0xa5, sizeof out);
+}
+
+static bool zero_bytes(const uint8_t *s, size_t from, size_t to) {
+    for (; from < to; from++)
+        if (s[from] != 0)
+            return false;
+    return true;
+}
+
+static bool zero_words(size_t from) {
+    for (; from < WORDS; from++)
+        if (words[from] != 0)
+            return false;
+    return true;
+}
+
+static bool same_words(const uint64_t *a, const uint64_t *b, size_t count) {
+    return memcmp(a, b, count * sizeof *a) == 0;
+}
+
+static bool same_id(wairokabi_id a, uint64_t client, uint32_t clock) {
+    return a.client == client && a.clock == clock;
+}
+
+static bool same_part(wairokabi_part a, size_t place, size_t bytes) {
+    return a.place == place && a.bytes.count == bytes;
+}
+
+// A block of client 5 that no id leads to and that no key names.
+static bool alone(const wairokabi_block *b, uint32_t clock, uint64_t length, uint8_t kind) {
+    return b->client == 5 && b->clock == clock && b->length.count == length && b->kind == kind && !b->has_left && same_id(b->left, 0, 0) && !b->has_right &&
+           same_id(b->right, 0, 0) && !b->has_parent && same_id(b->parent, 0, 0) && !b->has_key && same_part(b->key, 0, 0);
+}
+
+// Client 5, clock 0, parent "t", text "hi", at these places.
+static bool is_hi(const wairokabi_block *b, size_t name, size_t text) {
+    return alone(b, 0, 2, WAIROKABI_TEXT) && b->has_name && same_part(b->name, name, 1) && same_part(b->part, text, 2);
+}
+
+static bool zero_rows(size_t from) {
+    for (; from < ROWS; from++) {
+        const wairokabi_block *b = &rows[from];
+        if (b->client != 0 || b->clock != 0 || b->length.count != 0 || b->kind != 0 || b->has_left || !same_id(b->left, 0, 0) || b->has_right ||
+            !same_id(b->right, 0, 0) || b->has_parent || !same_id(b->parent, 0, 0) || b->has_name || !same_part(b->name, 0, 0) || b->has_key ||
+            !same_part(b->key, 0, 0) || !same_part(b->part, 0, 0))
+            return false;
+    }
+    return true;
+}
+
+static wairokabi_update read_update(uint8_t form, const uint8_t *update, size_t count, size_t lent) {
+    fill();
+    return wairokabi_read_update(form, update, count, rows, lent, words, WORDS);
+}
+
+static wairokabi_diff encode_diff(uint8_t form, const uint8_t *update, size_t count, const uint8_t *vector, size_t entries, uint8_t to, size_t room) {
+    fill();
+    return wairokabi_encode_diff(form, update, count, vector, entries, to, rows, ROWS, words, WORDS, out, room);
+}
+
+static bool wrote(size_t bytes, const uint8_t *expected, size_t count) {
+    return bytes == count && memcmp(out, expected, count) == 0 && zero_bytes(out, count, ROOM);
+}
+
+static void reads(void) {
+    wairokabi_update u = read_update(1, C, sizeof C, ROWS);
+    EXPECT(u.number == 0 && u.blocks == 1 && u.ranges == 0);
+    EXPECT(is_hi(&rows[0], 7, 9) && zero_rows(1) && zero_words(0));
+    u = read_update(2, D, sizeof D, ROWS);
+    EXPECT(u.number == 0 && u.blocks == 1 && u.ranges == 0);
+    EXPECT(is_hi(&rows[0], 10, 11) && zero_rows(1) && zero_words(0));
+    u = read_update(1, GONE, sizeof GONE, ROWS);
+    EXPECT(u.number == 0 && u.blocks == 1 && u.ranges == 1);
+    EXPECT(alone(&rows[0], 2, 3, WAIROKABI_GC) && !rows[0].has_name && zero_rows(1));
+    EXPECT(words[0] == 7 && words[1] == 3 && words[2] == 2 && zero_words(3));
+    wairokabi_where w = wairokabi_content(1, C, sizeof C, 0);
+    EXPECT(w.number == 0 && same_part(w.part, 9, 2));
+    w = wairokabi_content(2, D, sizeof D, 0);
+    EXPECT(w.number == 0 && same_part(w.part, 11, 2));
+}
+
+// A left id comes back through the row's middle: case E, read again, is the cut block.
+static void diffs(void) {
+    wairokabi_diff d = encode_diff(1, C, sizeof C, HAS_ONE, sizeof HAS_ONE, 1, ROOM);
+    EXPECT(d.number == 0 && d.blocks == 1 && d.ranges == 0 && wrote(d.bytes, E, sizeof E));
+    EXPECT(is_hi(&rows[0], 7, 9) && zero_rows(1) && zero_words(0));
+    wairokabi_update u = read_update(1, E, sizeof E, ROWS);
+    EXPECT(u.number == 0 && u.blocks == 1 && rows[0].clock == 1 && rows[0].has_left && same_id(rows[0].left, 5, 0) && same_part(rows[0].part, 8, 1));
+    d = encode_diff(1, C, sizeof C, HAS_ALL, sizeof HAS_ALL, 1, ROOM);
+    EXPECT(d.number == 0 && d.blocks == 1 && d.ranges == 0 && wrote(d.bytes, EMPTY, sizeof EMPTY));
+    fill();
+    d = wairokabi_encode_update(1, C, sizeof C, 2, rows, ROWS, words, WORDS, out, ROOM);
+    EXPECT(d.number == 0 && d.blocks == 1 && d.ranges == 0 && wrote(d.bytes, D, sizeof D));
+    fill();
+    d = wairokabi_encode_update(2, D, sizeof D, 1, rows, ROWS, words, WORDS, out, ROOM);
+    EXPECT(d.number == 0 && d.blocks == 1 && d.ranges == 0 && wrote(d.bytes, C, sizeof C));
+}
+
+static void refusals(void) {
+    for (size_t count = 0; count < sizeof C; count++) {
+        const wairokabi_update u = read_update(1, C, count, ROWS);
+        EXPECT(u.number == 1 && u.blocks == 0 && u.ranges == 0 && zero_rows(0) && zero_words(0));
+    }
+    wairokabi_update u = read_update(3, C, sizeof C, ROWS);
+    EXPECT(u.number == 12 && zero_rows(0) && zero_words(0));
+    u = read_update(1, C, sizeof C, 0);
+    EXPECT(u.number == 8 && u.blocks == 0 && zero_words(0) && rows[0].clock == 2);
+    wairokabi_diff d = encode_diff(1, C, sizeof C, HAS_ONE, sizeof HAS_ONE, 1, sizeof E - 1);
+    EXPECT(d.number == 10 && d.bytes == 0 && d.blocks == 0 && zero_rows(0) && zero_words(0));
+    EXPECT(zero_bytes(out, 0, sizeof E - 1) && out[sizeof E - 1] == 0xa5);
+    d = encode_diff(1, C, sizeof C, HAS_ONE, 2, 1, ROOM);
+    EXPECT(d.number == 1 && d.bytes == 0 && zero_rows(0) && zero_bytes(out, 0, ROOM));
+    const wairokabi_where w = wairokabi_content(1, C, sizeof C, 1);
+    EXPECT(w.number == 11 && same_part(w.part, 0, 0));
+}
+
+// Case M: 5's block has left id (9,0). With 9's block both are taken, 9's first; without it 5 waits for 9, at reach 0.
+static void sorts(void) {
+    static const uint8_t both[] = {0x02, 0x01, 0x09, 0x00, 0x04, 0x01, 0x01, 0x74, 0x01, 0x61, 0x01, 0x05, 0x00, 0x84, 0x09, 0x00, 0x01, 0x62, 0x00};
+    static const uint8_t waits[] = {0x01, 0x01, 0x05, 0x00, 0x84, 0x09, 0x00, 0x01, 0x62, 0x00}, none[] = {0x00};
+    uint64_t order[3] = {7, 7, 7}, counts[6] = {7, 7, 7, 7, 7, 7}, reaches[6] = {7, 7, 7, 7, 7, 7}, pending[6] = {7, 7, 7, 7, 7, 7};
+    fill();
+    wairokabi_sorted s = wairokabi_sort(1, both, sizeof both, none, sizeof none, rows, ROWS, words, WORDS, order, 3, counts, 6, reaches, 6, pending, 6);
+    EXPECT(s.number == 0 && s.steps == 2 && s.counts == 2 && s.reaches == 2 && s.pending == 0 && s.blocks == 2 && s.ranges == 0);
+    EXPECT(rows[0].client == 9 && rows[1].client == 5 && same_id(rows[1].left, 9, 0) && zero_rows(2) && zero_words(0));
+    EXPECT(same_words(order, (uint64_t[]){0, 1, 0}, 3) && same_words(counts, (uint64_t[]){9, 1, 5, 1, 0, 0}, 6));
+    EXPECT(same_words(reaches, (uint64_t[]){9, 1, 5, 1, 0, 0}, 6) && same_words(pending, (uint64_t[]){0, 0, 0, 0, 0, 0}, 6));
+    fill();
+    s = wairokabi_sort(1, waits, sizeof waits, none, sizeof none, rows, ROWS, words, WORDS, order, 3, counts, 6, reaches, 6, pending, 6);
+    EXPECT(s.number == 0 && s.steps == 0 && s.counts == 1 && s.reaches == 1 && s.pending == 1 && s.blocks == 1 && s.ranges == 0);
+    EXPECT(same_words(order, (uint64_t[]){0, 0, 0}, 3) && same_words(counts, (uint64_t[]){5, 0, 0, 0, 0, 0}, 6));
+    EXPECT(same_words(reaches, (uint64_t[]){5, 0, 0, 0, 0, 0}, 6) && same_words(pending, (uint64_t[]){5, 9, 0, 0, 0, 0}, 6));
+    s = wairokabi_sort(1, both, sizeof both, none, sizeof none, rows, ROWS, words, WORDS, order, 1, counts, 6, reaches, 6, pending, 6);
+    EXPECT(s.number == 8 && s.steps == 0 && s.blocks == 0 && zero_rows(0) && order[0] == 0 && counts[0] == 0);
+}
+
+static void others(void) {
+    static const uint8_t input[] = {0x01, 0x01, 0x01, 0x05, 0x00, 0x04, 0x01, 0x01, 0x74, 0x02, 0x68, 0x69, 0x00};
+    static const char listing[] = "update form 1 blocks 1 ranges 0\n5 0 2 text\nend\n";
+    fill();
+    wairokabi_written w = wairokabi_list(input, sizeof input, out, ROOM);
+    EXPECT(w.number == 0 && wrote(w.bytes, (const uint8_t *)listing, sizeof listing - 1));
+    fill();
+    const wairokabi_vector v = wairokabi_read_state_vector(HAS_ALL, sizeof HAS_ALL, words, WORDS);
+    EXPECT(v.number == 0 && v.count == 1 && words[0] == 5 && words[1] == 2 && zero_words(2));
+}
+
+static void numbers(void) {
+    static const uint8_t number[] = {0x80, 0x01, 0x40};
+    const wairokabi_unsigned n = wairokabi_read_unsigned(number, sizeof number, 0);
+    EXPECT(n.number == 0 && n.value == 128 && n.next == 2);
+    const wairokabi_signed minus = wairokabi_read_signed(number, sizeof number, 2);
+    EXPECT(minus.number == 0 && minus.minus && minus.magnitude == 0 && minus.next == 3);
+    fill();
+    wairokabi_written w = wairokabi_write_unsigned(out, ROOM, 128);
+    EXPECT(w.number == 0 && wrote(w.bytes, number, 2));
+    fill();
+    w = wairokabi_write_signed(out, ROOM, true, 0);
+    EXPECT(w.number == 0 && wrote(w.bytes, number + 2, 1));
+    w = wairokabi_write_unsigned(out, ROOM, (uint64_t)WAIROKABI_MAX_UNSIGNED + 1);
+    EXPECT(w.number == 3 && w.bytes == 0 && zero_bytes(out, 0, ROOM));
+}
+
+// U+1F600 takes four bytes and two units: case L.
+static void texts(void) {
+    static const uint8_t face[] = {0xf0, 0x9f, 0x98, 0x80, 0x61};
+    const wairokabi_counted c = wairokabi_count_units(face, sizeof face);
+    EXPECT(c.number == 0 && c.units.count == 3);
+    wairokabi_cut t = wairokabi_take_text(face, sizeof face, 4, (wairokabi_units){1});
+    EXPECT(t.number == 0 && t.bytes.count == 1);
+    t = wairokabi_cut_text(face, sizeof face, (wairokabi_units){2});
+    EXPECT(t.number == 0 && t.bytes.count == 4);
+    t = wairokabi_cut_text(face, sizeof face, (wairokabi_units){1});
+    EXPECT(t.number == 9 && t.bytes.count == 0);
+}
+
+// Cases F, H, K and, for the texts, the text column of D: each column read to its end, and written again.
+static void columns(void) {
+    static const uint8_t zeros[] = {0x40, 0x03}, steps[] = {0x03, 0x01}, bytes[] = {0x04, 0x01, 0x00}, column[] = {0x03, 0x74, 0x68, 0x69, 0x01, 0x02};
+    wairokabi_number_next n = {0, 0, wairokabi_open_numbers(0)};
+    for (int i = 0; i < 5; i++) {
+        n = wairokabi_next_number(zeros, sizeof zeros, n.place);
+        EXPECT(n.number == 0 && n.value == 0);
+    }
+    const wairokabi_number_place kept = n.place;
+    n = wairokabi_next_number(zeros, sizeof zeros, n.place);
+    EXPECT(n.number == 1 && n.value == 0 && n.place.at == kept.at && n.place.from == kept.from && n.place.last == kept.last && n.place.count == kept.count);
+    wairokabi_difference_next d = {0, 0, wairokabi_open_differences(0)};
+    for (uint32_t i = 1; i <= 3; i++) {
+        d = wairokabi_next_difference(steps, sizeof steps, d.place);
+        EXPECT(d.number == 0 && d.value == i);
+    }
+    EXPECT(wairokabi_next_difference(steps, sizeof steps, d.place).number == 1);
+    wairokabi_byte_next b = {0, 0, wairokabi_open_bytes(0)};
+    for (int i = 0; i < 9; i++) {
+        b = wairokabi_next_byte(bytes, sizeof bytes, b.place);
+        EXPECT(b.number == 0 && b.value == (i < 2 ? 4 : 0) && b.place.endless == (i >= 2));
+    }
+    const wairokabi_text_opened o = wairokabi_open_text(column, sizeof column, 0);
+    EXPECT(o.number == 0);
+    wairokabi_text_next t = wairokabi_next_text(column, sizeof column, o.place);
+    EXPECT(t.number == 0 && same_part(t.part, 1, 1));
+    t = wairokabi_next_text(column, sizeof column, t.place);
+    EXPECT(t.number == 0 && same_part(t.part, 2, 2));
+    EXPECT(wairokabi_next_text(column, sizeof column, t.place).number == 1);
+
+    static const uint64_t five[5] = {0}, three[] = {1, 2, 3}, units[] = {1, 2};
+    static const uint8_t values[] = {4, 4, 0};
+    fill();
+    wairokabi_written w = wairokabi_write_numbers(out, ROOM, five, 5);
+    EXPECT(w.number == 0 && wrote(w.bytes, zeros, sizeof zeros));
+    fill();
+    w = wairokabi_write_differences(out, ROOM, three, 3);
+    EXPECT(w.number == 0 && wrote(w.bytes, steps, sizeof steps));
+    fill();
+    w = wairokabi_write_bytes(out, ROOM, values, 3);
+    EXPECT(w.number == 0 && wrote(w.bytes, bytes, sizeof bytes));
+    fill();
+    w = wairokabi_write_texts(out, ROOM, column + 1, 3, units, 2);
+    EXPECT(w.number == 0 && wrote(w.bytes, column, sizeof column));
+}
+
+int main(void) {
+    reads();
+    diffs();
+    sorts();
+    refusals();
+    others();
+    numbers();
+    texts();
+    columns();
+    printf("c test: %d held, %d not\n", tried - failed, failed);
+    return failed != 0;
+}
