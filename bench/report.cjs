@@ -95,7 +95,7 @@ const inputs = fs.readdirSync(path.join(out, 'inputs')).sort().map(f => fs.readF
 const machine = table(['', ''], [
   ['date', new Date().toISOString().slice(0, 16).replace('T', ' ') + ' UTC'],
   ['machine', `${os.cpus()[0].model}, ${os.cpus().length} cores, ${Math.round(os.totalmem() / 2 ** 30)} GiB, ${os.arch()}, Linux ${os.release()}${says('systemd-detect-virt') === 'none' ? '' : ' (virtual)'}`],
-  ['ours', `commit ${says('git rev-parse --short HEAD')}, target/native/libwairokabi.a, sha256 ${sha(fs.readFileSync('target/native/libwairokabi.a'))}..`],
+  ['ours', `commit ${says('git rev-parse --short HEAD')}${says('git status --porcelain crates') === '' ? '' : ' with changes'}, target/native/libwairokabi.a, sha256 ${sha(fs.readFileSync('target/native/libwairokabi.a'))}..`],
   ['Rust', `yrs 0.28.0's text with stand-ins (bench/yrs), ${says('rustc --version')}, opt-level 3`],
   ['Yjs', `${version('yjs')}, lib0 ${version('lib0')}, node ${process.version}`],
   ['driver', `${says(`${process.env.CC || 'cc'} --version`).split('\n')[0]}, -O2`],
