@@ -1,4 +1,4 @@
--- Demand 3 of document 01, of a sort that is done: what its words say of every allowed order.
+-- The user's demand 3, of a sort that is done: what its words say of every allowed order.
 use Prim.Native.Nat.{ℕ, _≤_, _<_}
 use mathlib.Core.Path.{_≡_}
 use mathlib.Core.Logic.{_≢_}
