@@ -6,6 +6,7 @@ use Rattle.numbers.specs.declared.Refusal.{Refusal}
 use Rattle.numbers.specs.Number.{pick, none}
 use Rattle.block.specs.declared.Block.{Block}
 use Rattle.block.specs.Row.{noBlock}
+use Rattle.block.specs.Kinds.{BINARY}
 use Rattle.decoder.specs.Course.{Course, item, over, stopped, ending}
 use Rattle.update.specs.declared.Begun.{Begun}
 use Rattle.update.specs.declared.Begun.the-variants as begun
@@ -30,7 +31,7 @@ scannedOf n c = ending c (λ s. scanned.Row (nth n c) s) (λ why. scanned.Refuse
 
 -- a binary (4) or a text (5)
 unfoldable pub stored : Block → Found
-stored b = pick (ltb (b .kind) 4) (Refused (record { number = 11; place = 0 })) (Part (b .part))
+stored b = pick (ltb (b .kind) BINARY) (Refused (record { number = 11; place = 0 })) (Part (b .part))
 
 unfoldable pub contentOf : ℕ → List ℕ → ℕ → Found
 contentOf form u n =

@@ -20,7 +20,7 @@ use Rattle.numbers.specs.Limits.{maxValue, maxClock, maxClients, maxCount, maxB
 use Rattle.text.specs.declared.Part.{Part}
 use Rattle.text.specs.declared.Taken.{Taken}
 use Rattle.text.specs.declared.Taken.the-variants as taken
-use Rattle.text.specs.Utf8.{wellFormed, takeUnits, unitsOf, sum, chars, charsFrom, took}
+use Rattle.text.specs.Utf8.{wellFormed, takeUnits, unitsOf, widths, chars, charsFrom, took}
 use Rattle.text.proofs.Cutting.{cut}
 use Rattle.columns.specs.declared.number.Place as number-place
 use Rattle.columns.specs.declared.number.Answer as number-answer
@@ -104,7 +104,7 @@ module _ (u : List ℕ) where
 
   -- k bytes of the texts from `at` on
   in-texts : (to at end w k : ℕ) → takeUnits 7 w (slice at end (take to u)) ≡ took k → (at + k ≤ length u) ⊎ (w ≡ 0)
-  unfolding unitsOf sum chars charsFrom
+  unfolding unitsOf widths chars charsFrom
   in-texts to at end w zero e = inr (sym (cut 7 w 0 (slice at end (take to u)) e .units))
   in-texts to at end w (suc k) e =
       let c = cut 7 w (suc k) (slice at end (take to u)) e .within in

@@ -12,7 +12,8 @@ use Rattle.block.specs.declared.Block.{Block}
 use Rattle.block.specs.Row.{noBlock}
 use Rattle.tokens.specs.Tokens.{Token}
 use Rattle.kept.specs.declared.cursor.Cursor.{Cursor}
-use Rattle.kept.specs.Plan.{Planned, Stop, stop, planned, plannedFrom, onward, stopsOf, noUnits, noBytes, nowhere, atEnd, openedAt, advanced}
+use Rattle.kept.specs.Plan.{Stop, stop, planned, plannedFrom, onward, stopsOf, noUnits, noBytes, nowhere, atEnd, openedAt, advanced}
+use Rattle.kept.proofs.Words.{sections-here, sections-ended}
 use Rattle.records.specs.Stops.{rowTokens, stopsTokens}
 
 -- the rows from the cursor on
@@ -21,24 +22,6 @@ ahead w n c = stop (c .row) (c .from .0) (c .skip .0) (c .head) ∷ (onward (c .
 
 unfoldable pub stopsAt : List ℕ → ℕ → Cursor → List Stop
 stopsAt w n c = pick (eqb (c .row) nowhere) [] (ahead w n c)
-
--- the sections from section k on: the first of them, and those after it
-first-of : (w : List ℕ) (n k : ℕ) → k < n → plannedFrom w k (n - k) ≡ planned w k ∷ plannedFrom w (k + 1) (n - (k + 1))
-unfolding plannedFrom
-first-of w n k l = go (n - k) refl
-  where
-    go : (m : ℕ) → n - k ≡ m → plannedFrom w k m ≡ planned w k ∷ plannedFrom w (k + 1) (n - (k + 1))
-    go zero e = absurd (omega (arith, e, l))
-    go (suc m) e =
-        let q : m ≡ n - (k + 1) = omega (arith, e) in
-        let r : suc k ≡ k + 1 = omega arith in
-        ap (λ (ps : List Planned). planned w k ∷ ps) (rw (q, r))
-
-none-of : (w : List ℕ) (n k : ℕ) → n ≤ k → plannedFrom w k (n - k) ≡ []
-unfolding plannedFrom
-none-of w n k l =
-    let q : n - k ≡ 0 = omega (arith, l) in
-    rw q
 
 -- where the cursor stands at the first row of section k
 abbrev startOf : List ℕ → ℕ → Cursor
@@ -56,7 +39,7 @@ opened-end w n k l = rw (le-ltb k n l)
 
 ahead-first : (w : List ℕ) (n k : ℕ) → k < n → ahead w n (startOf w k) ≡ stopsOf (plannedFrom w k (n - k))
 unfolding stopsOf
-ahead-first w n k l = rw (first-of w n k l)
+ahead-first w n k l = rw (sections-here w n k l)
 
 stops-none : stopsOf [] ≡ []
 unfolding stopsOf
@@ -118,7 +101,7 @@ module _ (u : List ℕ) (rows : List Block) (L : ℕ) (most : L ≤ nowhere) whe
     where
       go : (b : Bool) → ltb k n ≡ b → tokens (ahead w n (openedAt w n k)) ≡ tokens (stopsOf (plannedFrom w k (n - k)))
       go true e = rw (opened-on w n k room (ltb-true k n e)) (ap tokens (ahead-first w n k (ltb-true k n e)))
-      go false e = rw (opened-end w n k (ltb-false k n e), none-of w n k (ltb-false k n e), stops-none) (beyond _ _ most ∙ sym nothing)
+      go false e = rw (opened-end w n k (ltb-false k n e), sections-ended w n k (ltb-false k n e), stops-none) (beyond _ _ most ∙ sym nothing)
 
   -- what is before the cursor after this row
   after : (w : List ℕ) (n : ℕ) (c : Cursor) → 5 * n ≤ length w → c .row < nowhere

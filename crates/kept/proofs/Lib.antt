@@ -1,6 +1,6 @@
--- Five words a section (Words), the entries of a vector that are left to look through (Entries), that a vector was read (VectorRead), what every vector has (Vectors), what it is for a cut to lie in its row (Sane); what is
--- kept (SectionsRemote, SectionsPlaced, SectionsKept), how rows are planned (SectionsWords, SectionsRun, SectionsPlan, SectionsCut), and that the plan is
--- what is kept (SectionsTorn, SectionsGoes).
+-- Five words a section (Words), the entries of a vector that are left to look through (Entries), that a vector was read (VectorRead), what every
+-- vector has (Vectors), what it is for a cut to lie in its row (Sane); what is kept (SectionsRemote, SectionsPlaced, SectionsKept), how rows are
+-- planned (SectionsRun, SectionsPlan, SectionsCut), and that the plan is what is kept (SectionsTorn, SectionsGoes).
 pub mod Words
 pub mod Entries
 pub mod VectorRead
@@ -9,7 +9,6 @@ pub mod Sane
 pub mod SectionsRemote
 pub mod SectionsPlaced
 pub mod SectionsKept
-pub mod SectionsWords
 pub mod SectionsRun
 pub mod SectionsPlan
 pub mod SectionsCut

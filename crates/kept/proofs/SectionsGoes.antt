@@ -20,7 +20,7 @@ use Rattle.kept.specs.Cut.{torn, tornPieces, anyTorn}
 use Rattle.kept.specs.Plan.{Planned, plannedFrom, placed, Stop, stop, onward, stopsOf, unplanned, endedWords, endedCount, planAll, planAllWords, Of, Opens, further, GoesOn, Goes}
 use Rattle.kept.proofs.SectionsPlaced.{alone, before, behind, falling-length, into, into-falling}
 use Rattle.kept.proofs.SectionsKept.{Stays, not-fallen, each-distinct, sections-length}
-use Rattle.kept.proofs.SectionsWords.{placed-first, placed-before, placed-behind}
+use Rattle.kept.proofs.Words.{placed-first, placed-before, placed-behind}
 use Rattle.kept.proofs.SectionsRun.{skipOf, tornAt, plannedAt, planOne, or}
 use Rattle.kept.proofs.SectionsPlan.{planEach, inserted, rows-come}
 use Rattle.kept.proofs.SectionsCut.{torn-first, first-sane, first-left, whole-sane, whole-left}

@@ -5,21 +5,20 @@ use mathlib.Core.Logic.{_≢_}
 use mathlib.Core.Bool.{Bool, true, false}
 use mathlib.Core.List.{List, [], _∷_, _++_}
 use native.Mathlib.Omega.{arith}
-use lib.Dec.{eqb, leb}
+use lib.Dec.{eqb}
 use lib.ListN.{length, length-append}
-use borrow.Author.Tests.{ne-eqb, le-leb}
+use borrow.Author.Tests.{ne-eqb}
 use Rattle.numbers.specs.Number.{pick}
 use Rattle.block.specs.declared.Block.{Block}
 use Rattle.vector.specs.Vector.{Entry}
 use Rattle.readings.specs.Sound.{All, Ordered}
 use Rattle.readings.specs.Groups.{groups, joined, Single, clients, Distinct}
-use Rattle.readings.proofs.Groups.{groups-joined, groups-single, ordered-distinct}
-use Rattle.readings.proofs.Orders.{all-map}
+use Rattle.readings.proofs.Groups.{all-map, groups-joined, groups-single, ordered-distinct}
 use Rattle.parts.specs.Brim.{brim}
 use Rattle.kept.specs.declared.plan.Planning.{Planning}
 use Rattle.kept.specs.Kept.{remote, falls, clientOf}
-use Rattle.kept.specs.Plan.{Planned, plannedFrom, placed, roomFor, unplanned, endedWords, endedCount, begun, grown, continues, planStep, planWords, planAll, planAllWords}
-use Rattle.kept.proofs.SectionsWords.{with-planned, with-length}
+use Rattle.kept.specs.Plan.{Planned, plannedFrom, placed, unplanned, endedWords, endedCount, begun, grown, continues, planStep, planWords, planAll, planAllWords}
+use Rattle.kept.proofs.Words.{has-room, with-planned, with-length}
 use Rattle.kept.proofs.SectionsRun.{run, Same, Under, grown-under, one-step, run-same, stateOf, plannedAt, planOne, tornOne, doneOf, or, or-none, run-done}
 
 -- ---- the plan, client by client
@@ -81,10 +80,10 @@ pub record Ends (w : List ℕ) (s : Planning) (z n : ℕ) (l : List Planned) : T
 module _ (w : List ℕ) (n : ℕ) (torn : Bool) (k : ℕ) (room : 5 * (n + 1) ≤ length w) where
   ends-one : (p : Planned) → 0 < p .count
       → Ends w (stateOf n torn (p .client) k (p .first) (p .count) (p .from) (p .skip)) (length w) (n + 1) (placed p (plannedFrom w 0 n))
-  unfolding endedCount endedWords roomFor
+  unfolding endedCount endedWords
   ends-one p pos =
       let some : eqb (p .count) 0 ≡ false = ne-eqb (p .count) 0 (λ e. omega arith) in
-      let fits : leb (5 * (n + 1)) (length w) ≡ true = le-leb (5 * (n + 1)) (length w) room in
+      let fits = has-room w n (omega arith) in
       record { count = rw (some, fits); size = rw some (with-length w n p room); list = rw some (with-planned w n p room) }
 
   ends-done : (c : ℕ) (l : List Planned) → One c l → Ends w (doneOf n torn c k l) (length w) (n + length l) (inserted l (plannedFrom w 0 n))

@@ -13,6 +13,7 @@ use Rattle.text.specs.Utf8.{takeUnits}
 use Rattle.block.specs.declared.Id.{Id}
 use Rattle.block.specs.declared.Block.{Block}
 use Rattle.block.specs.Row.{noId, noPart}
+use Rattle.block.specs.Kinds.{GC, SKIP, TEXT}
 use Rattle.readings.specs.Sound.{bytesIn}
 use Rattle.kept.specs.Kept.{Piece, Section}
 
@@ -49,7 +50,7 @@ isWhole p = pick (eqb (p .from) 0) (eqb (p .to) (p .row .length .0)) false
 
 -- what a text has left; all else keeps its part
 unfoldable pub partOf : List ℕ → Piece → Part
-partOf u p = pick (eqb (p .row .kind) 5) (cutPart u (p .row .part) (p .from) (p .to - p .from)) (p .row .part)
+partOf u p = pick (eqb (p .row .kind) TEXT) (cutPart u (p .row .part) (p .from) (p .to - p .from)) (p .row .part)
 
 abbrev pub shortened : List ℕ → Piece → Block
 shortened u p =
@@ -58,19 +59,19 @@ shortened u p =
 
 -- GC (1) and Skip (2) have no ids
 abbrev pub idBefore : Piece → Id
-idBefore p = pick (ltb 2 (p .row .kind)) (record { client = p .row .client; clock = p .row .clock + p .from - 1 }) noId
+idBefore p = pick (ltb SKIP (p .row .kind)) (record { client = p .row .client; clock = p .row .clock + p .from - 1 }) noId
 
 abbrev pub begunLater : List ℕ → Piece → Block
 begunLater u p =
     let b = p .row in
-    record { client = b .client; clock = b .clock + p .from; length = record { 0 = p .to - p .from }; kind = b .kind; «has_left» = ltb 2 (b .kind); left = idBefore p; «has_right» = b .«has_right»; right = b .right; «has_parent» = false; parent = noId; «has_name» = false; name = noPart; «has_key» = b .«has_key»; key = b .key; part = partOf u p }
+    record { client = b .client; clock = b .clock + p .from; length = record { 0 = p .to - p .from }; kind = b .kind; «has_left» = ltb SKIP (b .kind); left = idBefore p; «has_right» = b .«has_right»; right = b .right; «has_parent» = false; parent = noId; «has_name» = false; name = noPart; «has_key» = b .«has_key»; key = b .key; part = partOf u p }
 
 unfoldable pub cutRow : List ℕ → Piece → Block
 cutRow u p = pick (isWhole p) (p .row) (pick (eqb (p .from) 0) (shortened u p) (begunLater u p))
 
 -- a diff would cut inside a pair
 unfoldable pub torn : List ℕ → Piece → Bool
-torn u p = pick (isWhole p) false (pick (eqb (p .row .kind) 5) (tornText u (p .row .part) (p .from) (p .to - p .from)) false)
+torn u p = pick (isWhole p) false (pick (eqb (p .row .kind) TEXT) (tornText u (p .row .part) (p .from) (p .to - p .from)) false)
 
 -- one of these would
 unfoldable pub tornPieces : List ℕ → List Piece → Bool

@@ -8,6 +8,7 @@ use lib.Dec.{ltb, leb, eqb}
 use lib.ListN.{length}
 use Rattle.numbers.specs.Number.{pick}
 use Rattle.block.specs.declared.Block.{Block}
+use Rattle.block.specs.Kinds.{SKIP}
 use Rattle.vector.specs.Vector.{Entry}
 use Rattle.readings.specs.Sound.{Sound, All, Chain}
 use Rattle.readings.specs.Groups.{groups}
@@ -36,7 +37,7 @@ remote (e ∷ es) c = pick (eqb (e .client) c) (e .clock) (remote es c)
 
 -- Skips, and blocks that end at or below the remote clock, fall away
 unfoldable pub falls : ℕ → Block → Bool
-falls k b = pick (eqb (b .kind) 2) true (leb (b .clock + b .length .0) k)
+falls k b = pick (eqb (b .kind) SKIP) true (leb (b .clock + b .length .0) k)
 
 abbrev pub wholePiece : Block → Piece
 wholePiece b = piece b 0 (b .length .0)
@@ -95,8 +96,8 @@ pub record Begins (p : Piece) : Type 0 where
   pub to : p .to ≡ p .row .length .0
   pub from : p .from ≤ p .row .length .0
   pub inside : 0 < p .from → p .from < p .row .length .0
-  pub some : 2 < p .row .kind → p .from < p .row .length .0
-  pub kept : p .row .kind ≢ 2
+  pub some : SKIP < p .row .kind → p .from < p .row .length .0
+  pub kept : p .row .kind ≢ SKIP
 
 pub record Whole (p : Piece) : Type 0 where
   pub from : p .from ≡ 0
@@ -117,7 +118,7 @@ pub record SoundSection (u : List ℕ) (s : Section) : Type 0 where
 
 unfoldable pub withoutLead : List Block → List Block
 withoutLead [] = []
-withoutLead (b ∷ bs) = pick (pick (eqb (b .kind) 2) true (eqb (b .clock + b .length .0) 0)) (withoutLead bs) (b ∷ bs)
+withoutLead (b ∷ bs) = pick (pick (eqb (b .kind) SKIP) true (eqb (b .clock + b .length .0) 0)) (withoutLead bs) (b ∷ bs)
 
 unfoldable pub wholeEach : List (List Block) → List Section
 wholeEach [] = []

@@ -8,7 +8,7 @@ ghost use mathlib.Core.Path.{_≡_};
 ghost use mathlib.Core.Bool.{true};
 ghost use Rattle.block.specs.Row.{noId};
 ghost use Rattle.kept.specs.Plan.{openedAt, advanced, atEnd, sane, leftOf, partAfter, laterPart};
-ghost use Prim.Native.Nat.{_-_, _<_};
+ghost use Prim.Native.Nat.{_<_};
 
 // A row to be written, or NOWHERE: how many units and bytes of it fall away; how many pieces its section has, if it is the first of them, else 0;
 // how many rows of the section are left behind it; and the section after it.
@@ -36,15 +36,6 @@ fn ended() -> Cursor
     }
 }
 
-fn less_one(n: usize) -> usize
-    ensures { λ r. ⌜ r ≡ n - 1 ⌝ }
-{
-    if n == 0 {
-        return 0;
-    }
-    n - 1
-}
-
 // The first row of section k of n.
 pub fn open(plan: &[u64], n: usize, k: usize) -> Cursor
     ensures { λ r. ⌜ r ≡ openedAt (now (plan .entry)) n k ⌝ }
@@ -60,7 +51,7 @@ pub fn open(plan: &[u64], n: usize, k: usize) -> Cursor
     let head = plan[at + 2] as usize;
     let from = plan[at + 3];
     let skip = plan[at + 4] as usize;
-    let left = less_one(head);
+    let left = numbers::words::less(head as u64, 1) as usize;
     let next = k + 1;
     Cursor {
         row,

@@ -5,6 +5,7 @@ use mathlib.Core.List.{List, [], _∷_, _++_}
 use lib.ListN.{length}
 use lib.Dec.{eqb}
 use Rattle.block.specs.declared.Block.{Block}
+use Rattle.block.specs.Kinds.{GC, SKIP, DELETED, BINARY, TEXT}
 use Rattle.ranges.specs.Ranges.{Range}
 use Rattle.lines.specs.Lines.{decimal}
 use Rattle.listing_text.specs.Words.{wordForm, wordBlocks, wordRanges, wordRefused, wordEmpty, wordEnd, wordGc, wordSkip, wordDeleted, wordBinary, wordText}
@@ -20,11 +21,11 @@ named word v end = word ++ number v end
 -- the name of a block's kind; a row that has no block has none
 unfoldable pub kindName : ℕ → List ℕ
 kindName kind =
-    cond (eqb kind 1) wordGc
-    (cond (eqb kind 2) wordSkip
-    (cond (eqb kind 3) wordDeleted
-    (cond (eqb kind 4) wordBinary
-    (cond (eqb kind 5) wordText []))))
+    cond (eqb kind GC) wordGc
+    (cond (eqb kind SKIP) wordSkip
+    (cond (eqb kind DELETED) wordDeleted
+    (cond (eqb kind BINARY) wordBinary
+    (cond (eqb kind TEXT) wordText []))))
 
 unfoldable pub blockLine : Block → List ℕ
 blockLine b = number (b .client) 32 ++ number (b .clock) 32 ++ number (b .length .0) 32 ++ kindName (b .kind) ++ (10 ∷ [])

@@ -13,7 +13,7 @@ use Rattle.block.specs.declared.Block.{Block}
 use Rattle.vector.specs.Vector.{Entry, clientsIn}
 use Rattle.readings.specs.Sound.{owner, All}
 use Rattle.readings.specs.Groups.{groups}
-use Rattle.readings.proofs.Orders.{all-map}
+use Rattle.readings.proofs.Groups.{all-map}
 use Rattle.slots.specs.Slots.{Slot, slot, isNamed, more, noted, named, notedAll, namedAll, Lower, Falling}
 use Rattle.slots.proofs.Puts.{put}
 use Rattle.slots.proofs.Notes.{counted, same, noted-put, named-put, noted-falling, named-falling, noted-named, named-named, noted-others, named-others}

@@ -11,10 +11,11 @@ use lib.ListN.{length, getD, set, length-set}
 use lib.Seq.{sets, length-sets, getD-set-same, getD-set-other}
 use borrow.Author.Tests.{lt-ltb, le-ltb, lt-leb, ne-eqb, ltb-true, ltb-false, eqb-true, eqb-false}
 use Rattle.numbers.specs.Number.{pick}
+use Rattle.numbers.proofs.Moves.{getD-sets-before}
 use Rattle.vector.specs.Vector.{Entry}
 use Rattle.kept.specs.Kept.{remote}
-use Rattle.kept.proofs.Words.{getD-sets-before}
 use Rattle.slots.specs.Slots.{Slot, slotAt, slotsFrom}
+use Rattle.slots.proofs.Words.{slots-here, slots-ended}
 use Rattle.picker.specs.declared.fronts.Front.{Front}
 use Rattle.picker.specs.Fronts.{noFront, fresh, frontAt, putFront, openedFrom, filledFrom, isDue, dueFrom}
 
@@ -183,33 +184,25 @@ module _ (v : List Entry) where
 -- ---- slots one after the other
 
 module _ (s w : List ℕ) (n i : ℕ) where
-  slots-here : i < n → slotsFrom s i (n - i) ≡ slotAt s i ∷ slotsFrom s (i + 1) (n - (i + 1))
-  unfolding slotsFrom
-  slots-here h = let e : n - i ≡ suc (n - (i + 1)) = omega arith in rw (e, add-one) refl
-
-  slots-ended : n ≤ i → slotsFrom s i (n - i) ≡ []
-  unfolding slotsFrom
-  slots-ended h = let e : n - i ≡ 0 = omega arith in rw e refl
-
   pub open-turn : i < n
       → openedFrom (i + 1) (slotsFrom s (i + 1) (n - (i + 1))) (putFront w i (fresh (getD s (3 * i + 1) 0) (getD s (3 * i + 2) 0)))
       ≡ openedFrom i (slotsFrom s i (n - i)) w
   unfolding openedFrom slotAt
-  open-turn h = rw (slots-here h, add-one i) refl
+  open-turn h = rw (slots-here s n i h, add-one i) refl
 
   pub open-ended : n ≤ i → openedFrom i (slotsFrom s i (n - i)) w ≡ w
   unfolding openedFrom
-  open-ended h = rw (slots-ended h) refl
+  open-ended h = rw (slots-ended s n i h) refl
 
   module _ (v : List Entry) where
     pub fill-turn : i < n
         → filledFrom (i + 1) (slotsFrom s (i + 1) (n - (i + 1))) v (set w i (remote v (getD s (3 * i) 0))) ≡ filledFrom i (slotsFrom s i (n - i)) v w
     unfolding filledFrom slotAt
-    fill-turn h = rw (slots-here h, add-one i) refl
+    fill-turn h = rw (slots-here s n i h, add-one i) refl
 
     pub fill-ended : n ≤ i → filledFrom i (slotsFrom s i (n - i)) v w ≡ w
     unfolding filledFrom
-    fill-ended h = rw (slots-ended h) refl
+    fill-ended h = rw (slots-ended s n i h) refl
 
 -- ---- the first front that is due
 

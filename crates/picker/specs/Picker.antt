@@ -9,6 +9,7 @@ use Rattle.numbers.specs.Limits.{maxClock, maxBlocks}
 use Rattle.block.specs.declared.Id.{Id}
 use Rattle.block.specs.declared.Block.{Block}
 use Rattle.block.specs.Row.{noId, noBlock}
+use Rattle.block.specs.Kinds.{SKIP}
 use Rattle.parts.specs.Brim.{brim}
 use Rattle.slots.specs.Slots.{Slot, rank, isNamed}
 use Rattle.picker.specs.declared.fronts.Front.{Front}
@@ -26,7 +27,7 @@ noDependency = dep false noId
 
 -- left id, right id, parent id; nothing holds a Skip
 unfoldable pub dependencies : Block → List Dependency
-dependencies b = pick (eqb (b .kind) 2) [] (dep (b .«has_left») (b .left) ∷ (dep (b .«has_right») (b .right) ∷ (dep (b .«has_parent») (b .parent) ∷ [])))
+dependencies b = pick (eqb (b .kind) SKIP) [] (dep (b .«has_left») (b .left) ∷ (dep (b .«has_right») (b .right) ∷ (dep (b .«has_parent») (b .parent) ∷ [])))
 
 -- number k of them
 unfoldable pub dependencyAt : Block → ℕ → Dependency
@@ -86,7 +87,7 @@ moved f i =
 
 -- a reach rises to the block's end; a Skip lifts nothing
 unfoldable pub lifted : ℕ → Block → ℕ
-lifted r b = pick (eqb (b .kind) 2) r (pick (ltb maxClock (b .length .0)) r (max r (b .clock + b .length .0)))
+lifted r b = pick (eqb (b .kind) SKIP) r (pick (ltb maxClock (b .length .0)) r (max r (b .clock + b .length .0)))
 
 -- word n, if it is lent
 unfoldable pub pushed : List ℕ → ℕ → ℕ → List ℕ

@@ -1,7 +1,7 @@
 // The fronts of a sorter: what it keeps of each client, six words a front, in the order of the slots.
 ghost use mathlib.Core.Path.{_≡_};
 ghost use Prim.Native.Nat.{_*_, _≤_};
-ghost use lib.ListN.{length, set};
+ghost use lib.ListN.{length};
 ghost use Rattle.slots.specs.Slots.{slotsFrom};
 ghost use Rattle.kept.specs.Plan.{entriesOf};
 ghost use Rattle.picker.specs.Fronts.{noFront, fresh, frontAt, putFront, openedFrom, filledFrom, isDue, dueFrom};
@@ -88,15 +88,6 @@ pub fn put_front(fronts: &mut [u64], i: usize, f: Front)
     fronts[at + 5] = f.missing;
 }
 
-// Word n, if it is lent.
-pub fn put_word(words: &mut [u64], n: usize, word: u64)
-    ensures { λ _. ⌜ now (words .exit) ≡ set (now (words .entry)) n word ⌝ }
-{
-    if n < words.len() {
-        words[n] = word;
-    }
-}
-
 // The fronts of n slots.
 pub fn open(slots: &[u64], n: usize, fronts: &mut [u64])
     requires { ⌜ 3 * n ≤ length (now slots) ⌝ }
@@ -127,7 +118,7 @@ pub fn fill_reaches(
     let mut i = 0;
     while i < n {
         let clock = kept::plan::remote_clock(clients, clocks, m, slots[3 * i]);
-        put_word(reach, i, clock);
+        numbers::words::put_word(reach, i, clock);
         i += 1;
     }
 }

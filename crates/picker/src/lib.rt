@@ -5,7 +5,7 @@ use block::Block;
 use block::Id;
 use fronts::Front;
 ghost use mathlib.Core.Path.{_≡_};
-ghost use Prim.Native.Nat.{_-_, _*_, _≤_};
+ghost use Prim.Native.Nat.{_*_, _≤_};
 ghost use lib.ListN.{length};
 ghost use Rattle.slots.specs.Slots.{slotsFrom, Falling};
 ghost use Rattle.picker.specs.Picker.{noDependency, dependencyAt, isOther, metAt, awaitingAt, considered, ready, looked};
@@ -170,15 +170,6 @@ fn one_more(n: usize) -> usize
     n
 }
 
-fn less_one(n: usize) -> usize
-    ensures { λ r. ⌜ r ≡ n - 1 ⌝ }
-{
-    if n == 0 {
-        return 0;
-    }
-    n - 1
-}
-
 // The front after row i was taken.
 fn move_on(f: Front, i: usize) -> Front
     ensures { λ r. ⌜ r ≡ moved f i ⌝ }
@@ -268,7 +259,7 @@ pub fn offer(
         × (now (order .exit) ≡ offered (slotsFrom (now (slots .entry)) 0 n) (desk p (now (reach .entry)) (now (fronts .entry)) (now (order .entry))) b .order) ⌝ }
 {
     let f = fronts::front_at(fronts, p.slot);
-    let left = less_one(p.left);
+    let left = numbers::words::less(p.left as u64, 1) as usize;
     let g = examine(slots, n, reach, f, b);
     if g.need != 0 {
         fronts::put_front(fronts, p.slot, g);
@@ -277,7 +268,7 @@ pub fn offer(
     let m = move_on(f, p.row);
     raise(reach, p.slot, b);
     fronts::put_front(fronts, p.slot, m);
-    fronts::put_word(order, p.steps, p.row as u64);
+    numbers::words::put_word(order, p.steps, p.row as u64);
     let steps = one_more(p.steps);
     point(fronts, reach, n, steps, left)
 }

@@ -1,63 +1,48 @@
 -- Words and ranges: the words of a table's rows, the rows of ranges' words, and a row stored after them.
 use mathlib.Core.Path.{_≡_, refl, sym, ap, _∙_}
 use mathlib.Core.List.{List, [], _∷_, _++_}
-use Prim.Native.Nat.{ℕ, zero, suc, _+_, _-_, _*_, _≤_}
+use Prim.Native.Nat.{ℕ, suc, _+_, _-_, _*_, _≤_}
 use native.Mathlib.Omega.{arith}
 use native.Mathlib.Numerals.{add-one}
 use lib.ListN.{length, take, replicate, length-append, length-replicate}
 use lib.Seq.{sets}
 use Rattle.numbers.proofs.Output.{take-sets}
+use Rattle.numbers.proofs.Rows.{Rows, first-words, next-first, next-word}
+use Rattle.numbers.proofs.Rows as rows
 use Rattle.ranges.specs.Ranges.{Range, normal}
-use Rattle.ranges.specs.Table.{row, put, rowsFrom, flat, normalCount, normalized}
-use Rattle.ranges.proofs.Theory.{same-range, normal-length}
+use Rattle.ranges.specs.Table.{range, row, put, rowsFrom, flat, normalCount, normalized}
+use Rattle.ranges.proofs.Theory.{normal-length}
+
+abbrev words : Range → List ℕ
+words r = r .client ∷ r .clock ∷ r .len ∷ []
+
+table : Rows 3 words row rowsFrom flat
+unfolding row rowsFrom flat
+table =
+    record {
+      wide = λ r. refl;
+      first = first-words 3;
+      read = λ r w. refl;
+      next = λ w i j. range (next-first 3 w i j) (next-word 3 w i 1 j) (next-word 3 w i 2 j);
+      from-none = λ w i. refl;
+      from-some = λ w i n. refl;
+      flat-none = refl;
+      flat-some = λ r rs. refl;
+    }
 
 pub length-flat : (l : List Range) → length (flat l) ≡ 3 * length l
-unfolding flat
-length-flat [] = refl
-length-flat (r ∷ rs) = omega (arith, length-flat rs)
-
-pub flat-append : (l m : List Range) → flat (l ++ m) ≡ flat l ++ flat m
-unfolding flat
-flat-append [] m = refl
-flat-append (r ∷ rs) m = ap (λ (t : List ℕ). r .client ∷ r .clock ∷ r .len ∷ t) (flat-append rs m)
+length-flat = rows.flat-length table
 
 pub length-rows : (s : List ℕ) (i n : ℕ) → length (rowsFrom s i n) ≡ n
-unfolding rowsFrom
-length-rows s i zero = refl
-length-rows s i (suc n) = ap suc (length-rows s (suc i) n)
-
--- the rows after the first one
-module _ (a b c : ℕ) (w : List ℕ) where
-  row-after : (i : ℕ) → row (a ∷ b ∷ c ∷ w) (suc i) ≡ row w i
-  unfolding row
-  row-after i =
-      let e : 3 * suc i ≡ suc (suc (suc (3 * i))) = omega arith in
-      let f : 3 * suc i + 1 ≡ suc (suc (suc (3 * i + 1))) = omega arith in
-      let g : 3 * suc i + 2 ≡ suc (suc (suc (3 * i + 2))) = omega arith in
-      same-range (row (a ∷ b ∷ c ∷ w) (suc i)) (row w i) (rw e refl) (rw f refl) (rw g refl)
-
-  rows-after : (i n : ℕ) → rowsFrom (a ∷ b ∷ c ∷ w) (suc i) n ≡ rowsFrom w i n
-  unfolding rowsFrom
-  rows-after i zero = refl
-  rows-after i (suc n) = λ j. row-after i j ∷ rows-after (suc i) n j
+length-rows = rows.from-length table
 
 -- the first words of a table are those of its first rows
 pub take-flat : (w : List ℕ) (n : ℕ) → 3 * n ≤ length w → take (3 * n) w ≡ flat (rowsFrom w 0 n)
-unfolding row rowsFrom flat
-take-flat w zero h = refl
-take-flat [] (suc n) h = absurd (omega arith)
-take-flat (a ∷ []) (suc n) h = absurd (omega arith)
-take-flat (a ∷ b ∷ []) (suc n) h = absurd (omega arith)
-take-flat (a ∷ b ∷ c ∷ w) (suc n) h =
-    let e : 3 * suc n ≡ suc (suc (suc (3 * n))) = omega arith in
-    rw e (ap (λ (t : List ℕ). a ∷ b ∷ c ∷ t) (take-flat w n (omega arith) ∙ ap flat (sym (rows-after a b c w 0 n))))
+take-flat = rows.take-flat table
 
 -- the words of ranges, read back
 pub rows-flat : (l : List Range) (t : List ℕ) → rowsFrom (flat l ++ t) 0 (length l) ≡ l
-unfolding row rowsFrom flat
-rows-flat [] t = refl
-rows-flat (r ∷ rs) t =
-    ap (λ (m : List Range). r ∷ m) (rows-after (r .client) (r .clock) (r .len) (flat rs ++ t) 0 (length rs) ∙ rows-flat rs t)
+rows-flat = rows.from-flat table
 
 put-sets : (w : List ℕ) (n : ℕ) (q : Range) → put w n q ≡ sets w (3 * n) (flat (q ∷ []))
 unfolding put flat
@@ -69,7 +54,7 @@ pub flat-put : (w : List ℕ) (n : ℕ) (l : List Range) (q : Range) → take (3
 unfolding flat
 flat-put w n l q told h =
     let e : 3 * (n + 1) ≡ 3 * n + 3 = omega arith in
-    rw (e, put-sets w n q, flat-append l (q ∷ []), ← told) (take-sets w (flat (q ∷ [])) (3 * n) h)
+    rw (e, put-sets w n q, rows.flat-append table l (q ∷ []), ← told) (take-sets w (flat (q ∷ [])) (3 * n) h)
 
 -- what the passes come to: m rows at the start of u, cleared after them
 module _ (s u : List ℕ) (n m : ℕ) (told : rowsFrom u 0 m ≡ normal (rowsFrom s 0 n)) where

@@ -238,28 +238,43 @@ is-normal l out n s =
     let w = normal-is l in
     unique out (normal l) n (w .0) (λ c k. ((λ d. w .1 c k .1 (s c k .0 d)), (λ d. s c k .1 (w .1 c k .0 d))))
 
--- ---- the normal form is not longer
+-- ---- what is so of one range more, and of the normal form, by the cases of their definitions
 
+module _ (P : Range → List Range → List Range → Type 0) (none : (r : Range) → P r [] (r ∷ []))
+    (before : (r q : Range) (qs : List Range) → P r (q ∷ qs) (r ∷ q ∷ qs))
+    (behind : (r q : Range) (qs out : List Range) → P r qs out → P r (q ∷ qs) (q ∷ out))
+    (joined : (r q : Range) (qs out : List Range) → P (hull r q) qs out → P r (q ∷ qs) out) where
+  pub add-by : (l : List Range) (r : Range) → P r l (add r l)
+  unfolding add
+  add-by [] r = none r
+  add-by (q ∷ qs) r =
+      go (ltb (q .client) (r .client)) (ltb (r .client) (q .client)) (ltb (r .clock + r .len) (q .clock)) (ltb (q .clock + q .len) (r .clock))
+      (add-by qs r) (add-by qs (hull r q))
+    where
+      go : (a b c d : Bool) → P r qs (add r qs) → P (hull r q) qs (add (hull r q) qs)
+          → P r (q ∷ qs) (cond a (r ∷ q ∷ qs) (cond b (q ∷ add r qs) (cond c (r ∷ q ∷ qs) (cond d (q ∷ add r qs) (add (hull r q) qs)))))
+      go true b c d h k = before r q qs
+      go false true c d h k = behind r q qs (add r qs) h
+      go false false true d h k = before r q qs
+      go false false false true h k = behind r q qs (add r qs) h
+      go false false false false h k = joined r q qs (add (hull r q) qs) k
+
+module _ (P : List Range → List Range → Type 0) (none : P [] []) (more : (r : Range) (rs out : List Range) → P rs out → P (r ∷ rs) (add r out))
+    (empty : (r : Range) (rs out : List Range) → P rs out → P (r ∷ rs) out) where
+  pub normal-by : (l : List Range) → P l (normal l)
+  unfolding normal
+  normal-by [] = none
+  normal-by (r ∷ rs) = go (ltb 0 (r .len)) (normal-by rs)
+    where
+      go : (x : Bool) → P rs (normal rs) → P (r ∷ rs) (cond x (add r (normal rs)) (normal rs))
+      go true h = more r rs (normal rs) h
+      go false h = empty r rs (normal rs) h
+
+-- the normal form is not longer
 add-length : (l : List Range) (r : Range) → length (add r l) ≤ suc (length l)
-unfolding add
-add-length [] r = omega arith
-add-length (q ∷ qs) r =
-    go (ltb (q .client) (r .client)) (ltb (r .client) (q .client)) (ltb (r .clock + r .len) (q .clock)) (ltb (q .clock + q .len) (r .clock))
-    (add-length qs r) (add-length qs (hull r q))
-  where
-    go : (a b c d : Bool) → length (add r qs) ≤ suc (length qs) → length (add (hull r q) qs) ≤ suc (length qs)
-        → length (cond a (r ∷ q ∷ qs) (cond b (q ∷ add r qs) (cond c (r ∷ q ∷ qs) (cond d (q ∷ add r qs) (add (hull r q) qs))))) ≤ suc (suc (length qs))
-    go true b c d h k = omega arith
-    go false true c d h k = omega arith
-    go false false true d h k = omega arith
-    go false false false true h k = omega arith
-    go false false false false h k = omega arith
+add-length =
+    add-by (λ r l out. length out ≤ suc (length l)) (λ r. omega arith) (λ r q qs. omega arith) (λ r q qs out h. omega arith) (λ r q qs out h. omega arith)
 
 pub normal-length : (l : List Range) → length (normal l) ≤ length l
-unfolding normal
-normal-length [] = omega arith
-normal-length (r ∷ rs) = go (ltb 0 (r .len)) (normal-length rs)
-  where
-    go : (x : Bool) → length (normal rs) ≤ length rs → length (cond x (add r (normal rs)) (normal rs)) ≤ suc (length rs)
-    go true h = omega (arith, add-length (normal rs) r)
-    go false h = omega arith
+normal-length =
+    normal-by (λ l out. length out ≤ length l) (omega arith) (λ r rs out h. omega (arith, add-length out r)) (λ r rs out h. omega arith)

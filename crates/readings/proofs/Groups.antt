@@ -13,11 +13,16 @@ use Rattle.block.specs.declared.Block.{Block}
 use Rattle.readings.specs.Sound.{owner, All, Follows, Stays, Ordered, Adjoins, Chain}
 use Rattle.readings.specs.Groups.{join, groups, joined, Single, clients, Distinct}
 
+-- what makes Q of P makes all Q of all P
+pub all-map : {A : Type 0} (P Q : A → Type 0) → ((a : A) → P a → Q a) → (l : List A) → All P l → All Q l
+all-map P Q f [] h = tt
+all-map P Q f (a ∷ l) h = (f a (h .0), all-map P Q f l (h .1))
+
 module _ {A : Type 0} (client : A → ℕ) where
   -- ---- one element more
 
   -- what a makes of groups whose first is b's: it joins that one, or stands before it
-  join-cases : (P : List (List A) → Type 0) (a b : A) (g : List A) (gs : List (List A)) → (client a ≡ client b → P ((a ∷ (b ∷ g)) ∷ gs))
+  pub join-cases : (P : List (List A) → Type 0) (a b : A) (g : List A) (gs : List (List A)) → (client a ≡ client b → P ((a ∷ (b ∷ g)) ∷ gs))
       → (client a ≢ client b → P ((a ∷ []) ∷ ((b ∷ g) ∷ gs))) → P (join client a ((b ∷ g) ∷ gs))
   unfolding join
   join-cases P a b g gs same other = go (eqb (client a) (client b)) refl
@@ -112,6 +117,11 @@ module _ {A : Type 0} (client : A → ℕ) where
   join-length a [] = omega arith
   join-length a ([] ∷ gs) = omega arith
   join-length a ((b ∷ g) ∷ gs) = join-cases (λ (hs : List (List A)). length hs ≤ suc (suc (length gs))) a b g gs (λ e. omega arith) (λ e. omega arith)
+
+  pub groups-length : (xs : List A) → length (groups client xs) ≤ length xs
+  unfolding groups
+  groups-length [] = omega arith
+  groups-length (a ∷ xs) = omega (arith, join-length a (groups client xs), groups-length xs)
 
   -- and none before one of its client
   pub same-length : (a b : A) (xs : List A) → client a ≡ client b → length (groups client (a ∷ (b ∷ xs))) ≡ length (groups client (b ∷ xs))

@@ -14,12 +14,8 @@ use Rattle.decoder.specs.Course.{items}
 use Rattle.update.specs.Update.{blocksOf}
 use Rattle.readings.specs.Sound.{owner, All, Follows, Stays, Ordered, Chain}
 use Rattle.readings.specs.Groups.{groups, clients, Distinct}
-use Rattle.readings.proofs.Groups.{ordered-distinct, ordered-chains}
+use Rattle.readings.proofs.Groups.{all-map, ordered-distinct, ordered-chains}
 use Rattle.readings.proofs.Sections.{OfSections, OfPart, Holds, blocks-by}
-
-pub all-map : {A : Type 0} (P Q : A → Type 0) → ((a : A) → P a → Q a) → (l : List A) → All P l → All Q l
-all-map P Q f [] h = tt
-all-map P Q f (a ∷ l) h = (f a (h .0), all-map P Q f l (h .1))
 
 -- a client that is not among these and one more
 not-among : (c : ℕ) (seen : List ℕ) (client : ℕ) → among c (seen ++ (client ∷ [])) ≡ false → (among c seen ≡ false) × (c ≢ client)

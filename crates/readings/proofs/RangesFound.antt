@@ -1,7 +1,7 @@
 -- What the delete ranges of every update have: each is fine, and so is their normal form; and they are of at most 64 clients, those announced.
 use Prim.Native.Nat.{ℕ, zero, suc, _+_, _≤_, _<_}
 use mathlib.Core.Path.{_≡_, refl, ap}
-use mathlib.Core.Bool.{Bool, true, false, cond}
+use mathlib.Core.Bool.{Bool, true, false}
 use mathlib.Core.Logic.{_⊎_, inl, inr}
 use mathlib.Core.List.{List, [], _∷_}
 use native.Mathlib.Omega.{arith}
@@ -19,11 +19,13 @@ use Rattle.decoder.specs.Course.{Course, item, over, stopped, drawn, fit, items
 use Rattle.decoder.proofs.Laws.{within-limit}
 use Rattle.ranges.specs.Ranges.{Range, hull, add, normal}
 use Rattle.ranges.specs.Table.{range, Fine}
-use Rattle.ranges.proofs.Theory.{normal-is}
+use Rattle.ranges.proofs.Theory.{normal-is, add-by, normal-by}
+use Rattle.ranges.proofs.Fines.{hull-fine}
 use Rattle.deletes.specs.DeleteSet.{clockIn, lenIn, ranges, clients, deleteSet}
 use Rattle.readings.specs.Groups.{groups}
 use Rattle.readings.specs.Sound.{All}
-use Rattle.readings.proofs.RangeGroups.{all-map, groups-all, clientIn, clientOf, Grouped, grouped}
+use Rattle.readings.proofs.Groups.{all-map, groups-all}
+use Rattle.readings.proofs.RangeGroups.{clientIn, clientOf, Grouped, grouped}
 
 -- ---- what is so of each thing of a course, is so of those that rows take
 
@@ -151,34 +153,16 @@ set-announced u s = go (bounded maxClients (varAt u s)) refl
 
 -- ---- each range is fine
 
-hull-fine : (r q : Range) → Fine r → Fine q → Fine (hull r q)
-hull-fine r q f g = record { some = omega (arith, f .some); end = omega (arith, f .end, g .end); client = f .client }
-
 -- what the hull of two has where both have it, the normal form has
 module _ (P : Range → Type 0) (keeps : (r q : Range) → P r → P q → P (hull r q)) where
   add-all : (l : List Range) (r : Range) → P r → All P l → All P (add r l)
-  unfolding add
-  add-all [] r f g = (f, tt)
-  add-all (q ∷ qs) r f g =
-      go (ltb (q .client) (r .client)) (ltb (r .client) (q .client)) (ltb (r .clock + r .len) (q .clock)) (ltb (q .clock + q .len) (r .clock))
-      (add-all qs r f (g .1)) (add-all qs (hull r q) (keeps r q f (g .0)) (g .1))
-    where
-      go : (a b c d : Bool) → All P (add r qs) → All P (add (hull r q) qs)
-          → All P (cond a (r ∷ q ∷ qs) (cond b (q ∷ add r qs) (cond c (r ∷ q ∷ qs) (cond d (q ∷ add r qs) (add (hull r q) qs)))))
-      go true b c d h k = (f, g)
-      go false true c d h k = (g .0, h)
-      go false false true d h k = (f, g)
-      go false false false true h k = (g .0, h)
-      go false false false false h k = k
+  add-all =
+      add-by (λ r l out. P r → All P l → All P out) (λ r f g. (f, tt)) (λ r q qs f g. (f, g)) (λ r q qs out h f g. (g .0, h f (g .1)))
+      (λ r q qs out h f g. h (keeps r q f (g .0)) (g .1))
 
-  pub normal-all : (l : List Range) → All P l → All P (normal l)
-  unfolding normal
-  normal-all [] f = tt
-  normal-all (r ∷ rs) f = go (ltb 0 (r .len)) (normal-all rs (f .1))
-    where
-      go : (x : Bool) → All P (normal rs) → All P (cond x (add r (normal rs)) (normal rs))
-      go true h = add-all (normal rs) r (f .0) h
-      go false h = h
+  normal-all : (l : List Range) → All P l → All P (normal l)
+  normal-all =
+      normal-by (λ l out. All P l → All P out) (λ f. tt) (λ r rs out h f. add-all out r (f .0) (h (f .1))) (λ r rs out h f. h (f .1))
 
 pub normal-fine : (l : List Range) → All Fine l → All Fine (normal l)
 normal-fine l f = normal-all Fine hull-fine l f

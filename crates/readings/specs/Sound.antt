@@ -14,6 +14,7 @@ use Rattle.text.specs.Utf8.{wellFormed, unitsOf}
 use Rattle.block.specs.declared.Id.{Id}
 use Rattle.block.specs.declared.Block.{Block}
 use Rattle.block.specs.Row.{noId, noPart}
+use Rattle.block.specs.Kinds.{GC, SKIP, DELETED, BINARY, TEXT}
 
 -- ---- a part and an id
 
@@ -41,22 +42,22 @@ linked b = pick (b .«has_left») true (b .«has_right»)
 
 -- GC and Skip have nothing beside their length; an item has ids beside it, or else a parent, by name or by id, and perhaps a key
 pub record Shape (b : Block) : Type 0 where
-  pub bare : b .kind ≤ 2 → (linked b ≡ false) × (b .«has_parent» ≡ false) × (b .«has_name» ≡ false) × (b .«has_key» ≡ false)
-  pub rootless : 2 < b .kind → linked b ≡ true → (b .«has_parent» ≡ false) × (b .«has_name» ≡ false) × (b .«has_key» ≡ false)
-  pub rooted : 2 < b .kind → linked b ≡ false → b .«has_name» ≡ pick (b .«has_parent») false true
+  pub bare : b .kind ≤ SKIP → (linked b ≡ false) × (b .«has_parent» ≡ false) × (b .«has_name» ≡ false) × (b .«has_key» ≡ false)
+  pub rootless : SKIP < b .kind → linked b ≡ true → (b .«has_parent» ≡ false) × (b .«has_name» ≡ false) × (b .«has_key» ≡ false)
+  pub rooted : SKIP < b .kind → linked b ≡ false → b .«has_name» ≡ pick (b .«has_parent») false true
 
 -- kinds: gc 1, skip 2, deleted 3, binary 4, text 5
 pub record Stored (u : List ℕ) (b : Block) : Type 0 where
   pub lies : Lies u (b .part)
-  pub nothing : b .kind ≤ 3 → b .part ≡ noPart
-  pub binary : b .kind ≡ 4 → b .length .0 ≡ 1
-  pub text : b .kind ≡ 5 → (wellFormed (bytesIn u (b .part)) ≡ true) × (unitsOf (bytesIn u (b .part)) ≡ b .length .0)
-  pub some : 2 < b .kind → 0 < b .length .0
+  pub nothing : b .kind ≤ DELETED → b .part ≡ noPart
+  pub binary : b .kind ≡ BINARY → b .length .0 ≡ 1
+  pub text : b .kind ≡ TEXT → (wellFormed (bytesIn u (b .part)) ≡ true) × (unitsOf (bytesIn u (b .part)) ≡ b .length .0)
+  pub some : SKIP < b .kind → 0 < b .length .0
 
 pub record Sound (u : List ℕ) (b : Block) : Type 0 where
   pub client : b .client ≤ maxValue
   pub end : b .clock + b .length .0 ≤ maxClock
-  pub kind : (1 ≤ b .kind) × (b .kind ≤ 5)
+  pub kind : (GC ≤ b .kind) × (b .kind ≤ TEXT)
   pub left : SoundId (b .«has_left») (b .left)
   pub right : SoundId (b .«has_right») (b .right)
   pub parent : SoundId (b .«has_parent») (b .parent)

@@ -9,7 +9,7 @@ use lib.ListN.{length}
 use borrow.Author.Tests.{ne-eqb}
 use Rattle.numbers.specs.Number.{pick}
 use Rattle.text.specs.declared.Units.{Units}
-use Rattle.text.specs.Utf8.{countedIn, wellFormed, unitsOf, sum, chars, charsFrom}
+use Rattle.text.specs.Utf8.{countedIn, wellFormed, unitsOf, widths, chars, charsFrom}
 use Rattle.tokens.specs.declared.Lane.{Lane}
 use Rattle.tokens.specs.Tokens.{text, units, taken}
 use Rattle.tokens.specs.Lanes.{put, laid}
@@ -19,7 +19,7 @@ abbrev noUnits : Units
 noUnits = record { 0 = 0 }
 
 pub units-none : (b : List ℕ) → length b ≡ 0 → noUnits ≡ countedIn b .units
-unfolding countedIn unitsOf sum chars charsFrom
+unfolding countedIn unitsOf widths chars charsFrom
 units-none [] e = go (wellFormed [])
   where
     go : (t : Bool) → noUnits ≡ record { 0 = pick t 0 0 }

@@ -9,6 +9,7 @@ use Rattle.numbers.specs.Number.{pick}
 use Rattle.text.specs.declared.Part.{Part}
 use Rattle.text.specs.Utf8.{countedIn}
 use Rattle.block.specs.declared.Block.{Block}
+use Rattle.block.specs.Kinds.{GC, SKIP, DELETED, BINARY}
 use Rattle.ranges.specs.Ranges.{Range}
 use Rattle.readings.specs.Sound.{bytesIn, linked}
 use Rattle.readings.specs.Groups.{groups}
@@ -20,7 +21,7 @@ use Rattle.kept.specs.Cut.{cutRow}
 
 -- deleted 1, binary 3, text 4, by the kinds 3, 4, 5
 unfoldable pub contentNumber : ℕ → ℕ
-contentNumber kind = pick (eqb kind 3) 1 (pick (eqb kind 4) 3 4)
+contentNumber kind = pick (eqb kind DELETED) 1 (pick (eqb kind BINARY) 3 4)
 
 abbrev pub bit : Bool → ℕ → ℕ
 bit there n = pick there n 0
@@ -50,14 +51,14 @@ placeTokens u b = pick (linked b) (leftTokens b ++ rightTokens b) (parentTokens 
 
 unfoldable pub contentTokens : List ℕ → Block → List Token
 contentTokens u b =
-    pick (eqb (b .kind) 3) (len (b .length .0) ∷ [])
-    (pick (eqb (b .kind) 4) (buf (bytesIn u (b .part)) ∷ []) (text (bytesIn u (b .part)) (b .length .0) ∷ []))
+    pick (eqb (b .kind) DELETED) (len (b .length .0) ∷ [])
+    (pick (eqb (b .kind) BINARY) (buf (bytesIn u (b .part)) ∷ []) (text (bytesIn u (b .part)) (b .length .0) ∷ []))
 
 -- GC is 0 and a length field, Skip is 10 and its length among the rest
 unfoldable pub blockTokens : List ℕ → Block → List Token
 blockTokens u b =
-    pick (eqb (b .kind) 1) (info 0 ∷ (len (b .length .0) ∷ []))
-    (pick (eqb (b .kind) 2) (info 10 ∷ (var (b .length .0) ∷ [])) (info (infoByte b) ∷ (placeTokens u b ++ contentTokens u b)))
+    pick (eqb (b .kind) GC) (info 0 ∷ (len (b .length .0) ∷ []))
+    (pick (eqb (b .kind) SKIP) (info 10 ∷ (var (b .length .0) ∷ [])) (info (infoByte b) ∷ (placeTokens u b ++ contentTokens u b)))
 
 -- ---- sections
 

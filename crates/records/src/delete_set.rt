@@ -77,16 +77,6 @@ fn count_ranges(ranges: &[u64], i: usize, n: usize) -> usize
     n - i
 }
 
-// a less b, and 0 where b is more.
-fn less(a: u64, b: u64) -> u64
-    ensures { λ r. ⌜ r ≡ a - b ⌝ }
-{
-    if a < b {
-        return 0;
-    }
-    a - b
-}
-
 // Range i's clock less the end of the range before it, from 0 at its client's first. The end need not fit a word, so it is taken off in two steps.
 fn increase(ranges: &[u64], i: usize) -> u64
     requires { ⌜ 3 * i + 3 ≤ length (now ranges) ⌝ }
@@ -96,8 +86,8 @@ fn increase(ranges: &[u64], i: usize) -> u64
     if is_first(ranges, i) {
         return clock;
     }
-    let since = less(clock, clock_at(ranges, i - 1));
-    less(since, length_at(ranges, i - 1))
+    let since = numbers::words::less(clock, clock_at(ranges, i - 1));
+    numbers::words::less(since, length_at(ranges, i - 1))
 }
 
 // Before a client's first range: the client, and how many ranges it has.
@@ -130,7 +120,7 @@ fn write_range(out: &mut [u8], e: Lane, ranges: &[u64], i: usize, n: usize) -> L
     }
     let clock = increase(ranges, i);
     let begun = tokens::fields::write_var(out, owned, clock);
-    tokens::fields::write_var(out, begun, less(len, 1))
+    tokens::fields::write_var(out, begun, numbers::words::less(len, 1))
 }
 
 // Whether a lane takes numbers without columns.

@@ -9,21 +9,10 @@ use lib.ListN.{length, take, replicate, length-append}
 use lib.Seq.{sets, length-sets}
 use Rattle.numbers.proofs.Output.{sets-append}
 use Rattle.slots.specs.Slots.{Slot, slotAt, slotsFrom}
+use Rattle.slots.proofs.Words.{slots-here, slots-ended}
 use Rattle.picker.specs.Fronts.{frontAt}
 use Rattle.reports.specs.Reports.{countOf, reachOf, pendingOf, countsFrom, reachesFrom, pendingFrom, fitted}
 use Rattle.reports.proofs.Fitted.{stored-fitted}
-
--- ---- slots that are left
-
-slots-none : (w : List ℕ) (i : ℕ) → slotsFrom w i (i - i) ≡ []
-unfolding slotsFrom
-slots-none w i = let z : i - i ≡ 0 = omega arith in rw z
-
-slots-more : (w : List ℕ) (i n : ℕ) → i < n → slotsFrom w i (n - i) ≡ slotAt w i ∷ slotsFrom w (i + 1) (n - (i + 1))
-unfolding slotsFrom
-slots-more w i n h =
-    let s : n - i ≡ suc (n - (i + 1)) = omega arith in
-    rw (s, add-one)
 
 -- ---- a report: the words of slot i, and those of these slots, the first of which is slot i
 
@@ -60,7 +49,7 @@ module _ {one : ℕ → Slot → List ℕ} {all : ℕ → List Slot → List ℕ
         let here : List ℕ = one i (slotAt w i) in
         let rest : List ℕ = all (i + 1) (slotsFrom w (i + 1) (n - (i + 1))) in
         let e : all i (slotsFrom w i (n - i)) ≡ here ++ rest =
-        ap (all i) (slots-more w i n h) ∙ r .more i (slotAt w i) (slotsFrom w (i + 1) (n - (i + 1))) ∙ rw add-one in
+        ap (all i) (slots-here w n i h) ∙ r .more i (slotAt w i) (slotsFrom w (i + 1) (n - (i + 1))) ∙ rw add-one in
         record {
           words = sym (ap (sets out at) e ∙ sets-append here rest out at) ∙ u .words;
           place = omega (arith, u .place, ap length e, length-append here rest);
@@ -70,7 +59,7 @@ module _ {one : ℕ → Slot → List ℕ} {all : ℕ → List Slot → List ℕ
     -- no slot is left, and what follows the words is cleared
     module _ (h : i ≡ n) where
       none-left : all i (slotsFrom w i (n - i)) ≡ []
-      none-left = rw (← h, slots-none w i) (r .none i)
+      none-left = rw (slots-ended w n i (omega arith)) (r .none i)
 
       pub ended-place : at ≡ length (all 0 (slotsFrom w 0 n))
       ended-place = omega (arith, u .place, ap length none-left)

@@ -4,21 +4,12 @@ ghost use mathlib.Core.Path.{_≡_};
 ghost use Prim.Native.Nat.{_+_, _-_, _*_, _≤_};
 ghost use mathlib.Core.List.{_++_};
 ghost use lib.Dec.{eqb};
-ghost use lib.ListN.{length, getD, set, take, replicate};
+ghost use lib.ListN.{length, getD, take, replicate};
 ghost use lib.Seq.{sets};
 ghost use Rattle.numbers.specs.Number.{pick};
 ghost use Rattle.slots.specs.Slots.{slotAt, slotsFrom};
 ghost use Rattle.picker.specs.Fronts.{never, frontAt};
 ghost use Rattle.reports.specs.Reports.{countOf, pendingOf, countsFrom, reachesFrom, pendingFrom, fitted};
-
-// Word n, if it is lent.
-fn push(out: &mut [u64], n: usize, word: u64)
-    ensures { λ _. ⌜ now (out .exit) ≡ set (now (out .entry)) n word ⌝ }
-{
-    if n < out.len() {
-        out[n] = word;
-    }
-}
 
 // Zeros after n words.
 pub fn clear_after(out: &mut [u64], n: usize)
@@ -27,15 +18,6 @@ pub fn clear_after(out: &mut [u64], n: usize)
     if n < out.len() {
         numbers::words::clear(out, n);
     }
-}
-
-fn less(a: u64, b: u64) -> u64
-    ensures { λ r. ⌜ r ≡ a - b ⌝ }
-{
-    if a < b {
-        return 0;
-    }
-    a - b
 }
 
 fn reach_at(reach: &[u64], i: usize) -> u64
@@ -69,9 +51,9 @@ fn report_count(slots: &[u64], i: usize, fronts: &[u64], out: &mut [u64], at: us
         return at;
     }
     let f = picker::fronts::front_at(fronts, i);
-    let taken = less(count, f.left as u64);
-    push(out, at, client);
-    push(out, at + 1, taken);
+    let taken = numbers::words::less(count, f.left as u64);
+    numbers::words::put_word(out, at, client);
+    numbers::words::put_word(out, at + 1, taken);
     at + 2
 }
 
@@ -101,8 +83,8 @@ pub fn report_reaches(slots: &[u64], n: usize, reach: &[u64], out: &mut [u64]) -
     while i < n {
         let client = slots[3 * i];
         let clock = reach_at(reach, i);
-        push(out, 2 * i, client);
-        push(out, 2 * i + 1, clock);
+        numbers::words::put_word(out, 2 * i, client);
+        numbers::words::put_word(out, 2 * i + 1, clock);
         i += 1;
     }
     clear_after(out, 2 * n);
@@ -128,9 +110,9 @@ fn report_waiting(
     }
     let client = slots[3 * i];
     let clock = awaited_reach(reach, f.need, f.slot);
-    push(out, at, client);
-    push(out, at + 1, f.missing);
-    push(out, at + 2, clock);
+    numbers::words::put_word(out, at, client);
+    numbers::words::put_word(out, at + 1, f.missing);
+    numbers::words::put_word(out, at + 2, clock);
     at + 3
 }
 

@@ -34,7 +34,7 @@ use Rattle.rereading.specs.CaseE.{updateC, hi, done, CaseE}
 -- ---- C is read
 
 read : (n m : ℕ) → reading 1 updateC (suc n) m ≡ record { number = 0; blocks = hi ∷ []; ranges = [] }
-unfolding field.bounded field.varDraw field.varAt field.byteAt field.clockAt field.bytesAfter field.bufAt field.client1 field.idOf field.idDraw field.id1 field.checkedText field.textIn1 field.text1 field.restoredBy field.dsClock field.dsLen course.drawn course.fit course.items course.ending fields.openedOf fields.clientOf fields.leftIdOf fields.rightIdOf fields.infoOf fields.parentInfoOf fields.lenOf fields.textOf block.number block.id block.bytes block.words block.andThen block.leftOf block.rightOf block.parentAfter block.parentOf block.keyOf block.placeOf block.deletedOf block.binaryOf block.stringOf block.contentOf block.itemOf block.skipOf block.gcOf block.bodyOf update.atPlace update.afterInfo update.blockOf update.dropped update.kept update.ended update.blocks words.among update.sections update.fromOpened update.blocksOf deletes.clockIn deletes.lenIn deletes.ranges deletes.clients deletes.deleteSet ranges.normal promises.withRanges promises.withBlocks promises.known promises.early promises.reading utf8.charsFrom utf8.chars utf8.sum utf8.unitsOf utf8.lead utf8.next utf8.width utf8.after utf8.settled utf8.wellFormed utf8.gain utf8.takeFrom utf8.takeUnits spelling.after spelt placed readUnsigned utf8.ended
+unfolding field.bounded field.varDraw field.varAt field.byteAt field.clockAt field.bytesAfter field.bufAt field.client1 field.idOf field.idDraw field.id1 field.checkedText field.textIn1 field.text1 field.restoredBy field.dsClock field.dsLen course.drawn course.fit course.items course.ending fields.openedOf fields.clientOf fields.leftIdOf fields.rightIdOf fields.infoOf fields.parentInfoOf fields.lenOf fields.textOf block.number block.id block.bytes block.words block.andThen block.leftOf block.rightOf block.parentAfter block.parentOf block.keyOf block.placeOf block.deletedOf block.binaryOf block.stringOf block.contentOf block.itemOf block.skipOf block.gcOf block.bodyOf update.atPlace update.afterInfo update.blockOf update.dropped update.kept update.ended update.blocks words.among update.sections update.fromOpened update.blocksOf deletes.clockIn deletes.lenIn deletes.ranges deletes.clients deletes.deleteSet ranges.normal promises.withRanges promises.withBlocks promises.known promises.early promises.reading utf8.charsFrom utf8.chars utf8.widths utf8.unitsOf utf8.lead utf8.next utf8.width utf8.after utf8.settled utf8.wellFormed utf8.gain utf8.takeFrom utf8.takeUnits spelling.after spelt placed readUnsigned utf8.ended
 read zero zero = refl
 read zero (suc m) = refl
 read (suc n) zero = refl

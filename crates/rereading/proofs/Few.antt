@@ -11,12 +11,12 @@ use Rattle.ranges.specs.Ranges.{Range}
 use Rattle.readings.specs.Sound.{linked}
 use Rattle.readings.specs.Groups.{groups, joined}
 use Rattle.readings.proofs.Columns.{chosen}
-use Rattle.readings.proofs.Groups.{groups-joined, join-length}
+use Rattle.readings.proofs.Groups.{groups-joined, groups-length}
 use Rattle.tokens.specs.Tokens.{Token}
-use Rattle.kept.specs.Kept.{Piece, Section}
+use Rattle.kept.specs.Kept.{Piece, Section, pieceCount}
 use Rattle.kept.specs.Cut.{cutRow}
 use Rattle.records.specs.Records.{leftTokens, rightTokens, parentTokens, keyTokens, placeTokens, contentTokens, blockTokens, piecesTokens, sectionTokens, sectionsTokens, rangesTokens, clientTokens, ownerOf, deleteTokens, updateTokens}
-use Rattle.written.specs.Kept.{pieceCount, Kept}
+use Rattle.written.specs.Kept.{Kept}
 
 -- ---- a record
 
@@ -78,11 +78,6 @@ module _ (u : List ℕ) where
 
 -- ---- the delete set
 
-groups-few : (rs : List Range) → length (groups ownerOf rs) ≤ length rs
-unfolding groups
-groups-few [] = omega arith
-groups-few (r ∷ rs) = omega (arith, join-length ownerOf r (groups ownerOf rs), groups-few rs)
-
 module _ (form : ℕ) where
   ranges-few : (rs : List Range) (end : ℕ) → length (rangesTokens form end rs) ≡ 2 * length rs
   unfolding rangesTokens
@@ -104,7 +99,7 @@ module _ (form : ℕ) where
 
   deletes-few : (rs : List Range) → length (deleteTokens form rs) ≤ 1 + 4 * length rs
   unfolding deleteTokens
-  deletes-few rs = omega (arith, clients-few (groups ownerOf rs), groups-few rs, ap length (groups-joined ownerOf rs))
+  deletes-few rs = omega (arith, clients-few (groups ownerOf rs), groups-length ownerOf rs, ap length (groups-joined ownerOf rs))
 
   -- ---- all of it
 

@@ -1,5 +1,5 @@
 -- A diff is read again, with rows enough, if it is not longer than an update may be: the same delete ranges, and the records of the pieces kept.
-use Prim.Native.Nat.{ℕ, _+_, _≤_}
+use Prim.Native.Nat.{ℕ, _≤_}
 use mathlib.Core.Path.{_≡_, refl, sym, ap, subst, _∙_}
 use mathlib.Core.Logic.{_⊎_, inl, inr}
 use mathlib.Core.Bool.{Bool, true, false}
@@ -19,14 +19,14 @@ use Rattle.readings.specs.Sound.{All}
 use Rattle.tokens.specs.Tokens.{Token}
 use Rattle.tokens.specs.Bytes.{bytesOf, near}
 use Rattle.draws.proofs.Drawn.{draws}
-use Rattle.kept.specs.Kept.{Piece, Section, sectionsOf, pieceCount as kept-count}
+use Rattle.kept.specs.Kept.{Piece, Section, sectionsOf, pieceCount}
 use Rattle.kept.specs.Cut.{torn, tornPieces, anyTorn}
 use Rattle.kept.proofs.SectionsKept.{sections-count}
 use Rattle.records.specs.Records.{updateTokens}
 use Rattle.written.specs.Written.{AllAlike, sectionsRead}
-use Rattle.written.specs.Kept.{pieceCount, Kept, Clean, KeptRanges}
+use Rattle.written.specs.Kept.{Kept, Clean, KeptRanges}
 use Rattle.written.proofs.LegalUpdate.{update-legal}
-use Rattle.written.proofs.KeepingAll.{kept-sections, kept-ranges}
+use Rattle.written.proofs.Keeping.{kept-sections, kept-ranges}
 use Rattle.written.proofs.Whole.{written-reads, records-alike, reading-written}
 use Rattle.writing.specs.Diff.{diffTokens, diffBytes, diffWhy}
 use Rattle.writing.proofs.SmallRanges.{found-few}
@@ -152,16 +152,11 @@ module _ (form : ℕ) (u v : List ℕ) (to m n room : ℕ) where
 
   -- ---- the rows that took the update take the diff
 
-  piece-counts : (ss : List Section) → pieceCount ss ≡ kept-count ss
-  unfolding pieceCount kept-count
-  piece-counts [] = refl
-  piece-counts (s ∷ ss) = ap (λ (k : ℕ). length (s .pieces) + k) (piece-counts ss)
-
   pub reread-there : diffOf form u v to m n room .number ≡ 0 → length (diffOf form u v to m n room .bytes) ≤ maxUpdate
       → ReadAgain u v (diffOf form u v to m n room) (reading to (diffOf form u v to m n room .bytes) m n)
   reread-there z small =
       let h = done form u v to m n room z in
       let s = sym (h .source) in
       let a = all-read form u m n (h .read) in
-      let rows : pieceCount (keptBy v R) ≤ m = omega (arith, piece-counts (keptBy v R), sections-count (entriesIn v) (R .blocks), a .rows) in
+      let rows : pieceCount (keptBy v R) ≤ m = omega (arith, sections-count (entriesIn v) (R .blocks), a .rows) in
       reread z small m n (subst (λ (r : Reading). pieceCount (keptBy v r) ≤ m) s rows) (subst (λ (r : Reading). length (r .ranges) ≤ n) s (a .range-rows))

@@ -9,6 +9,7 @@ use Rattle.numbers.specs.Number.{pick}
 use Rattle.block.specs.declared.Id.{Id}
 use Rattle.block.specs.declared.Block.{Block}
 use Rattle.block.specs.Row.{noBlock}
+use Rattle.block.specs.Kinds.{SKIP}
 use Rattle.sorting.specs.Steps.{System, State}
 
 -- ---- blocks
@@ -19,7 +20,7 @@ queue [] c = []
 queue (b ∷ bs) c = pick (eqb (b .client) c) (b ∷ queue bs c) (queue bs c)
 
 abbrev pub isSkip : Block → Bool
-isSkip b = eqb (b .kind) 2
+isSkip b = eqb (b .kind) SKIP
 
 abbrev pub also : Bool → Id → List Id → List Id
 also true d ds = d ∷ ds

@@ -10,7 +10,7 @@ use Rattle.block.specs.declared.Block.{Block}
 use Rattle.vector.specs.Vector.{Entry, clientsIn}
 use Rattle.readings.specs.Sound.{owner, All, Sound, Ordered}
 use Rattle.readings.specs.Groups.{groups}
-use Rattle.readings.proofs.Orders.{all-map}
+use Rattle.readings.proofs.Groups.{all-map}
 use Rattle.slots.specs.Slots.{Slot, slot}
 use Rattle.picker.specs.Picker.{Desk, nowhere}
 use Rattle.picker.proofs.FrontLaws.{length-opened, opened-front, length-filled, filled-reach}

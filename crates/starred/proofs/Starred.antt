@@ -159,7 +159,7 @@ Updates n m =
     × (reading 1 updateM3 (suc (suc n)) m ≡ blocksRead (after-id 5 9 8 ∷ after-id 9 5 16 ∷ []))
 
 updates : (n m : ℕ) → Updates n m
-unfolding field.bounded field.varDraw field.varAt field.byteAt field.clockAt field.bytesAfter field.bufAt field.client1 field.idOf field.idDraw field.id1 field.checkedText field.textIn1 field.text1 field.clientDrawn field.client2 field.infoDrawn field.infoDraw field.parentDrawn field.parentDraw field.lenDrawn field.lenColumn field.len2 field.textDrawn field.text2 field.restoredBy field.dsClock field.dsLen field.putDifferences field.putNumbers field.putBytes field.holdsDifferences field.holdsBytes field.putColumn field.onPart field.cutFrom field.textIn field.textOpened field.onOpened field.afterFlag field.opened2 course.drawn course.fit course.items course.ending fields.openedOf fields.clientOf fields.leftIdOf fields.rightIdOf fields.infoOf fields.parentInfoOf fields.lenOf fields.textOf block.number block.id block.bytes block.words block.andThen block.leftOf block.rightOf block.parentAfter block.parentOf block.keyOf block.placeOf block.deletedOf block.binaryOf block.stringOf block.contentOf block.itemOf block.skipOf block.gcOf block.bodyOf update.atPlace update.afterInfo update.blockOf update.dropped update.kept update.ended update.blocks words.among update.sections update.fromOpened update.blocksOf deletes.clockIn deletes.lenIn deletes.ranges deletes.clients deletes.deleteSet ranges.normal promises.withRanges promises.withBlocks promises.known promises.early promises.reading utf8.charsFrom utf8.chars utf8.sum utf8.unitsOf utf8.lead utf8.next utf8.width utf8.after utf8.settled utf8.wellFormed utf8.gain utf8.takeFrom utf8.takeUnits spelling.after spelt placed readUnsigned readSigned speltSigned minusOf withSign number.drawn number.counted number.begun number.nextNumber byte.counted byte.begun byte.nextByte string.opened string.openText string.ending string.taken string.drawn string.nextText utf8.ended
+unfolding field.bounded field.varDraw field.varAt field.byteAt field.clockAt field.bytesAfter field.bufAt field.client1 field.idOf field.idDraw field.id1 field.checkedText field.textIn1 field.text1 field.clientDrawn field.client2 field.infoDrawn field.infoDraw field.parentDrawn field.parentDraw field.lenDrawn field.lenColumn field.len2 field.textDrawn field.text2 field.restoredBy field.dsClock field.dsLen field.putDifferences field.putNumbers field.putBytes field.holdsDifferences field.holdsBytes field.putColumn field.onPart field.cutFrom field.textIn field.textOpened field.onOpened field.afterFlag field.opened2 course.drawn course.fit course.items course.ending fields.openedOf fields.clientOf fields.leftIdOf fields.rightIdOf fields.infoOf fields.parentInfoOf fields.lenOf fields.textOf block.number block.id block.bytes block.words block.andThen block.leftOf block.rightOf block.parentAfter block.parentOf block.keyOf block.placeOf block.deletedOf block.binaryOf block.stringOf block.contentOf block.itemOf block.skipOf block.gcOf block.bodyOf update.atPlace update.afterInfo update.blockOf update.dropped update.kept update.ended update.blocks words.among update.sections update.fromOpened update.blocksOf deletes.clockIn deletes.lenIn deletes.ranges deletes.clients deletes.deleteSet ranges.normal promises.withRanges promises.withBlocks promises.known promises.early promises.reading utf8.charsFrom utf8.chars utf8.widths utf8.unitsOf utf8.lead utf8.next utf8.width utf8.after utf8.settled utf8.wellFormed utf8.gain utf8.takeFrom utf8.takeUnits spelling.after spelt placed readUnsigned readSigned speltSigned minusOf withSign number.drawn number.counted number.begun number.nextNumber byte.counted byte.begun byte.nextByte string.opened string.openText string.ending string.taken string.drawn string.nextText utf8.ended
 updates zero zero = (refl, refl, refl, refl, refl, refl, refl)
 updates zero (suc m) = (refl, refl, refl, refl, refl, refl, refl)
 updates (suc n) zero = (refl, refl, refl, refl, refl, refl, refl)

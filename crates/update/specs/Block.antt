@@ -10,6 +10,7 @@ use Rattle.text.specs.declared.Units.{Units}
 use Rattle.block.specs.declared.Id.{Id}
 use Rattle.block.specs.declared.Block.{Block}
 use Rattle.block.specs.Row.{noPart}
+use Rattle.block.specs.Kinds.{GC, SKIP, DELETED, BINARY, TEXT}
 use Rattle.decoder.specs.declared.State.{State}
 use Rattle.decoder.specs.declared.Draw.{Draw}
 use Rattle.decoder.specs.declared.Draw.the-variants as draw
@@ -70,13 +71,13 @@ unfoldable pub placeOf : List ℕ → ℕ → Block → State → Item
 placeOf u info b s = pick (ltb info 64) (andThen (parentOf u b s) (keyOf u info)) (andThen (leftOf u info b s) (rightOf u info))
 
 unfoldable pub deletedOf : List ℕ → Block → State → Item
-deletedOf u b s = number (lenOf u s) (λ v p t. At (withContent 3 (record { 0 = v }) noPart b) t)
+deletedOf u b s = number (lenOf u s) (λ v p t. At (withContent DELETED (record { 0 = v }) noPart b) t)
 
 unfoldable pub binaryOf : List ℕ → Block → State → Item
-binaryOf u b s = bytes (bufAt u s) (λ p t. At (withContent 4 (record { 0 = 1 }) p b) t)
+binaryOf u b s = bytes (bufAt u s) (λ p t. At (withContent BINARY (record { 0 = 1 }) p b) t)
 
 unfoldable pub stringOf : List ℕ → Block → State → Item
-stringOf u b s = words (textOf u s) (λ p n t. At (withContent 5 n p b) t)
+stringOf u b s = words (textOf u s) (λ p n t. At (withContent TEXT n p b) t)
 
 -- deleted (1) is a length field, binary (3) length and bytes in line, string (4) a text; all else is refused with 5, at the info byte
 unfoldable pub contentOf : List ℕ → ℕ → ℕ → Block → State → Item
@@ -91,10 +92,10 @@ itemOf u info place b s = andThen (placeOf u info b s) (contentOf u info place)
 -- ---- a block
 
 unfoldable pub skipOf : List ℕ → ℕ → ℕ → State → Item
-skipOf u client clock s = number (clockAt u s) (λ v p t. At (plain client clock v 2) t)
+skipOf u client clock s = number (clockAt u s) (λ v p t. At (plain client clock v SKIP) t)
 
 unfoldable pub gcOf : List ℕ → ℕ → ℕ → State → Item
-gcOf u client clock s = number (lenOf u s) (λ v p t. At (plain client clock v 1) t)
+gcOf u client clock s = number (lenOf u s) (λ v p t. At (plain client clock v GC) t)
 
 -- exactly 10 is Skip, its length in line; exactly 0 is GC, a length field; all else an item
 unfoldable pub bodyOf : List ℕ → ℕ → ℕ → ℕ → ℕ → State → Item

@@ -8,6 +8,7 @@ use Rattle.numbers.specs.Number.{pick, none}
 use Rattle.numbers.specs.Words.{among}
 use Rattle.numbers.specs.Limits.{maxClock, maxClients, maxBlocks}
 use Rattle.block.specs.declared.Block.{Block}
+use Rattle.block.specs.Kinds.{GC, SKIP}
 use Rattle.decoder.specs.declared.State.{State}
 use Rattle.decoder.specs.declared.Draw.{Draw}
 use Rattle.decoder.specs.declared.Draw.the-variants as draw
@@ -43,7 +44,7 @@ whyBlock (decoded.Refused why) = why
 
 -- an item of length 0 is dropped; GC and Skip of length 0 are kept
 unfoldable pub dropped : Block → Bool
-dropped b = pick (eqb (b .length .0) 0) (ltb 2 (b .kind)) false
+dropped b = pick (eqb (b .length .0) 0) (ltb SKIP (b .kind)) false
 
 unfoldable pub kept : Block → ℕ → Course Block → Course Block
 kept b p c = pick (dropped b) c (item b p c)

@@ -14,7 +14,7 @@ use Rattle.parts.specs.Brim.{brim}
 use Rattle.kept.specs.declared.plan.Planning.{Planning}
 use Rattle.kept.specs.Kept.{remote, falls}
 use Rattle.kept.specs.Plan.{Planned, roomFor, withPlanned, unplanned, underWay, endedWords, endedCount, begun, firstPiece, onePieceMore, grown, continues, planStep, planWords, planAll, planAllWords}
-use Rattle.kept.proofs.SectionsWords.{with-length}
+use Rattle.kept.proofs.Words.{with-length}
 use Rattle.encoder.specs.Passes.{outcomeOf, outcomeFor, wordsFor}
 
 -- ---- a section more

@@ -1,8 +1,7 @@
 -- The ranges of a delete set are not more than the bytes of the update: each has drawn at least one of them.
 use Prim.Native.Nat.{ℕ, zero, suc, _+_, _-_, _≤_, _<_}
 use mathlib.Core.Logic.{⊎-elim}
-use mathlib.Core.Bool.{Bool, true, false, cond}
-use mathlib.Core.List.{List, [], _∷_}
+use mathlib.Core.List.{List}
 use native.Mathlib.Omega.{arith}
 use lib.Dec.{ltb, eqb}
 use lib.ListN.{length}
@@ -18,8 +17,9 @@ use Rattle.decoder.specs.declared.Draw.{Draw}
 use Rattle.decoder.specs.declared.Draw.the-variants.{Number, Refused}
 use Rattle.decoder.specs.Fields.{bounded, restoredBy, varDraw, varAt, clockAt, client1, dsClock, dsLen}
 use Rattle.decoder.specs.Course.{Course, item, over, stopped, drawn, fit, items}
-use Rattle.ranges.specs.Ranges.{Range, hull, add, normal}
+use Rattle.ranges.specs.Ranges.{Range, normal}
 use Rattle.ranges.specs.Table.{range}
+use Rattle.ranges.proofs.Theory.{normal-length}
 use Rattle.deletes.specs.DeleteSet.{clockIn, lenIn, ranges, clients, deleteSet}
 use Rattle.readings.proofs.Columns.{chosen}
 
@@ -134,33 +134,9 @@ fit-less (over s) (suc n) = omega arith
 fit-less (stopped why) zero = omega arith
 fit-less (stopped why) (suc n) = omega arith
 
-add-few : (l : List Range) (r : Range) → length (add r l) ≤ suc (length l)
-unfolding add
-add-few [] r = omega arith
-add-few (q ∷ qs) r =
-    go (ltb (q .client) (r .client)) (ltb (r .client) (q .client)) (ltb (r .clock + r .len) (q .clock)) (ltb (q .clock + q .len) (r .clock))
-    (add-few qs r) (add-few qs (hull r q))
-  where
-    go : (a b c d : Bool) → length (add r qs) ≤ suc (length qs) → length (add (hull r q) qs) ≤ suc (length qs)
-        → length (cond a (r ∷ q ∷ qs) (cond b (q ∷ add r qs) (cond c (r ∷ q ∷ qs) (cond d (q ∷ add r qs) (add (hull r q) qs))))) ≤ suc (suc (length qs))
-    go true b c d h k = omega arith
-    go false true c d h k = omega arith
-    go false false true d h k = omega arith
-    go false false false true h k = omega arith
-    go false false false false h k = omega arith
-
-pub normal-few : (l : List Range) → length (normal l) ≤ length l
-unfolding normal
-normal-few [] = omega arith
-normal-few (r ∷ rs) = go (ltb 0 (r .len)) (normal-few rs)
-  where
-    go : (x : Bool) → length (normal rs) ≤ length rs → length (cond x (add r (normal rs)) (normal rs)) ≤ suc (length rs)
-    go true h = omega (arith, add-few (normal rs) r)
-    go false h = omega arith
-
 module _ (u : List ℕ) (s : State) (n : ℕ) where
   pub fit-few : length (items (fit n (deleteSet u s))) ≤ length u
   fit-few = omega (arith, fit-less (deleteSet u s) n, ranges-few u s)
 
   pub found-few : length (normal (items (fit n (deleteSet u s)))) ≤ length u
-  found-few = omega (arith, normal-few (items (fit n (deleteSet u s))), fit-few)
+  found-few = omega (arith, normal-length (items (fit n (deleteSet u s))), fit-few)

@@ -10,9 +10,9 @@ use Rattle.block.specs.declared.Block.{Block}
 use Rattle.vector.specs.Vector.{Entry}
 use Rattle.ranges.specs.Ranges.{Range}
 use Rattle.readings.specs.Sound.{linked}
-use Rattle.readings.specs.Groups.{groups, join, joined}
+use Rattle.readings.specs.Groups.{groups, joined}
 use Rattle.readings.proofs.Columns.{chosen}
-use Rattle.readings.proofs.Groups.{groups-joined, join-length}
+use Rattle.readings.proofs.Groups.{groups-joined, groups-length}
 use Rattle.tokens.specs.Tokens.{Token}
 use Rattle.tokens.proofs.Fitting.{sizeOf, sizeAll, size-append}
 use Rattle.kept.specs.Kept.{Piece, Section, clientOf, sectionsOf, pieceCount}
@@ -83,11 +83,6 @@ module _ (u : List ℕ) (few : length u ≤ maxUpdate) where
 
 -- ---- the delete set
 
-groups-few : (rs : List Range) → length (groups ownerOf rs) ≤ length rs
-unfolding groups
-groups-few [] = omega arith
-groups-few (r ∷ rs) = omega (arith, join-length ownerOf r (groups ownerOf rs), groups-few rs)
-
 module _ (form : ℕ) where
   ranges-size : (rs : List Range) (end : ℕ) → sizeAll (rangesTokens form end rs) ≡ 20 * length rs
   unfolding rangesTokens sizeAll sizeOf
@@ -109,7 +104,7 @@ module _ (form : ℕ) where
 
   pub deletes-size : (rs : List Range) → sizeAll (deleteTokens form rs) ≤ 10 + 40 * length rs
   unfolding deleteTokens sizeAll sizeOf
-  deletes-size rs = omega (arith, clients-size (groups ownerOf rs), groups-few rs, ap length (groups-joined ownerOf rs))
+  deletes-size rs = omega (arith, clients-size (groups ownerOf rs), groups-length ownerOf rs, ap length (groups-joined ownerOf rs))
 
   -- ---- all of it
 

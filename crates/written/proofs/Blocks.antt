@@ -20,9 +20,9 @@ use Rattle.update.specs.Update.{atPlace, afterInfo, blockOf}
 use Rattle.readings.specs.Sound.{linked, Stored, Sound}
 use Rattle.tokens.specs.Tokens.{Token, infos, info, len, var}
 use Rattle.draws.specs.Draws.{fieldOf, Draws}
+use Rattle.draws.proofs.Splits.{split}
 use Rattle.records.specs.Records.{infoByte, placeTokens, contentTokens, blockTokens}
 use Rattle.written.specs.Written.{Alike, keyless, reread, Writable}
-use Rattle.written.proofs.Forms.{split}
 use Rattle.written.proofs.Infos.{info-says}
 use Rattle.written.proofs.Ids.{number-on, bounded-on}
 use Rattle.written.proofs.Contents.{Found, content-read}

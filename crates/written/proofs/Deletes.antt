@@ -23,10 +23,11 @@ use Rattle.readings.specs.Groups.{groups, joined}
 use Rattle.readings.proofs.Groups.{groups-joined, groups-all}
 use Rattle.readings.proofs.RangeGroups.{Rising, Grouped, grouped}
 use Rattle.draws.specs.Draws.{Draws}
+use Rattle.draws.proofs.Forms.{var-form, draws-form}
+use Rattle.draws.proofs.Splits.{split}
 use Rattle.records.specs.Records.{clockFrom, lengthOf, rangesTokens, clientTokens, ownerOf, deleteTokens}
 use Rattle.written.specs.Written.{Goes}
 use Rattle.written.specs.Kept.{KeptRanges}
-use Rattle.written.proofs.Forms.{var-form, draws-form, split}
 use Rattle.written.proofs.Ids.{bounded-on}
 use Rattle.written.proofs.Courses.{drawn-on, goes-from, goes-append}
 

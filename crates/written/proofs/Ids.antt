@@ -26,8 +26,8 @@ use Rattle.update.specs.Rows.{plain}
 use Rattle.update.specs.Block.{number, id, words, leftOf, rightOf}
 use Rattle.tokens.specs.Tokens.{client, left, right, clients, lefts, rights}
 use Rattle.draws.specs.Draws.{leftClockOf, rightClockOf, fieldOf, Draws}
+use Rattle.draws.proofs.Forms.{field-form}
 use Rattle.records.specs.Records.{name}
-use Rattle.written.proofs.Forms.{field-form}
 use Rattle.written.proofs.Infos.{not}
 
 abbrev pub idAt : ℕ → ℕ → Id

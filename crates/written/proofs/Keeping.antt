@@ -1,84 +1,93 @@
--- What is kept of a client's blocks are pieces that can be written, but for a cut inside a pair.
-use Prim.Native.Nat.{ℕ, suc, _+_, _-_, _≤_, _<_}
-use mathlib.Core.Path.{_≡_, refl, sym, ap, subst}
+-- What a diff keeps of an update can be written and read again, where it cuts inside no pair.
+use Prim.Native.Nat.{ℕ, _<_}
+use mathlib.Core.Path.{_≡_, refl}
 use mathlib.Core.Logic.{_⊎_, inl, inr}
 use mathlib.Core.Bool.{Bool, true, false}
-use mathlib.Core.List.{List, [], _∷_, map}
+use mathlib.Core.List.{List, [], _∷_}
 use native.Mathlib.Omega.{arith}
-use lib.Dec.{leb, eqb}
+use lib.Dec.{eqb}
 use lib.ListN.{length}
-use borrow.Author.Tests.{eqb-true, eqb-false, leb-false}
-use Rattle.numbers.specs.Number.{pick}
+use borrow.Author.Tests.{eqb-true, eqb-false}
 use Rattle.block.specs.declared.Block.{Block}
-use Rattle.readings.specs.Sound.{Sound, All, Chain}
-use Rattle.kept.specs.Kept.{Piece, piece, falls, wholePiece, keepFrom}
-use Rattle.written.specs.Kept.{Later, rowOf}
+use Rattle.decoder.specs.declared.State.{State}
+use Rattle.decoder.specs.Course.{fit, items}
+use Rattle.vector.specs.Vector.{Entry}
+use Rattle.ranges.specs.Ranges.{normal}
+use Rattle.ranges.proofs.Theory.{normal-is}
+use Rattle.deletes.specs.DeleteSet.{deleteSet}
+use Rattle.update.specs.Update.{blocksOf}
+use Rattle.readings.specs.Sound.{Sound, All}
+use Rattle.readings.proofs.Groups.{all-map}
+use Rattle.readings.proofs.Sounds.{blocks-sound}
+use Rattle.readings.proofs.Orders.{blocks-ordered}
+use Rattle.readings.proofs.Counts.{blocks-count, blocks-groups}
+use Rattle.readings.proofs.RangesFound.{normal-fine, fit-fine, range-clients}
+use Rattle.kept.specs.Kept.{Piece, Section, sectionsOf, rowsOf, Begins, Whole, Pieces, SoundSection}
+use Rattle.kept.specs.Cut.{torn}
+use Rattle.kept.proofs.SectionsKept.{sections-length, sections-count, sections-distinct, sections-sound}
+use Rattle.written.specs.Kept.{KeptPiece, Later, KeptSection, Kept, Clean, KeptRanges}
 
--- a piece that can be written if it is not torn
-pub record Inside (u : List ℕ) (p : Piece) : Type 0 where
-  pub sound : Sound u (p .row)
-  pub to : p .to ≡ p .row .length .0
-  pub from : (p .from ≡ 0) ⊎ (p .from < p .row .length .0)
+-- ---- a sound section whose pieces are not torn
 
--- ---- whole pieces
+module _ (u : List ℕ) where
+  abbrev Untorn : Piece → Type 0
+  Untorn p = torn u p ≡ false
 
-whole-rows : (bs : List Block) → map rowOf (map wholePiece bs) ≡ bs
-whole-rows [] = refl
-whole-rows (b ∷ bs) = ap (λ (l : List Block). b ∷ l) (whole-rows bs)
+  first-kept : (p : Piece) → Begins p → Sound u (p .row) → Untorn p → KeptPiece u p
+  first-kept p b sound clean = record { sound = sound; to = b .to; from = cut (eqb (p .from) 0) refl; clean = clean }
+    where
+      cut : (x : Bool) → eqb (p .from) 0 ≡ x → (p .from ≡ 0) ⊎ (p .from < p .row .length .0)
+      cut true e = inl (eqb-true (p .from) 0 e)
+      cut false e = inr (b .inside (omega (arith, eqb-false (p .from) 0 e)))
 
-whole-later : (bs : List Block) → All (λ (q : Piece). q .from ≡ 0) (map wholePiece bs)
-whole-later [] = tt
-whole-later (b ∷ bs) = (refl, whole-later bs)
+  later-kept : (ps : List Piece) → All Whole ps → All (Sound u) (rowsOf ps) → All Untorn ps → All (KeptPiece u) ps
+  later-kept [] w sound clean = tt
+  later-kept (p ∷ ps) w sound clean = (
+    record { sound = sound .0; to = w .0 .to; from = inl (w .0 .from); clean = clean .0 },
+    later-kept ps (w .1) (sound .1) (clean .1),
+  )
 
-whole-length : (bs : List Block) → length (map wholePiece bs) ≡ length bs
-whole-length [] = refl
-whole-length (b ∷ bs) = ap suc (whole-length bs)
+  -- of all rows, and of all pieces
+  of-rows : (P : Block → Type 0) (ps : List Piece) → All P (rowsOf ps) → All (λ (p : Piece). P (p .row)) ps
+  of-rows P [] h = tt
+  of-rows P (p ∷ ps) h = (h .0, of-rows P ps (h .1))
 
-whole-client : (c : ℕ) (bs : List Block) → All (λ (b : Block). b .client ≡ c) bs → All (λ (p : Piece). p .row .client ≡ c) (map wholePiece bs)
-whole-client c [] h = tt
-whole-client c (b ∷ bs) h = (h .0, whole-client c bs (h .1))
+  section-kept : (c : ℕ) (ps : List Piece) → SoundSection u (record { client = c; pieces = ps }) → All Untorn ps
+      → KeptSection u (record { client = c; pieces = ps })
+  unfolding Pieces Later
+  section-kept c [] h clean = absurd (h .pieces)
+  section-kept c (p ∷ ps) h clean =
+      record {
+        some = omega arith;
+        each = (first-kept p (h .pieces .0) (h .sound .0) (clean .0), later-kept ps (h .pieces .1) (h .sound .1) (clean .1));
+        client = of-rows (λ (b : Block). b .client ≡ c) (p ∷ ps) (h .client);
+        chain = h .chain;
+        later = all-map Whole (λ (q : Piece). q .from ≡ 0) (λ q w. w .from) ps (h .pieces .1);
+      }
 
-whole-inside : (u : List ℕ) (bs : List Block) → All (Sound u) bs → All (Inside u) (map wholePiece bs)
-whole-inside u [] h = tt
-whole-inside u (b ∷ bs) h = (record { sound = h .0; to = refl; from = inl refl }, whole-inside u bs (h .1))
+  all-kept : (ss : List Section) → All (SoundSection u) ss → Clean u ss → All (KeptSection u) ss
+  all-kept [] h clean = tt
+  all-kept (s ∷ ss) h clean = (section-kept (s .client) (s .pieces) (h .0) (clean .0), all-kept ss (h .1) (clean .1))
 
--- ---- a client's pieces
+-- ---- of an update, against any vector
 
--- the pieces of n blocks of a client
-pub record Pieces (u : List ℕ) (c n : ℕ) (ps : List Piece) : Type 0 where
-  pub each : All (Inside u) ps
-  pub client : All (λ (p : Piece). p .row .client ≡ c) ps
-  pub chain : Chain (map rowOf ps)
-  pub later : Later ps
-  pub few : length ps ≤ n
+pub kept-sections : (form : ℕ) (u : List ℕ) (v : List Entry) → Clean u (sectionsOf v (items (blocksOf form u)))
+    → Kept u (sectionsOf v (items (blocksOf form u)))
+kept-sections form u v clean =
+    let bs = items (blocksOf form u) in
+    let ordered = blocks-ordered form u in
+    record {
+      count = omega (arith, sections-length v bs, blocks-groups form u);
+      clients = sections-distinct v bs ordered;
+      each = all-kept u (sectionsOf v bs) (sections-sound v bs ordered u (blocks-sound form u)) clean;
+      pieces = omega (arith, sections-count v bs, blocks-count form u);
+    }
 
--- a block that does not fall away is cut inside it, if at all
-cut-inside : (k : ℕ) (b : Block) → falls k b ≡ false → (k - b .clock ≡ 0) ⊎ (k - b .clock < b .length .0)
-unfolding falls
-cut-inside k b e = go (eqb (b .kind) 2) e
-  where
-    near : k < b .clock + b .length .0 → (x : Bool) → eqb (k - b .clock) 0 ≡ x → (k - b .clock ≡ 0) ⊎ (k - b .clock < b .length .0)
-    near l true z = inl (eqb-true (k - b .clock) 0 z)
-    near l false z = inr (omega (arith, eqb-false (k - b .clock) 0 z))
-
-    go : (x : Bool) → pick x true (leb (b .clock + b .length .0) k) ≡ false → (k - b .clock ≡ 0) ⊎ (k - b .clock < b .length .0)
-    go true e = absurd (let z : _≡_ {A = ℕ} 0 1 = cc in omega arith)
-    go false e = near (leb-false (b .clock + b .length .0) k e) (eqb (k - b .clock) 0) refl
-
-pub kept-pieces : (u : List ℕ) (c k : ℕ) (bs : List Block) → All (Sound u) bs → All (λ (b : Block). b .client ≡ c) bs → Chain bs
-    → Pieces u c (length bs) (keepFrom k bs)
-unfolding keepFrom Chain Later
-kept-pieces u c k [] s e h = record { each = tt; client = tt; chain = tt; later = tt; few = omega arith }
-kept-pieces u c k (b ∷ bs) s e h = go (falls k b) refl (kept-pieces u c k bs (s .1) (e .1) (h .1))
-  where
-    go : (x : Bool) → falls k b ≡ x → Pieces u c (length bs) (keepFrom k bs)
-        → Pieces u c (suc (length bs)) (pick x (keepFrom k bs) (piece b (k - b .clock) (b .length .0) ∷ map wholePiece bs))
-    go true f r = record { each = r .each; client = r .client; chain = r .chain; later = r .later; few = omega (arith, r .few) }
-    go false f r =
-        record {
-          each = (record { sound = s .0; to = refl; from = cut-inside k b f }, whole-inside u bs (s .1));
-          client = (e .0, whole-client c bs (e .1));
-          chain = subst (λ (l : List Block). Chain (b ∷ l)) (sym (whole-rows bs)) h;
-          later = whole-later bs;
-          few = omega (arith, whole-length bs);
-        }
+-- and its delete ranges, with so many rows
+pub kept-ranges : (u : List ℕ) (s : State) (n : ℕ) → KeptRanges (normal (items (fit n (deleteSet u s))))
+kept-ranges u s n =
+    record {
+      normal = normal-is (items (fit n (deleteSet u s))) .0;
+      fine = normal-fine (items (fit n (deleteSet u s))) (fit-fine u s n);
+      clients = range-clients u s n;
+    }

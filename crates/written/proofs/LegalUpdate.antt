@@ -15,10 +15,10 @@ use Rattle.readings.proofs.Groups.{groups-all}
 use Rattle.readings.proofs.RangeGroups.{Rising, Grouped, grouped}
 use Rattle.tokens.specs.Tokens.{Token, client, var}
 use Rattle.draws.specs.Draws.{most, isField, Legal, AllLegal}
-use Rattle.kept.specs.Kept.{Piece, Section}
+use Rattle.kept.specs.Kept.{Piece, Section, pieceCount}
 use Rattle.kept.specs.Cut.{cutRow}
 use Rattle.records.specs.Records.{blockTokens, piecesTokens, startOf, sectionTokens, sectionsTokens, clockFrom, lengthOf, rangesTokens, clientTokens, ownerOf, deleteTokens, updateTokens}
-use Rattle.written.specs.Kept.{KeptPiece, KeptSection, pieceCount, Kept, KeptRanges}
+use Rattle.written.specs.Kept.{KeptPiece, KeptSection, Kept, KeptRanges}
 use Rattle.written.proofs.Cuts.{cut-out}
 use Rattle.written.proofs.Sections.{start-fits}
 use Rattle.written.proofs.Legals.{legal-append, block-legal}

@@ -1,6 +1,5 @@
 -- A diff that is written is read again: a block (Blocks), the sections (Sections), the delete set (Deletes), all of it (Whole). What is cut out of a
--- sound row can be written (Cuts), so its tokens are legal (LegalUpdate), and what a diff keeps of any update is as these laws ask (KeepingAll).
-pub mod Forms
+-- sound row can be written (Cuts), so its tokens are legal (LegalUpdate), and what a diff keeps of any update is as these laws ask (Keeping).
 pub mod Opens
 pub mod Infos
 pub mod Ids
@@ -18,5 +17,3 @@ pub mod Legals
 pub mod LegalUpdate
 pub mod Whole
 pub mod Keeping
-pub mod Falling
-pub mod KeepingAll

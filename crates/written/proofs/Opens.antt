@@ -19,7 +19,7 @@ use Rattle.decoder.specs.declared.v2.Opened.the-variants as opened
 use Rattle.decoder.specs.Fields.{byteAt, bufAt, startAt, putDifferences, putNumbers, putBytes, holdsDifferences, holdsBytes, putColumn, onPart, cutFrom, textIn, textOpened, onOpened, afterFlag, opened2}
 use Rattle.update.specs.Fields.{openedOf}
 use Rattle.readings.proofs.Columns.{chosen}
-use Rattle.written.proofs.Forms.{Keeps, KeepsBuf, byte-keeps, buf-keeps}
+use Rattle.draws.proofs.Forms.{Keeps, KeepsBuf, byte-keeps, buf-keeps}
 
 abbrev KeepsOpened : ℕ → Opened → Type 0
 KeepsOpened f (opened.At s) = s .form ≡ f

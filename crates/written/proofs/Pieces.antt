@@ -18,12 +18,12 @@ use Rattle.update.specs.Update.{blockOf, dropped, kept, ended, blocks}
 use Rattle.readings.specs.Sound.{linked, Sound, All, Adjoins, Chain}
 use Rattle.readings.proofs.Columns.{chosen}
 use Rattle.draws.specs.Draws.{Draws}
+use Rattle.draws.proofs.Splits.{split}
 use Rattle.kept.specs.Kept.{Piece}
 use Rattle.kept.specs.Cut.{cutRow}
 use Rattle.records.specs.Records.{blockTokens, piecesTokens, startOf}
 use Rattle.written.specs.Written.{reread, Writable, piecesRead, Goes, AlikeIn}
 use Rattle.written.specs.Kept.{KeptPiece, Later, rowOf}
-use Rattle.written.proofs.Forms.{split}
 use Rattle.written.proofs.Blocks.{block-read}
 use Rattle.written.proofs.Cuts.{cut-out}
 

@@ -15,9 +15,9 @@ use Rattle.update.specs.Rows.{plain, withContent}
 use Rattle.update.specs.Block.{andThen, placeOf}
 use Rattle.readings.specs.Sound.{bytesIn, linked, Sound}
 use Rattle.draws.specs.Draws.{Draws}
+use Rattle.draws.proofs.Splits.{split}
 use Rattle.records.specs.Records.{infoByte, leftTokens, rightTokens, parentTokens, keyTokens, placeTokens}
 use Rattle.written.specs.Written.{Alike, keyless}
-use Rattle.written.proofs.Forms.{split}
 use Rattle.written.proofs.Infos.{info-says}
 use Rattle.written.proofs.Ids.{beside, left-read, right-read}
 use Rattle.written.proofs.Roots.{rooted, nothing-in, parent-read, key-read}

@@ -19,11 +19,11 @@ use Rattle.update.specs.Update.{blocks, sections}
 use Rattle.readings.specs.Sound.{All}
 use Rattle.readings.specs.Groups.{Distinct}
 use Rattle.draws.specs.Draws.{fieldOf, Draws}
-use Rattle.kept.specs.Kept.{Piece, Section}
+use Rattle.draws.proofs.Splits.{split}
+use Rattle.kept.specs.Kept.{Piece, Section, pieceCount}
 use Rattle.records.specs.Records.{piecesTokens, startOf, sectionTokens, sectionsTokens}
 use Rattle.written.specs.Written.{piecesRead, sectionsRead, Goes, AlikeIn}
-use Rattle.written.specs.Kept.{KeptPiece, KeptSection, clientIn, pieceCount}
-use Rattle.written.proofs.Forms.{split}
+use Rattle.written.specs.Kept.{KeptPiece, KeptSection, clientIn}
 use Rattle.written.proofs.Ids.{bounded-on}
 use Rattle.written.proofs.Courses.{drawn-on, goes-from, goes-append}
 use Rattle.written.proofs.Pieces.{runs, pieces-read}

@@ -17,11 +17,12 @@ use Rattle.deletes.specs.DeleteSet.{deleteSet}
 use Rattle.update.specs.Fields.{openedOf}
 use Rattle.update.specs.Update.{sections, fromOpened, blocksOf}
 use Rattle.draws.specs.Draws.{Draws}
-use Rattle.kept.specs.Kept.{Piece, Section}
+use Rattle.draws.proofs.Forms.{var-form, draws-form}
+use Rattle.draws.proofs.Splits.{split}
+use Rattle.kept.specs.Kept.{Piece, Section, pieceCount}
 use Rattle.records.specs.Records.{sectionsTokens, deleteTokens, updateTokens}
 use Rattle.written.specs.Written.{AllAlike, piecesRead, sectionsRead, AlikeIn, WrittenReads}
-use Rattle.written.specs.Kept.{clientIn, pieceCount, Kept, KeptRanges}
-use Rattle.written.proofs.Forms.{var-form, draws-form, split}
+use Rattle.written.specs.Kept.{clientIn, Kept, KeptRanges}
 use Rattle.written.proofs.Ids.{bounded-on}
 use Rattle.written.proofs.Courses.{drawn-on, goes-from, goes-ending, goes-fit, goes-alike, goes-same}
 use Rattle.written.proofs.Sections.{all-new, sections-read}

@@ -1,5 +1,5 @@
 -- Which sections and which delete ranges are written and read again: what a diff keeps of an update u, where it cuts inside no pair.
-use Prim.Native.Nat.{ℕ, _+_, _≤_, _<_}
+use Prim.Native.Nat.{ℕ, _≤_, _<_}
 use mathlib.Core.Path.{_≡_}
 use mathlib.Core.Logic.{_⊎_}
 use mathlib.Core.Bool.{false}
@@ -11,7 +11,7 @@ use Rattle.ranges.specs.Ranges.{Range, Normal}
 use Rattle.ranges.specs.Table.{Fine}
 use Rattle.readings.specs.Sound.{Sound, All, Chain}
 use Rattle.readings.specs.Groups.{groups, Distinct}
-use Rattle.kept.specs.Kept.{Piece, Section}
+use Rattle.kept.specs.Kept.{Piece, Section, pieceCount}
 use Rattle.kept.specs.Cut.{torn}
 use Rattle.records.specs.Records.{ownerOf}
 
@@ -42,10 +42,6 @@ pub record KeptSection (u : List ℕ) (s : Section) : Type 0 where
   pub client : All (λ (p : Piece). p .row .client ≡ s .client) (s .pieces)
   pub chain : Chain (map rowOf (s .pieces))
   pub later : Later (s .pieces)
-
-unfoldable pub pieceCount : List Section → ℕ
-pieceCount [] = 0
-pieceCount (s ∷ ss) = length (s .pieces) + pieceCount ss
 
 pub record Kept (u : List ℕ) (ss : List Section) : Type 0 where
   pub count : length ss ≤ maxClients

@@ -9,8 +9,8 @@ use Rattle.picker.proofs.offer.Tie as tie
 front-at-requires : tie.Need-front-at-requires
 front-at-requires c κs = search needs
 
-less-one-requires : tie.Need-less-one-requires
-less-one-requires c κs = search needs
+less-requires : tie.Need-less-requires
+less-requires c κs = search needs
 
 examine-requires : tie.Need-examine-requires
 examine-requires c κs = c .before .before .before .before .before .before .before .before .pre
@@ -36,7 +36,7 @@ returns c =
     let a = less .before .before .before .before .before .before .before .args in
     let e = offer-waits (a .slots .now) (a .n) (a .p) (a .reach .now) (a .fronts .now) (a .order .now) (a .b) (f .result) (seen .examine .result) (f .ensures)
     (seen .examine .ensures) (put .before .before .if1 .taken) in
-    rw e (rw (← put .put-front .ensures, ← less .less-one .ensures) (c .point .ensures), refl, put .put-front .ensures, refl)
+    rw e (rw (← put .put-front .ensures, ← less .less .ensures) (c .point .ensures), refl, put .put-front .ensures, refl)
 
 move-on-requires : tie.Need-move-on-requires
 move-on-requires c κs = search needs
@@ -77,7 +77,7 @@ returns-2 c =
     let e = offer-takes (a .slots .now) (a .n) (a .p) (a .reach .now) (a .fronts .now) (a .order .now) (a .b) (f .result) (seen .examine .result) (f .ensures)
     (seen .examine .ensures) (moves .before .if1 .left) in
     rw (e, ← moves .move-on .ensures, ← put .put-front2 .ensures, ← put .before .before .before .before .raise .ensures) (
-      rw (← c .before .before .before .one-more .ensures, ← less .less-one .ensures) (c .point2 .ensures),
+      rw (← c .before .before .before .one-more .ensures, ← less .less .ensures) (c .point2 .ensures),
       refl,
       refl,
       c .before .before .before .before .before .before .put-word .ensures,
@@ -88,7 +88,7 @@ offer-spec =
     tie.close
     (tie.spec
     front-at-requires
-    less-one-requires
+    less-requires
     examine-requires
     put-front-requires
     point-requires

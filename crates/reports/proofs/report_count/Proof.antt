@@ -41,14 +41,14 @@ front-at-requires c κs = search needs
 less-requires : tie.Need-less-requires
 less-requires c κs = search needs
 
-push-requires : tie.Need-push-requires
-push-requires c κs = search needs
+put-word-requires : tie.Need-put-word-requires
+put-word-requires c κs = search needs
 
-add-push : tie.Need-add-push
-add-push c = search needs
+add-put-word : tie.Need-add-put-word
+add-put-word c = search needs
 
-push-requires-2 : tie.Need-push-requires-2
-push-requires-2 c κs = search needs
+put-word-requires-2 : tie.Need-put-word-requires-2
+put-word-requires-2 c κs = search needs
 
 add-result : tie.Need-add-result
 add-result c = search needs
@@ -66,7 +66,7 @@ returns-2 c =
     rw (← front .front-at .ensures, e) (
       refl,
       omega arith,
-      rw (second .push2 .ensures, first .push .ensures, first .before .before .less .ensures, add-one),
+      rw (second .put-word2 .ensures, first .put-word .ensures, first .before .before .less .ensures, add-one),
     )
 
 pub report-count-spec : {M : Type 1} → statement M
@@ -83,9 +83,9 @@ report-count-spec =
     returns
     front-at-requires
     less-requires
-    push-requires
-    add-push
-    push-requires-2
+    put-word-requires
+    add-put-word
+    put-word-requires-2
     add-result
     same-length
     returns-2)

@@ -32,20 +32,20 @@ shared-slice-read-client c = search needs
 reach-at-requires : tie.Need-reach-at-requires Inv-loop μ-loop
 reach-at-requires c κs = search needs
 
-mul-push : tie.Need-mul-push Inv-loop μ-loop
-mul-push c = search needs
+mul-put-word : tie.Need-mul-put-word Inv-loop μ-loop
+mul-put-word c = search needs
 
-push-requires : tie.Need-push-requires Inv-loop μ-loop
-push-requires c κs = search needs
+put-word-requires : tie.Need-put-word-requires Inv-loop μ-loop
+put-word-requires c κs = search needs
 
-mul-push-2 : tie.Need-mul-push-2 Inv-loop μ-loop
-mul-push-2 c = search needs
+mul-put-word-2 : tie.Need-mul-put-word-2 Inv-loop μ-loop
+mul-put-word-2 c = search needs
 
-add-push : tie.Need-add-push Inv-loop μ-loop
-add-push c = search needs
+add-put-word : tie.Need-add-put-word Inv-loop μ-loop
+add-put-word c = search needs
 
-push-requires-2 : tie.Need-push-requires-2 Inv-loop μ-loop
-push-requires-2 c κs = search needs
+put-word-requires-2 : tie.Need-put-word-requires-2 Inv-loop μ-loop
+put-word-requires-2 c κs = search needs
 
 add-i : tie.Need-add-i Inv-loop μ-loop
 add-i c = search needs
@@ -65,7 +65,7 @@ loop-again c =
     let e : 2 * (l .i + 1) ≡ 2 * l .i + 2 = omega arith in
     let behind : 2 * l .i + 1 ≡ suc (2 * l .i) = omega arith in
     let words = reach-words (a .slots .now) (a .reach .now) (l .i) in
-    (rw (second .push2 .ensures, first .push .ensures, reached .reach-at .ensures, e, behind) (rw words at next), omega arith)
+    (rw (second .put-word2 .ensures, first .put-word .ensures, reached .reach-at .ensures, e, behind) (rw words at next), omega arith)
 
 mul-clear-after : tie.Need-mul-clear-after Inv-loop μ-loop
 mul-clear-after c = search needs
@@ -100,11 +100,11 @@ report-reaches-spec =
     mul-client-2
     shared-slice-read-client
     reach-at-requires
-    mul-push
-    push-requires
-    mul-push-2
-    add-push
-    push-requires-2
+    mul-put-word
+    put-word-requires
+    mul-put-word-2
+    add-put-word
+    put-word-requires-2
     add-i
     loop-less
     loop-again

@@ -31,20 +31,20 @@ shared-slice-read-client c = search needs
 awaited-reach-requires : tie.Need-awaited-reach-requires
 awaited-reach-requires c κs = search needs
 
-push-requires : tie.Need-push-requires
-push-requires c κs = search needs
+put-word-requires : tie.Need-put-word-requires
+put-word-requires c κs = search needs
 
-add-push : tie.Need-add-push
-add-push c = search needs
+add-put-word : tie.Need-add-put-word
+add-put-word c = search needs
 
-push-requires-2 : tie.Need-push-requires-2
-push-requires-2 c κs = search needs
+put-word-requires-2 : tie.Need-put-word-requires-2
+put-word-requires-2 c κs = search needs
 
-add-push-2 : tie.Need-add-push-2
-add-push-2 c = search needs
+add-put-word-2 : tie.Need-add-put-word-2
+add-put-word-2 c = search needs
 
-push-requires-3 : tie.Need-push-requires-3
-push-requires-3 c κs = search needs
+put-word-requires-3 : tie.Need-put-word-requires-3
+put-word-requires-3 c κs = search needs
 
 add-result : tie.Need-add-result
 add-result c = search needs
@@ -65,7 +65,7 @@ returns-2 c =
     rw (← front .front-at .ensures, e) (
       refl,
       omega arith,
-      rw (third .push3 .ensures, second .push2 .ensures, first .push .ensures, awaited .awaited-reach .ensures, two, add-one),
+      rw (third .put-word3 .ensures, second .put-word2 .ensures, first .put-word .ensures, awaited .awaited-reach .ensures, two, add-one),
     )
 
 pub report-waiting-spec : {M : Type 1} → statement M
@@ -78,11 +78,11 @@ report-waiting-spec =
     mul-client-2
     shared-slice-read-client
     awaited-reach-requires
-    push-requires
-    add-push
-    push-requires-2
-    add-push-2
-    push-requires-3
+    put-word-requires
+    add-put-word
+    put-word-requires-2
+    add-put-word-2
+    put-word-requires-3
     add-result
     same-length
     returns-2)

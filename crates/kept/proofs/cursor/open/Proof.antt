@@ -67,8 +67,8 @@ mul-skip c = search needs
 shared-slice-read-skip : tie.Need-shared-slice-read-skip
 shared-slice-read-skip c = search needs
 
-less-one-requires : tie.Need-less-one-requires
-less-one-requires c κs = search needs
+less-requires : tie.Need-less-requires
+less-requires c κs = search needs
 
 add-next : tie.Need-add-next
 add-next c = search needs
@@ -80,7 +80,7 @@ returns-3 c =
     rw (
       lt-ltb (a .k) (a .n) (c .before .before .before .before .before .before .if1 .left),
       le-leb (5 * (a .k + 1)) (length (a .plan .now)) (omega (arith, c .before .before .before .before .before .if2 .left)),
-      c .less-one .ensures,
+      c .less .ensures,
     )
     refl
 
@@ -105,6 +105,6 @@ open-spec =
     add-skip
     mul-skip
     shared-slice-read-skip
-    less-one-requires
+    less-requires
     add-next
     returns-3)
