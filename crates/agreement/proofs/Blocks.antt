@@ -22,13 +22,13 @@ use Rattle.decoder.specs.declared.v2.Opened.{Opened}
 use Rattle.decoder.specs.declared.v2.Opened.the-variants as opened
 use Rattle.decoder.specs.States.{movedTo}
 use Rattle.decoder.specs.Course.{Course}
-use Rattle.update.specs.declared.item.Item.{Item}
-use Rattle.update.specs.declared.item.Item.the-variants.{At, Refused}
+use Rattle.item.specs.declared.Item.{Item}
+use Rattle.item.specs.declared.Item.the-variants.{At, Refused}
 use Rattle.update.specs.declared.Decoded.{Decoded}
 use Rattle.update.specs.declared.Decoded.the-variants as decoded
-use Rattle.update.specs.Fields.{openedOf, clientOf, leftIdOf, rightIdOf, infoOf, parentInfoOf, lenOf, textOf}
-use Rattle.update.specs.Rows.{plain}
-use Rattle.update.specs.Block.{number, id, bytes, words, andThen, leftOf, rightOf, parentAfter, parentOf, keyOf, placeOf, deletedOf, binaryOf, stringOf, contentOf, itemOf, skipOf, gcOf, bodyOf}
+use Rattle.item.specs.Fields.{openedOf, clientOf, leftIdOf, rightIdOf, infoOf, parentInfoOf, lenOf, textOf}
+use Rattle.item.specs.Rows.{plain}
+use Rattle.item.specs.Block.{number, id, bytes, words, andThen, leftOf, rightOf, parentAfter, parentOf, keyOf, placeOf, deletedOf, binaryOf, stringOf, contentOf, itemOf, skipOf, gcOf, bodyOf}
 use Rattle.numbers.specs.Words.{among}
 use Rattle.update.specs.Update.{atPlace, afterInfo, blockOf, dropped, kept, ended, blocks, sections, fromOpened, blocksOf}
 use Rattle.agreement.specs.Ends.{Ends}

@@ -40,11 +40,11 @@ use Rattle.decoder.specs.declared.v2.Opened.the-variants as opened
 use Rattle.decoder.specs.Course.{Course, item, over, stopped, drawn, ending}
 use Rattle.decoder.specs.Fields.{bounded, varAt, clockAt, bufAt, checkedText, textIn1, text1, textDrawn, text2}
 use Rattle.decoder.proofs.Laws.{buf-ends}
-use Rattle.update.specs.declared.item.Item.{Item}
-use Rattle.update.specs.declared.item.Item.the-variants as items
-use Rattle.update.specs.Fields.{clientOf, infoOf, lenOf, textOf, openedOf}
-use Rattle.update.specs.Rows.{plain, withContent}
-use Rattle.update.specs.Block as spelled
+use Rattle.item.specs.declared.Item.{Item}
+use Rattle.item.specs.declared.Item.the-variants as items
+use Rattle.item.specs.Fields.{clientOf, infoOf, lenOf, textOf, openedOf}
+use Rattle.item.specs.Rows.{plain, withContent}
+use Rattle.item.specs.Block as spelled
 use Rattle.numbers.specs.Words.{among}
 use Rattle.update.specs.Update.{atPlace, afterInfo, blockOf, dropped, kept, ended, blocks, sections, fromOpened, blocksOf}
 use Rattle.deletes.specs.DeleteSet.{deleteSet}

@@ -22,7 +22,7 @@ use Rattle.decoder.specs.declared.Buf.the-variants as buf-answer
 use Rattle.decoder.specs.declared.Text.the-variants as text-answer
 use Rattle.decoder.specs.States.{movedTo, withText}
 use Rattle.decoder.specs.Fields.{varAt, bufAt, clientDrawn, client2, leftDrawn, leftClock, rightDrawn, rightClock, infoDrawn, infoDraw, parentDrawn, parentDraw, lenDrawn, lenColumn, len2, textDrawn, text2}
-use Rattle.update.specs.Fields.{clientOf, infoOf, parentInfoOf, lenOf, textOf}
+use Rattle.item.specs.Fields.{clientOf, infoOf, parentInfoOf, lenOf, textOf}
 use Rattle.readings.specs.Sound.{bytesIn}
 use Rattle.readings.proofs.Columns.{Within, TextHeld, text-held}
 use Rattle.tokens.specs.Tokens.{Token, field, text, var, buf, taken, takenAll, clients, lefts, rights, infos, parents, lens, rest}

@@ -9,7 +9,7 @@ use Rattle.numbers.specs.Limits.{maxCount}
 use Rattle.decoder.specs.declared.State.{State}
 use Rattle.decoder.specs.declared.v2.Opened.the-variants as opened
 use Rattle.decoder.specs.Fields.{startAt}
-use Rattle.update.specs.Fields.{openedOf}
+use Rattle.item.specs.Fields.{openedOf}
 use Rattle.tokens.specs.Tokens.{Token}
 use Rattle.tokens.specs.Bytes.{bytesOf, near}
 use Rattle.draws.specs.Draws.{Draws, AllLegal}

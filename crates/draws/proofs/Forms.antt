@@ -32,7 +32,7 @@ use Rattle.decoder.specs.declared.Buf.the-variants as buf-answer
 use Rattle.decoder.specs.declared.Text.{Text}
 use Rattle.decoder.specs.declared.Text.the-variants as text-answer
 use Rattle.decoder.specs.Fields.{bounded, varDraw, varAt, byteAt, clockAt, bytesAfter, bufAt, client1, checkedText, textIn1, text1, clientDrawn, client2, leftDrawn, leftClock, rightDrawn, rightClock, infoDrawn, infoDraw, parentDrawn, parentDraw, lenDrawn, lenColumn, len2, textDrawn, text2}
-use Rattle.update.specs.Fields.{clientOf, infoOf, parentInfoOf, lenOf, textOf}
+use Rattle.item.specs.Fields.{clientOf, infoOf, parentInfoOf, lenOf, textOf}
 use Rattle.readings.proofs.Columns.{chosen}
 use Rattle.tokens.specs.Tokens.{Token, field, text, var, buf, clients, lefts, rights, infos, parents}
 use Rattle.draws.specs.Draws.{leftClockOf, rightClockOf, fieldOf, Draws}

@@ -15,7 +15,7 @@ use Rattle.decoder.specs.declared.Text.the-variants as text-answer
 use Rattle.decoder.specs.declared.v2.Opened.the-variants as opened
 use Rattle.decoder.specs.States.{movedTo}
 use Rattle.decoder.specs.Fields.{bounded, varAt, clockAt, client1, checkedText, textIn1, text1, startAt}
-use Rattle.update.specs.Fields.{openedOf, clientOf, infoOf, parentInfoOf, lenOf, textOf}
+use Rattle.item.specs.Fields.{openedOf, clientOf, infoOf, parentInfoOf, lenOf, textOf}
 use Rattle.readings.specs.Sound.{bytesIn}
 use Rattle.tokens.specs.Tokens.{Token, field, text, var, buf, led, inlined, taken, takenAll, inLine, lane, whole}
 use Rattle.tokens.specs.Bytes.{form1}

@@ -14,7 +14,7 @@ use Rattle.decoder.specs.declared.State.{State}
 use Rattle.decoder.specs.declared.v2.Opened.the-variants as opened
 use Rattle.decoder.specs.States.{withText}
 use Rattle.decoder.specs.Fields.{startAt, textIn, textOpened, onOpened, afterFlag, opened2}
-use Rattle.update.specs.Fields.{openedOf}
+use Rattle.item.specs.Fields.{openedOf}
 use Rattle.tokens.specs.Tokens.{Token, led, takenAll, inLine, columnIn, lane, clients, lefts, rights, infos, parents, lens, rest}
 use Rattle.tokens.specs.Bytes.{form2, near}
 use Rattle.draws.specs.Draws.{Draws, AllLegal}

@@ -15,7 +15,7 @@ use Rattle.decoder.specs.declared.Draw.the-variants as draw
 use Rattle.decoder.specs.declared.Buf.the-variants as buf
 use Rattle.decoder.specs.declared.Text.the-variants as text-answer
 use Rattle.decoder.specs.Fields.{clockAt, varAt, bufAt, leftClock, rightClock}
-use Rattle.update.specs.Fields.{clientOf, infoOf, parentInfoOf, lenOf, textOf}
+use Rattle.item.specs.Fields.{clientOf, infoOf, parentInfoOf, lenOf, textOf}
 use Rattle.readings.specs.Sound.{bytesIn}
 use Rattle.tokens.specs.Tokens.{Token, field, text, var, buf, clients, lefts, rights, infos, parents, lens}
 

@@ -24,13 +24,13 @@ use Rattle.decoder.specs.declared.Buf.{Buf}
 use Rattle.decoder.specs.declared.Buf.the-variants as buf
 use Rattle.decoder.specs.declared.Text.{Text}
 use Rattle.decoder.specs.declared.Text.the-variants as text
-use Rattle.update.specs.declared.item.Item.{Item}
-use Rattle.update.specs.declared.item.Item.the-variants.{At, Refused}
+use Rattle.item.specs.declared.Item.{Item}
+use Rattle.item.specs.declared.Item.the-variants.{At, Refused}
 use Rattle.update.specs.declared.Decoded.{Decoded}
 use Rattle.update.specs.declared.Decoded.the-variants as decoded
-use Rattle.update.specs.Fields.{infoOf}
-use Rattle.update.specs.Rows.{plain, withRight, withKey, withContent}
-use Rattle.update.specs.Block.{number, id, bytes, words, andThen, leftOf, rightOf, parentAfter, parentOf, keyOf, placeOf, deletedOf, binaryOf, stringOf, contentOf, itemOf, skipOf, gcOf, bodyOf}
+use Rattle.item.specs.Fields.{infoOf}
+use Rattle.item.specs.Rows.{plain, withRight, withKey, withContent}
+use Rattle.item.specs.Block.{number, id, bytes, words, andThen, leftOf, rightOf, parentAfter, parentOf, keyOf, placeOf, deletedOf, binaryOf, stringOf, contentOf, itemOf, skipOf, gcOf, bodyOf}
 use Rattle.update.specs.Update.{atPlace, afterInfo, blockOf, dropped}
 use Rattle.readings.specs.Sound.{bytesIn, Lies, SoundId, SoundText, linked, Shape, Sound}
 use Rattle.readings.proofs.Columns.{chosen, WholeText}

@@ -41,7 +41,7 @@ use Rattle.decoder.specs.declared.v2.Opened.{Opened}
 use Rattle.decoder.specs.declared.v2.Opened.the-variants as opened
 use Rattle.decoder.specs.Fields.{bounded, varDraw, varAt, byteAt, clockAt, bytesAfter, bufAt, client1, idOf, idDraw, id1, checkedText, textIn1, text1, clientDrawn, client2, leftDrawn, leftClock, rightDrawn, rightClock, leftId, rightId, infoDrawn, infoDraw, parentDrawn, parentDraw, lenDrawn, lenColumn, len2, textDrawn, text2, startAt, cutFrom, textIn, textOpened, onOpened, afterFlag, opened2}
 use Rattle.decoder.proofs.Laws.{var-ends, left-fits, right-fits}
-use Rattle.update.specs.Fields.{openedOf, clientOf, leftIdOf, rightIdOf, infoOf, parentInfoOf, lenOf, textOf}
+use Rattle.item.specs.Fields.{openedOf, clientOf, leftIdOf, rightIdOf, infoOf, parentInfoOf, lenOf, textOf}
 use Rattle.readings.specs.Sound.{Lies}
 use Rattle.readings.proofs.Columns.{chosen, ValueHeld, number-held, Within, Opens, WholeText, TextHeld, text-opens, text-held, whole-of}
 

@@ -19,7 +19,7 @@ use Rattle.decoder.specs.Fields.{bounded, varAt}
 use Rattle.decoder.specs.Course.{Course, drawn, items}
 use Rattle.update.specs.declared.Decoded.{Decoded}
 use Rattle.update.specs.declared.Decoded.the-variants as decoded
-use Rattle.update.specs.Fields.{openedOf}
+use Rattle.item.specs.Fields.{openedOf}
 use Rattle.update.specs.Update.{blockOf, dropped, kept, ended, blocks, sections, fromOpened, blocksOf}
 use Rattle.readings.specs.Sound.{Sound}
 use Rattle.readings.proofs.Columns.{chosen}

@@ -10,8 +10,8 @@ use Rattle.text.specs.Utf8 as utf8
 use Rattle.block.specs.declared.Block.{Block}
 use Rattle.decoder.specs.Fields as field
 use Rattle.decoder.specs.Course as course
-use Rattle.update.specs.Fields as fields
-use Rattle.update.specs.Block as block
+use Rattle.item.specs.Fields as fields
+use Rattle.item.specs.Block as block
 use Rattle.update.specs.Update as update
 use Rattle.ranges.specs.Ranges as ranges
 use Rattle.deletes.specs.DeleteSet as deletes

@@ -28,7 +28,7 @@ use Rattle.update.specs.declared.Step.{Step}
 use Rattle.update.specs.declared.Step.the-variants.{Block, On, Done, Refused}
 use Rattle.update.specs.declared.Decoded.{Decoded}
 use Rattle.update.specs.declared.Decoded.the-variants as decoded
-use Rattle.update.specs.Fields.{clientOf, openedOf}
+use Rattle.item.specs.Fields.{clientOf, openedOf}
 use Rattle.numbers.specs.Words.{among}
 use Rattle.update.specs.Update.{dropped, kept, ended, blocks, sections, fromOpened, blockOf, blocksOf}
 use Rattle.update.specs.Steps.{rest, Fine, counted, sectionCount, begunOf, number, headed, passed, sectionStep, overEnd, endedStep, blockStep, nextOf, remembered, memoryAfter}

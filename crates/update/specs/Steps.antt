@@ -22,7 +22,7 @@ use Rattle.update.specs.declared.Step.{Step}
 use Rattle.update.specs.declared.Step.the-variants.{Block, On, Done, Refused}
 use Rattle.update.specs.declared.Decoded.{Decoded}
 use Rattle.update.specs.declared.Decoded.the-variants as decoded
-use Rattle.update.specs.Fields.{clientOf, openedOf}
+use Rattle.item.specs.Fields.{clientOf, openedOf}
 use Rattle.numbers.specs.Words.{among}
 use Rattle.update.specs.Update.{dropped, blocks, sections, blockOf}
 

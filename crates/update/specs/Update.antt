@@ -16,12 +16,12 @@ use Rattle.decoder.specs.declared.v2.Opened.{Opened}
 use Rattle.decoder.specs.declared.v2.Opened.the-variants as opened
 use Rattle.decoder.specs.Fields.{bounded, varAt, clockAt}
 use Rattle.decoder.specs.Course.{Course, item, over, stopped, drawn}
-use Rattle.update.specs.declared.item.Item.{Item}
-use Rattle.update.specs.declared.item.Item.the-variants as items
+use Rattle.item.specs.declared.Item.{Item}
+use Rattle.item.specs.declared.Item.the-variants as items
 use Rattle.update.specs.declared.Decoded.{Decoded}
 use Rattle.update.specs.declared.Decoded.the-variants as decoded
-use Rattle.update.specs.Fields.{clientOf, infoOf, openedOf}
-use Rattle.update.specs.Block.{bodyOf}
+use Rattle.item.specs.Fields.{clientOf, infoOf, openedOf}
+use Rattle.item.specs.Block.{bodyOf}
 
 -- ---- a block, with the place of its info byte
 

@@ -1,12 +1,10 @@
 // The blocks of an update, in either form, one at a time: each step reads a section's head or a block.
-pub mod fields;
-pub mod item;
-
 use block::Block;
 use decoder::Draw;
 use decoder::State;
 use decoder::v2::Opened;
 use item::Item;
+use item::fields;
 use numbers::Refusal;
 ghost use mathlib.Core.Path.{_≡_};
 ghost use Prim.Native.Nat.{_≤_};

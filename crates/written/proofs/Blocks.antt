@@ -12,10 +12,10 @@ use Rattle.block.specs.declared.Block.{Block}
 use Rattle.decoder.specs.declared.State.{State}
 use Rattle.decoder.specs.declared.Draw.the-variants.{Number}
 use Rattle.decoder.specs.Fields.{varAt, clockAt}
-use Rattle.update.specs.declared.item.Item.the-variants.{At}
+use Rattle.item.specs.declared.Item.the-variants.{At}
 use Rattle.update.specs.declared.Decoded.the-variants as decoded
-use Rattle.update.specs.Rows.{plain}
-use Rattle.update.specs.Block.{placeOf, itemOf, skipOf, gcOf, bodyOf}
+use Rattle.item.specs.Rows.{plain}
+use Rattle.item.specs.Block.{placeOf, itemOf, skipOf, gcOf, bodyOf}
 use Rattle.update.specs.Update.{atPlace, afterInfo, blockOf}
 use Rattle.readings.specs.Sound.{linked, Stored, Sound}
 use Rattle.tokens.specs.Tokens.{Token, infos, info, len, var}

@@ -14,10 +14,10 @@ use Rattle.block.specs.Row.{noPart}
 use Rattle.decoder.specs.declared.State.{State}
 use Rattle.decoder.specs.declared.Buf.{Buf}
 use Rattle.decoder.specs.declared.Buf.the-variants as buf-answer
-use Rattle.update.specs.declared.item.Item.{Item}
-use Rattle.update.specs.declared.item.Item.the-variants.{At}
-use Rattle.update.specs.Rows.{withContent}
-use Rattle.update.specs.Block.{bytes, deletedOf, binaryOf, stringOf, contentOf}
+use Rattle.item.specs.declared.Item.{Item}
+use Rattle.item.specs.declared.Item.the-variants.{At}
+use Rattle.item.specs.Rows.{withContent}
+use Rattle.item.specs.Block.{bytes, deletedOf, binaryOf, stringOf, contentOf}
 use Rattle.readings.specs.Sound.{bytesIn, Stored}
 use Rattle.tokens.specs.Tokens.{Token, text, len, buf}
 use Rattle.draws.specs.Draws.{fieldOf, Draws}

@@ -19,11 +19,11 @@ use Rattle.decoder.specs.declared.Ident.{Ident}
 use Rattle.decoder.specs.declared.Ident.the-variants as ident
 use Rattle.decoder.specs.declared.Text.the-variants as text-answer
 use Rattle.decoder.specs.Fields.{bounded, clockAt, idOf, idDraw, client1, id1, client2, leftClock, rightClock, leftId, rightId}
-use Rattle.update.specs.declared.item.Item.{Item}
-use Rattle.update.specs.declared.item.Item.the-variants.{At}
-use Rattle.update.specs.Fields.{clientOf, leftIdOf, rightIdOf}
-use Rattle.update.specs.Rows.{plain}
-use Rattle.update.specs.Block.{number, id, words, leftOf, rightOf}
+use Rattle.item.specs.declared.Item.{Item}
+use Rattle.item.specs.declared.Item.the-variants.{At}
+use Rattle.item.specs.Fields.{clientOf, leftIdOf, rightIdOf}
+use Rattle.item.specs.Rows.{plain}
+use Rattle.item.specs.Block.{number, id, words, leftOf, rightOf}
 use Rattle.tokens.specs.Tokens.{client, left, right, clients, lefts, rights}
 use Rattle.draws.specs.Draws.{leftClockOf, rightClockOf, fieldOf, Draws}
 use Rattle.draws.proofs.Forms.{field-form}

@@ -17,7 +17,7 @@ use Rattle.decoder.specs.declared.Buf.the-variants as buf-answer
 use Rattle.decoder.specs.declared.v2.Opened.{Opened}
 use Rattle.decoder.specs.declared.v2.Opened.the-variants as opened
 use Rattle.decoder.specs.Fields.{byteAt, bufAt, startAt, putDifferences, putNumbers, putBytes, holdsDifferences, holdsBytes, putColumn, onPart, cutFrom, textIn, textOpened, onOpened, afterFlag, opened2}
-use Rattle.update.specs.Fields.{openedOf}
+use Rattle.item.specs.Fields.{openedOf}
 use Rattle.readings.proofs.Columns.{chosen}
 use Rattle.draws.proofs.Forms.{Keeps, KeepsBuf, byte-keeps, buf-keeps}
 

@@ -9,10 +9,10 @@ use Rattle.numbers.specs.Number.{pick}
 use Rattle.text.specs.declared.Part.{Part}
 use Rattle.block.specs.declared.Block.{Block}
 use Rattle.decoder.specs.declared.State.{State}
-use Rattle.update.specs.declared.item.Item.{Item}
-use Rattle.update.specs.declared.item.Item.the-variants.{At}
-use Rattle.update.specs.Rows.{plain, withContent}
-use Rattle.update.specs.Block.{andThen, placeOf}
+use Rattle.item.specs.declared.Item.{Item}
+use Rattle.item.specs.declared.Item.the-variants.{At}
+use Rattle.item.specs.Rows.{plain, withContent}
+use Rattle.item.specs.Block.{andThen, placeOf}
 use Rattle.readings.specs.Sound.{bytesIn, linked, Sound}
 use Rattle.draws.specs.Draws.{Draws}
 use Rattle.draws.proofs.Splits.{split}

@@ -11,9 +11,9 @@ use Rattle.block.specs.declared.Id.{Id}
 use Rattle.block.specs.declared.Block.{Block}
 use Rattle.block.specs.Row.{noId, noPart}
 use Rattle.decoder.specs.declared.State.{State}
-use Rattle.update.specs.declared.item.Item.the-variants.{At}
-use Rattle.update.specs.Rows.{plain}
-use Rattle.update.specs.Block.{parentAfter, parentOf, keyOf}
+use Rattle.item.specs.declared.Item.the-variants.{At}
+use Rattle.item.specs.Rows.{plain}
+use Rattle.item.specs.Block.{parentAfter, parentOf, keyOf}
 use Rattle.readings.specs.Sound.{bytesIn}
 use Rattle.tokens.specs.Tokens.{client, left, parentInfo}
 use Rattle.draws.specs.Draws.{fieldOf, Draws}

@@ -14,7 +14,7 @@ use Rattle.decoder.specs.Fields.{varAt}
 use Rattle.decoder.specs.Course.{Course, fit, items, ending}
 use Rattle.ranges.specs.Ranges.{Range, Normal, normal}
 use Rattle.deletes.specs.DeleteSet.{deleteSet}
-use Rattle.update.specs.Fields.{openedOf}
+use Rattle.item.specs.Fields.{openedOf}
 use Rattle.update.specs.Update.{sections, fromOpened, blocksOf}
 use Rattle.draws.specs.Draws.{Draws}
 use Rattle.draws.proofs.Forms.{var-form, draws-form}

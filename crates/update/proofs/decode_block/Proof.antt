@@ -2,7 +2,7 @@
 use mathlib.Core.Path.{ap, _∙_}
 use Rattle.decoder.specs.Fields.{whyDraw}
 use Rattle.update.specs.declared.Decoded.the-variants.{Refused}
-use Rattle.update.specs.Block.{whyItem}
+use Rattle.item.specs.Block.{whyItem}
 use Rattle.update.specs.Update.{atPlace, afterInfo, blockOf}
 use borrow.Author.Needs.{needs}
 use Rattle.update.proofs.decode_block.Statement.{statement}

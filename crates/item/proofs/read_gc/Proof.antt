@@ -1,0 +1,45 @@
+-- `item::read_gc` meets its contract: what is drawn is the length.
+use mathlib.Core.Path.{ap, _∙_}
+use Rattle.decoder.specs.Fields.{whyDraw}
+use Rattle.item.specs.declared.Item.the-variants.{Refused}
+use Rattle.item.specs.Block.{number, gcOf}
+use borrow.Author.Needs.{needs}
+use Rattle.item.proofs.read_gc.Statement.{statement}
+use Rattle.item.proofs.read_gc.Tie as tie
+
+read-len-requires : tie.Need-read-len-requires
+read-len-requires c κs = search needs
+
+enum-known-d : tie.Need-enum-known-d
+enum-known-d c = search needs
+
+enum-told : tie.Need-enum-told
+enum-told c = search needs
+
+why-requires : tie.Need-why-requires
+why-requires c κs = search needs
+
+returns : tie.Need-returns
+unfolding gcOf number
+returns c =
+    let told = c .before .enum-told .given .1 in
+    rw (← c .before .before .before .read-len .ensures, told) (ap Refused (c .why .ensures ∙ ap whyDraw told))
+
+plain-row-requires : tie.Need-plain-row-requires
+plain-row-requires c κs = search needs
+
+returns-2 : tie.Need-returns-2
+unfolding gcOf number
+returns-2 c = rw (← c .before .before .before .before .read-len .ensures, c .before .before .d .given .1, c .plain-row .ensures)
+
+pub read-gc-spec : {M : Type 1} → statement M
+read-gc-spec =
+    tie.close
+    (tie.spec
+    read-len-requires
+    enum-known-d
+    enum-told
+    why-requires
+    returns
+    plain-row-requires
+    returns-2)
