@@ -132,7 +132,7 @@ fn read_place(update: &[u8], info: u64, b: Block, s: State) -> Item
     read_right(update, info, c, t)
 }
 
-fn with_content(b: Block, kind: u8, length: Units, part: Part) -> Block
+pub fn with_content(b: Block, kind: u8, length: Units, part: Part) -> Block
     ensures { λ r. ⌜ r ≡ withContent kind length part b ⌝ }
 {
     let mut c = b;
@@ -202,7 +202,7 @@ fn read_item(update: &[u8], info: u64, place: usize, b: Block, s: State) -> Item
 }
 
 // A row with nothing but its place, its length and its kind.
-fn plain_row(client: u64, clock: u32, length: Units, kind: u8) -> Block
+pub fn plain_row(client: u64, clock: u32, length: Units, kind: u8) -> Block
     ensures { λ r. ⌜ r ≡ plain client clock (length .0) kind ⌝ }
 {
     let mut b = block::none();

@@ -1,18 +1,44 @@
--- `update::decode_block` meets its contract: the info byte, then the body.
-use mathlib.Core.Path.{ap, _∙_}
-use Rattle.decoder.specs.Fields.{whyDraw}
+-- `update::decode_block` meets its contract: form 1 by its place alone; else the info byte, then the body.
+use Prim.Native.Nat.{ℕ, _+_}
+use mathlib.Core.Path.{_≡_, refl, sym, ap, _∙_}
+use mathlib.Core.Bool.{Bool, true, false}
+use mathlib.Core.List.{List}
+use lib.Dec.{leb}
+use lib.ListN.{length, getD}
+use borrow.Author.Tests.{eq-eqb}
+use Rattle.numbers.specs.Number.{pick}
+use Rattle.decoder.specs.declared.State.{State}
+use Rattle.decoder.specs.declared.Draw.{Draw}
+use Rattle.decoder.specs.declared.Draw.the-variants as draw
+use Rattle.decoder.specs.States.{movedTo}
+use Rattle.decoder.specs.Fields.{whyDraw, byteAt}
+use Rattle.item.specs.Fields.{infoOf}
+use Rattle.item.specs.Block.{number, bodyOf, whyItem}
+use Rattle.line.specs.declared.Item.{Item}
+use Rattle.line.specs.Line.{onto, blockAt, whyItem as whyLine}
 use Rattle.update.specs.declared.Decoded.the-variants.{Refused}
-use Rattle.item.specs.Block.{whyItem}
 use Rattle.update.specs.Update.{atPlace, afterInfo, blockOf}
 use borrow.Author.Needs.{needs}
 use Rattle.update.proofs.decode_block.Statement.{statement}
 use Rattle.update.proofs.decode_block.Tie as tie
 
-read-info-requires : tie.Need-read-info-requires
-read-info-requires c κs = search needs
+-- in form 1 the info byte is blamed where the state stands
+in-line : (u : List ℕ) (client clock : ℕ) (s : State) → s .form ≡ 1 → (i : Item) → onto s i ≡ blockAt u client clock s → atPlace (s .at) (onto s i) ≡ blockOf u client clock s
+unfolding blockOf blockAt infoOf byteAt afterInfo number atPlace
+in-line u client clock s f i e = ap (atPlace (s .at)) e ∙ rw (eq-eqb _ 1 f) (go (leb (length u) (s .at)))
+  where
+    byte : Bool → Draw
+    byte b = pick b (draw.Refused (record { number = 1; place = length u })) (draw.Number (getD u (s .at) 0) (s .at) (movedTo s (s .at + 1)))
 
-enum-known-d : tie.Need-enum-known-d
-enum-known-d c = search needs
+    go : (b : Bool) → atPlace (s .at) (number (byte b) (bodyOf u client clock)) ≡ afterInfo u client clock (byte b)
+    go true = refl
+    go false = refl
+
+read-block-requires : tie.Need-read-block-requires
+read-block-requires c κs = search needs
+
+enum-known-i : tie.Need-enum-known-i
+enum-known-i c = search needs
 
 enum-told : tie.Need-enum-told
 enum-told c = search needs
@@ -21,16 +47,27 @@ why-requires : tie.Need-why-requires
 why-requires c κs = search needs
 
 returns : tie.Need-returns
-unfolding blockOf afterInfo
+unfolding atPlace onto
 returns c =
     let told = c .before .enum-told .given .1 in
-    rw (← c .before .before .before .read-info .ensures, told) (ap Refused (c .why .ensures ∙ ap whyDraw told))
+    let a = c .before .before .before .before .before .before .before .args in
+    let f = c .before .before .before .before .if1 .taken in
+    let r = c .before .before .before .read-block in
+    ap Refused (c .why .ensures ∙ ap whyLine told) ∙ ap (λ x. atPlace (a .s .at) (onto (a .s) x)) (sym told) ∙ in-line (a .update .now) (a .client) (a .clock) (a .s) f (r .result) (r .ensures (a .s) f)
 
-read-body-requires : tie.Need-read-body-requires
-read-body-requires c κs = search needs
+returns-2 : tie.Need-returns-2
+unfolding atPlace onto
+returns-2 c =
+    let a = c .before .before .before .before .before .before .before .args in
+    let f = c .before .before .before .before .if1 .taken in
+    let r = c .before .before .before .read-block in
+    ap (λ x. atPlace (a .s .at) (onto (a .s) x)) (sym (c .before .i .given .1)) ∙ in-line (a .update .now) (a .client) (a .clock) (a .s) f (r .result) (r .ensures (a .s) f)
 
-enum-known-r : tie.Need-enum-known-r
-enum-known-r c = search needs
+read-info-requires : tie.Need-read-info-requires
+read-info-requires c κs = search needs
+
+enum-known-d : tie.Need-enum-known-d
+enum-known-d c = search needs
 
 enum-told-2 : tie.Need-enum-told-2
 enum-told-2 c = search needs
@@ -38,28 +75,52 @@ enum-told-2 c = search needs
 why-requires-2 : tie.Need-why-requires-2
 why-requires-2 c κs = search needs
 
-returns-2 : tie.Need-returns-2
-unfolding blockOf afterInfo atPlace
-returns-2 c =
-    let told = c .before .enum-told2 .given .1 in
-    rw (← c .before .before .before .before .before .before .before .read-info .ensures, c .before .before .before .before .before .d .given .1, ← c .before .before .before .read-body .ensures, told) (ap Refused (c .why2 .ensures ∙ ap whyItem told))
-
 returns-3 : tie.Need-returns-3
+unfolding blockOf afterInfo
+returns-3 c =
+    let told = c .before .enum-told2 .given .1 in
+    rw (← c .before .before .before .read-info .ensures, told) (ap Refused (c .why2 .ensures ∙ ap whyDraw told))
+
+read-body-requires : tie.Need-read-body-requires
+read-body-requires c κs = search needs
+
+enum-known-r : tie.Need-enum-known-r
+enum-known-r c = search needs
+
+enum-told-3 : tie.Need-enum-told-3
+enum-told-3 c = search needs
+
+why-requires-3 : tie.Need-why-requires-3
+why-requires-3 c κs = search needs
+
+returns-4 : tie.Need-returns-4
 unfolding blockOf afterInfo atPlace
-returns-3 c = rw (← c .before .before .before .before .before .before .before .read-info .ensures, c .before .before .before .before .before .d .given .1, ← c .before .before .before .read-body .ensures, c .before .r .given .1)
+returns-4 c =
+    let told = c .before .enum-told3 .given .1 in
+    rw (← c .before .before .before .before .before .before .before .read-info .ensures, c .before .before .before .before .before .d .given .1, ← c .before .before .before .read-body .ensures, told) (ap Refused (c .why3 .ensures ∙ ap whyItem told))
+
+returns-5 : tie.Need-returns-5
+unfolding blockOf afterInfo atPlace
+returns-5 c = rw (← c .before .before .before .before .before .before .before .read-info .ensures, c .before .before .before .before .before .d .given .1, ← c .before .before .before .read-body .ensures, c .before .r .given .1)
 
 pub decode-block-spec : {M : Type 1} → statement M
 decode-block-spec =
     tie.close
     (tie.spec
-    read-info-requires
-    enum-known-d
+    read-block-requires
+    enum-known-i
     enum-told
     why-requires
     returns
-    read-body-requires
-    enum-known-r
+    returns-2
+    read-info-requires
+    enum-known-d
     enum-told-2
     why-requires-2
-    returns-2
-    returns-3)
+    returns-3
+    read-body-requires
+    enum-known-r
+    enum-told-3
+    why-requires-3
+    returns-4
+    returns-5)
