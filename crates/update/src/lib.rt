@@ -51,8 +51,8 @@ fn why(d: Decoded) -> Refusal
     }
 }
 
-// The block of this client that starts at this clock. Form 1 has a path of its own: of its state the place alone moves, and passing the
-// whole state through every field took three times as long.
+// The block of this client that starts at this clock. Form 1 has a path of its own: of its state the place alone moves, and passing
+// all 390 bytes of it through every field was most of the work of reading.
 pub fn decode_block(update: &[u8], s: State, client: u64, clock: u32) -> Decoded
     ensures { λ r. ⌜ r ≡ blockOf (now (update .entry)) client clock s ⌝ }
 {
