@@ -4,5 +4,6 @@ pub mod Flat
 pub mod Fines
 pub mod Rows
 pub mod Heaps
+pub mod Orders
 pub mod Joins
 pub mod Levels
