@@ -7,10 +7,10 @@ use stream::Done;
 use stream::input;
 use stream::input::Place;
 use stream::line;
-use update_cases::listings;
-use update_cases::parts;
+use part_cases::listings;
+use part_cases::parts;
 use update_cases::tables;
-use update_cases::vectors;
+use part_cases::vectors;
 
 // The operation's case: its arguments taken from the stream, its call made, its line printed. The longest argument is taken into `bytes`.
 fn case(

@@ -5,7 +5,7 @@ use stream::Done;
 use stream::input;
 use stream::input::Place;
 use stream::line;
-use update_cases::listings;
+use part_cases::listings;
 use update_cases::rows;
 use update_cases::rows::Told;
 use update_cases::tables;

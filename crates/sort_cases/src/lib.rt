@@ -10,7 +10,7 @@ use update_cases::lines::Listed;
 use update_cases::rows;
 use update_cases::rows::Told;
 use update_cases::tables;
-use update_cases::vectors;
+use part_cases::vectors;
 use updates::Update;
 
 // The numbers of the blocks taken; more than there is room for, which the library never says, are not printed.

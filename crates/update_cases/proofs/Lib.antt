@@ -1,4 +1,3 @@
 -- What walks share.
-pub mod Answers
 pub mod Cards
 pub mod Sorts

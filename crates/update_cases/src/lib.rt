@@ -1,7 +1,4 @@
-// Operations 13, 14, 15 and 18 of the case program: state vectors, updates read into tables, contents, listings.
+// Operation 14 of the case program, updates read into tables; and what the lines of other operations share with it.
 pub mod lines;
-pub mod listings;
-pub mod parts;
 pub mod rows;
 pub mod tables;
-pub mod vectors;

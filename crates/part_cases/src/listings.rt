@@ -1,5 +1,5 @@
 // Operation 18: the listing of an input.
-use crate::lines;
+use update_cases::lines;
 use stream::Done;
 use stream::input;
 use stream::input::Place;

@@ -1,9 +1,9 @@
--- `update_cases::listings::bytes_zero` is safe and ends: what is left of the bytes falls.
+-- `part_cases::listings::bytes_zero` is safe and ends: what is left of the bytes falls.
 use Prim.Native.Nat.{_≤_, _-_, _+_}
 use lib.ListN.{length}
 use borrow.Author.Needs.{needs}
-use Rattle.update_cases.proofs.listings.bytes_zero.Statement.{statement}
-use Rattle.update_cases.proofs.listings.bytes_zero.Tie as tie
+use Rattle.part_cases.proofs.listings.bytes_zero.Statement.{statement}
+use Rattle.part_cases.proofs.listings.bytes_zero.Tie as tie
 
 abbrev Inv-loop : tie.InvT-loop
 Inv-loop bytes from i₀ i = i ≤ length bytes + from

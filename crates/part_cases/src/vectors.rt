@@ -1,6 +1,6 @@
 // Operation 13: a state vector, read.
-use crate::lines;
-use crate::lines::Listed;
+use update_cases::lines;
+use update_cases::lines::Listed;
 use stream::Done;
 use stream::input;
 use stream::input::Place;

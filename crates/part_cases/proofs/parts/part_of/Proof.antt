@@ -1,4 +1,4 @@
--- `update_cases::parts::part_of` is safe: a walk of its MIR, by hand, for the answer that it takes the part out of holds a slice.
+-- `part_cases::parts::part_of` is safe: a walk of its MIR, by hand, for the answer that it takes the part out of holds a slice.
 -- Assumes nothing.
 use mathlib.Core.Path.{_≡_, refl, ap, subst}
 use Prim.Native.Nat.{ℕ, _<_, _^_}
@@ -45,13 +45,13 @@ use Rattle.contents.proofs.answer.Content.Laws as T′
 use Rattle.contents.proofs.content.Symbol as content-def
 use Rattle.contents.proofs.content.Symbol.{name as #contents·content}
 use Rattle.contents.proofs.content.Met as content-thm
-use Rattle.update_cases.proofs.Answers as C
-use Rattle.update_cases.proofs.Answers.{Answer, Content, with-nothing}
-use Rattle.update_cases.proofs.parts.part_of.Key.{name as #it}
-use Rattle.update_cases.proofs.parts.part_of as f
-use Rattle.update_cases.proofs.parts.part_of.Statement as stated
-use Rattle.update_cases.proofs.parts.part_of.Code as code
-use Rattle.update_cases.proofs.parts.part_of.Code.Mir as body
+use Rattle.part_cases.proofs.Answers as C
+use Rattle.part_cases.proofs.Answers.{Answer, Content, with-nothing}
+use Rattle.part_cases.proofs.parts.part_of.Key.{name as #it}
+use Rattle.part_cases.proofs.parts.part_of as f
+use Rattle.part_cases.proofs.parts.part_of.Statement as stated
+use Rattle.part_cases.proofs.parts.part_of.Code as code
+use Rattle.part_cases.proofs.parts.part_of.Code.Mir as body
 
 abbrev stayed : Stays (f.ended .signature .params) (f.ended .kept)
 stayed = (stay-dropped (plain (λ _. u8)) yes, (stay-dropped (shrSliceOf (0 ∷ []) tt (plain (λ _. u8))) yes, (stay-dropped (plain (λ _. usize)) yes, tt)))

@@ -1,0 +1,2 @@
+-- What walks share.
+pub mod Answers
