@@ -19,7 +19,8 @@ use Rattle.block.specs.declared.Block.{Block}
 use Prim.Native.Nat.{_/_}
 use Rattle.diffs.specs.Promises.{answered, diffOf, emptyVector}
 use Rattle.numbers.specs.Output.{padded}
-use Rattle.sorts.specs.Promises.{answered as sortAnswered, lent, sortOf}
+use Rattle.sort_answers.specs.Answers.{answered as sortAnswered}
+use Rattle.sorts.specs.Promises.{lent, sortOf}
 use Rattle.updates.specs.Promises.{known, reading, rowsOf, wordsOf}
 use Rattle.diffs.proofs.Sorts.{diff}
 use Rattle.sorts.proofs.Sorts.{sorted}

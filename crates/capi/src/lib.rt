@@ -7,7 +7,7 @@ use columns::string;
 use contents::Where;
 use diffs::Diff;
 use numbers::Written;
-use sorts::Sorted;
+use sort_answers::Sorted;
 use text::Units;
 use updates::Update;
 use vector::Vector;

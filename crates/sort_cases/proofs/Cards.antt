@@ -15,7 +15,7 @@ use denote.Triple.Clauses.{atExit}
 use Rattle.walks.proofs.Rows.{Has, byte, word}
 use Rattle.walks.proofs.Refs.{Seat, val, mut, read, pass, Loose}
 use Rattle.block.specs.declared.Block.{Block}
-use Rattle.sorts.specs.declared.Sorted.{Sorted}
+use Rattle.sort_answers.specs.declared.Sorted.{Sorted}
 use Rattle.update_cases.specs.declared.rows.Told.{Told}
 use Rattle.sorts.proofs.Sorts.{sorted}
 use Rattle.table.proofs.Sorts.{block}

@@ -1,6 +1,6 @@
 // Operation 17 of the case program: a sort, its reports, and the tables that its update was read into.
 use block::Block;
-use sorts::Sorted;
+use sort_answers::Sorted;
 use stream::Done;
 use stream::input;
 use stream::input::Place;

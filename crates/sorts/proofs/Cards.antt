@@ -20,51 +20,51 @@ use Rattle.sorter.specs.declared.Sorting.{Sorting}
 use Rattle.updates.specs.declared.Update.{Update}
 use Rattle.numbers.specs.Output.{padded}
 use Rattle.sorter.specs.Sorter.{countsRead, orderRead, pendingRead, reachesRead, sortingRead}
-use Rattle.sorts.specs.Promises.{answerTo, answered, judged, refusedWith}
+use Rattle.sort_answers.specs.Answers.{answerTo, answered, judged, refusedWith}
 use Rattle.updates.specs.Promises.{refused, rowsOf, wordsOf}
 use Rattle.vector.specs.Vector.{vectorOf}
 use Rattle.sorter.proofs.Sorts.{sorting}
 use Rattle.sorts.proofs.Sorts.{sorted}
 use Rattle.table.proofs.Sorts.{block}
 use Rattle.updates.proofs.Sorts.{update}
-use Rattle.sorts.proofs.none as sorts·none-fn
-use Rattle.sorts.proofs.none.Symbol.{name as #sorts·none}
+use Rattle.sort_answers.proofs.none as sort-answers·none-fn
+use Rattle.sort_answers.proofs.none.Symbol.{name as #sort-answers·none}
 use Rattle.sorts.proofs.refuse as sorts·refuse-fn
 use Rattle.sorts.proofs.refuse.Symbol.{name as #sorts·refuse}
-use Rattle.sorts.proofs.judge as sorts·judge-fn
-use Rattle.sorts.proofs.judge.Symbol.{name as #sorts·judge}
-use Rattle.sorts.proofs.done as sorts·done-fn
-use Rattle.sorts.proofs.done.Symbol.{name as #sorts·done}
+use Rattle.sort_answers.proofs.judge as sort-answers·judge-fn
+use Rattle.sort_answers.proofs.judge.Symbol.{name as #sort-answers·judge}
+use Rattle.sort_answers.proofs.done as sort-answers·done-fn
+use Rattle.sort_answers.proofs.done.Symbol.{name as #sort-answers·done}
 use Rattle.sorter.proofs.sort_read as sorter·sort-read-fn
 use Rattle.sorter.proofs.sort_read.Symbol.{name as #sorter·sort-read}
 
 module _ {M : Type 1} (𝓤 : URA M) (H : Heap 𝓤) (A : Atoms 𝓤) (mem : Memory → SProp 𝓤) (run : Routine → Fun 𝓤) where
-  abbrev pub Sorts·none : Contract 𝓤
-  Sorts·none = tripleOf 𝓤 H A sorts·none-fn.signature (sorts·none-fn.spec 𝓤 H A mem run)
+  abbrev pub Sort-answers·none : Contract 𝓤
+  Sort-answers·none = tripleOf 𝓤 H A sort-answers·none-fn.signature (sort-answers·none-fn.spec 𝓤 H A mem run)
 
   abbrev pub Sorts·refuse : Contract 𝓤
   Sorts·refuse = tripleOf 𝓤 H A sorts·refuse-fn.signature (sorts·refuse-fn.spec 𝓤 H A mem run)
 
-  abbrev pub Sorts·judge : Contract 𝓤
-  Sorts·judge = tripleOf 𝓤 H A sorts·judge-fn.signature (sorts·judge-fn.spec 𝓤 H A mem run)
+  abbrev pub Sort-answers·judge : Contract 𝓤
+  Sort-answers·judge = tripleOf 𝓤 H A sort-answers·judge-fn.signature (sort-answers·judge-fn.spec 𝓤 H A mem run)
 
-  abbrev pub Sorts·done : Contract 𝓤
-  Sorts·done = tripleOf 𝓤 H A sorts·done-fn.signature (sorts·done-fn.spec 𝓤 H A mem run)
+  abbrev pub Sort-answers·done : Contract 𝓤
+  Sort-answers·done = tripleOf 𝓤 H A sort-answers·done-fn.signature (sort-answers·done-fn.spec 𝓤 H A mem run)
 
   abbrev pub Sorter·sort-read : Contract 𝓤
   Sorter·sort-read = tripleOf 𝓤 H A sorter·sort-read-fn.signature (sorter·sort-read-fn.spec 𝓤 H A mem run)
 
   module _ (C : Calls 𝓤 H) where
-    pub sorts·none! : Triple 𝓤 (C #sorts·none) Sorts·none → (number₀ : ℕ) (g-number : Has byte number₀) → Card 𝓤 H A C #sorts·none (val byte number₀ g-number ∷ []) sorted (answered (refusedWith number₀))
-    sorts·none! known number₀ g-number = record {
-      contract = Sorts·none;
+    pub sort-answers·none! : Triple 𝓤 (C #sort-answers·none) Sort-answers·none → (number₀ : ℕ) (g-number : Has byte number₀) → Card 𝓤 H A C #sort-answers·none (val byte number₀ g-number ∷ []) sorted (answered (refusedWith number₀))
+    sort-answers·none! known number₀ g-number = record {
+      contract = Sort-answers·none;
       known = known;
       ghost = λ x. (x, tt);
       args = λ ns. refl;
       asked = emp 𝓤;
       asks = id⊢ 𝓤 _;
       into = λ ns. id⊢ 𝓤 _;
-      ensured = λ x r ws. sorts·none-fn.clauses 𝓤 H A mem run (x .0) (x .3) .ensures tt r (atExit sorts·none-fn.ended (x .0) (x .3) ws);
+      ensured = λ x r ws. sort-answers·none-fn.clauses 𝓤 H A mem run (x .0) (x .3) .ensures tt r (atExit sort-answers·none-fn.ended (x .0) (x .3) ws);
       out = λ ns v. id⊢ 𝓤 _;
       said = λ ns r ws. since 𝓤 (λ e. (e, tt));
     }
@@ -83,30 +83,30 @@ module _ {M : Type 1} (𝓤 : URA M) (H : Heap 𝓤) (A : Atoms 𝓤) (mem : Mem
       said = λ ns r ws. since 𝓤 (λ e. (e .0, (e .1, (e .2, (e .3, (e .4, (e .5, (e .6, tt))))))));
     }
 
-    pub sorts·judge! : Triple 𝓤 (C #sorts·judge) Sorts·judge → (s₀ : Sorting) (g-s : Has sorting s₀) (order₀ : ℕ) (g-order : Has word order₀) (counts₀ : ℕ) (g-counts : Has word counts₀) (reaches₀ : ℕ) (g-reaches : Has word reaches₀) (pending₀ : ℕ) (g-pending : Has word pending₀) → Card 𝓤 H A C #sorts·judge (val sorting s₀ g-s ∷ val word order₀ g-order ∷ val word counts₀ g-counts ∷ val word reaches₀ g-reaches ∷ val word pending₀ g-pending ∷ []) byte (judged s₀ order₀ counts₀ reaches₀ pending₀)
-    sorts·judge! known s₀ g-s order₀ g-order counts₀ g-counts reaches₀ g-reaches pending₀ g-pending = record {
-      contract = Sorts·judge;
+    pub sort-answers·judge! : Triple 𝓤 (C #sort-answers·judge) Sort-answers·judge → (s₀ : Sorting) (g-s : Has sorting s₀) (order₀ : ℕ) (g-order : Has word order₀) (counts₀ : ℕ) (g-counts : Has word counts₀) (reaches₀ : ℕ) (g-reaches : Has word reaches₀) (pending₀ : ℕ) (g-pending : Has word pending₀) → Card 𝓤 H A C #sort-answers·judge (val sorting s₀ g-s ∷ val word order₀ g-order ∷ val word counts₀ g-counts ∷ val word reaches₀ g-reaches ∷ val word pending₀ g-pending ∷ []) byte (judged s₀ order₀ counts₀ reaches₀ pending₀)
+    sort-answers·judge! known s₀ g-s order₀ g-order counts₀ g-counts reaches₀ g-reaches pending₀ g-pending = record {
+      contract = Sort-answers·judge;
       known = known;
       ghost = λ x. (x, tt);
       args = λ ns. refl;
       asked = emp 𝓤;
       asks = id⊢ 𝓤 _;
       into = λ ns. id⊢ 𝓤 _;
-      ensured = λ x r ws. sorts·judge-fn.clauses 𝓤 H A mem run (x .0) (x .3) .ensures tt r (atExit sorts·judge-fn.ended (x .0) (x .3) ws);
+      ensured = λ x r ws. sort-answers·judge-fn.clauses 𝓤 H A mem run (x .0) (x .3) .ensures tt r (atExit sort-answers·judge-fn.ended (x .0) (x .3) ws);
       out = λ ns v. id⊢ 𝓤 _;
       said = λ ns r ws. since 𝓤 (λ e. (e, tt));
     }
 
-    pub sorts·done! : Triple 𝓤 (C #sorts·done) Sorts·done → (read₀ : Update) (g-read : Has update read₀) (s₀ : Sorting) (g-s : Has sorting s₀) → Card 𝓤 H A C #sorts·done (val update read₀ g-read ∷ val sorting s₀ g-s ∷ []) sorted (answerTo read₀ s₀)
-    sorts·done! known read₀ g-read s₀ g-s = record {
-      contract = Sorts·done;
+    pub sort-answers·done! : Triple 𝓤 (C #sort-answers·done) Sort-answers·done → (read₀ : Update) (g-read : Has update read₀) (s₀ : Sorting) (g-s : Has sorting s₀) → Card 𝓤 H A C #sort-answers·done (val update read₀ g-read ∷ val sorting s₀ g-s ∷ []) sorted (answerTo read₀ s₀)
+    sort-answers·done! known read₀ g-read s₀ g-s = record {
+      contract = Sort-answers·done;
       known = known;
       ghost = λ x. (x, tt);
       args = λ ns. refl;
       asked = emp 𝓤;
       asks = id⊢ 𝓤 _;
       into = λ ns. id⊢ 𝓤 _;
-      ensured = λ x r ws. sorts·done-fn.clauses 𝓤 H A mem run (x .0) (x .3) .ensures tt r (atExit sorts·done-fn.ended (x .0) (x .3) ws);
+      ensured = λ x r ws. sort-answers·done-fn.clauses 𝓤 H A mem run (x .0) (x .3) .ensures tt r (atExit sort-answers·done-fn.ended (x .0) (x .3) ws);
       out = λ ns v. id⊢ 𝓤 _;
       said = λ ns r ws. since 𝓤 (λ e. (e, tt));
     }

@@ -15,7 +15,8 @@ use Rattle.sorting.specs.Steps.{State, start, after, Ends}
 use Rattle.sorting.specs.Sorted.{clients, steps, order, outcome, orderOf, countsIn, countsOf, reachesIn, reachesOf, pendingIn, pendingOf}
 use Rattle.sorting.proofs.Demand.{sorted, highest, is-order, left-waits}
 use Rattle.updates.specs.Promises.{Reading, reading}
-use Rattle.sorts.specs.Promises.{Sort, refusedWith, Room, whole, whySort, fitting, against, afterReading, sortOf}
+use Rattle.sort_answers.specs.Answers.{Sort, refusedWith, Room}
+use Rattle.sorts.specs.Promises.{whole, whySort, fitting, against, afterReading, sortOf}
 use Rattle.sorts.specs.Demand.{Demand3}
 
 -- ---- what 0 says

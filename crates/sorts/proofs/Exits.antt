@@ -23,9 +23,11 @@ use Rattle.sorter.specs.Sorter.{noSorting}
 use Rattle.sorter.specs.Sorter.{sortingRead, orderRead, countsRead, reachesRead, pendingRead}
 use Rattle.updates.specs.Promises.{Reading, refused, reading, answer, rowsOf, wordsOf}
 use Rattle.updates.proofs.Read.{reading-good, rows-length, words-length, rows-back}
-use Rattle.sorts.specs.declared.Sorted.{Sorted}
-use Rattle.sorts.specs.Promises.{Sort, refusedWith, Room, lent, whyNot, whole, whySort, fitting, against, afterReading, sortOf}
-use Rattle.sorts.specs.Promises.{answered, SortUpdate, judged, answerTo}
+use Rattle.sort_answers.specs.declared.Sorted.{Sorted}
+use Rattle.sort_answers.specs.Answers.{Sort, refusedWith, Room, whyNot}
+use Rattle.sorts.specs.Promises.{lent, whole, whySort, fitting, against, afterReading, sortOf}
+use Rattle.sort_answers.specs.Answers.{answered, judged, answerTo}
+use Rattle.sorts.specs.Promises.{SortUpdate}
 use Rattle.sorts.proofs.Answers.{Fair, counts-are, reaches-are, pending-are, order-is, sorting-is}
 
 -- ---- 0 says that there is room for all of it

@@ -1,6 +1,5 @@
--- How a sorting is judged (Judged), what the sorter gives and leaves (Answers), the ways out (Exits), that the promise is demand 3 (Demand), that no other
+-- What the sorter gives and leaves (Answers), the ways out (Exits), that the promise is demand 3 (Demand), that no other
 -- answer fits (Unique), and what the walks share (Sorts, Cards).
-pub mod Judged
 pub mod Answers
 pub mod Exits
 pub mod Demand

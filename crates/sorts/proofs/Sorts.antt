@@ -3,9 +3,9 @@ use mathlib.Core.Path.{refl}
 use Prim.Native.Nat.{ℕ}
 use denote.Struct.Laws as LL
 use Rattle.walks.proofs.Rows.{Kind, Has, byte, word}
-use Rattle.sorts.specs.declared.Sorted.{Sorted}
-use Rattle.sorts.proofs.Sorted as Sorted₁
-use Rattle.sorts.proofs.Sorted.Laws as Sorted₂
+use Rattle.sort_answers.specs.declared.Sorted.{Sorted}
+use Rattle.sort_answers.proofs.Sorted as Sorted₁
+use Rattle.sort_answers.proofs.Sorted.Laws as Sorted₂
 
 abbrev pub sorted : Kind
 sorted = record {

@@ -3,7 +3,7 @@ use Prim.Native.Nat.{ℕ}
 use mathlib.Core.Path.{_≡_, sym, _∙_}
 use mathlib.Core.List.{List}
 use Rattle.block.specs.declared.Block.{Block}
-use Rattle.sorts.specs.declared.Sorted.{Sorted}
+use Rattle.sort_answers.specs.declared.Sorted.{Sorted}
 use Rattle.sorts.specs.Promises.{SortUpdate}
 
 pub sort-unique : (form : ℕ) (u v : List ℕ) (rows : List Block) (ranges order counts reaches pending : List ℕ)

@@ -14,7 +14,7 @@ use Rattle.sorting.specs.Steps.{State, start, after, Ends, Highest, Sorts}
 use Rattle.sorting.specs.Rules.{queue, rule28, report}
 use Rattle.sorting.specs.Sorted.{clients, steps, numbersBy, countsIn, reachesIn, pendingIn}
 use Rattle.updates.specs.Promises.{Reading}
-use Rattle.sorts.specs.Promises.{Sort}
+use Rattle.sort_answers.specs.Answers.{Sort}
 
 -- ---- a reading r and a vector c
 

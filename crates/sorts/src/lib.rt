@@ -1,41 +1,14 @@
 // The public call that sorts. It asks nothing of its caller. An answer begins with its number in document 01, 0 for done; a refusal has zeros for counts
 // and leaves zeros in what was lent.
 use block::Block;
-use sorter::Sorting;
-use updates::Update;
+use sort_answers::Sorted;
 ghost use mathlib.Core.Path.{_≡_};
 ghost use mathlib.Core.List.{[]};
 ghost use lib.ListN.{length};
 ghost use Rattle.numbers.specs.Output.{padded};
 ghost use Rattle.updates.specs.Promises.{refused, rowsOf, wordsOf};
-ghost use Rattle.sorts.specs.Promises.{refusedWith, answered, judged, answerTo, SortUpdate};
-
-// How many blocks were taken, how many clients each report names, and how many blocks and delete ranges were read.
-#[repr(C)]
-pub struct Sorted {
-    pub number: u8,
-    pub steps: usize,
-    pub counts: usize,
-    pub reaches: usize,
-    pub pending: usize,
-    pub blocks: usize,
-    pub ranges: usize,
-}
-
-// A refusal: its number, and counts of 0.
-fn none(number: u8) -> Sorted
-    ensures { λ r. ⌜ r ≡ answered (refusedWith number) ⌝ }
-{
-    Sorted {
-        number,
-        steps: 0,
-        counts: 0,
-        reaches: 0,
-        pending: 0,
-        blocks: 0,
-        ranges: 0,
-    }
-}
+ghost use Rattle.sort_answers.specs.Answers.{refusedWith, answered};
+ghost use Rattle.sorts.specs.Promises.{SortUpdate};
 
 // A refusal, and zeros in all that was lent.
 fn refuse(
@@ -58,44 +31,7 @@ fn refuse(
     numbers::words::clear(counts, 0);
     numbers::words::clear(reaches, 0);
     numbers::words::clear(pending, 0);
-    none(number)
-}
-
-// The number of a refusal, or 0: a sorting that was refused, too few words for the order (8), or for a report (10).
-fn judge(s: Sorting, order: usize, counts: usize, reaches: usize, pending: usize) -> u8
-    ensures { λ r. ⌜ r ≡ judged s order counts reaches pending ⌝ }
-{
-    if s.number != 0 {
-        return s.number;
-    }
-    if order < s.steps {
-        return 8;
-    }
-    if counts < s.counts {
-        return 10;
-    }
-    if reaches < s.reaches {
-        return 10;
-    }
-    if pending < s.pending {
-        return 10;
-    }
-    0
-}
-
-// What is answered of a sorting that is not refused.
-fn done(read: Update, s: Sorting) -> Sorted
-    ensures { λ r. ⌜ r ≡ answerTo read s ⌝ }
-{
-    Sorted {
-        number: 0,
-        steps: s.steps,
-        counts: s.counts / 2,
-        reaches: s.reaches / 2,
-        pending: s.pending / 3,
-        blocks: read.blocks,
-        ranges: read.ranges,
-    }
+    sort_answers::none(number)
 }
 
 // The blocks of an update of one form, sorted against a state vector: their numbers in the order in which they are taken (a word each); and, highest
@@ -120,7 +56,7 @@ pub fn sort(
         return refuse(rows, ranges, order, counts, reaches, pending, read.number);
     }
     let sorted = sorter::sort_read(vector, rows, read.blocks, order, counts, reaches, pending);
-    let why = judge(
+    let why = sort_answers::judge(
         sorted,
         order.len(),
         counts.len(),
@@ -130,5 +66,5 @@ pub fn sort(
     if why != 0 {
         return refuse(rows, ranges, order, counts, reaches, pending, why);
     }
-    done(read, sorted)
+    sort_answers::done(read, sorted)
 }

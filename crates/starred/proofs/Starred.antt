@@ -41,7 +41,8 @@ use Rattle.sorting.specs.Rules as rules
 use Rattle.sorting.specs.Quick as quick
 use Rattle.sorting.specs.Sorted as outcomes
 use Rattle.sorts.specs.Promises as sort-promises
-use Rattle.sorts.specs.Promises.{Sort, sortOf, afterReading}
+use Rattle.sort_answers.specs.Answers.{Sort}
+use Rattle.sorts.specs.Promises.{sortOf, afterReading}
 use Rattle.lines.specs.Lines.{digits, decimal}
 use Rattle.listing_text.specs.Listing as listing
 use Rattle.listed.specs.Listed as listings

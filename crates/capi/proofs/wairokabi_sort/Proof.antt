@@ -33,10 +33,11 @@ use Rattle.walks.proofs.Refs.{Seat, seatOf, Arg, val, mut, pass, Held, refs, ba
 use Rattle.walks.proofs.Params.{Form, by-value, by-mut, by-ref, stays, goes, spells, tells}
 use Rattle.walks.proofs.Walk.{has, retyped, Envs, envOf, locals, alloc-all, free-all, meets}
 use Rattle.block.specs.declared.Block.{Block}
-use Rattle.sorts.specs.declared.Sorted.{Sorted}
+use Rattle.sort_answers.specs.declared.Sorted.{Sorted}
 use Prim.Native.Nat.{_/_}
 use Rattle.numbers.specs.Output.{padded}
-use Rattle.sorts.specs.Promises.{answered, lent, sortOf}
+use Rattle.sort_answers.specs.Answers.{answered}
+use Rattle.sorts.specs.Promises.{lent, sortOf}
 use Rattle.updates.specs.Promises.{reading, rowsOf, wordsOf}
 use Rattle.sorts.proofs.Sorts.{sorted}
 use Rattle.table.proofs.Sorts.{block}

@@ -35,14 +35,14 @@ use Rattle.walks.proofs.Refs.{Seat, seatOf, Arg, val, mut, Held, refs, back, va
 use Rattle.walks.proofs.Params.{Form, by-value, by-mut, stays, goes, spells, tells}
 use Rattle.walks.proofs.Walk.{has, retyped, Envs, envOf, locals, alloc-all, free-all, meets}
 use Rattle.block.specs.declared.Block.{Block}
-use Rattle.sorts.specs.declared.Sorted.{Sorted}
+use Rattle.sort_answers.specs.declared.Sorted.{Sorted}
 use Rattle.numbers.specs.Output.{padded}
-use Rattle.sorts.specs.Promises.{answered, refusedWith}
+use Rattle.sort_answers.specs.Answers.{answered, refusedWith}
 use Rattle.table.specs.Rows.{clearedFrom}
 use Rattle.updates.specs.Promises.{refused, rowsOf, wordsOf}
 use Rattle.sorts.proofs.Sorts.{sorted}
 use Rattle.table.proofs.Sorts.{block}
-use Rattle.sorts.proofs.Cards.{Sorts·none, sorts·none! }
+use Rattle.sorts.proofs.Cards.{Sort-answers·none, sort-answers·none! }
 use Rattle.table.proofs.Cards.{Table·clear, table·clear! }
 use Rattle.numbers.proofs.Output.{padded-none}
 use Rattle.updates.proofs.Laws.{rows-none, words-none}
@@ -53,9 +53,9 @@ use Rattle.table.proofs.clear.Met as table·clear-thm
 use Rattle.numbers.proofs.words.clear.Symbol as numbers·words·clear-def
 use Rattle.numbers.proofs.words.clear.Symbol.{name as #numbers·words·clear}
 use Rattle.numbers.proofs.words.clear.Met as numbers·words·clear-thm
-use Rattle.sorts.proofs.none.Symbol as sorts·none-def
-use Rattle.sorts.proofs.none.Symbol.{name as #sorts·none}
-use Rattle.sorts.proofs.none.Met as sorts·none-thm
+use Rattle.sort_answers.proofs.none.Symbol as sort-answers·none-def
+use Rattle.sort_answers.proofs.none.Symbol.{name as #sort-answers·none}
+use Rattle.sort_answers.proofs.none.Met as sort-answers·none-thm
 use Rattle.sorts.proofs.refuse.Key.{name as #it}
 use Rattle.sorts.proofs.refuse as f
 use Rattle.sorts.proofs.refuse.Statement as stated
@@ -129,7 +129,7 @@ module _ {M : Type 1} (𝓤 : URA M) (H : Heap 𝓤) (A : Atoms 𝓤) (W : Given
   exits : (r : Sorted) (rows₁ : List Block) (ranges₁ : List ℕ) (order₁ : List ℕ) (counts₁ : List ℕ) (reaches₁ : List ℕ) (pending₁ : List ℕ) → Has sorted r → Right r rows₁ ranges₁ order₁ counts₁ reaches₁ pending₁ → ent 𝓤 (sem 𝓤 H A (refs (hs rows₁ ranges₁ order₁ counts₁ reaches₁ pending₁))) (Post (sorted .val r))
   exits r rows₁ ranges₁ order₁ counts₁ reaches₁ pending₁ g e = leaves 𝓤 H A W (ps rows₁ ranges₁ order₁ counts₁ reaches₁ pending₁) (refl, (refl, (refl, (refl, (refl, (refl, tt)))))) sorted r g (Right r rows₁ ranges₁ order₁ counts₁ reaches₁ pending₁) e (Post (sorted .val r)) (λ fit. ends-at 𝓤 H A f.ended (stays fs) (f.clauses 𝓤 H A mem run) W ((κs, qs, bounds, a, at-entry), tt) (sorted .val r) r (ends (ps rows₁ ranges₁ order₁ counts₁ reaches₁ pending₁)) fit)
 
-  module _ (𝓣 : Tables 𝓤 H) (known-table·clear : Triple 𝓤 (𝓣 .C #table·clear) (Table·clear 𝓤 H A mem run)) (known-numbers·words·clear : Triple 𝓤 (𝓣 .C #numbers·words·clear) (Numbers·words·clear 𝓤 H A mem run)) (known-sorts·none : Triple 𝓤 (𝓣 .C #sorts·none) (Sorts·none 𝓤 H A mem run)) where
+  module _ (𝓣 : Tables 𝓤 H) (known-table·clear : Triple 𝓤 (𝓣 .C #table·clear) (Table·clear 𝓤 H A mem run)) (known-numbers·words·clear : Triple 𝓤 (𝓣 .C #numbers·words·clear) (Numbers·words·clear 𝓤 H A mem run)) (known-sorts·none : Triple 𝓤 (𝓣 .C #sort-answers·none) (Sort-answers·none 𝓤 H A mem run)) where
     walk : ent 𝓤 (onEntry 𝓤 H A f.signature κs qs a at-entry) (WpFn 𝓤 H (𝓣 .C) (𝓣 .Λ) fn (vals (ps rows₀ ranges₀ order₀ counts₀ reaches₀ pending₀)) Post)
     walk =
         qed W (raw (onEntry 𝓤 H A f.signature κs qs a at-entry) ∷ []) ∵ use1 W (‵ (refs (hs rows₀ ranges₀ order₀ counts₀ reaches₀ pending₀))) (enters 𝓤 H A W (ps rows₀ ranges₀ order₀ counts₀ reaches₀ pending₀)) $ enter ! (𝓣 .C) (𝓣 .Λ) fn (vals (ps rows₀ ranges₀ order₀ counts₀ reaches₀ pending₀)) _ $
@@ -160,7 +160,7 @@ module _ {M : Type 1} (𝓤 : URA M) (H : Heap 𝓤) (A : Atoms 𝓤) (W : Given
         assigns ! (agg ! (and-then ! (load ! (from ! (stop !)) (look ! 3 refl)) (and-then ! (load ! (from ! (fld ! refl (stop !))) (look-in ! 29 (sub ! 1 refl (whole !)))) (no-more !)))) (from ! (stop !)) (init ! 1 refl (tt, (tt, (record { fits = are .1 .1 .1 .1 .1 .0 .0 .1 .0 }, tt)))) $
         calls-by ! (fmOf 𝓤 H (W .laws) 𝓣) (5 ∷ []) (hs (clearedFrom 0 rows₀) (take 0 ranges₀ ++ replicate (length ranges₀ - 0) 0) (take 0 order₀ ++ replicate (length order₀ - 0) 0) (take 0 counts₀ ++ replicate (length counts₀ - 0) 0) (take 0 reaches₀ ++ replicate (length reaches₀ - 0) 0) pending₀) (numbers·words·clear! 𝓤 H A mem run (𝓣 .C) known-numbers·words·clear at-pending pending₀ 0 (refl, lit< tt) (omega arith)) refl (λ P. and-then ! (load ! (from ! (stop !)) (look ! 1 refl)) (and-then ! (lit ! tt) (no-more !))) (λ g₆.
         land ! (from ! (stop !)) (store ! 25 refl (g₆ .1 .0)) $
-        calls-by ! (fmOf 𝓤 H (W .laws) 𝓣) ([]) (hs (clearedFrom 0 rows₀) (take 0 ranges₀ ++ replicate (length ranges₀ - 0) 0) (take 0 order₀ ++ replicate (length order₀ - 0) 0) (take 0 counts₀ ++ replicate (length counts₀ - 0) 0) (take 0 reaches₀ ++ replicate (length reaches₀ - 0) 0) (take 0 pending₀ ++ replicate (length pending₀ - 0) 0)) (sorts·none! 𝓤 H A mem run (𝓣 .C) known-sorts·none number₀ (are .1 .1 .1 .1 .1 .1 .0)) refl (λ P. and-then ! (load ! (from ! (stop !)) (look ! 27 refl)) (no-more !)) (λ g₇.
+        calls-by ! (fmOf 𝓤 H (W .laws) 𝓣) ([]) (hs (clearedFrom 0 rows₀) (take 0 ranges₀ ++ replicate (length ranges₀ - 0) 0) (take 0 order₀ ++ replicate (length order₀ - 0) 0) (take 0 counts₀ ++ replicate (length counts₀ - 0) 0) (take 0 reaches₀ ++ replicate (length reaches₀ - 0) 0) (take 0 pending₀ ++ replicate (length pending₀ - 0) 0)) (sort-answers·none! 𝓤 H A mem run (𝓣 .C) known-sorts·none number₀ (are .1 .1 .1 .1 .1 .1 .0)) refl (λ P. and-then ! (load ! (from ! (stop !)) (look ! 27 refl)) (no-more !)) (λ g₇.
         land ! (from ! (stop !)) (init ! 41 refl (g₇ .1 .0)) $
         returns-within ! Post refl (look ! 41 refl) $
         free-all ! (_ ∷ []) En (has _ ∷ has _ ∷ has _ ∷ has _ ∷ has _ ∷ has _ ∷ has _ ∷ has _ ∷ has _ ∷ has _ ∷ has _ ∷ has _ ∷ has _ ∷ has _ ∷ has _ ∷ has _ ∷ has _ ∷ has _ ∷ has _ ∷ has _ ∷ has _ ∷ []) [] $ by ! (exits (answered (refusedWith number₀)) (clearedFrom 0 rows₀) (take 0 ranges₀ ++ replicate (length ranges₀ - 0) 0) (take 0 order₀ ++ replicate (length order₀ - 0) 0) (take 0 counts₀ ++ replicate (length counts₀ - 0) 0) (take 0 reaches₀ ++ replicate (length reaches₀ - 0) 0) (take 0 pending₀ ++ replicate (length pending₀ - 0) 0) (g₇ .0) (refl, rows-none rows₀ (length rows₀) number₀ refl, words-none ranges₀ number₀, padded-none order₀, padded-none counts₀, padded-none reaches₀, padded-none pending₀))))))))))
@@ -177,4 +177,4 @@ refuse-spec 𝓤 H 𝓜 𝓖 𝓡 =
     (walk 𝓤 H A W (𝓜 .mem) (𝓡 .run) κs qs bounds a are 𝓣
     (cited 𝓤 H (Table·clear 𝓤 H A (𝓜 .mem) (𝓡 .run)) 𝓜 𝓡 code.env #table·clear table·clear-def.routine code.calls-table·clear (table·clear-thm.met 𝓤 H 𝓜 𝓖 𝓡))
     (cited 𝓤 H (Numbers·words·clear 𝓤 H A (𝓜 .mem) (𝓡 .run)) 𝓜 𝓡 code.env #numbers·words·clear numbers·words·clear-def.routine code.calls-numbers·words·clear (numbers·words·clear-thm.met 𝓤 H 𝓜 𝓖 𝓡))
-    (cited 𝓤 H (Sorts·none 𝓤 H A (𝓜 .mem) (𝓡 .run)) 𝓜 𝓡 code.env #sorts·none sorts·none-def.routine code.calls-sorts·none (sorts·none-thm.met 𝓤 H 𝓜 𝓖 𝓡)))))
+    (cited 𝓤 H (Sort-answers·none 𝓤 H A (𝓜 .mem) (𝓡 .run)) 𝓜 𝓡 code.env #sort-answers·none sort-answers·none-def.routine code.calls-sort-answers·none (sort-answers·none-thm.met 𝓤 H 𝓜 𝓖 𝓡)))))

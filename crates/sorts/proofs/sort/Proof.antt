@@ -36,18 +36,19 @@ use Rattle.walks.proofs.Params.{Form, by-value, by-mut, by-ref, stays, goes, sp
 use Rattle.walks.proofs.Walk.{has, bare, retyped, Envs, envOf, locals, alloc-all, free-all, meets}
 use Rattle.walks.proofs.Flow.{flat, tests, skip-on, return-on}
 use Rattle.block.specs.declared.Block.{Block}
-use Rattle.sorts.specs.declared.Sorted.{Sorted}
+use Rattle.sort_answers.specs.declared.Sorted.{Sorted}
 use Prim.Native.Nat.{_/_}
 use Rattle.numbers.specs.Output.{padded}
 use Rattle.sorter.specs.Sorter.{countsRead, orderRead, pendingRead, reachesRead, sortingRead}
-use Rattle.sorts.specs.Promises.{answerTo, answered, judged, lent, refusedWith, sortOf}
+use Rattle.sort_answers.specs.Answers.{answerTo, answered, judged, refusedWith}
+use Rattle.sorts.specs.Promises.{lent, sortOf}
 use Rattle.updates.specs.Promises.{answer, reading, refused, rowsOf, wordsOf}
 use Rattle.vector.specs.Vector.{vectorOf}
 use Rattle.sorter.proofs.Sorts.{sorting}
 use Rattle.sorts.proofs.Sorts.{sorted}
 use Rattle.table.proofs.Sorts.{block}
 use Rattle.updates.proofs.Sorts.{update, update-number, update-blocks}
-use Rattle.sorts.proofs.Cards.{Sorts·refuse, Sorts·judge, Sorts·done, Sorter·sort-read, sorts·refuse!, sorts·judge!, sorts·done!, sorter·sort-read-rows! }
+use Rattle.sorts.proofs.Cards.{Sorts·refuse, Sort-answers·judge, Sort-answers·done, Sorter·sort-read, sorts·refuse!, sort-answers·judge!, sort-answers·done!, sorter·sort-read-rows! }
 use Rattle.updates.proofs.Read.{rows-fit, rows-length}
 use Rattle.sorts.proofs.Exits.{exit-unread, exit-refused, exit-done}
 use Rattle.updates.proofs.Cards.{Updates·read-update, updates·read-update! }
@@ -60,12 +61,12 @@ use Rattle.sorts.proofs.refuse.Met as sorts·refuse-thm
 use Rattle.sorter.proofs.sort_read.Symbol as sorter·sort-read-def
 use Rattle.sorter.proofs.sort_read.Symbol.{name as #sorter·sort-read}
 use Rattle.sorter.proofs.sort_read.Met as sorter·sort-read-thm
-use Rattle.sorts.proofs.judge.Symbol as sorts·judge-def
-use Rattle.sorts.proofs.judge.Symbol.{name as #sorts·judge}
-use Rattle.sorts.proofs.judge.Met as sorts·judge-thm
-use Rattle.sorts.proofs.done.Symbol as sorts·done-def
-use Rattle.sorts.proofs.done.Symbol.{name as #sorts·done}
-use Rattle.sorts.proofs.done.Met as sorts·done-thm
+use Rattle.sort_answers.proofs.judge.Symbol as sort-answers·judge-def
+use Rattle.sort_answers.proofs.judge.Symbol.{name as #sort-answers·judge}
+use Rattle.sort_answers.proofs.judge.Met as sort-answers·judge-thm
+use Rattle.sort_answers.proofs.done.Symbol as sort-answers·done-def
+use Rattle.sort_answers.proofs.done.Symbol.{name as #sort-answers·done}
+use Rattle.sort_answers.proofs.done.Met as sort-answers·done-thm
 use Rattle.sorts.proofs.sort.Key.{name as #it}
 use Rattle.sorts.proofs.sort as f
 use Rattle.sorts.proofs.sort.Statement as stated
@@ -151,7 +152,7 @@ module _ {M : Type 1} (𝓤 : URA M) (H : Heap 𝓤) (A : Atoms 𝓤) (W : Given
   exits : (r : Sorted) (rows₁ : List Block) (ranges₁ : List ℕ) (order₁ : List ℕ) (counts₁ : List ℕ) (reaches₁ : List ℕ) (pending₁ : List ℕ) → Has sorted r → Right r rows₁ ranges₁ order₁ counts₁ reaches₁ pending₁ → ent 𝓤 (sem 𝓤 H A (refs (hs rows₁ ranges₁ order₁ counts₁ reaches₁ pending₁))) (Post (sorted .val r))
   exits r rows₁ ranges₁ order₁ counts₁ reaches₁ pending₁ g e = leaves 𝓤 H A W (ps rows₁ ranges₁ order₁ counts₁ reaches₁ pending₁) (refl, (refl, (refl, (refl, (refl, (refl, tt)))))) sorted r g (Right r rows₁ ranges₁ order₁ counts₁ reaches₁ pending₁) e (Post (sorted .val r)) (λ fit. ends-at 𝓤 H A f.ended (stays fs) (f.clauses 𝓤 H A mem run) W ((κs, qs, bounds, a, at-entry), tt) (sorted .val r) r (ends (ps rows₁ ranges₁ order₁ counts₁ reaches₁ pending₁)) fit)
 
-  module _ (𝓣 : Tables 𝓤 H) (known-updates·read-update : Triple 𝓤 (𝓣 .C #updates·read-update) (Updates·read-update 𝓤 H A mem run)) (known-sorts·refuse : Triple 𝓤 (𝓣 .C #sorts·refuse) (Sorts·refuse 𝓤 H A mem run)) (known-sorter·sort-read : Triple 𝓤 (𝓣 .C #sorter·sort-read) (Sorter·sort-read 𝓤 H A mem run)) (known-sorts·judge : Triple 𝓤 (𝓣 .C #sorts·judge) (Sorts·judge 𝓤 H A mem run)) (known-sorts·done : Triple 𝓤 (𝓣 .C #sorts·done) (Sorts·done 𝓤 H A mem run)) where
+  module _ (𝓣 : Tables 𝓤 H) (known-updates·read-update : Triple 𝓤 (𝓣 .C #updates·read-update) (Updates·read-update 𝓤 H A mem run)) (known-sorts·refuse : Triple 𝓤 (𝓣 .C #sorts·refuse) (Sorts·refuse 𝓤 H A mem run)) (known-sorter·sort-read : Triple 𝓤 (𝓣 .C #sorter·sort-read) (Sorter·sort-read 𝓤 H A mem run)) (known-sorts·judge : Triple 𝓤 (𝓣 .C #sort-answers·judge) (Sort-answers·judge 𝓤 H A mem run)) (known-sorts·done : Triple 𝓤 (𝓣 .C #sort-answers·done) (Sort-answers·done 𝓤 H A mem run)) where
     walk : ent 𝓤 (onEntry 𝓤 H A f.signature κs qs a at-entry) (WpFn 𝓤 H (𝓣 .C) (𝓣 .Λ) fn (vals (ps rows₀ ranges₀ order₀ counts₀ reaches₀ pending₀)) Post)
     unfolding answer
     walk =
@@ -216,7 +217,7 @@ module _ {M : Type 1} (𝓤 : URA M) (H : Heap 𝓤) (A : Atoms 𝓤) (W : Given
         assigns ! (of-opd ! (load ! (from ! (fld ! refl (stop !))) (look-in ! 97 (sub ! 1 refl (whole !))))) (from ! (stop !)) (init ! 29 refl (tt, record { fits = are .1 .1 .1 .1 .1 .1 .0 .0 .1 .0 })) $
         assigns ! (of-opd ! (load ! (from ! (fld ! refl (stop !))) (look-in ! 95 (sub ! 1 refl (whole !))))) (from ! (stop !)) (init ! 27 refl (tt, record { fits = are .1 .1 .1 .1 .1 .1 .1 .0 .0 .1 .0 })) $
         assigns ! (of-opd ! (load ! (from ! (fld ! refl (stop !))) (look-in ! 93 (sub ! 1 refl (whole !))))) (from ! (stop !)) (init ! 25 refl (tt, record { fits = are .1 .1 .1 .1 .1 .1 .1 .1 .0 .0 .1 .0 })) $
-        calls-by ! (fmOf 𝓤 H (W .laws) 𝓣) ([]) (hs (rowsOf (length rows₀) (reading form₀ update₀ (length rows₀) (length ranges₀ / 3))) (wordsOf (length ranges₀) (reading form₀ update₀ (length rows₀) (length ranges₀ / 3))) (orderRead (vectorOf vector₀) (rowsOf (length rows₀) (reading form₀ update₀ (length rows₀) (length ranges₀ / 3))) ((answer (reading form₀ update₀ (length rows₀) (length ranges₀ / 3))) .blocks) order₀) (countsRead (vectorOf vector₀) (rowsOf (length rows₀) (reading form₀ update₀ (length rows₀) (length ranges₀ / 3))) ((answer (reading form₀ update₀ (length rows₀) (length ranges₀ / 3))) .blocks) order₀ counts₀) (reachesRead (vectorOf vector₀) (rowsOf (length rows₀) (reading form₀ update₀ (length rows₀) (length ranges₀ / 3))) ((answer (reading form₀ update₀ (length rows₀) (length ranges₀ / 3))) .blocks) order₀ reaches₀) (pendingRead (vectorOf vector₀) (rowsOf (length rows₀) (reading form₀ update₀ (length rows₀) (length ranges₀ / 3))) ((answer (reading form₀ update₀ (length rows₀) (length ranges₀ / 3))) .blocks) order₀ pending₀)) (sorts·judge! 𝓤 H A mem run (𝓣 .C) known-sorts·judge (sortingRead (vectorOf vector₀) (rowsOf (length rows₀) (reading form₀ update₀ (length rows₀) (length ranges₀ / 3))) ((answer (reading form₀ update₀ (length rows₀) (length ranges₀ / 3))) .blocks) order₀) (g₄ .0) (at-order .count) (refl, are .1 .1 .1 .1 .1 .0 .0 .1 .0) (at-counts .count) (refl, are .1 .1 .1 .1 .1 .1 .0 .0 .1 .0) (at-reaches .count) (refl, are .1 .1 .1 .1 .1 .1 .1 .0 .0 .1 .0) (at-pending .count) (refl, are .1 .1 .1 .1 .1 .1 .1 .1 .0 .0 .1 .0)) refl (λ P. and-then ! (load ! (from ! (stop !)) (look ! 89 refl)) (and-then ! (load ! (from ! (stop !)) (look ! 31 refl)) (and-then ! (load ! (from ! (stop !)) (look ! 29 refl)) (and-then ! (load ! (from ! (stop !)) (look ! 27 refl)) (and-then ! (load ! (from ! (stop !)) (look ! 25 refl)) (no-more !)))))) (λ g₅.
+        calls-by ! (fmOf 𝓤 H (W .laws) 𝓣) ([]) (hs (rowsOf (length rows₀) (reading form₀ update₀ (length rows₀) (length ranges₀ / 3))) (wordsOf (length ranges₀) (reading form₀ update₀ (length rows₀) (length ranges₀ / 3))) (orderRead (vectorOf vector₀) (rowsOf (length rows₀) (reading form₀ update₀ (length rows₀) (length ranges₀ / 3))) ((answer (reading form₀ update₀ (length rows₀) (length ranges₀ / 3))) .blocks) order₀) (countsRead (vectorOf vector₀) (rowsOf (length rows₀) (reading form₀ update₀ (length rows₀) (length ranges₀ / 3))) ((answer (reading form₀ update₀ (length rows₀) (length ranges₀ / 3))) .blocks) order₀ counts₀) (reachesRead (vectorOf vector₀) (rowsOf (length rows₀) (reading form₀ update₀ (length rows₀) (length ranges₀ / 3))) ((answer (reading form₀ update₀ (length rows₀) (length ranges₀ / 3))) .blocks) order₀ reaches₀) (pendingRead (vectorOf vector₀) (rowsOf (length rows₀) (reading form₀ update₀ (length rows₀) (length ranges₀ / 3))) ((answer (reading form₀ update₀ (length rows₀) (length ranges₀ / 3))) .blocks) order₀ pending₀)) (sort-answers·judge! 𝓤 H A mem run (𝓣 .C) known-sorts·judge (sortingRead (vectorOf vector₀) (rowsOf (length rows₀) (reading form₀ update₀ (length rows₀) (length ranges₀ / 3))) ((answer (reading form₀ update₀ (length rows₀) (length ranges₀ / 3))) .blocks) order₀) (g₄ .0) (at-order .count) (refl, are .1 .1 .1 .1 .1 .0 .0 .1 .0) (at-counts .count) (refl, are .1 .1 .1 .1 .1 .1 .0 .0 .1 .0) (at-reaches .count) (refl, are .1 .1 .1 .1 .1 .1 .1 .0 .0 .1 .0) (at-pending .count) (refl, are .1 .1 .1 .1 .1 .1 .1 .1 .0 .0 .1 .0)) refl (λ P. and-then ! (load ! (from ! (stop !)) (look ! 89 refl)) (and-then ! (load ! (from ! (stop !)) (look ! 31 refl)) (and-then ! (load ! (from ! (stop !)) (look ! 29 refl)) (and-then ! (load ! (from ! (stop !)) (look ! 27 refl)) (and-then ! (load ! (from ! (stop !)) (look ! 25 refl)) (no-more !)))))) (λ g₅.
         land ! (from ! (stop !)) (init ! 87 refl (g₅ .1 .0)) $
         assigns ! (bin ! (load ! (from ! (stop !)) (look ! 87 refl)) (lit ! tt) tt) (from ! (stop !)) (store ! 77 refl (tt, tt)) $
         tests ! (load ! (from ! (stop !)) (look ! 77 refl))  -- not (eqb (judged (sortingRead (vectorOf vector₀) (rowsOf (length rows₀) (reading form₀ update₀ (length rows₀) (length ranges₀ / 3))) ((answer (reading form₀ update₀ (length rows₀) (length ranges₀ / 3))) .blocks) order₀) (at-order .count) (at-counts .count) (at-reaches .count) (at-pending .count)) 0)
@@ -252,7 +253,7 @@ module _ {M : Type 1} (𝓤 : URA M) (H : Heap 𝓤) (A : Atoms 𝓤) (W : Given
         free-all ! (_ ∷ []) En (has _ ∷ has _ ∷ has _ ∷ has _ ∷ has _ ∷ has _ ∷ has _ ∷ has _ ∷ has _ ∷ has _ ∷ has _ ∷ has _ ∷ has _ ∷ has _ ∷ has _ ∷ has _ ∷ has _ ∷ has _ ∷ bare ∷ bare ∷ bare ∷ bare ∷ bare ∷ bare ∷ bare ∷ bare ∷ bare ∷ bare ∷ bare ∷ bare ∷ has _ ∷ has _ ∷ has _ ∷ has _ ∷ has _ ∷ has _ ∷ has _ ∷ has _ ∷ has _ ∷ has _ ∷ has _ ∷ has _ ∷ has _ ∷ has _ ∷ has _ ∷ has _ ∷ has _ ∷ has _ ∷ has _ ∷ has _ ∷ has _ ∷ has _ ∷ has _ ∷ has _ ∷ has _ ∷ has _ ∷ []) [] $ by ! (exits (answered (refusedWith (judged (sortingRead (vectorOf vector₀) (rowsOf (length rows₀) (reading form₀ update₀ (length rows₀) (length ranges₀ / 3))) ((answer (reading form₀ update₀ (length rows₀) (length ranges₀ / 3))) .blocks) order₀) (at-order .count) (at-counts .count) (at-reaches .count) (at-pending .count)))) (rowsOf (length (rowsOf (length rows₀) (reading form₀ update₀ (length rows₀) (length ranges₀ / 3)))) (refused (judged (sortingRead (vectorOf vector₀) (rowsOf (length rows₀) (reading form₀ update₀ (length rows₀) (length ranges₀ / 3))) ((answer (reading form₀ update₀ (length rows₀) (length ranges₀ / 3))) .blocks) order₀) (at-order .count) (at-counts .count) (at-reaches .count) (at-pending .count)))) (wordsOf (length (wordsOf (length ranges₀) (reading form₀ update₀ (length rows₀) (length ranges₀ / 3)))) (refused (judged (sortingRead (vectorOf vector₀) (rowsOf (length rows₀) (reading form₀ update₀ (length rows₀) (length ranges₀ / 3))) ((answer (reading form₀ update₀ (length rows₀) (length ranges₀ / 3))) .blocks) order₀) (at-order .count) (at-counts .count) (at-reaches .count) (at-pending .count)))) (padded (length (orderRead (vectorOf vector₀) (rowsOf (length rows₀) (reading form₀ update₀ (length rows₀) (length ranges₀ / 3))) ((answer (reading form₀ update₀ (length rows₀) (length ranges₀ / 3))) .blocks) order₀)) []) (padded (length (countsRead (vectorOf vector₀) (rowsOf (length rows₀) (reading form₀ update₀ (length rows₀) (length ranges₀ / 3))) ((answer (reading form₀ update₀ (length rows₀) (length ranges₀ / 3))) .blocks) order₀ counts₀)) []) (padded (length (reachesRead (vectorOf vector₀) (rowsOf (length rows₀) (reading form₀ update₀ (length rows₀) (length ranges₀ / 3))) ((answer (reading form₀ update₀ (length rows₀) (length ranges₀ / 3))) .blocks) order₀ reaches₀)) []) (padded (length (pendingRead (vectorOf vector₀) (rowsOf (length rows₀) (reading form₀ update₀ (length rows₀) (length ranges₀ / 3))) ((answer (reading form₀ update₀ (length rows₀) (length ranges₀ / 3))) .blocks) order₀ pending₀)) []) (g₇ .0) (exit-refused form₀ update₀ vector₀ rows₀ ranges₀ order₀ counts₀ reaches₀ pending₀ (eqb-true _ 0 (not-false _ y₂)) (omega (arith, sz .0, are .1 .1 .1 .0 .0 .1 .0)) (at-order .count) (at-counts .count) (at-reaches .count) (at-pending .count) (sz .1 .1 .0) (sz .1 .1 .1 .0) (sz .1 .1 .1 .1 .0) (sz .1 .1 .1 .1 .1 .0) (eqb-false _ 0 (not-true _ y₆))))))
         (λ y₆.
         skip-on ! $
-        calls-by ! (fmOf 𝓤 H (W .laws) 𝓣) ([]) (hs (rowsOf (length rows₀) (reading form₀ update₀ (length rows₀) (length ranges₀ / 3))) (wordsOf (length ranges₀) (reading form₀ update₀ (length rows₀) (length ranges₀ / 3))) (orderRead (vectorOf vector₀) (rowsOf (length rows₀) (reading form₀ update₀ (length rows₀) (length ranges₀ / 3))) ((answer (reading form₀ update₀ (length rows₀) (length ranges₀ / 3))) .blocks) order₀) (countsRead (vectorOf vector₀) (rowsOf (length rows₀) (reading form₀ update₀ (length rows₀) (length ranges₀ / 3))) ((answer (reading form₀ update₀ (length rows₀) (length ranges₀ / 3))) .blocks) order₀ counts₀) (reachesRead (vectorOf vector₀) (rowsOf (length rows₀) (reading form₀ update₀ (length rows₀) (length ranges₀ / 3))) ((answer (reading form₀ update₀ (length rows₀) (length ranges₀ / 3))) .blocks) order₀ reaches₀) (pendingRead (vectorOf vector₀) (rowsOf (length rows₀) (reading form₀ update₀ (length rows₀) (length ranges₀ / 3))) ((answer (reading form₀ update₀ (length rows₀) (length ranges₀ / 3))) .blocks) order₀ pending₀)) (sorts·done! 𝓤 H A mem run (𝓣 .C) known-sorts·done (answer (reading form₀ update₀ (length rows₀) (length ranges₀ / 3))) (g₁ .0) (sortingRead (vectorOf vector₀) (rowsOf (length rows₀) (reading form₀ update₀ (length rows₀) (length ranges₀ / 3))) ((answer (reading form₀ update₀ (length rows₀) (length ranges₀ / 3))) .blocks) order₀) (g₄ .0)) refl (λ P. and-then ! (load ! (from ! (stop !)) (look ! 91 refl)) (and-then ! (load ! (from ! (stop !)) (look ! 89 refl)) (no-more !))) (λ g₈.
+        calls-by ! (fmOf 𝓤 H (W .laws) 𝓣) ([]) (hs (rowsOf (length rows₀) (reading form₀ update₀ (length rows₀) (length ranges₀ / 3))) (wordsOf (length ranges₀) (reading form₀ update₀ (length rows₀) (length ranges₀ / 3))) (orderRead (vectorOf vector₀) (rowsOf (length rows₀) (reading form₀ update₀ (length rows₀) (length ranges₀ / 3))) ((answer (reading form₀ update₀ (length rows₀) (length ranges₀ / 3))) .blocks) order₀) (countsRead (vectorOf vector₀) (rowsOf (length rows₀) (reading form₀ update₀ (length rows₀) (length ranges₀ / 3))) ((answer (reading form₀ update₀ (length rows₀) (length ranges₀ / 3))) .blocks) order₀ counts₀) (reachesRead (vectorOf vector₀) (rowsOf (length rows₀) (reading form₀ update₀ (length rows₀) (length ranges₀ / 3))) ((answer (reading form₀ update₀ (length rows₀) (length ranges₀ / 3))) .blocks) order₀ reaches₀) (pendingRead (vectorOf vector₀) (rowsOf (length rows₀) (reading form₀ update₀ (length rows₀) (length ranges₀ / 3))) ((answer (reading form₀ update₀ (length rows₀) (length ranges₀ / 3))) .blocks) order₀ pending₀)) (sort-answers·done! 𝓤 H A mem run (𝓣 .C) known-sorts·done (answer (reading form₀ update₀ (length rows₀) (length ranges₀ / 3))) (g₁ .0) (sortingRead (vectorOf vector₀) (rowsOf (length rows₀) (reading form₀ update₀ (length rows₀) (length ranges₀ / 3))) ((answer (reading form₀ update₀ (length rows₀) (length ranges₀ / 3))) .blocks) order₀) (g₄ .0)) refl (λ P. and-then ! (load ! (from ! (stop !)) (look ! 91 refl)) (and-then ! (load ! (from ! (stop !)) (look ! 89 refl)) (no-more !))) (λ g₈.
         land ! (from ! (stop !)) (init ! 111 refl (g₈ .1 .0)) $
         returns-within ! Post refl (look ! 111 refl) $
         free-all ! (_ ∷ []) En (has _ ∷ has _ ∷ has _ ∷ has _ ∷ has _ ∷ has _ ∷ has _ ∷ has _ ∷ has _ ∷ has _ ∷ has _ ∷ has _ ∷ has _ ∷ has _ ∷ has _ ∷ has _ ∷ has _ ∷ has _ ∷ bare ∷ bare ∷ bare ∷ bare ∷ bare ∷ bare ∷ bare ∷ bare ∷ bare ∷ bare ∷ bare ∷ bare ∷ has _ ∷ has _ ∷ has _ ∷ has _ ∷ has _ ∷ has _ ∷ has _ ∷ has _ ∷ has _ ∷ has _ ∷ has _ ∷ has _ ∷ has _ ∷ has _ ∷ []) [] $ by ! (exits (answerTo (answer (reading form₀ update₀ (length rows₀) (length ranges₀ / 3))) (sortingRead (vectorOf vector₀) (rowsOf (length rows₀) (reading form₀ update₀ (length rows₀) (length ranges₀ / 3))) ((answer (reading form₀ update₀ (length rows₀) (length ranges₀ / 3))) .blocks) order₀)) (rowsOf (length rows₀) (reading form₀ update₀ (length rows₀) (length ranges₀ / 3))) (wordsOf (length ranges₀) (reading form₀ update₀ (length rows₀) (length ranges₀ / 3))) (orderRead (vectorOf vector₀) (rowsOf (length rows₀) (reading form₀ update₀ (length rows₀) (length ranges₀ / 3))) ((answer (reading form₀ update₀ (length rows₀) (length ranges₀ / 3))) .blocks) order₀) (countsRead (vectorOf vector₀) (rowsOf (length rows₀) (reading form₀ update₀ (length rows₀) (length ranges₀ / 3))) ((answer (reading form₀ update₀ (length rows₀) (length ranges₀ / 3))) .blocks) order₀ counts₀) (reachesRead (vectorOf vector₀) (rowsOf (length rows₀) (reading form₀ update₀ (length rows₀) (length ranges₀ / 3))) ((answer (reading form₀ update₀ (length rows₀) (length ranges₀ / 3))) .blocks) order₀ reaches₀) (pendingRead (vectorOf vector₀) (rowsOf (length rows₀) (reading form₀ update₀ (length rows₀) (length ranges₀ / 3))) ((answer (reading form₀ update₀ (length rows₀) (length ranges₀ / 3))) .blocks) order₀ pending₀) (g₈ .0) (exit-done form₀ update₀ vector₀ rows₀ ranges₀ order₀ counts₀ reaches₀ pending₀ (eqb-true _ 0 (not-false _ y₂)) (omega (arith, sz .0, are .1 .1 .1 .0 .0 .1 .0)) (at-order .count) (at-counts .count) (at-reaches .count) (at-pending .count) (sz .1 .1 .0) (sz .1 .1 .1 .0) (sz .1 .1 .1 .1 .0) (sz .1 .1 .1 .1 .1 .0) (eqb-true _ 0 (not-false _ y₆))))))))))))
@@ -270,5 +271,5 @@ sort-spec 𝓤 H 𝓜 𝓖 𝓡 =
     (cited 𝓤 H (Updates·read-update 𝓤 H A (𝓜 .mem) (𝓡 .run)) 𝓜 𝓡 code.env #updates·read-update updates·read-update-def.routine code.calls-updates·read-update (updates·read-update-thm.met 𝓤 H 𝓜 𝓖 𝓡))
     (cited 𝓤 H (Sorts·refuse 𝓤 H A (𝓜 .mem) (𝓡 .run)) 𝓜 𝓡 code.env #sorts·refuse sorts·refuse-def.routine code.calls-sorts·refuse (sorts·refuse-thm.met 𝓤 H 𝓜 𝓖 𝓡))
     (cited 𝓤 H (Sorter·sort-read 𝓤 H A (𝓜 .mem) (𝓡 .run)) 𝓜 𝓡 code.env #sorter·sort-read sorter·sort-read-def.routine code.calls-sorter·sort-read (sorter·sort-read-thm.met 𝓤 H 𝓜 𝓖 𝓡))
-    (cited 𝓤 H (Sorts·judge 𝓤 H A (𝓜 .mem) (𝓡 .run)) 𝓜 𝓡 code.env #sorts·judge sorts·judge-def.routine code.calls-sorts·judge (sorts·judge-thm.met 𝓤 H 𝓜 𝓖 𝓡))
-    (cited 𝓤 H (Sorts·done 𝓤 H A (𝓜 .mem) (𝓡 .run)) 𝓜 𝓡 code.env #sorts·done sorts·done-def.routine code.calls-sorts·done (sorts·done-thm.met 𝓤 H 𝓜 𝓖 𝓡)))))
+    (cited 𝓤 H (Sort-answers·judge 𝓤 H A (𝓜 .mem) (𝓡 .run)) 𝓜 𝓡 code.env #sort-answers·judge sort-answers·judge-def.routine code.calls-sort-answers·judge (sort-answers·judge-thm.met 𝓤 H 𝓜 𝓖 𝓡))
+    (cited 𝓤 H (Sort-answers·done 𝓤 H A (𝓜 .mem) (𝓡 .run)) 𝓜 𝓡 code.env #sort-answers·done sort-answers·done-def.routine code.calls-sort-answers·done (sort-answers·done-thm.met 𝓤 H 𝓜 𝓖 𝓡)))))

@@ -1,7 +1,7 @@
--- `sorts::judge` meets its contract: each way out is one of those in Judged.
-use Rattle.sorts.proofs.Judged.{unsorted, order-short, counts-short, reaches-short, pending-short, all-fit}
-use Rattle.sorts.proofs.judge.Statement.{statement}
-use Rattle.sorts.proofs.judge.Tie as tie
+-- `sort_answers::judge` meets its contract: each way out is one of those in Judged.
+use Rattle.sort_answers.proofs.Judged.{unsorted, order-short, counts-short, reaches-short, pending-short, all-fit}
+use Rattle.sort_answers.proofs.judge.Statement.{statement}
+use Rattle.sort_answers.proofs.judge.Tie as tie
 
 returns : tie.Need-returns
 returns c = unsorted _ _ _ _ _ (c .if1 .taken)

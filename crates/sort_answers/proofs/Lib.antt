@@ -1,0 +1,2 @@
+-- How a sorting is judged.
+pub mod Judged

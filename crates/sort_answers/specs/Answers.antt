@@ -1,0 +1,70 @@
+-- What `sort` answers: the order in which blocks are taken, the reports, and the reading that they are made of; a refusal has its number alone. And how
+-- the answer is made of what the sorter says.
+use Prim.Native.Nat.{ℕ, _/_}
+use mathlib.Core.List.{List, []}
+use lib.Dec.{ltb, eqb}
+use lib.ListN.{length}
+use Rattle.numbers.specs.Number.{pick}
+use Rattle.updates.specs.Promises.{Reading, refused}
+use Rattle.updates.specs.declared.Update.{Update}
+use Rattle.sorter.specs.declared.Sorting.{Sorting}
+use Rattle.sort_answers.specs.declared.Sorted.{Sorted}
+
+pub record Sort : Type 0 where
+  pub number : ℕ
+  -- the numbers of the blocks that are taken, in order
+  pub order : List ℕ
+  -- the reports in words
+  pub counts : List ℕ
+  pub reaches : List ℕ
+  pub pending : List ℕ
+  pub reading : Reading
+
+abbrev pub refusedWith : ℕ → Sort
+refusedWith n = record { number = n; order = []; counts = []; reaches = []; pending = []; reading = refused n }
+
+-- ---- how many words are lent for each
+
+pub record Room : Type 0 where
+  pub order : ℕ
+  pub counts : ℕ
+  pub reaches : ℕ
+  pub pending : ℕ
+
+-- more steps than words lent for the order are 8, then a report that is too short 10
+unfoldable pub whyNot : Room → ℕ → ℕ → ℕ → ℕ → ℕ
+whyNot m order counts reaches pending =
+    pick (ltb (m .order) order) 8 (pick (ltb (m .counts) counts) 10 (pick (ltb (m .reaches) reaches) 10 (pick (ltb (m .pending) pending) 10 0)))
+
+-- ---- what `sort` gives
+
+unfoldable pub answered : Sort → Sorted
+answered s =
+    record {
+      number = s .number;
+      steps = length (s .order);
+      counts = length (s .counts) / 2;
+      reaches = length (s .reaches) / 2;
+      pending = length (s .pending) / 3;
+      blocks = length (s .reading .blocks);
+      ranges = length (s .reading .ranges);
+    }
+
+-- ---- how the answer is made of what the sorter says
+
+unfoldable pub judged : Sorting → ℕ → ℕ → ℕ → ℕ → ℕ
+judged s order counts reaches pending =
+    pick (eqb (s .number) 0)
+    (whyNot (record { order = order; counts = counts; reaches = reaches; pending = pending }) (s .steps) (s .counts) (s .reaches) (s .pending)) (s .number)
+
+unfoldable pub answerTo : Update → Sorting → Sorted
+answerTo read s =
+    record {
+      number = 0;
+      steps = s .steps;
+      counts = s .counts / 2;
+      reaches = s .reaches / 2;
+      pending = s .pending / 3;
+      blocks = read .blocks;
+      ranges = read .ranges;
+    }

@@ -1,0 +1,2 @@
+-- What a sort answers.
+pub mod Answers
