@@ -3,7 +3,6 @@ use block::Block;
 use columns::byte;
 use columns::difference;
 use columns::number;
-use columns::string;
 use contents::Where;
 use diffs::Diff;
 use numbers::Written;

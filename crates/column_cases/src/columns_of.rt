@@ -5,7 +5,6 @@ use crate::lent::Writer;
 use columns::byte;
 use columns::difference;
 use columns::number;
-use columns::string;
 use stream::Done;
 use stream::input;
 use stream::input::Place;

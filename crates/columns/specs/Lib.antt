@@ -3,4 +3,3 @@ pub mod Number
 pub mod Difference
 pub mod Byte
 pub mod Reading
-pub mod String

@@ -26,7 +26,7 @@ use Rattle.columns.specs.declared.number.Place as number-place
 use Rattle.columns.specs.declared.number.Answer as number-answer
 use Rattle.columns.specs.declared.number.Answer.the-variants as number
 use Rattle.columns.specs.Number as numbers
-use Rattle.columns.specs.String as strings
+use Rattle.string.specs.String as strings
 use Rattle.block.specs.declared.Block.{Block}
 use Rattle.decoder.specs.declared.State.{State}
 use Rattle.decoder.specs.declared.Draw.{Draw}

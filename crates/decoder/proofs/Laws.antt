@@ -20,7 +20,7 @@ use Rattle.columns.specs.declared.difference.Place as difference-place
 use Rattle.columns.specs.declared.difference.Answer as difference-answer
 use Rattle.columns.specs.declared.difference.Answer.the-variants as answer
 use Rattle.columns.specs.Difference as difference
-use Rattle.columns.proofs.Texts.{read-ends}
+use Rattle.string.proofs.Texts.{read-ends}
 use Rattle.decoder.specs.declared.State.{State}
 use Rattle.decoder.specs.declared.Draw.{Draw}
 use Rattle.decoder.specs.declared.Draw.the-variants.{Number, Refused}

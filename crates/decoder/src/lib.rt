@@ -7,7 +7,6 @@ use block::Id;
 use columns::byte;
 use columns::difference;
 use columns::number;
-use columns::string;
 use numbers::Read;
 use numbers::Refusal;
 use text::Part;

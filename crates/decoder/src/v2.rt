@@ -12,7 +12,6 @@ use block::Id;
 use columns::byte;
 use columns::difference;
 use columns::number;
-use columns::string;
 use numbers::Refusal;
 use text::Units;
 ghost use mathlib.Core.Path.{_≡_};

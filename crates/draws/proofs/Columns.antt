@@ -12,7 +12,7 @@ use Rattle.numbers.specs.Number.{unsigned}
 use Rattle.numbers.specs.Limits.{maxClock}
 use Rattle.text.specs.declared.Part.{Part}
 use Rattle.text.specs.Utf8.{unitsOf}
-use Rattle.columns.proofs.Steps.{GivesNumbers, GivesDifferences, GivesBytes, GivesTexts}
+use Rattle.string.proofs.Steps.{GivesNumbers, GivesDifferences, GivesBytes, GivesTexts}
 use Rattle.decoder.specs.declared.Numbers.{Numbers}
 use Rattle.decoder.specs.declared.Differences.{Differences}
 use Rattle.decoder.specs.declared.Bytes.{Bytes}

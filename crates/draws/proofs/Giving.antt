@@ -9,15 +9,15 @@ use lib.Seq.{length-take-le}
 use Rattle.text.specs.Utf8.{after, settled, wellFormed}
 use Rattle.runs.specs.declared.Column.the-variants.{Number, Difference, Byte}
 use Rattle.runs.specs.Runs.{coding, why, columnOf}
-use Rattle.columns.specs.declared.string.Place as string-place
-use Rattle.columns.specs.declared.string.Opened.the-variants.{At}
+use Rattle.string.specs.declared.Place as string-place
+use Rattle.string.specs.declared.Opened.the-variants.{At}
 use Rattle.columns.specs.Number as numbers
 use Rattle.columns.specs.Difference as differences
 use Rattle.columns.specs.Byte as bytes
-use Rattle.columns.specs.String.{openText, textColumn}
-use Rattle.columns.proofs.Texts.{column-length}
-use Rattle.columns.proofs.TextTrip.{joined, unitsEach, Formed, text-legal}
-use Rattle.columns.proofs.Steps.{GivesNumbers, GivesDifferences, GivesBytes, GivesTexts, number-gives, difference-gives, byte-gives, text-gives}
+use Rattle.string.specs.String.{openText, textColumn}
+use Rattle.string.proofs.Texts.{column-length}
+use Rattle.string.proofs.TextTrip.{joined, unitsEach, Formed, text-legal}
+use Rattle.string.proofs.Steps.{GivesNumbers, GivesDifferences, GivesBytes, GivesTexts, number-gives, difference-gives, byte-gives, text-gives}
 use Rattle.readings.proofs.Columns.{Within, Opens, text-opens}
 use Rattle.draws.proofs.Standing.{front, past-length}
 use Rattle.draws.proofs.Opening.{Cut}

@@ -10,7 +10,7 @@ use lib.ListN.{length}
 use borrow.Author.Tests.{eqb-true, eqb-false, le-leb}
 use Rattle.numbers.specs.Limits.{maxValue}
 use Rattle.runs.specs.Runs.{within}
-use Rattle.columns.proofs.TextTrip.{joined, unitsEach, Formed}
+use Rattle.string.proofs.TextTrip.{joined, unitsEach, Formed}
 use Rattle.tokens.specs.Tokens.{Token, field, text, var, buf, taken, takenAll, inLine, texts, units, rest, whole}
 use Rattle.tokens.proofs.Taking.{in-line, in-texts, in-rest, field-own, field-other, text-units, text-other, var-other, buf-other}
 use Rattle.draws.specs.Draws.{most, Legal, AllLegal}

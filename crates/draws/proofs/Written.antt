@@ -8,8 +8,8 @@ use lib.ListN.{length, take}
 use Rattle.numbers.specs.Limits.{maxCount}
 use Rattle.runs.specs.declared.Column.the-variants.{Number, Difference, Byte}
 use Rattle.runs.specs.Runs.{columnOf}
-use Rattle.columns.specs.String.{textHead, textColumn}
-use Rattle.columns.proofs.TextTrip.{joined, unitsEach}
+use Rattle.string.specs.String.{textHead, textColumn}
+use Rattle.string.proofs.TextTrip.{joined, unitsEach}
 use Rattle.decoder.specs.declared.State.{State}
 use Rattle.decoder.specs.declared.v2.Opened.the-variants as opened
 use Rattle.decoder.specs.States.{withText}

@@ -17,10 +17,10 @@ use Rattle.columns.specs.declared.byte.Place as byte-place
 use Rattle.columns.specs.declared.byte.Answer as byte-answer
 use Rattle.columns.specs.declared.byte.Answer.the-variants as byte
 use Rattle.columns.specs.Byte.{nextByte}
-use Rattle.columns.specs.declared.string.Place as string-place
-use Rattle.columns.specs.declared.string.Answer as string-answer
-use Rattle.columns.specs.declared.string.Answer.the-variants as string
-use Rattle.columns.specs.String as strings
+use Rattle.string.specs.declared.Place as string-place
+use Rattle.string.specs.declared.Answer as string-answer
+use Rattle.string.specs.declared.Answer.the-variants as string
+use Rattle.string.specs.String as strings
 use Rattle.columns.specs.Reading.{Draw, drew, stop, andThen, reads, numberDraw, differenceDraw, byteDraw, readNumbers, readDifferences, readBytes}
 use Rattle.readers.specs.declared.Place.{Place}
 use Rattle.readers.specs.declared.Place.the-variants.{Number, Difference, Byte, Text}

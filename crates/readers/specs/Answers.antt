@@ -3,7 +3,7 @@ use Prim.Native.Nat.{ℕ, zero, suc, _+_}
 use mathlib.Core.List.{List, [], _∷_, map}
 use lib.Seq.{slice}
 use Rattle.columns.specs.Reading.{Reading}
-use Rattle.columns.specs.String.{Texts}
+use Rattle.string.specs.String.{Texts}
 use Rattle.readers.specs.declared.Column.{Column}
 use Rattle.readers.specs.declared.Answer.{Answer}
 use Rattle.readers.specs.Readers.{valued, refused, answerOf, after}

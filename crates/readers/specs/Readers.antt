@@ -15,12 +15,12 @@ use Rattle.columns.specs.declared.byte.Place as byte-place
 use Rattle.columns.specs.declared.byte.Answer as byte-answer
 use Rattle.columns.specs.declared.byte.Answer.the-variants as byte
 use Rattle.columns.specs.Byte as bytes
-use Rattle.columns.specs.declared.string.Place as string-place
-use Rattle.columns.specs.declared.string.Opened as string-opened
-use Rattle.columns.specs.declared.string.Opened.the-variants as opening
-use Rattle.columns.specs.declared.string.Answer as string-answer
-use Rattle.columns.specs.declared.string.Answer.the-variants as string
-use Rattle.columns.specs.String as strings
+use Rattle.string.specs.declared.Place as string-place
+use Rattle.string.specs.declared.Opened as string-opened
+use Rattle.string.specs.declared.Opened.the-variants as opening
+use Rattle.string.specs.declared.Answer as string-answer
+use Rattle.string.specs.declared.Answer.the-variants as string
+use Rattle.string.specs.String as strings
 use Rattle.readers.specs.declared.Kind.{Kind}
 use Rattle.readers.specs.declared.Kind.the-variants as kind
 use Rattle.readers.specs.declared.Place.{Place}

@@ -3,14 +3,13 @@
 use columns::byte;
 use columns::difference;
 use columns::number;
-use columns::string;
 use text::Bytes;
 use text::Part;
 ghost use mathlib.Core.Path.{_≡_};
 ghost use Rattle.columns.specs.Number.{nextNumber};
 ghost use Rattle.columns.specs.Difference.{nextDifference};
 ghost use Rattle.columns.specs.Byte.{nextByte};
-ghost use Rattle.columns.specs.String.{openText, nextText};
+ghost use Rattle.string.specs.String.{openText, nextText};
 ghost use Rattle.readers.specs.Readers.{valued, refused, textStart, startOf, numberStep, differenceStep, byteStep, textStep, stepOf};
 ghost use Rattle.readers.specs.Promises.{Open, Next};
 

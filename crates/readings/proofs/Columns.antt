@@ -22,14 +22,14 @@ use Rattle.text.proofs.Cutting.{cut-at}
 use Rattle.columns.specs.declared.number.Place as number-place
 use Rattle.columns.specs.declared.number.Answer as number-answer
 use Rattle.columns.specs.declared.number.Answer.the-variants as number
-use Rattle.columns.specs.declared.string.Place as string-place
-use Rattle.columns.specs.declared.string.Answer as string-answer
-use Rattle.columns.specs.declared.string.Answer.the-variants as string
-use Rattle.columns.specs.declared.string.Opened as string-opened
-use Rattle.columns.specs.declared.string.Opened.the-variants as strings-opened
+use Rattle.string.specs.declared.Place as string-place
+use Rattle.string.specs.declared.Answer as string-answer
+use Rattle.string.specs.declared.Answer.the-variants as string
+use Rattle.string.specs.declared.Opened as string-opened
+use Rattle.string.specs.declared.Opened.the-variants as strings-opened
 use Rattle.columns.specs.Number as numbers
-use Rattle.columns.specs.String as strings
-use Rattle.columns.proofs.Texts.{read-ends}
+use Rattle.string.specs.String as strings
+use Rattle.string.proofs.Texts.{read-ends}
 
 -- a choice has what each way has
 pub chosen : {A : Type 0} (P : A → Type 0) (t : Bool) {x y : A} → (t ≡ true → P x) → (t ≡ false → P y) → P (pick t x y)

@@ -19,14 +19,14 @@ use Rattle.columns.specs.declared.difference.Answer as difference-answer
 use Rattle.columns.specs.declared.difference.Answer.the-variants as difference
 use Rattle.columns.specs.declared.byte.Answer as byte-answer
 use Rattle.columns.specs.declared.byte.Answer.the-variants as byte
-use Rattle.columns.specs.declared.string.Answer as string-answer
-use Rattle.columns.specs.declared.string.Answer.the-variants as string
-use Rattle.columns.specs.declared.string.Opened as string-opened
-use Rattle.columns.specs.declared.string.Opened.the-variants as strings-opened
+use Rattle.string.specs.declared.Answer as string-answer
+use Rattle.string.specs.declared.Answer.the-variants as string
+use Rattle.string.specs.declared.Opened as string-opened
+use Rattle.string.specs.declared.Opened.the-variants as strings-opened
 use Rattle.columns.specs.Number.{nextNumber}
 use Rattle.columns.specs.Difference.{nextDifference}
 use Rattle.columns.specs.Byte.{nextByte}
-use Rattle.columns.specs.String.{openText, nextText}
+use Rattle.string.specs.String.{openText, nextText}
 use Rattle.block.specs.declared.Id.{Id}
 use Rattle.decoder.specs.declared.State.{State}
 use Rattle.decoder.specs.declared.Draw.{Draw}

@@ -7,10 +7,10 @@ use lib.ListN.{replicate}
 use Rattle.numbers.specs.Number as spelling
 use Rattle.numbers.specs.Words as words
 use Rattle.numbers.specs.Number.{spelt, placed, readUnsigned, readSigned, speltSigned, minusOf, withSign, spell, unsigned}
-use Rattle.columns.specs.declared.string.Opened.{Opened}
-use Rattle.columns.specs.declared.string.Opened.the-variants.{At, Not}
-use Rattle.columns.specs.String as string
-use Rattle.columns.specs.String.{Texts, openText, readTexts}
+use Rattle.string.specs.declared.Opened.{Opened}
+use Rattle.string.specs.declared.Opened.the-variants.{At, Not}
+use Rattle.string.specs.String as string
+use Rattle.string.specs.String.{Texts, openText, readTexts}
 use Rattle.text.specs.Utf8.{lead, next, after, settled, wellFormed, width, gain, takeFrom, takeUnits}
 use Rattle.columns.specs.Number as number
 use Rattle.columns.specs.Difference as difference

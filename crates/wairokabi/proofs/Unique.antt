@@ -9,7 +9,7 @@ use Rattle.vector.specs.declared.Vector.{Vector}
 use Rattle.columns.specs.declared.number.Place as number
 use Rattle.columns.specs.declared.difference.Place as difference
 use Rattle.columns.specs.declared.byte.Place as byte
-use Rattle.columns.specs.declared.string.Place as string
+use Rattle.string.specs.declared.Place as string
 use Rattle.wairokabi.specs.Promises.{ReadUnsigned, ReadSigned, Writes, WriteUnsigned, WriteSigned, CountUnits, TakeText, CutText, OpenNumbers, NextNumber, OpenDifferences, NextDifference, OpenBytes, NextByte, OpenText, NextText, WriteNumbers, WriteDifferences, WriteBytes, WriteTexts, ReadStateVector}
 
 -- at most one value has a property

@@ -15,7 +15,7 @@ use Rattle.columns.specs.Difference as difference
 use Rattle.columns.specs.Byte as byte
 use Rattle.columns.specs.Reading.{readNumbers, readDifferences, readBytes}
 use Rattle.columns.proofs.RoundTrip.{number-back, difference-back, byte-back}
-use Rattle.columns.proofs.TextTrip.{Texted, Gives, text-trip}
+use Rattle.string.proofs.TextTrip.{Texted, Gives, text-trip}
 use Rattle.wairokabi.specs.Promises.{Writes, WriteNumbers, WriteDifferences, WriteBytes, WriteTexts}
 
 -- a writer that says 0 refused nothing, and the bytes it counts are all of them

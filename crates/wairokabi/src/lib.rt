@@ -3,7 +3,6 @@
 use columns::byte;
 use columns::difference;
 use columns::number;
-use columns::string;
 use numbers::Read;
 use numbers::Written;
 use text::Bytes;

@@ -5,9 +5,9 @@ use mathlib.Core.Logic.{_⊎_, inl, inr}
 use mathlib.Core.List.{List}
 use lib.Dec.{eqb}
 use lib.ListN.{take}
-use Rattle.columns.specs.declared.string.Opened as string-opened
-use Rattle.columns.specs.declared.string.Opened.the-variants as strings-opened
-use Rattle.columns.specs.String.{openText}
+use Rattle.string.specs.declared.Opened as string-opened
+use Rattle.string.specs.declared.Opened.the-variants as strings-opened
+use Rattle.string.specs.String.{openText}
 use Rattle.text.specs.declared.Part.{Part}
 use Rattle.decoder.specs.declared.State.{State}
 use Rattle.decoder.specs.declared.Draw.{Draw}

@@ -5,7 +5,7 @@ use borrow.Author.Tests.{lt-ltb, le-ltb}
 use Rattle.numbers.specs.Number.{whyRead}
 use Rattle.decoder.specs.declared.Buf.the-variants as bufs
 use Rattle.decoder.specs.Fields.{varDraw, varAt, bytesAfter, bufAt}
-use Rattle.columns.proofs.Texts.{read-ends}
+use Rattle.string.proofs.Texts.{read-ends}
 use Rattle.line.specs.Line.{bufOnto}
 use borrow.Author.Needs.{needs}
 use Rattle.line.proofs.read_buf.Statement.{statement}

@@ -1,6 +1,6 @@
 -- `decoder::v2::read_string` meets its contract, by the cases of the column's answer.
 use mathlib.Core.Path.{ap, _∙_}
-use Rattle.columns.specs.String.{whyText}
+use Rattle.string.specs.String.{whyText}
 use Rattle.decoder.specs.declared.Text.the-variants as text
 use Rattle.decoder.specs.Fields.{textDrawn, text2}
 use borrow.Author.Needs.{needs}

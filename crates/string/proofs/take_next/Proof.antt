@@ -1,0 +1,55 @@
+-- `string::take_next` meets its contract: nothing is taken any more, or what `take_units` says.
+use native.Mathlib.Omega.{arith}
+use mathlib.Core.Path.{sym, ap, _∙_}
+use borrow.Author.Tests.{not-true, not-false}
+use lib.ListN.{length, drop}
+use lib.Seq.{take-length}
+use Rattle.text.specs.Utf8.{takeUnits}
+use Rattle.text.proofs.Cutting.{cut-at}
+use Rattle.string.specs.String.{tookText, takeNext}
+use borrow.Author.Needs.{needs}
+use Rattle.string.proofs.take_next.Statement.{statement}
+use Rattle.string.proofs.take_next.Tie as tie
+
+returns : tie.Need-returns
+unfolding takeNext
+returns c = (rw (not-true (c .before .before .before .args .t .found) (c .if1 .taken)), c .before .before .before .pre)
+
+take-units-requires : tie.Need-take-units-requires
+take-units-requires c κs = search needs
+
+enum-known-bytes : tie.Need-enum-known-bytes
+enum-known-bytes c = search needs
+
+add-past : tie.Need-add-past
+add-past c =
+    let a = c .before .before .before .before .before .before .before .before .args in
+    let g = c .before .before .bytes .given in
+    let w = cut-at 7 (a .u) (g .0 .0 .0) (a .t .at) (length (a .text .now)) (a .text .now) (c .before .before .before .before .before .before .before .before .pre) (omega arith) (sym (c .before .before .before .before .take-units .ensures) ∙ g .1) .within in
+    omega (arith, w)
+
+enum-told : tie.Need-enum-told
+enum-told c = search needs
+
+returns-2 : tie.Need-returns-2
+unfolding takeNext tookText
+returns-2 c =
+    let a = c .before .before .before .before .before .before .before .before .args in
+    let g = c .before .before .bytes .given in
+    let e = sym (c .before .before .before .before .take-units .ensures) ∙ g .1 in
+    let w = cut-at 7 (a .u) (g .0 .0 .0) (a .t .at) (length (a .text .now)) (a .text .now) (c .before .before .before .before .before .before .before .before .pre) (omega arith) e .within in
+    let d = ap (takeUnits 7 (a .u)) (sym (ap (drop (a .t .at)) (take-length (a .text .now)))) ∙ e in
+    (rw (not-false (a .t .found) (c .before .before .before .before .before .if1 .left), d), w)
+
+returns-3 : tie.Need-returns-3
+unfolding takeNext tookText
+returns-3 c =
+    let a = c .before .before .before .before .before .before .args in
+    let e = sym (c .before .before .take-units .ensures) ∙ c .enum-told .given .1 in
+    let d = ap (takeUnits 7 (a .u)) (sym (ap (drop (a .t .at)) (take-length (a .text .now)))) ∙ e in
+    (rw (not-false (a .t .found) (c .before .before .before .if1 .left), d), c .before .before .before .before .before .before .pre)
+
+pub take-next-spec : {M : Type 1} → statement M
+take-next-spec =
+    tie.close
+    (tie.spec returns take-units-requires enum-known-bytes add-past enum-told returns-2 returns-3)

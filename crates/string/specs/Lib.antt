@@ -1,0 +1,2 @@
+-- The text column.
+pub mod String

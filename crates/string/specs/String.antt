@@ -1,0 +1,108 @@
+-- The text column: byte length, UTF-8 bytes, then a number column of unit lengths. A text takes whole characters until its units are used.
+use Prim.Native.Nat.{ℕ, zero, suc, _+_, _-_}
+use mathlib.Core.List.{List, [], _∷_, _++_}
+use mathlib.Core.Bool.{Bool, true, false}
+use lib.Dec.{ltb, eqb}
+use lib.ListN.{length, drop}
+use lib.Seq.{slice}
+use Rattle.numbers.specs.declared.Refusal.{Refusal}
+use Rattle.numbers.specs.declared.Read.{Read}
+use Rattle.numbers.specs.declared.Read.the-variants as read
+use Rattle.numbers.specs.Number.{pick, none, readUnsigned, unsigned}
+use Rattle.text.specs.declared.Taken.{Taken}
+use Rattle.text.specs.declared.Taken.the-variants as units
+use Rattle.text.specs.Utf8.{wellFormed, takeUnits}
+use Rattle.columns.specs.declared.number.Place as number-place
+use Rattle.columns.specs.declared.number.Answer as number-answer
+use Rattle.columns.specs.declared.number.Answer.the-variants as number
+use Rattle.string.specs.declared.Place.{Place}
+use Rattle.string.specs.declared.Taking.{Taking}
+use Rattle.string.specs.declared.Opened.{Opened}
+use Rattle.string.specs.declared.Opened.the-variants.{At, Not}
+use Rattle.string.specs.declared.Answer.{Answer}
+use Rattle.string.specs.declared.Answer.the-variants.{Next, Bad}
+use Rattle.runs.specs.declared.Column.the-variants.{Number}
+use Rattle.columns.specs.Number.{startAt, nextNumber}
+use Rattle.runs.specs.Runs.{columnOf, whyOf}
+
+-- the next text begins at `at`, all texts end at `end`, and the next unit length is at `units`
+abbrev pub placeAt : ℕ → ℕ → number-place.Place → Place
+placeAt at end units = record { at = at; end = end; units = units }
+
+-- ---- opening: the text's length, its bytes, and their UTF-8
+
+unfoldable pub opened : List ℕ → Read → Opened
+opened s (read.Refused why) = Not why
+opened s (read.Number n e) =
+    pick (ltb (length s - e) n) (Not (record { number = 1; place = length s }))
+    (pick (wellFormed (slice e (e + n) s)) (At (placeAt e (e + n) (startAt (e + n)))) (Not (record { number = 6; place = e })))
+
+unfoldable pub openText : List ℕ → ℕ → Opened
+openText s at = opened s (readUnsigned s at)
+
+-- ---- the next text: its unit length, then its characters
+
+-- where the bytes of the text at `at` end, or that its units run past the texts or end in a pair
+unfoldable pub ending : ℕ → ℕ → number-place.Place → Taken → Answer
+ending at end rest (units.Took b) = Next (record { place = at; bytes = b }) (placeAt (at + b .0) end rest)
+ending at end rest (units.Refused why) = Bad (record { number = why; place = at })
+
+unfoldable pub taken : List ℕ → ℕ → ℕ → ℕ → number-place.Place → Answer
+taken s at end u rest = ending at end rest (takeUnits 7 u (slice at end s))
+
+unfoldable pub drawn : List ℕ → ℕ → ℕ → number-answer.Answer → Answer
+drawn s at end (number.Next u rest) = taken s at end u rest
+drawn s at end (number.Bad why) = Bad why
+
+unfoldable pub nextText : List ℕ → Place → Answer
+nextText s c = drawn s (c .at) (c .end) (nextNumber s (c .units))
+
+abbrev pub whyText : Answer → Refusal
+whyText (Next p c) = none
+whyText (Bad why) = why
+
+-- ---- reading on
+
+-- the texts drawn, and the number of the refusal that ended them; 0 where none did
+pub record Texts : Type 0 where
+  pub texts : List (List ℕ)
+  pub number : ℕ
+
+unfoldable pub andThen : List ℕ → Answer → (Place → Texts) → Texts
+andThen s (Next p c) f = record { texts = slice (p .place) (p .place + p .bytes .0) s ∷ (f c .texts); number = f c .number }
+andThen s (Bad why) f = record { texts = []; number = why .number }
+
+-- at most k texts from a place on
+unfoldable pub readTexts : ℕ → List ℕ → Place → Texts
+readTexts zero s c = record { texts = []; number = 0 }
+readTexts (suc k) s c = andThen s (nextText s c) (λ d. readTexts k s d)
+
+-- ---- writing
+
+-- whether the texts of these units are there, one after the other
+unfoldable pub takesMore : Taken → (ℕ → Bool) → Bool
+takesMore (units.Took b) f = f (b .0)
+takesMore (units.Refused why) f = false
+
+unfoldable pub takesAll : List ℕ → List ℕ → Bool
+takesAll t [] = true
+takesAll t (u ∷ us) = takesMore (takeUnits 7 u t) (λ k. takesAll (drop k t) us)
+
+unfoldable pub textHead : List ℕ → List ℕ
+textHead t = unsigned (length t) ++ t
+
+-- the text whole, left-over characters kept, and its unit lengths
+unfoldable pub textColumn : List ℕ → List ℕ → List ℕ
+textColumn t us = textHead t ++ columnOf Number us
+
+-- 6, 3, 7
+unfoldable pub whyTexts : List ℕ → List ℕ → ℕ
+whyTexts t us = pick (wellFormed t) (pick (eqb (whyOf Number us) 0) (pick (takesAll t us) 0 7) 3) 6
+
+-- one text more, for the loop that takes them
+unfoldable pub tookText : Taking → Taken → Taking
+tookText t (units.Took b) = record { at = t .at + b .0; found = true }
+tookText t (units.Refused why) = record { at = t .at; found = false }
+
+unfoldable pub takeNext : List ℕ → Taking → ℕ → Taking
+takeNext s t u = pick (t .found) (tookText t (takeUnits 7 u (drop (t .at) s))) t
