@@ -1,11 +1,11 @@
 // Operation 16 of the case program: a diff, and the tables that its update was read into.
 use block::Block;
 use diffs::Diff;
+use part_cases::listings;
 use stream::Done;
 use stream::input;
 use stream::input::Place;
 use stream::line;
-use part_cases::listings;
 use update_cases::rows;
 use update_cases::rows::Told;
 use update_cases::tables;

@@ -1,9 +1,9 @@
 // Operation 18: the listing of an input.
-use update_cases::lines;
 use stream::Done;
 use stream::input;
 use stream::input::Place;
 use stream::line;
+use update_cases::lines;
 
 pub fn bytes_zero(bytes: &[u8], from: usize) -> bool {
     let mut i = from;

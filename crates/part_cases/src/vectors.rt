@@ -1,10 +1,10 @@
 // Operation 13: a state vector, read.
-use update_cases::lines;
-use update_cases::lines::Listed;
 use stream::Done;
 use stream::input;
 use stream::input::Place;
 use stream::line;
+use update_cases::lines;
+use update_cases::lines::Listed;
 
 pub fn entries(sink: &mut [u8], used: usize, count: usize, words: &[u64]) -> Listed {
     let mut used = used;

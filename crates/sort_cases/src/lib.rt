@@ -1,5 +1,6 @@
 // Operation 17 of the case program: a sort, its reports, and the tables that its update was read into.
 use block::Block;
+use part_cases::vectors;
 use sort_answers::Sorted;
 use stream::Done;
 use stream::input;
@@ -10,7 +11,6 @@ use update_cases::lines::Listed;
 use update_cases::rows;
 use update_cases::rows::Told;
 use update_cases::tables;
-use part_cases::vectors;
 use updates::Update;
 
 // The numbers of the blocks taken; more than there is room for, which the library never says, are not printed.
