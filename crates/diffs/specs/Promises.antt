@@ -46,13 +46,13 @@ diffOf form u v to blockRows rangeRows room = pick (known to) (afterReading u (v
 unfoldable pub answered : Diffed → Diff
 answered d = record { number = d .number; bytes = length (d .bytes); blocks = length (d .reading .blocks); ranges = length (d .reading .ranges) }
 
--- the answer r, with these rows, words and bytes at entry and at exit
+-- what d leaves: the answer r, with these rows, words and bytes at entry and at exit
+abbrev pub Leaves : Diffed → List Block → List ℕ → List ℕ → Diff → List Block → List ℕ → List ℕ → Type 0
+Leaves d rows ranges out r rows₁ ranges₁ out₁ =
+    (r ≡ answered d) × (rows₁ ≡ rowsOf (length rows) (d .reading)) × (ranges₁ ≡ wordsOf (length ranges) (d .reading)) × (out₁ ≡ padded (length out) (d .bytes))
+
 abbrev pub Diffs : ℕ → List ℕ → List ℕ → ℕ → List Block → List ℕ → List ℕ → Diff → List Block → List ℕ → List ℕ → Type 0
-Diffs form u v to rows ranges out r rows₁ ranges₁ out₁ =
-    (r ≡ answered (diffOf form u v to (length rows) (length ranges / 3) (length out)))
-    × (rows₁ ≡ rowsOf (length rows) (diffOf form u v to (length rows) (length ranges / 3) (length out) .reading))
-    × (ranges₁ ≡ wordsOf (length ranges) (diffOf form u v to (length rows) (length ranges / 3) (length out) .reading))
-    × (out₁ ≡ padded (length out) (diffOf form u v to (length rows) (length ranges / 3) (length out) .bytes))
+Diffs form u v to rows ranges out = Leaves (diffOf form u v to (length rows) (length ranges / 3) (length out)) rows ranges out
 
 -- a vector that names no client
 abbrev pub emptyVector : List ℕ

@@ -50,9 +50,9 @@ sortOf form u v blockRows rangeRows m = afterReading m (vectorOf v) (reading for
 
 -- ---- what `sort` gives, and what it leaves in all that is lent
 
--- a sort s: the answer r, with these rows and words at entry and at exit
-abbrev pub Left : Sort → List Block → List ℕ → List ℕ → List ℕ → List ℕ → List ℕ → Sorted → List Block → List ℕ → List ℕ → List ℕ → List ℕ → List ℕ → Type 0
-Left s rows ranges order counts reaches pending r rows₁ ranges₁ order₁ counts₁ reaches₁ pending₁ =
+-- what a sort s leaves: the answer r, with these rows and words at entry and at exit
+abbrev pub Leaves : Sort → List Block → List ℕ → List ℕ → List ℕ → List ℕ → List ℕ → Sorted → List Block → List ℕ → List ℕ → List ℕ → List ℕ → List ℕ → Type 0
+Leaves s rows ranges order counts reaches pending r rows₁ ranges₁ order₁ counts₁ reaches₁ pending₁ =
     (r ≡ answered s)
     × (rows₁ ≡ rowsOf (length rows) (s .reading))
     × (ranges₁ ≡ wordsOf (length ranges) (s .reading))
@@ -64,4 +64,4 @@ Left s rows ranges order counts reaches pending r rows₁ ranges₁ order₁ cou
 abbrev pub SortUpdate : ℕ → List ℕ → List ℕ → List Block → List ℕ → List ℕ → List ℕ → List ℕ → List ℕ
     → Sorted → List Block → List ℕ → List ℕ → List ℕ → List ℕ → List ℕ → Type 0
 SortUpdate form u v rows ranges order counts reaches pending =
-    Left (sortOf form u v (length rows) (length ranges / 3) (lent order counts reaches pending)) rows ranges order counts reaches pending
+    Leaves (sortOf form u v (length rows) (length ranges / 3) (lent order counts reaches pending)) rows ranges order counts reaches pending

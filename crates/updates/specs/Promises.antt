@@ -54,9 +54,9 @@ rowsOf n r = r .blocks ++ replicate (n - length (r .blocks)) noBlock
 unfoldable pub wordsOf : ℕ → Reading → List ℕ
 wordsOf n r = padded n (flat (r .ranges))
 
--- what `read_update` answers into the rows and the words lent, and what both are then lent back
+-- what a reading x leaves: the answer r, with these rows and words at entry and at exit
+abbrev pub Leaves : Reading → List Block → List ℕ → Update → List Block → List ℕ → Type 0
+Leaves x rows words r rows₁ words₁ = (r ≡ answer x) × (rows₁ ≡ rowsOf (length rows) x) × (words₁ ≡ wordsOf (length words) x)
+
 abbrev pub ReadUpdate : ℕ → List ℕ → List Block → List ℕ → Update → List Block → List ℕ → Type 0
-ReadUpdate form u rows words r rows₁ words₁ =
-    (r ≡ answer (reading form u (length rows) (length words / 3)))
-    × (rows₁ ≡ rowsOf (length rows) (reading form u (length rows) (length words / 3)))
-    × (words₁ ≡ wordsOf (length words) (reading form u (length rows) (length words / 3)))
+ReadUpdate form u rows words = Leaves (reading form u (length rows) (length words / 3)) rows words
