@@ -1,5 +1,5 @@
 -- The laws of the delete set's steps: what each kind of step says of the ranges from there on.
-use Prim.Native.Nat.{ℕ, zero, suc, _+_, _-_, _≤_, _<_}
+use Prim.Native.Nat.{ℕ, zero, suc, _+_, _-_, _≤_}
 use mathlib.Core.Path.{_≡_, refl, ap, subst}
 use mathlib.Core.Bool.{Bool, true, false}
 use mathlib.Core.List.{List}
@@ -12,9 +12,9 @@ use Rattle.numbers.specs.Limits.{maxClock, maxValue, maxClients}
 use Rattle.decoder.specs.declared.State.{State}
 use Rattle.decoder.specs.declared.Draw.{Draw}
 use Rattle.decoder.specs.declared.Draw.the-variants.{Number, Refused}
-use Rattle.decoder.specs.Fields.{bounded, varAt, client1, clockAt, restoredBy, dsClock, dsLen}
+use Rattle.decoder.specs.Fields.{bounded, varAt, client1}
 use Rattle.decoder.specs.Course.{Course, item, over, stopped, drawn, ending}
-use Rattle.decoder.proofs.Laws.{within-limit, clock-fits}
+use Rattle.decoder.proofs.Laws.{within-limit}
 use Rattle.ranges.specs.Ranges.{Range}
 use Rattle.ranges.specs.Table.{range, Fine}
 use Rattle.deletes.specs.declared.Ranges.{Ranges}
@@ -23,35 +23,7 @@ use Rattle.deletes.specs.declared.Begun.the-variants as begun
 use Rattle.deletes.specs.declared.Step.{Step}
 use Rattle.deletes.specs.declared.Step.the-variants as step
 use Rattle.deletes.specs.DeleteSet.{clockIn, lenIn, ranges, clients, deleteSet}
-use Rattle.deletes.specs.Steps.{drawnTo, headOf, rangeOf, nextOf, rest, begunBy, beginOf, left, Falls}
-
--- ---- a clock and a length are within the limit
-
-restored-fits : (by : ℕ) (d : Draw) (v p : ℕ) (t : State) → restoredBy by d ≡ Number v p t → v ≤ maxClock
-unfolding restoredBy
-restored-fits by (Refused why) v p t e = absurd (let z : _≡_ {A = ℕ} 0 1 = cc in omega arith)
-restored-fits by (Number x q s) v p t e = go (ltb maxClock (by + x)) refl e
-  where
-    go : (b : Bool) → ltb maxClock (by + x) ≡ b → pick b (Refused (record { number = 3; place = q })) (Number (by + x) q s) ≡ Number v p t → v ≤ maxClock
-    go true l e = absurd (let z : _≡_ {A = ℕ} 0 1 = cc in omega arith)
-    go false l e = let a : by + x ≡ v = cc in omega (arith, ltb-false maxClock (by + x) l)
-
-module _ (u : List ℕ) (s : State) (v p : ℕ) (t : State) where
-  pub clock-in : (end : ℕ) → clockIn u s end ≡ Number v p t → v ≤ maxClock
-  unfolding clockIn dsClock
-  clock-in end e = go (eqb (s .form) 1) e
-    where
-      go : (b : Bool) → pick b (clockAt u s) (restoredBy end (varAt u s)) ≡ Number v p t → v ≤ maxClock
-      go true e = clock-fits u s v p t e
-      go false e = restored-fits end (varAt u s) v p t e
-
-  pub len-in : lenIn u s ≡ Number v p t → v ≤ maxClock
-  unfolding lenIn dsLen
-  len-in e = go (eqb (s .form) 1) e
-    where
-      go : (b : Bool) → pick b (clockAt u s) (restoredBy 1 (varAt u s)) ≡ Number v p t → v ≤ maxClock
-      go true e = clock-fits u s v p t e
-      go false e = restored-fits 1 (varAt u s) v p t e
+use Rattle.deletes.specs.Steps.{drawnTo, headOf, rangeOf, nextOf, rest, begunBy, beginOf, left}
 
 -- ---- a step, and the ranges from there on
 
@@ -164,16 +136,6 @@ module _ (u : List ℕ) (s : State) where
   pub refused-set : (why : Refusal) → beginOf u s ≡ begun.Refused why → deleteSet u s ≡ stopped why
   unfolding beginOf deleteSet
   refused-set why e = begun-not u why (bounded maxClients (varAt u s)) e
-
--- ---- each step leaves less
-
-pub falls-on : (s t : Ranges) (x : Step) → Falls s x → x ≡ step.On t → left t < left s
-unfolding Falls
-falls-on s t x f e = subst (Falls s) e f
-
-pub falls-range : (s t : Ranges) (x : Step) (client clock len p : ℕ) → Falls s x → x ≡ step.Range client clock len p t → left t < left s
-unfolding Falls
-falls-range s t x client clock len p f e = subst (Falls s) e f
 
 -- ---- what follows the last range, a step at a time
 

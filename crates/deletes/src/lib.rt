@@ -1,34 +1,19 @@
 // The delete set of an update, in either form: read into words that are lent, three a range, in normal form; or only checked.
 use decoder::Draw;
 use decoder::State;
+use numbers::Read;
 use numbers::Refusal;
 ghost use mathlib.Core.Path.{_≡_};
 ghost use Prim.Native.Nat.{_/_, _≤_, _<_};
+ghost use lib.Dec.{eqb};
 ghost use lib.ListN.{length};
 ghost use Rattle.numbers.specs.Limits.{maxValue};
+ghost use Rattle.numbers.specs.Number.{pick};
 ghost use Rattle.decoder.specs.Course.{fit, ending};
 ghost use Rattle.deletes.specs.declared.Checked.the-variants as checked;
-ghost use Rattle.deletes.specs.DeleteSet.{clockIn, lenIn, deleteSet, setOf, wordsOf};
+ghost use Rattle.deletes.specs.DeleteSet.{deleteSet, setOf, wordsOf};
 ghost use Rattle.deletes.specs.Steps.{beginOf, whyBegun, headOf, rangeOf, nextOf, rest, Falls, Kept};
-
-// A range's clock in the form that is read, the range before ended at `end`.
-fn read_clock(update: &[u8], s: State, end: u64) -> Draw
-    ensures { λ r. ⌜ r ≡ clockIn (now (update .entry)) s end ⌝ }
-{
-    if s.form == 1 {
-        return decoder::v1::read_ds_clock(update, s);
-    }
-    decoder::v2::read_ds_clock(update, s, end)
-}
-
-fn read_len(update: &[u8], s: State) -> Draw
-    ensures { λ r. ⌜ r ≡ lenIn (now (update .entry)) s ⌝ }
-{
-    if s.form == 1 {
-        return decoder::v1::read_ds_len(update, s);
-    }
-    decoder::v2::read_ds_len(update, s)
-}
+ghost use Rattle.deletes.specs.Spots.{restoredAt, spotOf, wideOf, Follows};
 
 // Where reading stands: how many clients are left, how many ranges of this client, and where its range before ended.
 pub struct Ranges {
@@ -83,75 +68,184 @@ pub enum Step {
     Refused(Refusal),
 }
 
-fn next_client(update: &[u8], s: Ranges) -> Step
-    requires { ⌜ 0 < s .clients ⌝ }
-    ensures { λ r. ⌜ (r ≡ headOf (now (update .entry)) s) × (s .ranges ≡ 0 → Falls s r) ⌝ }
+// What a step changes of it: a delete set is in line, so only the place moves, and the columns stay.
+struct Spot {
+    at: usize,
+    clients: u64,
+    ranges: u64,
+    client: u64,
+    end: u64,
+}
+
+fn spot_of(s: Ranges) -> Spot
+    ensures { λ r. ⌜ r ≡ spotOf s ⌝ }
 {
     let fields = s.fields;
-    let c = decoder::v1::read_client(update, fields);
-    let Draw::Number(client, _, t) = c else {
-        return Step::Refused(decoder::why(c));
+    let at = fields.at;
+    Spot {
+        at,
+        clients: s.clients,
+        ranges: s.ranges,
+        client: s.client,
+        end: s.end,
+    }
+}
+
+// The columns and the spot.
+fn wide(fields: State, p: Spot) -> Ranges
+    ensures { λ r. ⌜ r ≡ wideOf fields p ⌝ }
+{
+    let mut t = fields;
+    t.at = p.at;
+    Ranges {
+        fields: t,
+        clients: p.clients,
+        ranges: p.ranges,
+        client: p.client,
+        end: p.end,
+    }
+}
+
+// A step from spot to spot; `Done` has the place after the last range.
+enum Move {
+    Range(u64, u64, u64, usize, Spot),
+    On(Spot),
+    Done(usize),
+    Refused(Refusal),
+}
+
+// In form 1 a clock and a length stand as they are, in form 2 less `by`.
+fn base(form: u8, by: u64) -> u64
+    ensures { λ r. ⌜ r ≡ pick (eqb form 1) 0 by ⌝ }
+{
+    if form == 1 {
+        return 0;
+    }
+    by
+}
+
+// A clock or a length, restored, and the place after it.
+fn read_at(update: &[u8], form: u8, at: usize, by: u64) -> Read
+    ensures { λ r. ⌜ r ≡ restoredAt (now (update .entry)) form at by ⌝ }
+{
+    let r = numbers::read_unsigned(update, at);
+    let Read::Number(v, e) = r else {
+        return r;
     };
-    let k = decoder::read_var(update, t);
-    let Draw::Number(count, _, v) = k else {
-        return Step::Refused(decoder::why(k));
+    let low = base(form, by);
+    let over = Refusal {
+        number: 3,
+        place: at,
     };
-    let left = s.clients - 1;
-    let after = Ranges {
-        fields: v,
+    if numbers::MAX_CLOCK < low {
+        return Read::Refused(over);
+    }
+    let left = numbers::MAX_CLOCK - low;
+    if left < v {
+        return Read::Refused(over);
+    }
+    let whole = low + v;
+    Read::Number(whole, e)
+}
+
+fn next_client(update: &[u8], p: Spot) -> Move
+    requires { ⌜ (0 < p .clients) × (p .ranges ≡ 0) ⌝ }
+    ensures { λ r. ⌜ ((f : State) → Follows p (headOf (now (update .entry))) r f) ⌝ }
+{
+    let place = p.at;
+    let c = numbers::read_unsigned(update, place);
+    let Read::Number(client, t) = c else {
+        return Move::Refused(numbers::why_read(c));
+    };
+    if numbers::MAX_VALUE < client {
+        return Move::Refused(Refusal { number: 3, place });
+    }
+    let k = numbers::read_unsigned(update, t);
+    let Read::Number(count, at) = k else {
+        return Move::Refused(numbers::why_read(k));
+    };
+    let left = p.clients - 1;
+    let after = Spot {
+        at,
         clients: left,
         ranges: count,
         client,
         end: 0,
     };
-    Step::On(after)
+    Move::On(after)
 }
 
-fn next_range(update: &[u8], s: Ranges) -> Step
-    requires { ⌜ 0 < s .ranges ⌝ }
-    ensures { λ r. ⌜ (r ≡ rangeOf (now (update .entry)) s) × Falls s r ⌝ }
+fn next_range(update: &[u8], form: u8, p: Spot) -> Move
+    requires { ⌜ 0 < p .ranges ⌝ }
+    ensures { λ r. ⌜ ((f : State) → f .form ≡ form → Follows p (rangeOf (now (update .entry))) r f) ⌝ }
 {
-    let fields = s.fields;
-    let before = s.end;
-    let d = read_clock(update, fields, before);
-    let Draw::Number(clock, place, t) = d else {
-        return Step::Refused(decoder::why(d));
+    let place = p.at;
+    let before = p.end;
+    let d = read_at(update, form, place, before);
+    let Read::Number(clock, t) = d else {
+        return Move::Refused(numbers::why_read(d));
     };
-    let e = read_len(update, t);
-    let Draw::Number(len, _, v) = e else {
-        return Step::Refused(decoder::why(e));
+    let e = read_at(update, form, t, 1);
+    let Read::Number(len, at) = e else {
+        return Move::Refused(numbers::why_read(e));
     };
     let end = clock + len;
     if numbers::MAX_CLOCK < end {
-        return Step::Refused(Refusal { number: 3, place });
+        return Move::Refused(Refusal { number: 3, place });
     }
-    let client = s.client;
-    let left = s.ranges - 1;
-    let after = Ranges {
-        fields: v,
-        clients: s.clients,
+    let client = p.client;
+    let left = p.ranges - 1;
+    let after = Spot {
+        at,
+        clients: p.clients,
         ranges: left,
         client,
         end,
     };
     if len == 0 {
-        return Step::On(after);
+        return Move::On(after);
     }
-    Step::Range(client, clock, len, place, after)
+    Move::Range(client, clock, len, place, after)
 }
 
-// One step: a client's head, or one range.
+// One step, whatever the columns are: a client's head, or one range.
+fn move_on(update: &[u8], form: u8, p: Spot) -> Move
+    ensures { λ r. ⌜ ((f : State) → f .form ≡ form → Follows p (nextOf (now (update .entry))) r f) ⌝ }
+{
+    if 0 < p.ranges {
+        return next_range(update, form, p);
+    }
+    if 0 < p.clients {
+        return next_client(update, p);
+    }
+    let at = p.at;
+    Move::Done(at)
+}
+
+// One step, with the state after it.
 pub fn next(update: &[u8], s: Ranges) -> Step
     ensures { λ r. ⌜ (r ≡ nextOf (now (update .entry)) s) × Falls s r ⌝ }
 {
-    if 0 < s.ranges {
-        return next_range(update, s);
-    }
-    if 0 < s.clients {
-        return next_client(update, s);
-    }
     let fields = s.fields;
-    Step::Done(fields)
+    let form = fields.form;
+    let p = spot_of(s);
+    let x = move_on(update, form, p);
+    match x {
+        Move::Range(client, clock, len, place, t) => {
+            return Step::Range(client, clock, len, place, wide(fields, t));
+        }
+        Move::On(t) => {
+            return Step::On(wide(fields, t));
+        }
+        Move::Done(at) => {
+            let mut t = fields;
+            t.at = at;
+            return Step::Done(t);
+        }
+        Move::Refused(why) => {
+            return Step::Refused(why);
+        }
+    }
 }
 
 pub enum Checked {
@@ -162,22 +256,26 @@ pub enum Checked {
 fn check_ranges(update: &[u8], s: Ranges) -> Checked
     ensures { λ r. ⌜ r ≡ ending (rest (now (update .entry)) s) checked.Done checked.Refused ⌝ }
 {
-    let mut s = s;
+    let fields = s.fields;
+    let form = fields.form;
+    let mut p = spot_of(s);
     loop {
-        let x = next(update, s);
+        let x = move_on(update, form, p);
         match x {
-            Step::Range(_, _, _, _, t) => {
-                s = t;
+            Move::Range(_, _, _, _, t) => {
+                p = t;
                 continue;
             }
-            Step::On(t) => {
-                s = t;
+            Move::On(t) => {
+                p = t;
                 continue;
             }
-            Step::Done(t) => {
+            Move::Done(at) => {
+                let mut t = fields;
+                t.at = at;
                 return Checked::Done(t);
             }
-            Step::Refused(why) => {
+            Move::Refused(why) => {
                 return Checked::Refused(why);
             }
         }
@@ -206,28 +304,32 @@ fn collect(update: &[u8], s: Ranges, words: &mut [u64]) -> Collected
     ensures { λ r. ⌜ Kept (now (words .entry)) (now (words .exit)) (fit (length (now (words .entry)) / 3) (rest (now (update .entry)) s)) r ⌝ }
 {
     let most = words.len() / 3;
-    let mut s = s;
+    let fields = s.fields;
+    let form = fields.form;
+    let mut p = spot_of(s);
     let mut n: usize = 0;
     loop {
-        let x = next(update, s);
+        let x = move_on(update, form, p);
         match x {
-            Step::Range(client, clock, len, place, t) => {
+            Move::Range(client, clock, len, place, t) => {
                 if most <= n {
                     return Collected::Refused(Refusal { number: 8, place });
                 }
                 ranges::store(words, n, client, clock, len);
                 n += 1;
-                s = t;
+                p = t;
                 continue;
             }
-            Step::On(t) => {
-                s = t;
+            Move::On(t) => {
+                p = t;
                 continue;
             }
-            Step::Done(t) => {
+            Move::Done(at) => {
+                let mut t = fields;
+                t.at = at;
                 return Collected::Rows(n, t);
             }
-            Step::Refused(why) => {
+            Move::Refused(why) => {
                 return Collected::Refused(why);
             }
         }

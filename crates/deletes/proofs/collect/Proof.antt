@@ -1,26 +1,34 @@
 -- `deletes::collect` meets its contract: the rows stored and those to come are all that the words take.
-use Prim.Native.Nat.{_/_}
-use mathlib.Core.Path.{_≡_, refl, sym, _∙_}
+use Prim.Native.Nat.{_/_, _≤_}
+use mathlib.Core.Path.{_≡_, refl, sym, subst}
 use native.Mathlib.Omega.{arith}
 use lib.ListN.{length}
+use Rattle.numbers.specs.Limits.{maxValue}
+use Rattle.deletes.specs.declared.Spot.{Spot}
 use Rattle.deletes.specs.Steps.{left}
-use Rattle.deletes.proofs.Laws.{falls-on, falls-range}
+use Rattle.deletes.specs.Spots.{wideOf}
 use Rattle.deletes.proofs.Rows.{Held, held-begin, held-on, held-more, held-done, held-refused, held-full}
+use Rattle.deletes.proofs.Spots.{kept-from, to-range, to-on, to-done, to-refused}
 use borrow.Author.Needs.{needs}
 use Rattle.deletes.proofs.collect.Statement.{statement}
 use Rattle.deletes.proofs.collect.Tie as tie
 
 abbrev Inv-loop : tie.InvT-loop
-Inv-loop update words₀ most s₀ n₀ words s n = Held update words₀ s₀ words s n × (most ≡ length words₀ / 3)
+Inv-loop update words₀ most fields form p₀ n₀ words p n = Held update words₀ (wideOf fields p₀) words (wideOf fields p) n × (most ≡ length words₀ / 3)
 
 abbrev μ-loop : tie.MeasureT-loop
-μ-loop update words₀ most s₀ n₀ words s n = left s
+μ-loop update words₀ most fields form p₀ n₀ words p n = left (wideOf fields p)
+
+spot-of-requires : tie.Need-spot-of-requires Inv-loop μ-loop
+spot-of-requires c κs = search needs
 
 loop-holds : tie.Need-loop-holds Inv-loop μ-loop
-loop-holds c = let a = c .before .before .args in (held-begin (a .update .now) (a .words .now) (a .s) (c .before .before .pre), refl)
+loop-holds c =
+    let S = c .before .before .before .before in let a = c .spot-of in
+    (held-begin (S .args .update .now) (S .args .words .now) (wideOf (S .args .s .fields) (a .result)) (subst (λ (q : Spot). q .client ≤ maxValue) (sym (a .ensures)) (S .pre)), refl)
 
-next-requires : tie.Need-next-requires Inv-loop μ-loop
-next-requires c κs = search needs
+move-on-requires : tie.Need-move-on-requires Inv-loop μ-loop
+move-on-requires c κs = search needs
 
 enum-known-x : tie.Need-enum-known-x Inv-loop μ-loop
 enum-known-x c = search needs
@@ -30,34 +38,44 @@ same-length c = c .before .before .before .before .before .loop .inv .0 .size
 
 returns : tie.Need-returns Inv-loop μ-loop
 returns c =
-    let a = c .before .before .before .before .before .before .before .before .args in let l = c .before .before .before .before .before .loop in
-    held-full (a .update .now) (a .words .now) (a .s) (l .words) (l .s) (l .n) (l .inv .0) _ _ _ _ _ (sym (c .before .before .before .before .next .ensures .0) ∙ c .before .before .x .given .1) (omega (arith, c .if1 .taken, l .inv .1))
+    let S = c .before .before .before .before .before .before .before .before .before .before in let u = S .args .update .now in let e = S .args .words .now in let f = S .args .s .fields in
+    let l = c .before .before .before .before .before .loop in let m = c .before .before .before .before .move-on in let a = c .before .before .before .before .before .before .spot-of in
+    kept-from u e (l .words) (S .args .s) (a .result) _ (a .ensures)
+    (held-full u e (wideOf f (a .result)) (l .words) (wideOf f (l .p)) (l .n) (l .inv .0) _ _ _ _ _ ((to-range u (l .p) f _ (m .ensures f refl) _ _ _ _ _ (c .before .before .x .given .1)) .0) (omega (arith, c .if1 .taken, l .inv .1)))
 
 store-requires : tie.Need-store-requires Inv-loop μ-loop
 store-requires c κs = let l = c .before .before .before .before .before .before .loop in omega (arith, c .before .if1 .left, l .inv .1, l .inv .0 .size)
 
 add-n : tie.Need-add-n Inv-loop μ-loop
-add-n c = let l = c .before .before .before .before .before .before .before .before .before .loop in omega (arith, c .before .before .before .before .if1 .left, l .inv .1, l .inv .0 .below, c .before .before .before .before .before .before .before .before .before .before .before .before .good .1 .1 .0 .0)
+add-n c = let l = c .before .before .before .before .before .before .before .before .before .loop in omega (arith, c .before .before .before .before .if1 .left, l .inv .1, l .inv .0 .below, c .before .before .before .before .before .before .before .before .before .before .before .before .before .before .good .1 .1 .0 .0)
 
 loop-less : tie.Need-loop-less Inv-loop μ-loop
-loop-less c = falls-range _ _ _ _ _ _ _ (c .before .before .before .before .before .before .before .before .next .ensures .1) (c .before .before .before .before .before .before .x .given .1)
+loop-less c =
+    let S = c .before .before .before .before .before .before .before .before .before .before .before .before .before .before in let u = S .args .update .now in let e = S .args .words .now in let f = S .args .s .fields in
+    let l = c .before .before .before .before .before .before .before .before .before .loop in let m = c .before .before .before .before .before .before .before .before .move-on in let a = c .before .before .before .before .before .before .before .before .before .before .spot-of in
+    (to-range u (l .p) f _ (m .ensures f refl) _ _ _ _ _ (c .before .before .before .before .before .before .x .given .1)) .1
 
 loop-again : tie.Need-loop-again Inv-loop μ-loop
 loop-again c =
-    let a = c .before .before .before .before .before .before .before .before .before .before .before .before .args in let l = c .before .before .before .before .before .before .before .before .before .loop in
-    let more = held-more (a .update .now) (a .words .now) (a .s) (l .words) (l .s) (l .n) (l .inv .0) _ _ _ _ _ (sym (c .before .before .before .before .before .before .before .before .next .ensures .0) ∙ c .before .before .before .before .before .before .x .given .1) (omega (arith, c .before .before .before .before .if1 .left, l .inv .1)) in
+    let S = c .before .before .before .before .before .before .before .before .before .before .before .before .before .before in let u = S .args .update .now in let e = S .args .words .now in let f = S .args .s .fields in
+    let l = c .before .before .before .before .before .before .before .before .before .loop in let m = c .before .before .before .before .before .before .before .before .move-on in let a = c .before .before .before .before .before .before .before .before .before .before .spot-of in
+    let more = held-more u e (wideOf f (a .result)) (l .words) (wideOf f (l .p)) (l .n) (l .inv .0) _ _ _ _ _ ((to-range u (l .p) f _ (m .ensures f refl) _ _ _ _ _ (c .before .before .before .before .before .before .x .given .1)) .0) (omega (arith, c .before .before .before .before .if1 .left, l .inv .1)) in
     (rw (c .before .before .store .ensures) more, l .inv .1)
 
 enum-known-x-2 : tie.Need-enum-known-x-2 Inv-loop μ-loop
 enum-known-x-2 c = search needs
 
 loop-less-2 : tie.Need-loop-less-2 Inv-loop μ-loop
-loop-less-2 c = falls-on _ _ _ (c .before .before .before .next .ensures .1) (c .before .x2 .given .1)
+loop-less-2 c =
+    let S = c .before .before .before .before .before .before .before .before .before in let u = S .args .update .now in let e = S .args .words .now in let f = S .args .s .fields in
+    let l = c .before .before .before .before .loop in let m = c .before .before .before .move-on in let a = c .before .before .before .before .before .spot-of in
+    (to-on u (l .p) f _ (m .ensures f refl) _ (c .before .x2 .given .1)) .1
 
 loop-again-2 : tie.Need-loop-again-2 Inv-loop μ-loop
 loop-again-2 c =
-    let a = c .before .before .before .before .before .before .before .args in let l = c .before .before .before .before .loop in
-    (held-on (a .update .now) (a .words .now) (a .s) (l .words) (l .s) (l .n) (l .inv .0) _ (sym (c .before .before .before .next .ensures .0) ∙ c .before .x2 .given .1), l .inv .1)
+    let S = c .before .before .before .before .before .before .before .before .before in let u = S .args .update .now in let e = S .args .words .now in let f = S .args .s .fields in
+    let l = c .before .before .before .before .loop in let m = c .before .before .before .move-on in let a = c .before .before .before .before .before .spot-of in
+    (held-on u e (wideOf f (a .result)) (l .words) (wideOf f (l .p)) (l .n) (l .inv .0) _ ((to-on u (l .p) f _ (m .ensures f refl) _ (c .before .x2 .given .1)) .0), l .inv .1)
 
 enum-known-x-3 : tie.Need-enum-known-x-3 Inv-loop μ-loop
 enum-known-x-3 c = search needs
@@ -67,8 +85,10 @@ same-length-2 c = c .before .before .before .before .loop .inv .0 .size
 
 returns-2 : tie.Need-returns-2 Inv-loop μ-loop
 returns-2 c =
-    let a = c .before .before .before .before .before .before .before .args in let l = c .before .before .before .before .loop in
-    held-done (a .update .now) (a .words .now) (a .s) (l .words) (l .s) (l .n) (l .inv .0) _ (sym (c .before .before .before .next .ensures .0) ∙ c .before .x3 .given .1)
+    let S = c .before .before .before .before .before .before .before .before .before in let u = S .args .update .now in let e = S .args .words .now in let f = S .args .s .fields in
+    let l = c .before .before .before .before .loop in let m = c .before .before .before .move-on in let a = c .before .before .before .before .before .spot-of in
+    kept-from u e (l .words) (S .args .s) (a .result) _ (a .ensures)
+    (held-done u e (wideOf f (a .result)) (l .words) (wideOf f (l .p)) (l .n) (l .inv .0) _ (to-done u (l .p) f _ (m .ensures f refl) _ (c .before .x3 .given .1)))
 
 enum-known-x-4 : tie.Need-enum-known-x-4 Inv-loop μ-loop
 enum-known-x-4 c = search needs
@@ -78,8 +98,10 @@ same-length-3 c = c .before .before .before .before .loop .inv .0 .size
 
 returns-3 : tie.Need-returns-3 Inv-loop μ-loop
 returns-3 c =
-    let a = c .before .before .before .before .before .before .before .args in let l = c .before .before .before .before .loop in
-    held-refused (a .update .now) (a .words .now) (a .s) (l .words) (l .s) (l .n) (l .inv .0) _ (sym (c .before .before .before .next .ensures .0) ∙ c .before .x4 .given .1)
+    let S = c .before .before .before .before .before .before .before .before .before in let u = S .args .update .now in let e = S .args .words .now in let f = S .args .s .fields in
+    let l = c .before .before .before .before .loop in let m = c .before .before .before .move-on in let a = c .before .before .before .before .before .spot-of in
+    kept-from u e (l .words) (S .args .s) (a .result) _ (a .ensures)
+    (held-refused u e (wideOf f (a .result)) (l .words) (wideOf f (l .p)) (l .n) (l .inv .0) _ (to-refused u (l .p) f _ (m .ensures f refl) _ (c .before .x4 .given .1)))
 
 pub collect-spec : {M : Type 1} → statement M
 collect-spec =
@@ -87,8 +109,9 @@ collect-spec =
     (tie.spec
     Inv-loop
     μ-loop
+    spot-of-requires
     loop-holds
-    next-requires
+    move-on-requires
     enum-known-x
     same-length
     returns
