@@ -1,9 +1,9 @@
 -- The numbers of a client's blocks, which stand in a row, and of the blocks that an order takes.
-use mathlib.Core.Path.{_≡_, refl, ap, subst, _∙_}
+use mathlib.Core.Path.{_≡_, refl, sym, ap, subst, _∙_}
 use mathlib.Core.Bool.{Bool, true, false}
 use mathlib.Core.List.{List, [], _∷_, _++_}
-use mathlib.Core.Logic.{_≢_, ⊎-elim}
-use Prim.Native.Nat.{ℕ, zero, suc, _+_, _<_}
+use mathlib.Core.Logic.{_⊎_, inl, inr, _≢_, ⊎-elim}
+use Prim.Native.Nat.{ℕ, zero, suc, _+_, _≤_, _<_}
 use native.Mathlib.Omega.{arith}
 use native.Mathlib.Nat.{zero-add}
 use lib.Dec.{eqb}
@@ -16,6 +16,7 @@ use Rattle.readings.specs.Sound.{All, Stays, Ordered}
 use Rattle.sorting.specs.Steps.{State, step, after}
 use Rattle.sorting.specs.Rules.{queue}
 use Rattle.sorting.specs.Sorted.{steps, numbersFrom, numbersBy}
+use Rattle.sorting.proofs.Outcome.{below-or}
 
 -- one block more is the first of its client's, and changes no other client's
 pub one-more : (P : List ℕ → List Block → Type 0) (n : ℕ) (b : Block) (bs : List Block) (c : ℕ)
@@ -81,6 +82,64 @@ pub number-below : (bs : List Block) (c k : ℕ) → k < length (queue bs c) →
 number-below bs c k h =
     let p = placed 0 bs c k h in
     omega (arith, p .is, p .inside)
+
+-- ---- each block has one number, and no other block has it
+
+numbers-rise : (n : ℕ) (bs : List Block) (c k j : ℕ) → k < j → j < length (queue bs c) → getD (numbersFrom n bs c) k 0 < getD (numbersFrom n bs c) j 0
+unfolding queue
+numbers-rise n [] c k j h g = absurd (omega arith)
+numbers-rise n (b ∷ bs) c k j h g = one-more (λ ns q. j < length q → getD ns k 0 < getD ns j 0) n b bs c
+    (λ e. go k j h (λ i. let p = placed (suc n) bs c i in λ f. omega (arith, p f .is)) (numbers-rise (suc n) bs c))
+    (λ e. numbers-rise (suc n) bs c k j h) g
+  where
+    go : (k j : ℕ) → k < j → ((i : ℕ) → i < length (queue bs c) → n < getD (numbersFrom (suc n) bs c) i 0)
+        → ((k j : ℕ) → k < j → j < length (queue bs c) → getD (numbersFrom (suc n) bs c) k 0 < getD (numbersFrom (suc n) bs c) j 0)
+        → j < suc (length (queue bs c)) → getD (n ∷ numbersFrom (suc n) bs c) k 0 < getD (n ∷ numbersFrom (suc n) bs c) j 0
+    go zero zero h low rec g = absurd (omega arith)
+    go zero (suc j) h low rec g = low j (omega arith)
+    go (suc k) zero h low rec g = absurd (omega arith)
+    go (suc k) (suc j) h low rec g = rec k j (omega arith) (omega arith)
+
+one-place : (bs : List Block) (c k j : ℕ) → k < length (queue bs c) → j < length (queue bs c)
+    → getD (numbersFrom 0 bs c) k 0 ≡ getD (numbersFrom 0 bs c) j 0 → k ≡ j
+one-place bs c k j h g e = go (below-or k j) (below-or j k)
+  where
+    go : (k < j) ⊎ (j ≤ k) → (j < k) ⊎ (k ≤ j) → k ≡ j
+    go (inl f) w = absurd (omega (arith, e, numbers-rise 0 bs c k j f g))
+    go (inr f) (inl w) = absurd (omega (arith, e, numbers-rise 0 bs c j k w h))
+    go (inr f) (inr w) = omega arith
+
+pub number-one : (bs : List Block) (c d k j : ℕ) → k < length (queue bs c) → j < length (queue bs d)
+    → getD (numbersFrom 0 bs c) k 0 ≡ getD (numbersFrom 0 bs d) j 0 → (c ≡ d) × (k ≡ j)
+number-one bs c d k j h g e =
+    let row : getD (queue bs c) k noBlock ≡ getD (queue bs d) j noBlock = sym (numbered bs c k h) ∙ ap (λ x. getD bs x noBlock) e ∙ numbered bs d j g in
+    let p : c ≡ d = sym (owner-at bs c k h) ∙ ap (λ (b : Block). b .client) row ∙ owner-at bs d j g in (
+      p,
+      one-place bs d k j (subst (λ x. k < length (queue bs x)) p h) g
+          (subst (λ x. getD (numbersFrom 0 bs x) k 0 ≡ getD (numbersFrom 0 bs d) j 0) p e),
+    )
+
+-- x is the number of block k
+pub record Numbered (ns : List ℕ) (q : List Block) (x : ℕ) : Type 0 where
+  pub k : ℕ
+  pub inside : k < length q
+  pub is : x ≡ getD ns k 0
+
+numbered-from : (n : ℕ) (bs : List Block) (x c : ℕ) → x < length bs → getD bs x noBlock .client ≡ c → Numbered (numbersFrom n bs c) (queue bs c) (n + x)
+numbered-from n [] x c h e = absurd (omega arith)
+numbered-from n (b ∷ bs) zero c h e = one-more (λ ns q. Numbered ns q (n + 0)) n b bs c
+    (λ p. record { k = 0; inside = omega arith; is = omega arith }) (λ ne. absurd (ne e))
+numbered-from n (b ∷ bs) (suc x) c h e =
+    let w = numbered-from (suc n) bs x c (omega arith) e in
+    one-more (λ ns q. Numbered ns q (n + suc x)) n b bs c (λ p. record { k = suc (w .k); inside = omega (arith, w .inside); is = omega (arith, w .is) })
+    (λ ne. record { k = w .k; inside = w .inside; is = omega (arith, w .is) })
+
+-- the block at x is one of its client's blocks, and x is that one's number
+pub each-numbered : (bs : List Block) (x : ℕ) → x < length bs
+    → Numbered (numbersFrom 0 bs (getD bs x noBlock .client)) (queue bs (getD bs x noBlock .client)) x
+each-numbered bs x h =
+    let c = getD bs x noBlock .client in
+    subst (Numbered (numbersFrom 0 bs c) (queue bs c)) (zero-add x) (numbered-from 0 bs x c h refl)
 
 -- ---- blocks of a client that stand together have numbers that follow each other
 

@@ -10,9 +10,9 @@ use Rattle.block.specs.declared.Block.{Block}
 use Rattle.vector.specs.Vector.{Entry, clientsIn}
 use Rattle.kept.specs.Kept.{remote}
 use Rattle.readings.specs.Sound.{owner}
-use Rattle.sorting.specs.Steps.{System, State, start, step, after}
+use Rattle.sorting.specs.Steps.{System, State, start, step, after, Run}
 use Rattle.sorting.specs.Rules.{queue, rule28, system, report}
-use Rattle.sorting.specs.Quick.{quick}
+use Rattle.sorting.specs.Quick.{Listed, quick}
 
 -- ---- the clients that are reported: those with blocks and the vector's, highest first
 
@@ -52,6 +52,12 @@ numbersBy bs s (c ∷ cs) = getD (numbersFrom 0 bs c) (s .taken c) 0 ∷ numbers
 
 unfoldable pub orderOf : List Block → List Entry → List ℕ
 orderOf bs v = numbersBy bs (start (remote v)) (order bs v)
+
+-- an allowed order, carried to its end or not, takes the block of number n
+pub record Taking (bs : List Block) (v : List Entry) (n : ℕ) : Type 0 where
+  pub by : List ℕ
+  pub run : Run (steps bs) (start (remote v)) by
+  pub takes : Listed n (numbersBy bs (start (remote v)) by)
 
 -- ---- the reports on a state, of these clients: two words each, three of a client that waits
 

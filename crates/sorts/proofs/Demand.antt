@@ -14,6 +14,7 @@ use Rattle.kept.proofs.Vectors.{whyVector, by-number}
 use Rattle.sorting.specs.Steps.{State, start, after, Ends}
 use Rattle.sorting.specs.Sorted.{clients, steps, order, outcome, orderOf, countsIn, countsOf, reachesIn, reachesOf, pendingIn, pendingOf}
 use Rattle.sorting.proofs.Demand.{sorted, highest, is-order, left-waits}
+use Rattle.sorting.proofs.Taken.{taken, untaken, taken-once, taken-below}
 use Rattle.updates.specs.Promises.{Reading, reading}
 use Rattle.sort_answers.specs.Answers.{Sort, refusedWith, Room}
 use Rattle.sorts.specs.Promises.{whole, whySort, fitting, against, afterReading, sortOf}
@@ -80,6 +81,10 @@ whole-demanded r c z ends =
       highest = highest bs v;
       only = is-order bs v;
       order = refl;
+      taken = taken bs v;
+      missing = untaken bs v;
+      once = taken-once bs v;
+      inside = taken-below bs v;
       counts = reported bs v (λ (s : State ℕ). countsIn bs s (clients bs v));
       reaches = reported bs v (λ (s : State ℕ). reachesIn s (clients bs v));
       pending = reported bs v (λ (s : State ℕ). pendingIn bs s (clients bs v));

@@ -1,7 +1,7 @@
 -- The user's demand 3, of a sort that is done: what its words say of every allowed order.
 use Prim.Native.Nat.{ℕ, _≤_, _<_}
 use mathlib.Core.Path.{_≡_}
-use mathlib.Core.Logic.{_≢_}
+use mathlib.Core.Logic.{_≢_, _↔_}
 use mathlib.Core.Bool.{true, false}
 use mathlib.Core.List.{List}
 use mathlib.Core.Option.{some}
@@ -10,13 +10,24 @@ use Rattle.block.specs.declared.Id.{Id}
 use Rattle.decoder.specs.Course.{Course, items, ending}
 use Rattle.vector.specs.Vector.{Entry}
 use Rattle.kept.specs.Kept.{remote}
-use Rattle.sorting.specs.Steps.{State, start, after, Ends, Highest, Sorts}
+use Rattle.readings.specs.Sound.{All}
+use Rattle.readings.specs.Groups.{Distinct}
+use Rattle.sorting.specs.Steps.{State, start, after, Run, Ends, Highest, Sorts}
+use Rattle.sorting.specs.Quick.{Listed}
 use Rattle.sorting.specs.Rules.{queue, rule28, report}
-use Rattle.sorting.specs.Sorted.{clients, steps, numbersBy, countsIn, reachesIn, pendingIn}
+use Rattle.sorting.specs.Sorted.{clients, steps, numbersBy, Taking, countsIn, reachesIn, pendingIn}
 use Rattle.updates.specs.Promises.{Reading}
 use Rattle.sort_answers.specs.Answers.{Sort}
 
 -- ---- a reading r and a vector c
+
+-- each step is allowed
+abbrev pub Allowed : Reading → Course Entry → List ℕ → Type 0
+Allowed r c cs = Run (steps (r .blocks)) (start (remote (items c))) cs
+
+-- the numbers of the blocks that it takes
+abbrev pub numbersOf : Reading → Course Entry → List ℕ → List ℕ
+numbersOf r c cs = numbersBy (r .blocks) (start (remote (items c))) cs
 
 -- each step is allowed, and after the last none is possible
 abbrev pub Whole : Reading → Course Entry → List ℕ → Type 0
@@ -39,7 +50,13 @@ pub record Demand3 (r : Reading) (c : Course Entry) (s : Sort) : Type 0 where
   pub highest : Highest (steps (r .blocks)) (start (remote (items c))) run
   pub only : (cs : List ℕ) → Whole r c cs → Highest (steps (r .blocks)) (start (remote (items c))) cs → cs ≡ run
   -- the numbers of the blocks that are taken
-  pub order : s .order ≡ numbersBy (r .blocks) (start (remote (items c))) run
+  pub order : s .order ≡ numbersOf r c run
+  -- a number stands there exactly when some allowed run takes its block; so a block's number is missing exactly when no allowed run takes the block
+  pub taken : (n : ℕ) → Listed n (s .order) ↔ Taking (r .blocks) (items c) n
+  pub missing : (n : ℕ) → (Listed n (s .order) → ⊥) ↔ ((cs : List ℕ) → Allowed r c cs → Listed n (numbersOf r c cs) → ⊥)
+  -- it stands there once, and is the number of a block
+  pub once : Distinct (s .order)
+  pub inside : All (λ n. n < length (r .blocks)) (s .order)
   -- the reports, on the end of every whole run
   pub counts : (cs : List ℕ) → Whole r c cs → s .counts ≡ countsIn (r .blocks) (endOf r c cs) (clients (r .blocks) (items c))
   pub reaches : (cs : List ℕ) → Whole r c cs → s .reaches ≡ reachesIn (endOf r c cs) (clients (r .blocks) (items c))
