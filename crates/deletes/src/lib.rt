@@ -13,7 +13,7 @@ ghost use Rattle.decoder.specs.Course.{fit, ending};
 ghost use Rattle.deletes.specs.declared.Checked.the-variants as checked;
 ghost use Rattle.deletes.specs.DeleteSet.{deleteSet, setOf, wordsOf};
 ghost use Rattle.deletes.specs.Steps.{beginOf, whyBegun, headOf, rangeOf, nextOf, rest, Falls, Kept};
-ghost use Rattle.deletes.specs.Spots.{restoredAt, spotOf, wideOf, Follows};
+ghost use Rattle.deletes.specs.Spots.{restoredAt, spotOf, Follows};
 
 // Where reading stands: how many clients are left, how many ranges of this client, and where its range before ended.
 pub struct Ranges {
@@ -88,21 +88,6 @@ fn spot_of(s: Ranges) -> Spot
         ranges: s.ranges,
         client: s.client,
         end: s.end,
-    }
-}
-
-// The columns and the spot.
-fn wide(fields: State, p: Spot) -> Ranges
-    ensures { λ r. ⌜ r ≡ wideOf fields p ⌝ }
-{
-    let mut t = fields;
-    t.at = p.at;
-    Ranges {
-        fields: t,
-        clients: p.clients,
-        ranges: p.ranges,
-        client: p.client,
-        end: p.end,
     }
 }
 
@@ -220,32 +205,6 @@ fn move_on(update: &[u8], form: u8, p: Spot) -> Move
     }
     let at = p.at;
     Move::Done(at)
-}
-
-// One step, with the state after it.
-pub fn next(update: &[u8], s: Ranges) -> Step
-    ensures { λ r. ⌜ (r ≡ nextOf (now (update .entry)) s) × Falls s r ⌝ }
-{
-    let fields = s.fields;
-    let form = fields.form;
-    let p = spot_of(s);
-    let x = move_on(update, form, p);
-    match x {
-        Move::Range(client, clock, len, place, t) => {
-            return Step::Range(client, clock, len, place, wide(fields, t));
-        }
-        Move::On(t) => {
-            return Step::On(wide(fields, t));
-        }
-        Move::Done(at) => {
-            let mut t = fields;
-            t.at = at;
-            return Step::Done(t);
-        }
-        Move::Refused(why) => {
-            return Step::Refused(why);
-        }
-    }
 }
 
 pub enum Checked {
