@@ -51,11 +51,11 @@ const written = (bytes, room) => BigInt(bytes.length) > room ? { number: 10 } : 
 const writeUnsigned = (value, room) => value >= 2n ** 63n ? { number: 3 } : written(unsigned(value), room)
 const writeSigned = (minus, x, room) => x >= 2n ** 62n ? { number: 3 } : written(signed(minus, x), room)
 
-// ---- columns, read: a generator-like object with `draw`, which gives { number } or { number: 0, value }
+// ---- columns, read: a generator-like object with `draw`, which gives { number } or { number: 0, value }; beside 3 and 7, for whoever compares, what is refused
 
 const readCount = (s, at) => {
   const c = readUnsigned(s, at)
-  return c.number === 0 && c.value > COUNT ? { number: 3 } : c
+  return c.number === 0 && c.value > COUNT ? { number: 3, what: 'run count', value: c.value } : c
 }
 
 // A signed number, then its count if minus, and only then the value's limit.
@@ -71,11 +71,11 @@ const numbers = (s, from = 0n) => {
       let next = r.next
       if (r.minus) {
         const c = readCount(s, next)
-        if (c.number !== 0) return { number: c.number }
+        if (c.number !== 0) return c
         times = c.value + 2n
         next = c.next
       }
-      if (r.magnitude > LIMIT) return { number: 3 }
+      if (r.magnitude > LIMIT) return { number: 3, what: 'column value' }
       at = next
       left = times
       value = r.magnitude
@@ -97,19 +97,19 @@ const differences = s => {
       const r = readSigned(s, at)
       if (r.number !== 0) return { number: r.number }
       const e = r.minus ? -r.magnitude : r.magnitude
-      if (e < -(2n ** 31n) || e > 2n ** 31n - 1n) return { number: 3 }
+      if (e < -(2n ** 31n) || e > 2n ** 31n - 1n) return { number: 3, what: 'difference' }
       nextAt = r.next
       nextLeft = 1n
       nextDifference = e >> 1n // rounds down, also below zero
       if ((e & 1n) === 1n) {
         const c = readCount(s, nextAt)
-        if (c.number !== 0) return { number: c.number }
+        if (c.number !== 0) return c
         nextAt = c.next
         nextLeft = c.value + 2n
       }
     }
     const value = last + nextDifference
-    if (value < 0n || value > CLOCK) return { number: 3 }
+    if (value < 0n || value > CLOCK) return { number: 3, what: value < 0n ? 'column clock below zero' : 'column clock' }
     at = nextAt
     left = nextLeft - 1n
     difference = nextDifference
@@ -131,7 +131,7 @@ const bytes = s => {
         value = BigInt(s[at])
       } else {
         const c = readCount(s, BigInt(at) + 1n)
-        if (c.number !== 0) return { number: c.number }
+        if (c.number !== 0) return c
         value = BigInt(s[at])
         left = c.value + 1n
         at = Number(c.next)
@@ -146,7 +146,7 @@ const draws = (draw, times) => {
   const values = []
   for (let k = 0n; k < times; k++) {
     const r = draw()
-    if (r.number !== 0) return { number: r.number, values }
+    if (r.number !== 0) return { number: r.number, what: r.what, values }
     values.push(r.value)
   }
   return { number: 0, values }
@@ -207,7 +207,7 @@ const texts = s => {
     const u = unit()
     if (u.number !== 0) return u
     const next = take(chars, k, u.value)
-    if (next === null) return { number: 7 }
+    if (next === null) return { number: 7, what: u.value > chars.slice(k).reduce((sum, [, , n]) => sum + n, 0n) ? 'past the text' : 'in a pair' }
     const place = placeOf(k)
     const value = text.slice(place, placeOf(next))
     k = next

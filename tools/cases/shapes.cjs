@@ -56,7 +56,29 @@ const begin = ({ random, pick }) => {
     const b = update[k]
     return replaced(update, k, pick([random(256), b ^ 128, b ^ 64, b ^ (1 << random(8)), 0, 10, 255]))
   }
-  return { some, someClient, damaged }
+  const shuffled = all => all.map(x => [random(2 ** 30), x]).sort(([a], [b]) => a - b).map(([, x]) => x)
+  // Sections of some of these clients, with ids among them at low clocks.
+  const tangled = pool => {
+    // Its own client seldom: an id of it that is not there is never waited for, and Yjs throws.
+    const idFor = client => [random(9) === 0 ? client : pick(pool.filter(other => other !== client)), random(pick([1, 2, 3, 4, 8]))]
+    const contents = [...[0, 1, 2, 4].map(length => ({ kind: 1, length })), { kind: 3, binary: [7] }, ...['a', 'é😀'].map(text => ({ kind: 4, text }))]
+    const block = client => {
+      const { kind, ...held } = pick(contents)
+      const [one, two] = [idFor(client), idFor(client)]
+      switch (random(9)) {
+        case 0: return gc(random(3))
+        case 1: return skip(random(4))
+        case 2: case 3: return { info: kind | 128, left: one, ...held }
+        case 4: return { info: kind | 64, right: one, ...held }
+        case 5: return { info: kind | 192, left: one, right: two, ...held }
+        case 6: return { info: kind, parent: one, ...held }
+        default: return { info: kind, name: 't', ...held }
+      }
+    }
+    const clients = shuffled(pool).slice(0, pick([1, 2, 3, 3, 3, 5]))
+    return clients.map(client => section(client, pick([0, 0, 0, 0, 1, 3]), ...many(pick([0, 1, 2, 3, 3, 4]), () => block(client))))
+  }
+  return { some, someClient, damaged, shuffled, tangled }
 }
 
 module.exports = { gc, skip, gone, section, replaced, letters, begin }

@@ -16,13 +16,12 @@ const folder = process.argv[2]
 const loose = begin(0x3c6ef372)
 const { random, pick } = loose
 const documents = require('./documents.cjs').begin(loose)
-const { some, someClient, damaged } = shape.begin(loose)
+const { some, someClient, damaged, shuffled, tangled } = shape.begin(loose)
 const forms = [1, 2]
 const least = (what, n, wanted) => {
   if (n < wanted) throw new Error(`just ${n} ${what}`)
 }
 const vectorOf = (entries, spelt = null) => [...s.u(entries.length, spelt), ...entries.flatMap(([client, clock]) => [...s.u(client, spelt), ...s.u(clock, spelt)])]
-const shuffled = all => all.map(x => [random(2 ** 30), x]).sort(([a], [b]) => a - b).map(([, x]) => x)
 
 // ---- rows: just enough, or plenty; now and then one too few of one of them
 
@@ -253,26 +252,6 @@ const kinds = [...new Set(byYjs.map(x => x.kind))].map(kind => `${kind} ${byYjs.
 // ---- ids among few clients at low clocks, in all shapes, against vectors of these and other clients
 
 const pools = [[5, 7, 9], [0, 127, 128, 70000], [2n ** 53n - 1n, 2n ** 32n, 9, 5, 0]]
-const tangled = pool => {
-  // Its own client seldom: an id of it that is not there is never waited for, and Yjs throws.
-  const idFor = client => [random(9) === 0 ? client : pick(pool.filter(other => other !== client)), random(pick([1, 2, 3, 4, 8]))]
-  const contents = [...[0, 1, 2, 4].map(length => ({ kind: 1, length })), { kind: 3, binary: [7] }, ...['a', 'é😀'].map(text => ({ kind: 4, text }))]
-  const block = client => {
-    const { kind, ...held } = pick(contents)
-    const [one, two] = [idFor(client), idFor(client)]
-    switch (random(9)) {
-      case 0: return gc(random(3))
-      case 1: return skip(random(4))
-      case 2: case 3: return { info: kind | 128, left: one, ...held }
-      case 4: return { info: kind | 64, right: one, ...held }
-      case 5: return { info: kind | 192, left: one, right: two, ...held }
-      case 6: return { info: kind, parent: one, ...held }
-      default: return { info: kind, name: 't', ...held }
-    }
-  }
-  const clients = shuffled(pool).slice(0, pick([1, 2, 3, 3, 3, 5]))
-  return clients.map(client => section(client, pick([0, 0, 0, 0, 1, 3]), ...many(pick([0, 1, 2, 3, 3, 4]), () => block(client))))
-}
 const someVector = pool => vectorOf(shuffled([...pool, 6, 77].filter(() => random(3) === 0)).map(client => [client, random(5)]), random(3) === 0 ? loose : null)
 const shapes = many(400, k => {
   const form = forms[k % 2]

@@ -9,16 +9,16 @@ const UPDATE = 16777215
 const CLIENTS = 64n // sections, delete-set clients, state-vector entries
 const ANNOUNCED = 65535n
 
-// Reading is one sequence of draws, and the first refused one decides: it is thrown. `column` says that a column could not answer, or was not whole.
+// Reading is one sequence of draws, and the first refused one decides: it is thrown. `column` says that a column could not answer, or was not whole;
+// `what` names what was drawn, and `value` what it was, for whoever compares.
 class Refusal extends Error {
-  constructor (number, column) {
+  constructor (number, column, what, value) {
     super(`refused ${number}`)
-    this.number = number
-    this.column = column
+    Object.assign(this, { number, column, what, value })
   }
 }
-const refuse = (number, column = false) => {
-  throw new Refusal(number, column)
+const refuse = (number, column = false, what = null, value = null) => {
+  throw new Refusal(number, column, what, value)
 }
 // What a reading gives, with number 0, or just the number it was refused with.
 const answer = read => {
@@ -26,24 +26,24 @@ const answer = read => {
     return { number: 0, ...read() }
   } catch (e) {
     if (!(e instanceof Refusal)) throw e
-    return { number: e.number, column: e.column }
+    return { number: e.number, column: e.column, what: e.what, value: e.value }
   }
 }
-const within = (value, most) => value > most ? refuse(3) : value
+const within = (value, most, what) => value > most ? refuse(3, false, what, value) : value
 
 // ---- bytes with a place in them
 
 const cursor = (s, at) => {
-  const unsigned = () => {
+  const unsigned = what => {
     const r = model.readUnsigned(s, BigInt(at))
-    if (r.number !== 0) refuse(r.number)
+    if (r.number !== 0) refuse(r.number, false, what)
     at = Number(r.next)
     return r.value
   }
   return {
     byte: () => at < s.length ? s[at++] : refuse(1),
     unsigned,
-    limited: most => within(unsigned(), most),
+    limited: (most, what) => within(unsigned(), most, what),
     // That many bytes of any number, as { place, bytes }.
     part: size => {
       if (BigInt(at) + size > BigInt(s.length)) refuse(1)
@@ -58,10 +58,10 @@ const cursor = (s, at) => {
 
 const form1 = update => {
   const rest = cursor(update, 0)
-  const client = () => rest.limited(CLIENT)
+  const client = () => rest.limited(CLIENT, 'client')
   const id = () => {
     const of = client()
-    return { client: of, clock: rest.limited(CLOCK) }
+    return { client: of, clock: rest.limited(CLOCK, 'clock') }
   }
   return {
     rest,
@@ -75,12 +75,12 @@ const form1 = update => {
       if (characters === null) refuse(6)
       return { part, units: characters.reduce((sum, [, , units]) => sum + units, 0n) }
     },
-    parentInfo: () => rest.limited(CLOCK),
-    length: () => rest.limited(CLOCK),
+    parentInfo: () => rest.limited(CLOCK, 'parent info'),
+    length: () => rest.limited(CLOCK, 'length'),
     newDeleteClient: () => {},
     range: () => {
-      const clock = rest.limited(CLOCK)
-      return { clock, length: rest.limited(CLOCK) }
+      const clock = rest.limited(CLOCK, 'delete clock')
+      return { clock, length: rest.limited(CLOCK, 'delete length') }
     }
   }
 }
@@ -93,20 +93,20 @@ const form2 = update => {
   const parts = {}
   const columns = {}
   for (const name of COLUMNS) {
-    const part = rest.part(rest.unsigned())
+    const part = rest.part(rest.unsigned('column length'))
     parts[name] = part
     columns[name] = update.slice(part.place, part.place + part.bytes)
   }
   const drawn = draw => () => {
     const r = draw()
-    return r.number !== 0 ? refuse(r.number, true) : r
+    return r.number !== 0 ? refuse(r.number, true, r.what, r.value) : r
   }
   const value = draw => {
     const next = drawn(draw)
     return () => next().value
   }
   const texts = model.texts(columns.text)
-  if (texts.number !== 0) refuse(texts.number, true)
+  if (texts.number !== 0) refuse(texts.number, true, 'text opened')
   const text = drawn(texts.draw)
   const client = value(model.numbers(columns.client))
   const left = value(model.differences(columns.left))
@@ -132,13 +132,13 @@ const form2 = update => {
       return { part: { place: parts.text.place + t.place, bytes: t.value.length }, units: t.units }
     },
     parentInfo: parent,
-    length: () => within(length(), CLOCK),
+    length: () => within(length(), CLOCK, 'length'),
     newDeleteClient: () => {
       end = 0n
     },
     range: () => {
-      const clock = within(end + rest.unsigned(), CLOCK)
-      const length = within(rest.unsigned() + 1n, CLOCK)
+      const clock = within(end + rest.unsigned(), CLOCK, 'delete clock')
+      const length = within(rest.unsigned() + 1n, CLOCK, 'delete length')
       end = clock + length
       return { clock, length }
     }
@@ -151,7 +151,7 @@ const absent = { left: null, right: null, name: null, parent: null, key: null, p
 
 // The rest of a block after its info byte: what the record keeps, without client and clock.
 const body = (f, info) => {
-  if (info === 10) return { ...absent, kind: 'skip', length: f.rest.limited(CLOCK) }
+  if (info === 10) return { ...absent, kind: 'skip', length: f.rest.limited(CLOCK, 'Skip length') }
   if (info === 0) return { ...absent, kind: 'gc', length: f.length() }
   const item = { ...absent }
   if (info & 128) item.left = f.leftId()
@@ -168,7 +168,7 @@ const body = (f, info) => {
       const { part, units } = f.text()
       return { ...item, kind: 'text', part, length: units }
     }
-    default: return refuse(5)
+    default: return refuse(5, false, 'content', info)
   }
 }
 
@@ -187,7 +187,8 @@ const joined = ranges => {
 // ---- the update
 
 const NO_LIMIT = Infinity
-// The information beside the answer is for whoever compares: `masked` says that an info byte had content number 0 and other bits.
+// The information beside the answer is for whoever compares: `masked` says that an info byte had content number 0 and other bits; `deleteClients` has the
+// delete-set clients as they were named.
 const readUpdate = (form, update, blockRows = NO_LIMIT, rangeRows = NO_LIMIT) => {
   let masked = false
   const r = answer(() => {
@@ -198,18 +199,18 @@ const readUpdate = (form, update, blockRows = NO_LIMIT, rangeRows = NO_LIMIT) =>
     const blocks = []
     const clients = new Set()
     let announced = 0n
-    for (let sections = rest.limited(CLIENTS); sections > 0n; sections--) {
-      const count = rest.limited(ANNOUNCED - announced)
+    for (let sections = rest.limited(CLIENTS, 'sections'); sections > 0n; sections--) {
+      const count = rest.limited(ANNOUNCED - announced, 'blocks')
       announced += count
       const client = f.client()
-      if (clients.has(client)) refuse(4)
+      if (clients.has(client)) refuse(4, false, 'section client')
       clients.add(client)
-      let clock = rest.limited(CLOCK)
+      let clock = rest.limited(CLOCK, 'clock')
       for (let k = 0n; k < count; k++) {
         const info = f.info()
         if (info !== 0 && (info & 31) === 0) masked = true
         const block = { client, clock, ...body(f, info) }
-        clock = within(clock + block.length, CLOCK)
+        clock = within(clock + block.length, CLOCK, 'end')
         const dropped = block.length === 0n && block.kind !== 'gc' && block.kind !== 'skip'
         if (dropped) continue
         if (blocks.length >= blockRows) refuse(8)
@@ -217,18 +218,20 @@ const readUpdate = (form, update, blockRows = NO_LIMIT, rangeRows = NO_LIMIT) =>
       }
     }
     const ranges = []
-    for (let named = rest.limited(CLIENTS); named > 0n; named--) {
-      const client = rest.limited(CLIENT)
+    const deleteClients = []
+    for (let named = rest.limited(CLIENTS, 'delete clients'); named > 0n; named--) {
+      const client = rest.limited(CLIENT, 'delete client')
+      deleteClients.push(client)
       f.newDeleteClient()
       for (let count = rest.unsigned(); count > 0n; count--) {
         const range = { client, ...f.range() }
-        within(range.clock + range.length, CLOCK)
+        within(range.clock + range.length, CLOCK, 'delete end')
         if (range.length === 0n) continue
         if (ranges.length >= rangeRows) refuse(8)
         ranges.push(range)
       }
     }
-    return { blocks, ranges: joined(ranges), rangesRead: ranges.length }
+    return { blocks, ranges: joined(ranges), rangesRead: ranges.length, deleteClients }
   })
   return { ...r, masked }
 }

@@ -1,0 +1,8 @@
+// Stand-in for the crate serde_json: the one name that encoding/read.rs has of it. No JSON is read: contents 2 and 5 to 9 are left out.
+#[derive(Debug)]
+pub struct Error;
+impl std::fmt::Display for Error {
+    fn fmt(&self, _: &mut std::fmt::Formatter<'_>) -> std::fmt::Result {
+        Ok(())
+    }
+}
