@@ -2,6 +2,8 @@
 // write, and damaged copies of both. Each is { made, how, form, update, vector, to }; `made` is 'by Yjs', 'put together' or 'damaged'. Where a Yjs document
 // has the vector's state by edits, `doc` makes it. Beside them columns of form 2, and state vectors.
 'use strict'
+const fs = require('fs')
+const path = require('path')
 const { Y } = require('../tools/cases/yjs.cjs')
 const { begin, many } = require('../tools/cases/random.cjs')
 const { readUpdate } = require('../tools/cases/update-model.cjs')
@@ -17,6 +19,18 @@ const p = k => 2n ** BigInt(k)
 const numbers = [0n, 63n, 64n, 65n, 127n, 128n, 65535n, 65536n, p(31) - 2n, p(31) - 1n, p(31), p(32) - 2n, p(32) - 1n, p(32), p(32) + 1n, p(53) - 1n, p(53), p(63) - 1n]
 const runs = ['', '80', '45', '45 80', '45 fd ff ff ff 07', '42 fe ff ff ff 07', '42 ff ff ff ff 0f', '80 80 80 80 80 80 80 20', 'bf ff ff ff ff ff ff 1f', '80 80 80 80 10',
   'bf ff ff ff 0f', 'bf ff ff ff 0f 00', 'c0 80 80 80 10', 'c1 80 80 80 10', '44', '03', '03 00', '40', '40 00', '09 ff ff ff ff 07', '0a 00 00'].map(t => [...Buffer.from(t.replace(/ /g, ''), 'hex')])
+
+// The inputs of docs/DIFFERENCES.md: form, update and, if there is one, vector, of the rows that name a form.
+const listed = () => fs.readFileSync(path.join(__dirname, '../docs/DIFFERENCES.md'), 'utf8').split('\n').flatMap(line => {
+  const said = line.split(' | ')[1]?.match(/^f([12])(?:→f[12])? ((?:`[0-9a-f]+`(?:, |$| ))+)(?:against `([0-9a-f]+)`)?/)
+  if (!said) return []
+  const bytes = text => [...Buffer.from(text, 'hex')]
+  const all = said[2].match(/[0-9a-f]+/g)
+  // In the sorter's rows the second one is the vector.
+  const sorter = /^(00|01[0-9a-f]{4})$/.test(all[1] ?? '')
+  const vector = said[3] ?? (sorter ? all[1] : undefined)
+  return (sorter ? [all[0]] : all).map(update => ({ form: Number(said[1]), update: bytes(update), ...(vector ? { vector: bytes(vector) } : {}) }))
+})
 
 const make = batch => {
   const loose = begin((batch + 1) * 0x9e3779b1 | 1)
@@ -93,6 +107,34 @@ const make = batch => {
     const vector = vectorOf(shuffled([...pool, 6, 77].filter(() => random(3) === 0)).map(client => [client, random(5)]))
     put('tangled', forms[k % 2], s.update(forms[k % 2], { sections: tangled(pool), deletes: random(6) === 0 ? [[5, [[random(3), 2]]]] : [] }, k % 8 < 6 ? null : loose), { ...together, vector })
   })
+
+  // Contents that are not read yet, as editors write them.
+  many(6, k => {
+    const doc = documents.document(pick(groups[(batch + k) % groups.length]), true)
+    const text = doc.getText('t')
+    text.insert(0, 'wairo 😀')
+    pick([() => text.format(1, 3, { bold: true }), () => text.insertEmbed(2, { image: 'k' }), () => doc.getMap('m').set('k', pick(['v', 7, null, [1, 'é'], true])),
+      () => doc.getMap('m').set('k', new Y.Doc({ guid: 'g' })), () => doc.getXmlFragment('x').insert(0, [new Y.XmlElement('p')])])()
+    put('other contents', 1 + k % 2, k % 2 === 0 ? Y.encodeStateAsUpdate(doc) : Y.encodeStateAsUpdateV2(doc))
+  })
+  // About the limits on counts and sizes.
+  const block = () => pick([{ info: 0, length: 1 }, { info: 1, name: 't', length: 2 }, { info: 4, name: 't', text: 'a' }])
+  many(8, k => {
+    const form = forms[k % 2]
+    const n = pick([63, 64, 65])
+    const clocks = pick([p(31) - 3n, p(31) - 2n, p(31) - 1n, p(31), p(32) - 2n, p(32) - 1n])
+    put('about a limit', form, s.update(form, pick([
+      () => ({ sections: many(n, j => ({ client: 3 * j, clock: j, blocks: many(random(2), block) })) }),
+      () => ({ sections: [{ client: 5, clock: 0, blocks: many(3, block) }], deletes: many(n, j => [7 * j, many(random(2), i => [3 * i, 2])]) }),
+      () => ({ sections: [{ client: 5, clock: clocks, blocks: many(3, block) }, { client: pick([5, 9]), clock: 0, blocks: [block()] }] }),
+      () => ({ sections: [{ client: pick([p(53) - 1n, p(53)]), clock: 0, blocks: many(2, block) }], deletes: [[5, [[clocks, pick([1, 2, p(31) - 1n])]]]] })
+    ])(), random(3) === 0 ? loose : null), together)
+  })
+  if (batch % 10 === 0) {
+    const count = pick([65535, 65536])
+    put('about a limit', 2, s.two({ client: [5], info: [0], length: [0x41, ...s.u(count - 2)], rest: [1, ...s.u(count), 0, 0] }), together)
+  }
+  if (batch === 0) listed().forEach(x => put('docs/DIFFERENCES.md', x.form, x.update, { ...together, ...x }))
 
   // ---- damaged copies, of one kind or of several in turn
 
