@@ -10,7 +10,6 @@ const either = (...tests) => x => tests.some(t => t(x))
 const form = n => x => x.form === n
 const did = (...got) => x => got.includes(x.got)
 const over = least => x => x.value >= least
-const P31 = 2n ** 31n
 const P32 = 2n ** 32n
 // Nine bytes in turn that say more: no number of ten bytes is without them.
 const ten = x => {
