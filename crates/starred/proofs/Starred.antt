@@ -40,6 +40,7 @@ use Rattle.sorting.specs.Steps as steps
 use Rattle.sorting.specs.Rules as rules
 use Rattle.sorting.specs.Quick as quick
 use Rattle.sorting.specs.Sorted as outcomes
+use Rattle.sort_answers.specs.Answers as sort-answers
 use Rattle.sorts.specs.Promises as sort-promises
 use Rattle.sort_answers.specs.Answers.{Sort}
 use Rattle.sorts.specs.Promises.{sortOf, afterReading}
@@ -182,7 +183,7 @@ against r = afterReading (record { order = 2; counts = 4; reaches = 4; pending =
 sorting : (against (blocksRead (after-id 5 9 8 ∷ in-parent 9 15 17 ∷ [])) ≡ sorted (1 ∷ 0 ∷ []) (9 ∷ 1 ∷ 5 ∷ 1 ∷ []) (9 ∷ 1 ∷ 5 ∷ 1 ∷ []) [] (after-id 5 9 8 ∷ in-parent 9 15 17 ∷ []))
     × (against (blocksRead (after-id 5 9 8 ∷ [])) ≡ sorted [] (5 ∷ 0 ∷ []) (5 ∷ 0 ∷ []) (5 ∷ 9 ∷ 0 ∷ []) (after-id 5 9 8 ∷ []))
     × (against (blocksRead (after-id 5 9 8 ∷ after-id 9 5 16 ∷ [])) ≡ sorted [] (9 ∷ 0 ∷ 5 ∷ 0 ∷ []) (9 ∷ 0 ∷ 5 ∷ 0 ∷ []) (9 ∷ 5 ∷ 0 ∷ 5 ∷ 9 ∷ 0 ∷ []) (after-id 5 9 8 ∷ after-id 9 5 16 ∷ []))
-unfolding sort-promises.whyNot sort-promises.whole sort-promises.whySort sort-promises.fitting sort-promises.against sort-promises.afterReading vector.holds vector.entries vector.vectorOf field.bounded field.varDraw field.varAt field.client1 field.clockAt spelling.after spelt placed readUnsigned course.drawn course.items course.ending remote outcomes.insert outcomes.insertAll outcomes.clients outcomes.order outcomes.outcome outcomes.numbersFrom outcomes.numbersBy outcomes.orderOf outcomes.countsIn outcomes.countsOf outcomes.reachesIn outcomes.reachesOf outcomes.pendingIn outcomes.pendingOf quick.order quick.left quick.best quick.quick steps.can steps.step steps.after rules.queue rules.deps rules.system rules.unmet rules.rule28 rules.report
+unfolding sort-answers.whyNot sort-promises.whole sort-promises.whySort sort-promises.fitting sort-promises.against sort-promises.afterReading vector.holds vector.entries vector.vectorOf field.bounded field.varDraw field.varAt field.client1 field.clockAt spelling.after spelt placed readUnsigned course.drawn course.items course.ending remote outcomes.insert outcomes.insertAll outcomes.clients outcomes.order outcomes.outcome outcomes.numbersFrom outcomes.numbersBy outcomes.orderOf outcomes.countsIn outcomes.countsOf outcomes.reachesIn outcomes.reachesOf outcomes.pendingIn outcomes.pendingOf quick.order quick.left quick.best quick.quick steps.can steps.step steps.after rules.queue rules.deps rules.system rules.unmet rules.rule28 rules.report
 sorting = (refl, refl, refl)
 
 sorts-M : (n m : ℕ) → (sorts updateM1 n m ≡ sorted (1 ∷ 0 ∷ []) (9 ∷ 1 ∷ 5 ∷ 1 ∷ []) (9 ∷ 1 ∷ 5 ∷ 1 ∷ []) [] (after-id 5 9 8 ∷ in-parent 9 15 17 ∷ []))
