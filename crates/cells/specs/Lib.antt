@@ -1,0 +1,2 @@
+-- What the words of lent columns hold.
+pub mod Cells
