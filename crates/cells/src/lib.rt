@@ -18,7 +18,6 @@ ghost use Prim.Native.Nat.{ℕ, _+_, _*_, _≤_};
 ghost use lib.ListN.{length};
 ghost use Rattle.numbers.specs.Number.{pick};
 ghost use Rattle.decoder.specs.declared.State.{State};
-ghost use Rattle.decoder.specs.Fields.{client2, leftClock, rightClock};
 ghost use Rattle.item.specs.Fields.{infoOf, parentInfoOf, lenOf, leftIdOf, rightIdOf, textOf};
 ghost use Rattle.cells.specs.Cells.{numbersIn, differencesIn, bytesIn, textsIn, stateIn, ShortNumbers, ShortDifferences, ShortBytes, Small, Elsewhere, numberNext, differenceNext, byteNext, textNext, numberDrawn, differenceDrawn, byteDrawn, textDrawn, numbersAfter, differencesAfter, bytesAfter, textsAfter, drawnOnto, idOnto, textOnto, whyDrawn, whyId, whyText};
 
@@ -320,27 +319,6 @@ fn draw_text(update: &[u8], w: &mut [u64], k: usize) -> Text
 
 // ---- a field from its column
 
-fn read_client(update: &[u8], w: &mut [u64]) -> Drawn
-    requires { ⌜ Small (now w) ⌝ }
-    ensures { λ r. ⌜ Small (now (w .exit)) × ((s : State) (at : ℕ) → drawnOnto (now (w .exit)) s at r ≡ client2 (now (update .entry)) (stateIn (now (w .entry)) s at)) ⌝ }
-{
-    draw_number(update, w, 1)
-}
-
-fn read_left_clock(update: &[u8], w: &mut [u64]) -> Drawn
-    requires { ⌜ Small (now w) ⌝ }
-    ensures { λ r. ⌜ Small (now (w .exit)) × ((s : State) (at : ℕ) → drawnOnto (now (w .exit)) s at r ≡ leftClock (now (update .entry)) (stateIn (now (w .entry)) s at)) ⌝ }
-{
-    draw_difference(update, w, 2)
-}
-
-fn read_right_clock(update: &[u8], w: &mut [u64]) -> Drawn
-    requires { ⌜ Small (now w) ⌝ }
-    ensures { λ r. ⌜ Small (now (w .exit)) × ((s : State) (at : ℕ) → drawnOnto (now (w .exit)) s at r ≡ rightClock (now (update .entry)) (stateIn (now (w .entry)) s at)) ⌝ }
-{
-    draw_difference(update, w, 3)
-}
-
 pub fn read_info(update: &[u8], w: &mut [u64]) -> Drawn
     requires { ⌜ Small (now w) ⌝ }
     ensures { λ r. ⌜ Small (now (w .exit)) × ((s : State) (at : ℕ) → s .form ≢ 1 → drawnOnto (now (w .exit)) s at r ≡ infoOf (now (update .entry)) (stateIn (now (w .entry)) s at)) ⌝ }
@@ -382,11 +360,11 @@ pub fn read_left_id(update: &[u8], w: &mut [u64]) -> Ident
     requires { ⌜ Small (now w) ⌝ }
     ensures { λ r. ⌜ Small (now (w .exit)) × ((s : State) (at : ℕ) → s .form ≢ 1 → idOnto (now (w .exit)) s at r ≡ leftIdOf (now (update .entry)) (stateIn (now (w .entry)) s at)) ⌝ }
 {
-    let c = read_client(update, w);
+    let c = draw_number(update, w, 1);
     let Drawn::Number(client, _) = c else {
         return Ident::Refused(why_drawn(c));
     };
-    let k = read_left_clock(update, w);
+    let k = draw_difference(update, w, 2);
     let Drawn::Number(clock, _) = k else {
         return Ident::Refused(why_drawn(k));
     };
@@ -402,11 +380,11 @@ pub fn read_right_id(update: &[u8], w: &mut [u64]) -> Ident
     requires { ⌜ Small (now w) ⌝ }
     ensures { λ r. ⌜ Small (now (w .exit)) × ((s : State) (at : ℕ) → s .form ≢ 1 → idOnto (now (w .exit)) s at r ≡ rightIdOf (now (update .entry)) (stateIn (now (w .entry)) s at)) ⌝ }
 {
-    let c = read_client(update, w);
+    let c = draw_number(update, w, 1);
     let Drawn::Number(client, _) = c else {
         return Ident::Refused(why_drawn(c));
     };
-    let k = read_right_clock(update, w);
+    let k = draw_difference(update, w, 3);
     let Drawn::Number(clock, _) = k else {
         return Ident::Refused(why_drawn(k));
     };

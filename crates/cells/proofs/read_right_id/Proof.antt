@@ -1,17 +1,17 @@
 -- `cells::read_right_id` meets its contract: client, then clock.
-use native.Mathlib.Omega.{arith}
 use mathlib.Core.Path.{refl, sym, ap, _∙_}
+use native.Mathlib.Omega.{arith}
 use Rattle.decoder.specs.declared.Ident.the-variants as idents
 use Rattle.decoder.specs.Fields.{startAt, idOf, idDraw, rightId}
 use Rattle.decoder.proofs.Laws.{right-fits}
 use Rattle.cells.specs.Cells.{drawnOnto, idOnto, whyDrawn}
-use Rattle.cells.proofs.Laws.{right-second}
+use Rattle.cells.proofs.Laws.{client-drawn, client-small, right-drawn, right-small, right-second}
 use borrow.Author.Needs.{needs}
 use Rattle.cells.proofs.read_right_id.Statement.{statement}
 use Rattle.cells.proofs.read_right_id.Tie as tie
 
-read-client-requires : tie.Need-read-client-requires
-read-client-requires c κs = search needs
+draw-number-requires : tie.Need-draw-number-requires
+draw-number-requires c κs = search needs
 
 enum-known-c : tie.Need-enum-known-c
 enum-known-c c = search needs
@@ -29,12 +29,18 @@ returns : tie.Need-returns
 unfolding rightId idDraw idOnto drawnOnto
 returns c =
     let a = c .before .before .before .before .before .before .before .before .before .args in
-    let n = c .before .before .before .before .before .read-client .ensures in
-    let told = c .before .enum-told .given .1 in
-    (n .0, λ s at h. rw (right-second (a .update .now) (a .w .now) s at h, ← n .1 s at, told) (ap idents.Refused (c .why-drawn .ensures ∙ ap whyDrawn told)))
+    let v = c .before .before .before .before .before .draw-number .last .1 .0 in
+    let n = c .before .before .before .before .before .draw-number .ensures in
+    let told = c .before .enum-told .given .1 in (
+      client-small (a .w .now) v (n .3) (c .before .before .before .before .before .before .before .before .before .pre) (n .2),
+      λ s at h. rw (right-second (a .update .now) (a .w .now) s at h, ← client-drawn (a .update .now) (a .w .now) v _ (n .0) (n .1) (n .3) s at, told)
+          (ap idents.Refused (c .why-drawn .ensures ∙ ap whyDrawn told)),
+    )
 
-read-right-clock-requires : tie.Need-read-right-clock-requires
-read-right-clock-requires c κs = search needs
+draw-difference-requires : tie.Need-draw-difference-requires
+draw-difference-requires c κs =
+    let n = c .before .before .before .before .before .before .draw-number .ensures in
+    client-small (c .before .before .before .before .before .before .before .before .before .before .args .w .now) (c .before .before .before .before .before .before .draw-number .last .1 .0) (n .3) (c .before .before .before .before .before .before .before .before .before .before .pre) (n .2) .right
 
 enum-known-k : tie.Need-enum-known-k
 enum-known-k c = search needs
@@ -52,17 +58,25 @@ returns-2 : tie.Need-returns-2
 unfolding rightId idDraw idOf idOnto drawnOnto
 returns-2 c =
     let a = c .before .before .before .before .before .before .before .before .before .before .before .before .before .before .before .before .args in
-    let n = c .before .before .before .before .before .before .before .before .before .before .before .before .read-client .ensures in
-    let k = c .before .before .before .before .before .read-right-clock .ensures in
-    let told = c .before .enum-told2 .given .1 in
-    (k .0, λ s at h. rw (right-second (a .update .now) (a .w .now) s at h, ← n .1 s at, c .before .before .before .before .before .before .before .before .c .given .1, ← k .1 s at, told) (ap idents.Refused (c .why-drawn2 .ensures ∙ ap whyDrawn told)))
+    let u = a .update .now in
+    let v = c .before .before .before .before .before .before .before .before .before .before .before .before .draw-number .last .1 .0 in
+    let n = c .before .before .before .before .before .before .before .before .before .before .before .before .draw-number .ensures in
+    let z = c .before .before .before .before .before .draw-difference .last .1 .0 in
+    let k = c .before .before .before .before .before .draw-difference .ensures in
+    let told = c .before .enum-told2 .given .1 in (
+      right-small v z (k .3) (client-small (a .w .now) v (n .3) (c .before .before .before .before .before .before .before .before .before .before .before .before .before .before .before .before .pre) (n .2)) (k .2),
+      λ s at h. rw (right-second u (a .w .now) s at h, ← client-drawn u (a .w .now) v _ (n .0) (n .1) (n .3) s at, c .before .before .before .before .before .before .before .before .c .given .1, ← right-drawn u v z _ (k .0) (k .1) (k .3) s at, told)
+          (ap idents.Refused (c .why-drawn2 .ensures ∙ ap whyDrawn told)),
+    )
 
 cast-short : tie.Need-cast-short
 unfolding drawnOnto
 cast-short c =
-    let a = c .before .before .before .before .before .before .before .before .before .before .before .before .before .before .before .before .args in
-    let k = c .before .before .before .before .before .read-right-clock in
-    let l = right-fits (a .update .now) _ _ _ _ (sym (k .ensures .1 (startAt 2 0) 0) ∙ ap (drawnOnto (k .last .1 .0) (startAt 2 0) 0) (c .before .k .given .1)) in
+    let u = c .before .before .before .before .before .before .before .before .before .before .before .before .before .before .before .before .args .update .now in
+    let v = c .before .before .before .before .before .before .before .before .before .before .before .before .draw-number .last .1 .0 in
+    let z = c .before .before .before .before .before .draw-difference .last .1 .0 in
+    let k = c .before .before .before .before .before .draw-difference .ensures in
+    let l = right-fits u _ _ _ _ (sym (right-drawn u v z _ (k .0) (k .1) (k .3) (startAt 2 0) 0) ∙ ap (drawnOnto z (startAt 2 0) 0) (c .before .k .given .1)) in
     omega (arith, l)
 
 same-length-3 : tie.Need-same-length-3
@@ -72,21 +86,27 @@ returns-3 : tie.Need-returns-3
 unfolding rightId idDraw idOf idOnto drawnOnto
 returns-3 c =
     let a = c .before .before .before .before .before .before .before .before .before .before .before .before .before .before .before .before .args in
-    let n = c .before .before .before .before .before .before .before .before .before .before .before .before .read-client .ensures in
-    let k = c .before .before .before .before .before .read-right-clock .ensures in
-    (k .0, λ s at h. rw (right-second (a .update .now) (a .w .now) s at h, ← n .1 s at, c .before .before .before .before .before .before .before .before .c .given .1, ← k .1 s at, c .before .k .given .1) refl)
+    let u = a .update .now in
+    let v = c .before .before .before .before .before .before .before .before .before .before .before .before .draw-number .last .1 .0 in
+    let n = c .before .before .before .before .before .before .before .before .before .before .before .before .draw-number .ensures in
+    let z = c .before .before .before .before .before .draw-difference .last .1 .0 in
+    let k = c .before .before .before .before .before .draw-difference .ensures in (
+      right-small v z (k .3) (client-small (a .w .now) v (n .3) (c .before .before .before .before .before .before .before .before .before .before .before .before .before .before .before .before .pre) (n .2)) (k .2),
+      λ s at h. rw (right-second u (a .w .now) s at h, ← client-drawn u (a .w .now) v _ (n .0) (n .1) (n .3) s at, c .before .before .before .before .before .before .before .before .c .given .1, ← right-drawn u v z _ (k .0) (k .1) (k .3) s at, c .before .k .given .1)
+          refl,
+    )
 
 pub read-right-id-spec : {M : Type 1} → statement M
 read-right-id-spec =
     tie.close
     (tie.spec
-    read-client-requires
+    draw-number-requires
     enum-known-c
     enum-told
     why-drawn-requires
     same-length
     returns
-    read-right-clock-requires
+    draw-difference-requires
     enum-known-k
     enum-told-2
     why-drawn-requires-2
