@@ -1,12 +1,12 @@
 -- What a draw from one column of the words is for a state: its column moves, and the others are as before.
-use Prim.Native.Nat.{ℕ, _+_, _*_, _≤_, _<_}
+use Prim.Native.Nat.{ℕ, _<_}
 use mathlib.Core.Path.{_≡_, refl, sym, ap, _∙_}
 use mathlib.Core.Logic.{_≢_}
 use mathlib.Core.List.{List}
-use mathlib.Core.Bool.{Bool, true, false}
+use mathlib.Core.Bool.{false}
 use native.Mathlib.Omega.{arith}
 use lib.Dec.{eqb}
-use lib.ListN.{length, take}
+use lib.ListN.{take}
 use borrow.Author.Tests.{ne-eqb, eqb-false}
 use Rattle.numbers.specs.declared.Refusal.{Refusal}
 use Rattle.text.specs.declared.Part.{Part}
@@ -22,9 +22,9 @@ use Rattle.columns.specs.declared.byte.Answer.the-variants as byte
 use Rattle.string.specs.declared.Place as string-place
 use Rattle.string.specs.declared.Answer as string-answer
 use Rattle.string.specs.declared.Answer.the-variants as string
-use Rattle.columns.specs.Number.{nextNumber, whyNumber}
-use Rattle.columns.specs.Difference.{nextDifference, whyDifference}
-use Rattle.columns.specs.Byte.{nextByte, whyByte}
+use Rattle.columns.specs.Number.{nextNumber}
+use Rattle.columns.specs.Difference.{nextDifference}
+use Rattle.columns.specs.Byte.{nextByte}
 use Rattle.string.specs.String as strings
 use Rattle.decoder.specs.declared.Numbers.{Numbers}
 use Rattle.decoder.specs.declared.Differences.{Differences}

@@ -1,7 +1,6 @@
 -- Words put in one column: the column holds them, and the other columns are as before.
-use Prim.Native.Nat.{ℕ, zero, suc, _+_, _*_, _≤_, _<_}
+use Prim.Native.Nat.{ℕ, suc, _+_, _*_, _≤_, _<_}
 use mathlib.Core.Path.{_≡_, refl, sym, ap, _∙_}
-use mathlib.Core.Logic.{_≢_}
 use mathlib.Core.List.{List, [], _∷_, _++_, append-assoc}
 use mathlib.Core.Bool.{Bool, true, false}
 use native.Mathlib.Omega.{arith}
@@ -13,7 +12,7 @@ use Rattle.decoder.specs.declared.Numbers.{Numbers}
 use Rattle.decoder.specs.declared.Differences.{Differences}
 use Rattle.decoder.specs.declared.Bytes.{Bytes}
 use Rattle.decoder.specs.declared.Texts.{Texts}
-use Rattle.cells.specs.Cells.{cell, numbersIn, differencesIn, bytesIn, textsIn, ShortNumbers, ShortDifferences, ShortBytes, Small, Elsewhere}
+use Rattle.cells.specs.Cells.{cell, numbersIn, differencesIn, bytesIn, textsIn, ShortNumbers, ShortDifferences, ShortBytes, Elsewhere}
 
 -- ---- elsewhere
 
