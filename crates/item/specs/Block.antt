@@ -3,8 +3,7 @@
 use Prim.Native.Nat.{ℕ, _%_}
 use mathlib.Core.List.{List}
 use lib.Dec.{ltb, eqb}
-use Rattle.numbers.specs.declared.Refusal.{Refusal}
-use Rattle.numbers.specs.Number.{pick, none}
+use Rattle.numbers.specs.Number.{pick}
 use Rattle.text.specs.declared.Part.{Part}
 use Rattle.text.specs.declared.Units.{Units}
 use Rattle.block.specs.declared.Id.{Id}
@@ -101,7 +100,3 @@ gcOf u client clock s = number (lenOf u s) (λ v p t. At (plain client clock v G
 unfoldable pub bodyOf : List ℕ → ℕ → ℕ → ℕ → ℕ → State → Item
 bodyOf u client clock info place s =
     pick (eqb info 10) (skipOf u client clock s) (pick (eqb info 0) (gcOf u client clock s) (itemOf u info place (plain client clock 0 0) s))
-
-abbrev pub whyItem : Item → Refusal
-whyItem (At b s) = none
-whyItem (Refused why) = why

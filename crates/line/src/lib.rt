@@ -287,7 +287,7 @@ fn read_deleted(update: &[u8], b: Block, at: usize) -> Item
 }
 
 // Bytes of any kind: one unit.
-fn read_binary(update: &[u8], b: Block, at: usize) -> Item
+pub fn read_binary(update: &[u8], b: Block, at: usize) -> Item
     ensures { λ r. ⌜ ((s : State) → onto s r ≡ binaryOf (now (update .entry)) b (movedTo s at)) ⌝ }
 {
     let r = read_buf(update, at);
@@ -335,7 +335,7 @@ fn read_item(update: &[u8], info: u64, place: usize, b: Block, at: usize) -> Ite
 // ---- a block
 
 // A Skip or a GC: its length is a clock in line.
-fn read_plain(update: &[u8], client: u64, clock: u32, kind: u8, at: usize) -> Item
+pub fn read_plain(update: &[u8], client: u64, clock: u32, kind: u8, at: usize) -> Item
     ensures { λ r. ⌜ ((s : State) → onto s r ≡ number (clockAt (now (update .entry)) (movedTo s at)) (λ v p t. items.At (plain client clock v kind) t)) ⌝ }
 {
     let d = read_var(update, numbers::MAX_CLOCK, at);

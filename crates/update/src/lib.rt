@@ -1,12 +1,14 @@
 // The blocks of an update, in either form, one at a time: each step reads a section's head or a block.
 use block::Block;
+use cells::Drawn;
 use decoder::Draw;
 use decoder::State;
 use decoder::v2::Opened;
-use item::Item;
 use item::fields;
+use line::Item;
 use numbers::Refusal;
 ghost use mathlib.Core.Path.{_≡_};
+ghost use mathlib.Core.Logic.{_≢_};
 ghost use Prim.Native.Nat.{_≤_};
 ghost use lib.ListN.{length};
 ghost use Rattle.update.specs.Update.{dropped, blockOf, whyBlock};
@@ -51,30 +53,41 @@ fn why(d: Decoded) -> Refusal
     }
 }
 
-// The block of this client that starts at this clock. Form 1 has a path of its own: of its state the place alone moves, and passing
-// all 390 bytes of it through every field was most of the work of reading.
+// A block of form 2: the places of its columns are packed into words, which are lent field by field, and unpacked behind the block.
+fn decode_columned(update: &[u8], s: State, client: u64, clock: u32) -> Decoded
+    requires { ⌜ s .form ≢ 1 ⌝ }
+    ensures { λ r. ⌜ r ≡ blockOf (now (update .entry)) client clock s ⌝ }
+{
+    let mut w = [0u64; 63];
+    cells::pack(&mut w, s);
+    let d = cells::read_info(update, &mut w);
+    let Drawn::Number(info, place) = d else {
+        return Decoded::Refused(cells::why_drawn(d));
+    };
+    let r = columned::read_body(update, &mut w, client, clock, info, place, s.at);
+    let Item::At(b, e) = r else {
+        return Decoded::Refused(line::why(r));
+    };
+    let t = cells::unpack(&w, s, e);
+    Decoded::Block(b, place, t)
+}
+
+// The block of this client that starts at this clock. Neither form passes the state, 390 bytes of it, through every field, which was most of
+// the work of reading: of form 1 the place alone moves.
 pub fn decode_block(update: &[u8], s: State, client: u64, clock: u32) -> Decoded
     ensures { λ r. ⌜ r ≡ blockOf (now (update .entry)) client clock s ⌝ }
 {
     if s.form == 1 {
         let at = s.at;
         let i = line::read_block(update, client, clock, at);
-        let line::Item::At(b, e) = i else {
+        let Item::At(b, e) = i else {
             return Decoded::Refused(line::why(i));
         };
         let mut t = s;
         t.at = e;
         return Decoded::Block(b, at, t);
     }
-    let d = fields::read_info(update, s);
-    let Draw::Number(info, place, t) = d else {
-        return Decoded::Refused(decoder::why(d));
-    };
-    let r = item::read_body(update, client, clock, info, place, t);
-    let Item::At(b, e) = r else {
-        return Decoded::Refused(item::why(r));
-    };
-    Decoded::Block(b, place, e)
+    decode_columned(update, s, client, clock)
 }
 
 // An item of length 0; a GC or a Skip of length 0 is kept.

@@ -1,4 +1,4 @@
--- `update::decode_block` meets its contract: form 1 by its place alone; else the info byte, then the body.
+-- `update::decode_block` meets its contract: form 1 by its place alone, else over words.
 use Prim.Native.Nat.{ℕ, _+_}
 use mathlib.Core.Path.{_≡_, refl, sym, ap, _∙_}
 use mathlib.Core.Bool.{Bool, true, false}
@@ -11,9 +11,9 @@ use Rattle.decoder.specs.declared.State.{State}
 use Rattle.decoder.specs.declared.Draw.{Draw}
 use Rattle.decoder.specs.declared.Draw.the-variants as draw
 use Rattle.decoder.specs.States.{movedTo}
-use Rattle.decoder.specs.Fields.{whyDraw, byteAt}
+use Rattle.decoder.specs.Fields.{byteAt}
 use Rattle.item.specs.Fields.{infoOf}
-use Rattle.item.specs.Block.{number, bodyOf, whyItem}
+use Rattle.item.specs.Block.{number, bodyOf}
 use Rattle.line.specs.declared.Item.{Item}
 use Rattle.line.specs.Line.{onto, blockAt, whyItem as whyLine}
 use Rattle.update.specs.declared.Decoded.the-variants.{Refused}
@@ -63,45 +63,11 @@ returns-2 c =
     let r = c .before .before .before .read-block in
     ap (λ x. atPlace (a .s .at) (onto (a .s) x)) (sym (c .before .i .given .1)) ∙ in-line (a .update .now) (a .client) (a .clock) (a .s) f (r .result) (r .ensures (a .s) f)
 
-read-info-requires : tie.Need-read-info-requires
-read-info-requires c κs = search needs
-
-enum-known-d : tie.Need-enum-known-d
-enum-known-d c = search needs
-
-enum-told-2 : tie.Need-enum-told-2
-enum-told-2 c = search needs
-
-why-requires-2 : tie.Need-why-requires-2
-why-requires-2 c κs = search needs
+decode-columned-requires : tie.Need-decode-columned-requires
+decode-columned-requires c κs = search needs
 
 returns-3 : tie.Need-returns-3
-unfolding blockOf afterInfo
-returns-3 c =
-    let told = c .before .enum-told2 .given .1 in
-    rw (← c .before .before .before .read-info .ensures, told) (ap Refused (c .why2 .ensures ∙ ap whyDraw told))
-
-read-body-requires : tie.Need-read-body-requires
-read-body-requires c κs = search needs
-
-enum-known-r : tie.Need-enum-known-r
-enum-known-r c = search needs
-
-enum-told-3 : tie.Need-enum-told-3
-enum-told-3 c = search needs
-
-why-requires-3 : tie.Need-why-requires-3
-why-requires-3 c κs = search needs
-
-returns-4 : tie.Need-returns-4
-unfolding blockOf afterInfo atPlace
-returns-4 c =
-    let told = c .before .enum-told3 .given .1 in
-    rw (← c .before .before .before .before .before .before .before .read-info .ensures, c .before .before .before .before .before .d .given .1, ← c .before .before .before .read-body .ensures, told) (ap Refused (c .why3 .ensures ∙ ap whyItem told))
-
-returns-5 : tie.Need-returns-5
-unfolding blockOf afterInfo atPlace
-returns-5 c = rw (← c .before .before .before .before .before .before .before .read-info .ensures, c .before .before .before .before .before .d .given .1, ← c .before .before .before .read-body .ensures, c .before .r .given .1)
+returns-3 c = c .decode-columned .ensures
 
 pub decode-block-spec : {M : Type 1} → statement M
 decode-block-spec =
@@ -113,14 +79,5 @@ decode-block-spec =
     why-requires
     returns
     returns-2
-    read-info-requires
-    enum-known-d
-    enum-told-2
-    why-requires-2
-    returns-3
-    read-body-requires
-    enum-known-r
-    enum-told-3
-    why-requires-3
-    returns-4
-    returns-5)
+    decode-columned-requires
+    returns-3)
