@@ -44,6 +44,11 @@ module _ (z : List ℕ) (ts : List Token) where
   chain-le k (suc n) =
       omega (arith, chain-length k n, lead-le z k, size-le k ts, chain-le (k + 1) n, suc-mul n (30 + 21 * sizeAll ts))
 
+  -- one lane more is no shorter
+  pub chain-part : (k n : ℕ) → length (chain z ts k n) ≤ length (chain z ts k (suc n))
+  chain-part k zero = omega (arith, ap length (chain-none k))
+  chain-part k (suc n) = omega (arith, chain-length k n, chain-length k (suc n), chain-part (k + 1) n)
+
 -- ---- lanes of one form, their sizes and their places
 
 abbrev pub OfForm : ℕ → ℕ → ℕ → Type 0

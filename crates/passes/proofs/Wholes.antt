@@ -1,5 +1,5 @@
--- All lanes of a form: measured they have the form's size, and written they are the form's bytes.
-use Prim.Native.Nat.{ℕ, _+_, _*_, _^_, _≤_, _<_}
+-- All lanes of a form: those before the last measured, they have no more than the form's size, and all written they are the form's bytes.
+use Prim.Native.Nat.{ℕ, suc, _+_, _*_, _^_, _≤_, _<_}
 use mathlib.Core.Path.{_≡_, refl, sym, ap, subst, _∙_}
 use mathlib.Core.Logic.{_⊎_, inl, inr}
 use mathlib.Core.List.{List, _++_, append-assoc, append-nil}
@@ -16,9 +16,9 @@ use Rattle.tokens.specs.Tokens.{Token, texts, units, whole, led, taken, takenAl
 use Rattle.tokens.specs.Bytes.{form1, form2, bytesOf, nearIn, near}
 use Rattle.tokens.proofs.Fitting.{sizeAll, legalAll}
 use Rattle.records.specs.Stops.{formOf}
-use Rattle.passes.specs.Forms.{Job, firstLane, lanesOf, textSize, isBare, leadTokens, sizesFrom, farFrom, totalFrom, endFrom, outFrom}
+use Rattle.passes.specs.Forms.{Job, firstLane, lanesOf, ledOf, textSize, isBare, leadTokens, sizesFrom, farFrom, totalFrom, endFrom, outFrom}
 use Rattle.passes.proofs.LeadBytes.{jobTokens, lead, far-line, far-difference, far-number, far-byte}
-use Rattle.passes.proofs.Chains.{chain, OfForm, Sized, Low, size-le, chain-le, ends-chain, totals-chain, writes-chain, sizes-length, sizes-chain}
+use Rattle.passes.proofs.Chains.{chain, chain-le, chain-part, OfForm, Sized, Low, size-le, ends-chain, totals-chain, writes-chain, sizes-chain}
 
 -- ---- the chain of a form's lanes is the form
 
@@ -35,7 +35,7 @@ pub chain1 : (z : List ℕ) (ts : List Token) → chain z ts 9 1 ≡ form1 ts
 unfolding chain lead leadTokens isBare takenAll form1
 chain1 z ts = append-nil (lane whole ts)
 
-pub chain2 : (z : List ℕ) (ts : List Token) → Sized z ts 0 9 → 21 * sizeAll ts < brim → chain z ts 0 9 ≡ form2 ts
+pub chain2 : (z : List ℕ) (ts : List Token) → Sized z ts 0 8 → 21 * sizeAll ts < brim → chain z ts 0 9 ≡ form2 ts
 unfolding chain lead leadTokens isBare takenAll taken form2
 chain2 z ts s low =
     let zero-byte = unsigned-last 0 (omega arith) in
@@ -69,16 +69,24 @@ lanes2 i p q = rw (ne-eqb i whole (λ e. omega arith))
 pub lanes-of : (f : ℕ) → IsForm f → OfForm f (firstLane f) (lanesOf f)
 lanes-of f form = by-form (λ (f : ℕ). OfForm f (firstLane f) (lanesOf f)) lanes1 lanes2 f form
 
+-- one lane more than are led
+last-lane : (f : ℕ) → IsForm f → lanesOf f ≡ suc (ledOf f)
+unfolding lanesOf ledOf
+last-lane f form = by-form (λ (f : ℕ). lanesOf f ≡ suc (ledOf f)) refl refl f form
+
+leds-of : (f : ℕ) → IsForm f → OfForm f (firstLane f) (ledOf f)
+leds-of f form i p q = lanes-of f form i p (omega (arith, last-lane f form))
+
 module _ (z : List ℕ) (ts : List Token) where
   abbrev Made : ℕ → Type 0
-  Made f = Sized z ts (firstLane f) (lanesOf f) → 21 * sizeAll ts < brim → chain z ts (firstLane f) (lanesOf f) ≡ bytesOf f ts
+  Made f = Sized z ts (firstLane f) (ledOf f) → 21 * sizeAll ts < brim → chain z ts (firstLane f) (lanesOf f) ≡ bytesOf f ts
 
   made1 : Made 1
   unfolding firstLane lanesOf bytesOf
   made1 s low = chain1 z ts
 
   made2 : Made 2
-  unfolding firstLane lanesOf bytesOf
+  unfolding firstLane lanesOf ledOf bytesOf
   made2 s low = chain2 z ts s low
 
   chain-form : (f : ℕ) → IsForm f → Made f
@@ -113,14 +121,14 @@ lanes-within f form = by-form (λ (f : ℕ). firstLane f + lanesOf f ≤ 10) one
 module _ (j : Job) where
   abbrev Far : ℕ → Type 0
   Far f = legalAll (jobTokens f j) ≡ true → 21 * sizeAll (jobTokens f j) < brim
-      → farFrom j (firstLane f) (lanesOf f) false ≡ pick (near f (jobTokens f j)) false true
+      → farFrom j (firstLane f) (ledOf f) false ≡ pick (near f (jobTokens f j)) false true
 
   far1 : Far 1
-  unfolding firstLane lanesOf farFrom near formOf inLine
-  far1 legal low = far-line j 1 9 0 refl legal (omega arith) refl
+  unfolding firstLane ledOf farFrom near
+  far1 legal low = refl
 
   far2 : Far 2
-  unfolding firstLane lanesOf farFrom near formOf inLine columnIn
+  unfolding firstLane ledOf farFrom near formOf inLine columnIn
   far2 legal low =
       let l : 0 + 21 * sizeAll (jobTokens 2 j) < brim = omega arith in
       rw (
@@ -132,13 +140,12 @@ module _ (j : Job) where
         far-number j 2 5 0 refl legal l refl refl,
         far-byte j 2 6 0 refl legal l refl refl,
         far-number j 2 7 0 refl legal l refl refl,
-        far-line j 2 8 0 refl legal l refl,
       )
       (go (nearIn 1 (jobTokens 2 j)) (nearIn 2 (jobTokens 2 j)))
     where
       go : (a b : Bool)
           → (let c = pick (pick a false true) true (pick b false true) in
-          pick (pick (pick (pick (pick (pick c true false) true false) true false) true false) true false) true false ≡ pick (pick a b false) false true)
+          pick (pick (pick (pick (pick c true false) true false) true false) true false) true false ≡ pick (pick a b false) false true)
       go true true = refl
       go true false = refl
       go false true = refl
@@ -147,19 +154,15 @@ module _ (j : Job) where
 -- ---- a job in a form
 
 module _ (j : Job) (f : ℕ) (form : IsForm f) (legal : legalAll (jobTokens f j) ≡ true) (few : sizeAll (jobTokens f j) < 2 ^ 54) where
-  pub far-is : farFrom j (firstLane f) (lanesOf f) false ≡ pick (near f (jobTokens f j)) false true
+  pub far-is : farFrom j (firstLane f) (ledOf f) false ≡ pick (near f (jobTokens f j)) false true
   far-is = by-form (λ (f : ℕ). Far j f) (far1 j) (far2 j) f form legal (omega arith)
 
   module _ (z₀ : List ℕ) (ten : 10 ≤ length z₀) where
     abbrev z : List ℕ
-    z = sizesFrom j (firstLane f) (lanesOf f) z₀
+    z = sizesFrom j (firstLane f) (ledOf f) z₀
 
-    pub length-is : length (sizesFrom j (firstLane f) (lanesOf f) z₀) ≡ length z₀
-    length-is = sizes-length j f legal (firstLane f) (lanesOf f) z₀
-
-    pub sizes-are : (k : ℕ) → firstLane f ≤ k → k < firstLane f + lanesOf f
-        → getD (sizesFrom j (firstLane f) (lanesOf f) z₀) k 0 ≡ length (lane k (jobTokens f j))
-    sizes-are = sizes-chain j f legal (firstLane f) (lanesOf f) z₀ (omega arith) (lanes-of f form) (omega (arith, lanes-within f form))
+    sizes-are : Sized z (jobTokens f j) (firstLane f) (ledOf f)
+    sizes-are = sizes-chain j f legal (firstLane f) (ledOf f) z₀ (omega arith) (leds-of f form) (omega (arith, last-lane f form, lanes-within f form))
 
     made : chain z (jobTokens f j) (firstLane f) (lanesOf f) ≡ bytesOf f (jobTokens f j)
     made = chain-form z (jobTokens f j) f form sizes-are (omega arith)
@@ -167,17 +170,20 @@ module _ (j : Job) (f : ℕ) (form : IsForm f) (legal : legalAll (jobTokens f j)
     low : Low j f legal z (firstLane f) (lanesOf f) 0
     low = omega (arith, few, chain-short z (jobTokens f j) f form)
 
-    pub bytes-low : length (bytesOf f (jobTokens f j)) + 21 * sizeAll (jobTokens f j) + 30 < brim
-    bytes-low = omega (arith, low, ap length made)
+    -- without the last lane
+    part : length (chain z (jobTokens f j) (firstLane f) (ledOf f)) ≤ length (chain z (jobTokens f j) (firstLane f) (lanesOf f))
+    part = rw (last-lane f form) (chain-part z (jobTokens f j) (firstLane f) (ledOf f))
 
-    pub total-is : totalFrom (sizesFrom j (firstLane f) (lanesOf f) z₀) (firstLane f) (lanesOf f) 0 ≡ length (bytesOf f (jobTokens f j))
-    total-is = totals-chain j f legal z (firstLane f) (lanesOf f) 0 (lanes-of f form) low sizes-are ∙ omega (arith, ap length made)
+    pub total-le : totalFrom (sizesFrom j (firstLane f) (ledOf f) z₀) (firstLane f) (ledOf f) 0 ≤ length (bytesOf f (jobTokens f j))
+    total-le =
+        let t = totals-chain j f legal z (firstLane f) (ledOf f) 0 (leds-of f form) (omega (arith, low, part)) sizes-are in
+        omega (arith, t, part, ap length made)
 
-    pub end-is : endFrom j (sizesFrom j (firstLane f) (lanesOf f) z₀) (firstLane f) (lanesOf f) 0 ≡ length (bytesOf f (jobTokens f j))
+    pub end-is : endFrom j (sizesFrom j (firstLane f) (ledOf f) z₀) (firstLane f) (lanesOf f) 0 ≡ length (bytesOf f (jobTokens f j))
     end-is = ends-chain j f legal z (firstLane f) (lanesOf f) 0 (lanes-of f form) low ∙ omega (arith, ap length made)
 
     pub out-is : (out : List ℕ) → length (bytesOf f (jobTokens f j)) ≤ length out
-        → outFrom j (sizesFrom j (firstLane f) (lanesOf f) z₀) (firstLane f) (lanesOf f) 0 out ≡ sets out 0 (bytesOf f (jobTokens f j))
+        → outFrom j (sizesFrom j (firstLane f) (ledOf f) z₀) (firstLane f) (lanesOf f) 0 out ≡ sets out 0 (bytesOf f (jobTokens f j))
     out-is out room =
         writes-chain j f legal z (firstLane f) (lanesOf f) 0 out (lanes-of f form) low (omega (arith, ap length made))
         ∙ ap (λ (b : List ℕ). sets out 0 b) made

@@ -39,6 +39,10 @@ firstLane form = pick (eqb form 1) whole clients
 unfoldable pub lanesOf : ℕ → ℕ
 lanesOf form = pick (eqb form 1) 1 9
 
+-- those before the last: no lane is led by the size of the last
+unfoldable pub ledOf : ℕ → ℕ
+ledOf form = pick (eqb form 1) 0 8
+
 -- ---- before a lane, the sizes of all being z
 
 -- the text column has its texts, led by their length, and their units

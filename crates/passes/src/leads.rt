@@ -5,9 +5,9 @@ ghost use mathlib.Core.Bool.{true};
 ghost use Prim.Native.Nat.{_+_, _-_, _≤_, _<_};
 ghost use lib.ListN.{length, set};
 ghost use Rattle.numbers.specs.Number.{pick};
-ghost use Rattle.passes.specs.Forms.{firstLane, lanesOf, textSize, isBare, leadAt, leadBytes, onTo, totalFrom};
+ghost use Rattle.passes.specs.Forms.{firstLane, lanesOf, ledOf, textSize, isBare, leadAt, leadBytes, onTo, totalFrom};
 
-// The lanes of a form: from the first up to, not including, the last.
+// The lanes of a form: from the first up to, not including, the end.
 pub fn first_lane(form: u8) -> u8
     ensures { λ r. ⌜ (r ≡ firstLane form) × (r ≤ 9) ⌝ }
 {
@@ -24,6 +24,16 @@ pub fn lanes_end(form: u8) -> u8
         return 10;
     }
     9
+}
+
+// The end of those before the last: a lane is led by its own size, or by that of the units, never by the size of the last.
+pub fn led_end(form: u8) -> u8
+    ensures { λ r. ⌜ (r ≡ firstLane form + ledOf form) × (r ≤ 10) ⌝ }
+{
+    if form == 1 {
+        return tokens::LINE;
+    }
+    tokens::REST
 }
 
 // The text column has its texts, led by their length, and their units.

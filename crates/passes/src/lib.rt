@@ -1,4 +1,4 @@
-// The passes over the lanes of a form: all measured, then all written.
+// The passes over the lanes of a form: measured, all but the last, then all written.
 pub mod leads;
 
 use block::Block;

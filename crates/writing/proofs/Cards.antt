@@ -20,7 +20,7 @@ use Rattle.block.specs.declared.Block.{Block}
 use Rattle.encoder.specs.Passes.{outcomeFor, wordsFor}
 use Rattle.kept.specs.Plan.{entriesOf}
 use Rattle.numbers.specs.Output.{done, padded, refusal}
-use Rattle.passes.specs.Forms.{endFrom, farFrom, firstLane, job, lanesOf, outFrom, sizesFrom, totalFrom}
+use Rattle.passes.specs.Forms.{endFrom, farFrom, firstLane, job, lanesOf, ledOf, outFrom, sizesFrom, totalFrom}
 use Rattle.ranges.specs.Table.{rowsFrom}
 use Rattle.writing.specs.Writing.{keptAnswer, keptOut, plannedAnswer, plannedOut}
 use Rattle.encoder.proofs.Sorts.{outcome}
@@ -30,6 +30,8 @@ use Rattle.passes.proofs.leads.first_lane as passes·leads·first-lane-fn
 use Rattle.passes.proofs.leads.first_lane.Symbol.{name as #passes·leads·first-lane}
 use Rattle.passes.proofs.leads.lanes_end as passes·leads·lanes-end-fn
 use Rattle.passes.proofs.leads.lanes_end.Symbol.{name as #passes·leads·lanes-end}
+use Rattle.passes.proofs.leads.led_end as passes·leads·led-end-fn
+use Rattle.passes.proofs.leads.led_end.Symbol.{name as #passes·leads·led-end}
 use Rattle.passes.proofs.measure as passes·measure-fn
 use Rattle.passes.proofs.measure.Symbol.{name as #passes·measure}
 use Rattle.numbers.proofs.refuse as numbers·refuse-fn
@@ -53,6 +55,9 @@ module _ {M : Type 1} (𝓤 : URA M) (H : Heap 𝓤) (A : Atoms 𝓤) (mem : Mem
 
   abbrev pub Passes·leads·lanes-end : Contract 𝓤
   Passes·leads·lanes-end = tripleOf 𝓤 H A passes·leads·lanes-end-fn.signature (passes·leads·lanes-end-fn.spec 𝓤 H A mem run)
+
+  abbrev pub Passes·leads·led-end : Contract 𝓤
+  Passes·leads·led-end = tripleOf 𝓤 H A passes·leads·led-end-fn.signature (passes·leads·led-end-fn.spec 𝓤 H A mem run)
 
   abbrev pub Passes·measure : Contract 𝓤
   Passes·measure = tripleOf 𝓤 H A passes·measure-fn.signature (passes·measure-fn.spec 𝓤 H A mem run)
@@ -103,6 +108,20 @@ module _ {M : Type 1} (𝓤 : URA M) (H : Heap 𝓤) (A : Atoms 𝓤) (mem : Mem
       asks = id⊢ 𝓤 _;
       into = λ ns. id⊢ 𝓤 _;
       ensured = λ x r ws. passes·leads·lanes-end-fn.clauses 𝓤 H A mem run (x .0) (x .3) .ensures tt r (atExit passes·leads·lanes-end-fn.ended (x .0) (x .3) ws);
+      out = λ ns v. id⊢ 𝓤 _;
+      said = λ ns r ws. since 𝓤 (λ e. (e .0, tt));
+    }
+
+    pub passes·leads·led-end! : Triple 𝓤 (C #passes·leads·led-end) Passes·leads·led-end → (form₀ : ℕ) (g-form : Has byte form₀) → Card 𝓤 H A C #passes·leads·led-end (val byte form₀ g-form ∷ []) byte (firstLane form₀ + ledOf form₀)
+    passes·leads·led-end! known form₀ g-form = record {
+      contract = Passes·leads·led-end;
+      known = known;
+      ghost = λ x. (x, tt);
+      args = λ ns. refl;
+      asked = emp 𝓤;
+      asks = id⊢ 𝓤 _;
+      into = λ ns. id⊢ 𝓤 _;
+      ensured = λ x r ws. passes·leads·led-end-fn.clauses 𝓤 H A mem run (x .0) (x .3) .ensures tt r (atExit passes·leads·led-end-fn.ended (x .0) (x .3) ws);
       out = λ ns v. id⊢ 𝓤 _;
       said = λ ns r ws. since 𝓤 (λ e. (e .0, tt));
     }

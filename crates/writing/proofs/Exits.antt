@@ -14,12 +14,16 @@ use Rattle.ranges.specs.Ranges.{Range}
 use Rattle.vector.specs.Vector.{Entry}
 use Rattle.tokens.proofs.Passes.{laid-length, end-length}
 use Rattle.encoder.specs.Passes.{outcomeFor, bytesFor}
-use Rattle.passes.specs.Forms.{Job, laneAt, leadAt, leadBytes, bytesAt, firstLane, lanesOf, sizesFrom, farFrom, totalFrom, endFrom, outFrom}
+use Rattle.passes.specs.Forms.{Job, laneAt, leadAt, leadBytes, bytesAt, firstLane, lanesOf, ledOf, sizesFrom, farFrom, totalFrom, endFrom, outFrom}
 use Rattle.writing.specs.Writing.{sizesOf, endOf, plannedWhy, plannedAnswer, plannedOut, noPlan, jobFor, keptAnswer, keptOut}
 
 -- as many lanes as there are from the first to the last
 pub lanes-between : (form : ℕ) → firstLane form + lanesOf form - firstLane form ≡ lanesOf form
 lanes-between form = omega arith
+
+-- and to the one before it
+led-between : (form : ℕ) → firstLane form + ledOf form - firstLane form ≡ ledOf form
+led-between form = omega arith
 
 -- they are at most ten
 pub lanes-least : (form : ℕ) → (firstLane form ≤ firstLane form + lanesOf form) × (firstLane form + lanesOf form ≤ 10)
@@ -27,6 +31,14 @@ unfolding firstLane lanesOf
 lanes-least form = go (eqb form 1)
   where
     go : (b : Bool) → (pick b 9 0 ≤ pick b 9 0 + pick b 1 9) × (pick b 9 0 + pick b 1 9 ≤ 10)
+    go true = (omega arith, omega arith)
+    go false = (omega arith, omega arith)
+
+pub led-least : (form : ℕ) → (firstLane form ≤ firstLane form + ledOf form) × (firstLane form + ledOf form ≤ 10)
+unfolding firstLane ledOf
+led-least form = go (eqb form 1)
+  where
+    go : (b : Bool) → (pick b 9 0 ≤ pick b 9 0 + pick b 0 8) × (pick b 9 0 + pick b 0 8 ≤ 10)
     go true = (omega arith, omega arith)
     go false = (omega arith, omega arith)
 
@@ -48,8 +60,11 @@ module _ (j : Job) (form : ℕ) (out : List ℕ) where
   abbrev between : ℕ
   between = firstLane form + lanesOf form - firstLane form
 
+  abbrev led : ℕ
+  led = firstLane form + ledOf form - firstLane form
+
   abbrev sizes : List ℕ
-  sizes = sizesFrom j (firstLane form) between (replicate 10 0)
+  sizes = sizesFrom j (firstLane form) led (replicate 10 0)
 
   abbrev end : ℕ
   end = endFrom j sizes (firstLane form) between 0
@@ -60,26 +75,27 @@ module _ (j : Job) (form : ℕ) (out : List ℕ) where
   abbrev Right : Written → List ℕ → Type 0
   Right r out₁ = (r ≡ plannedAnswer j form (length out)) × (out₁ ≡ plannedOut j form out)
 
-  pub exit-far : farFrom j (firstLane form) between false ≡ true → Right (refusal 13) (padded (length out) [])
+  pub exit-far : farFrom j (firstLane form) led false ≡ true → Right (refusal 13) (padded (length out) [])
   unfolding plannedAnswer plannedOut plannedWhy
-  exit-far y = let q = sym (ap (λ (n : ℕ). farFrom j (firstLane form) n false) (lanes-between form)) ∙ y in (rw q, rw q)
+  exit-far y = let q = sym (ap (λ (n : ℕ). farFrom j (firstLane form) n false) (led-between form)) ∙ y in (rw q, rw q)
 
-  module _ (y : farFrom j (firstLane form) between false ≡ false) where
-    near : farFrom j (firstLane form) (lanesOf form) false ≡ false
-    near = sym (ap (λ (n : ℕ). farFrom j (firstLane form) n false) (lanes-between form)) ∙ y
+  module _ (y : farFrom j (firstLane form) led false ≡ false) where
+    near : farFrom j (firstLane form) (ledOf form) false ≡ false
+    near = sym (ap (λ (n : ℕ). farFrom j (firstLane form) n false) (led-between form)) ∙ y
 
-    pub exit-total : ltb (length out) (totalFrom sizes (firstLane form) between 0) ≡ true → Right (refusal 10) (padded (length out) [])
+    same-total : ltb (length out) (totalFrom sizes (firstLane form) led 0) ≡ ltb (length out) (totalFrom (sizesOf j form) (firstLane form) (ledOf form) 0)
+    same-total = ap (λ (n : ℕ). ltb (length out) (totalFrom (sizesFrom j (firstLane form) n (replicate 10 0)) (firstLane form) n 0)) (led-between form)
+
+    pub exit-total : ltb (length out) (totalFrom sizes (firstLane form) led 0) ≡ true → Right (refusal 10) (padded (length out) [])
     unfolding plannedAnswer plannedOut plannedWhy
-    exit-total z =
-        let q = sym (ap (λ (n : ℕ). ltb (length out) (totalFrom (sizesFrom j (firstLane form) n (replicate 10 0)) (firstLane form) n 0)) (lanes-between form)) ∙ z in
-        (rw (near, q), rw (near, q))
+    exit-total z = let q = sym same-total ∙ z in (rw (near, q), rw (near, q))
 
-    module _ (z : ltb (length out) (totalFrom sizes (firstLane form) between 0) ≡ false) where
-      room : ltb (length out) (totalFrom (sizesOf j form) (firstLane form) (lanesOf form) 0) ≡ false
-      room = sym (ap (λ (n : ℕ). ltb (length out) (totalFrom (sizesFrom j (firstLane form) n (replicate 10 0)) (firstLane form) n 0)) (lanes-between form)) ∙ z
+    module _ (z : ltb (length out) (totalFrom sizes (firstLane form) led 0) ≡ false) where
+      room : ltb (length out) (totalFrom (sizesOf j form) (firstLane form) (ledOf form) 0) ≡ false
+      room = sym same-total ∙ z
 
       same-end : ltb (length out) end ≡ ltb (length out) (endOf j form)
-      same-end = ap (λ (n : ℕ). ltb (length out) (endFrom j (sizesFrom j (firstLane form) n (replicate 10 0)) (firstLane form) n 0)) (lanes-between form)
+      same-end = rw (lanes-between form, led-between form) refl
 
       pub exit-end : ltb (length out) end ≡ true → Right (refusal 10) (padded (length bytes) [])
       unfolding plannedAnswer plannedOut plannedWhy
@@ -91,7 +107,7 @@ module _ (j : Job) (form : ℕ) (out : List ℕ) where
       unfolding plannedAnswer plannedOut plannedWhy
       exit-done w =
           let q = sym same-end ∙ w in
-          rw (out-length j sizes between (firstLane form) 0 out, lanes-between form) (rw (near, room, q), rw (near, room, q))
+          rw (out-length j sizes between (firstLane form) 0 out, lanes-between form, led-between form) (rw (near, room, q), rw (near, room, q))
 
 module _ (u : List ℕ) (v : List Entry) (form : ℕ) (rows : List Block) (n : ℕ) (rs : List Range) (out : List ℕ) where
   abbrev Kept : Written → List ℕ → Type 0

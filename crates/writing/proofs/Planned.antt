@@ -15,9 +15,9 @@ use Rattle.numbers.proofs.Output.{take-sets, refused-answer, refused-bytes, don
 use Rattle.tokens.specs.Tokens.{Token}
 use Rattle.tokens.specs.Bytes.{bytesOf, near}
 use Rattle.tokens.proofs.Fitting.{sizeAll, legalAll}
-use Rattle.passes.specs.Forms.{Job, firstLane, lanesOf, outFrom}
+use Rattle.passes.specs.Forms.{Job, firstLane, lanesOf, ledOf, totalFrom, outFrom}
 use Rattle.passes.proofs.LeadBytes.{jobTokens}
-use Rattle.passes.proofs.Wholes.{IsForm, far-is, total-is, end-is, out-is}
+use Rattle.passes.proofs.Wholes.{IsForm, far-is, total-le, end-is, out-is}
 use Rattle.writing.specs.Writing.{sizesOf, endOf, plannedWhy, plannedAnswer, plannedOut}
 
 -- 13 where form 2 needs a difference that it cannot spell
@@ -34,13 +34,14 @@ verdict-fits why n b h = go (eqb why 0) refl (leb (length b) n) refl h
     go true e false f h = absurd (omega (arith, h))
     go false e y f h = absurd (eqb-false why 0 e h)
 
--- the steps' tests are the verdict's
-tests-verdict : (room size : ℕ) → _≡_ {A = ℕ} (pick (ltb room size) 10 (pick (ltb room size) 10 0)) (pick (leb size room) 0 10)
-tests-verdict room size = go (ltb room size) refl
+-- the steps' tests are the verdict's: what has no room for a part has none for all
+tests-verdict : (room part size : ℕ) → part ≤ size → _≡_ {A = ℕ} (pick (ltb room part) 10 (pick (ltb room size) 10 0)) (pick (leb size room) 0 10)
+tests-verdict room part size h = go (ltb room part) refl (ltb room size) refl
   where
-    go : (x : Bool) → ltb room size ≡ x → _≡_ {A = ℕ} (pick x 10 (pick x 10 0)) (pick (leb size room) 0 10)
-    go true e = rw (lt-leb size room (ltb-true room size e))
-    go false e = rw (le-leb size room (ltb-false room size e))
+    go : (x : Bool) → ltb room part ≡ x → (y : Bool) → ltb room size ≡ y → _≡_ {A = ℕ} (pick x 10 (pick y 10 0)) (pick (leb size room) 0 10)
+    go true e y f = rw (lt-leb size room (omega (arith, h, ltb-true room part e)))
+    go false e true f = rw (lt-leb size room (ltb-true room size f))
+    go false e false f = rw (le-leb size room (ltb-false room size f))
 
 stored : (out b : List ℕ) → length b ≤ length out → take (length b) (sets out 0 b) ≡ b
 stored out b h = ap (λ (n : ℕ). take n (sets out 0 b)) (sym (zero-add (length b))) ∙ take-sets out b 0 (omega (arith, h))
@@ -60,11 +61,14 @@ module _ (j : Job) (f : ℕ) (form : IsForm f) (legal : legalAll (jobTokens f j)
 
   why-is : (room : ℕ) → plannedWhy j f room ≡ verdict why room bytes
   unfolding plannedWhy verdict
-  why-is room = rw (far-is j f form legal few, total-is j f form legal few (replicate 10 0) ten, end-at) (go (near f (jobTokens f j)))
+  why-is room = rw (far-is j f form legal few, end-at) (go (near f (jobTokens f j)))
     where
-      go : (x : Bool) → _≡_ {A = ℕ} (pick (pick x false true) 13 (pick (ltb room (length bytes)) 10 (pick (ltb room (length bytes)) 10 0)))
+      part : ℕ
+      part = totalFrom (sizesOf j f) (firstLane f) (ledOf f) 0
+
+      go : (x : Bool) → _≡_ {A = ℕ} (pick (pick x false true) 13 (pick (ltb room part) 10 (pick (ltb room (length bytes)) 10 0)))
           (pick (eqb (pick x 0 13) 0) (pick (leb (length bytes) room) 0 10) (pick x 0 13))
-      go true = tests-verdict room (length bytes)
+      go true = tests-verdict room part (length bytes) (total-le j f form legal few (replicate 10 0) ten)
       go false = refl
 
   pub answer-planned : (room : ℕ) → plannedAnswer j f room ≡ written (farWhy f (jobTokens f j)) room (bytesOf f (jobTokens f j))

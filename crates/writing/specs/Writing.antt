@@ -13,21 +13,22 @@ use Rattle.decoder.specs.Course.{Course, items, ending}
 use Rattle.ranges.specs.Ranges.{Range}
 use Rattle.vector.specs.Vector.{Entry}
 use Rattle.encoder.specs.Passes.{outcomeFor, wordsFor}
-use Rattle.passes.specs.Forms.{Job, job, firstLane, lanesOf, sizesFrom, farFrom, totalFrom, endFrom, outFrom}
+use Rattle.passes.specs.Forms.{Job, job, firstLane, lanesOf, ledOf, sizesFrom, farFrom, totalFrom, endFrom, outFrom}
 
 -- ---- planned rows, in a form, into the bytes lent
 
+-- of the lanes before the last
 abbrev pub sizesOf : Job → ℕ → List ℕ
-sizesOf j form = sizesFrom j (firstLane form) (lanesOf form) (replicate 10 0)
+sizesOf j form = sizesFrom j (firstLane form) (ledOf form) (replicate 10 0)
 
 abbrev pub endOf : Job → ℕ → ℕ
 endOf j form = endFrom j (sizesOf j form) (firstLane form) (lanesOf form) 0
 
--- 13, then 10
+-- 13, then 10: already where the lanes before the last have no room
 unfoldable pub plannedWhy : Job → ℕ → ℕ → ℕ
 plannedWhy j form room =
-    pick (farFrom j (firstLane form) (lanesOf form) false) 13
-    (pick (ltb room (totalFrom (sizesOf j form) (firstLane form) (lanesOf form) 0)) 10 (pick (ltb room (endOf j form)) 10 0))
+    pick (farFrom j (firstLane form) (ledOf form) false) 13
+    (pick (ltb room (totalFrom (sizesOf j form) (firstLane form) (ledOf form) 0)) 10 (pick (ltb room (endOf j form)) 10 0))
 
 unfoldable pub plannedAnswer : Job → ℕ → ℕ → Written
 plannedAnswer j form room = pick (eqb (plannedWhy j form room) 0) (done (endOf j form)) (refusal (plannedWhy j form room))

@@ -30,11 +30,12 @@ fn encode_planned(
     let sizes = &mut table[..];
     let first = passes::leads::first_lane(form);
     let end = passes::leads::lanes_end(form);
-    let far = passes::measure(sizes, update, rows, plan, sections, ranges, n, first, end);
+    let led = passes::leads::led_end(form);
+    let far = passes::measure(sizes, update, rows, plan, sections, ranges, n, first, led);
     if far {
         return numbers::refuse(out, 13);
     }
-    let total = passes::leads::total(sizes, first, end);
+    let total = passes::leads::total(sizes, first, led);
     if out.len() < total {
         return numbers::refuse(out, 10);
     }
