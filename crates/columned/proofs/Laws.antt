@@ -1,13 +1,13 @@
--- What `line` reads in line at any state is read at a state whose columns are words: of the state the place alone moves.
+-- What `in_line` reads in line at any state is read at a state whose columns are words: of the state the place alone moves.
 use Prim.Native.Nat.{ℕ}
 use mathlib.Core.Path.{_≡_, refl, sym, _∙_}
 use mathlib.Core.List.{List}
 use Rattle.decoder.specs.declared.State.{State}
 use Rattle.decoder.specs.States.{movedTo}
 use Rattle.item.specs.declared.Item as item-item
-use Rattle.line.specs.declared.Item.{Item}
-use Rattle.line.specs.declared.Item.the-variants.{At, Refused}
-use Rattle.line.specs.Line as line
+use Rattle.in_line.specs.declared.Item.{Item}
+use Rattle.in_line.specs.declared.Item.the-variants.{At, Refused}
+use Rattle.in_line.specs.Line as line
 use Rattle.cells.specs.Cells.{stateIn}
 use Rattle.columned.specs.Columned.{onto}
 

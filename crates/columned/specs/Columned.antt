@@ -5,8 +5,8 @@ use mathlib.Core.List.{List}
 use Rattle.decoder.specs.declared.State.{State}
 use Rattle.item.specs.declared.Item as item-item
 use Rattle.item.specs.declared.Item.the-variants as items
-use Rattle.line.specs.declared.Item.{Item}
-use Rattle.line.specs.declared.Item.the-variants.{At, Refused}
+use Rattle.in_line.specs.declared.Item.{Item}
+use Rattle.in_line.specs.declared.Item.the-variants.{At, Refused}
 use Rattle.cells.specs.Cells.{stateIn}
 
 -- an answer put onto a state: its columns as the words have them, and its place behind the answer

@@ -4,7 +4,7 @@ use block::Block;
 use cells::Drawn;
 use cells::Ident;
 use cells::Text;
-use line::Item;
+use in_line::Item;
 use numbers::Refusal;
 use text::Units;
 ghost use mathlib.Core.Path.{_≡_};
@@ -155,7 +155,7 @@ fn read_content(update: &[u8], w: &mut [u64], info: u64, place: usize, b: Block,
     let content = info % 32;
     match content {
         1 => read_deleted(update, w, b, at),
-        3 => line::read_binary(update, b, at),
+        3 => in_line::read_binary(update, b, at),
         4 => read_text(update, w, b, at),
         _ => Item::Refused(Refusal { number: 5, place }),
     }
@@ -200,7 +200,7 @@ pub fn read_body(
     ensures { λ r. ⌜ Small (now (w .exit)) × ((s : State) → s .form ≢ 1 → onto (now (w .exit)) s r ≡ bodyOf (now (update .entry)) client clock info place (stateIn (now (w .entry)) s at)) ⌝ }
 {
     match info {
-        10 => line::read_plain(update, client, clock, block::SKIP, at),
+        10 => in_line::read_plain(update, client, clock, block::SKIP, at),
         0 => read_gc(update, w, client, clock, at),
         _ => {
             let b = item::plain_row(client, clock, Units(0), 0);

@@ -1,4 +1,4 @@
-// What stands in a block behind its info byte. What it means is in specs/Block; `line` and `columned` read it, each its form, and share these rows.
+// What stands in a block behind its info byte. What it means is in specs/Block; `in_line` and `columned` read it, each its form, and share these rows.
 pub mod fields;
 
 use block::Block;

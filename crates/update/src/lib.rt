@@ -5,7 +5,7 @@ use decoder::Draw;
 use decoder::State;
 use decoder::v2::Opened;
 use item::fields;
-use line::Item;
+use in_line::Item;
 use numbers::Refusal;
 ghost use mathlib.Core.Path.{_≡_};
 ghost use mathlib.Core.Logic.{_≢_};
@@ -66,7 +66,7 @@ fn decode_columned(update: &[u8], s: State, client: u64, clock: u32) -> Decoded
     };
     let r = columned::read_body(update, &mut w, client, clock, info, place, s.at);
     let Item::At(b, e) = r else {
-        return Decoded::Refused(line::why(r));
+        return Decoded::Refused(in_line::why(r));
     };
     let t = cells::unpack(&w, s, e);
     Decoded::Block(b, place, t)
@@ -79,9 +79,9 @@ pub fn decode_block(update: &[u8], s: State, client: u64, clock: u32) -> Decoded
 {
     if s.form == 1 {
         let at = s.at;
-        let i = line::read_block(update, client, clock, at);
+        let i = in_line::read_block(update, client, clock, at);
         let Item::At(b, e) = i else {
-            return Decoded::Refused(line::why(i));
+            return Decoded::Refused(in_line::why(i));
         };
         let mut t = s;
         t.at = e;

@@ -14,8 +14,8 @@ use Rattle.decoder.specs.States.{movedTo}
 use Rattle.decoder.specs.Fields.{byteAt}
 use Rattle.item.specs.Fields.{infoOf}
 use Rattle.item.specs.Block.{number, bodyOf}
-use Rattle.line.specs.declared.Item.{Item}
-use Rattle.line.specs.Line.{onto, blockAt, whyItem as whyLine}
+use Rattle.in_line.specs.declared.Item.{Item}
+use Rattle.in_line.specs.Line.{onto, blockAt, whyItem as whyLine}
 use Rattle.update.specs.declared.Decoded.the-variants.{Refused}
 use Rattle.update.specs.Update.{atPlace, afterInfo, blockOf}
 use borrow.Author.Needs.{needs}

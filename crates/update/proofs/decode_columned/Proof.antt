@@ -1,7 +1,7 @@
 -- `update::decode_columned` meets its contract: what is read over the words is what the state packed into them reads.
 use mathlib.Core.Path.{ap, _∙_}
 use Rattle.item.specs.Fields.{infoOf}
-use Rattle.line.specs.Line.{whyItem}
+use Rattle.in_line.specs.Line.{whyItem}
 use Rattle.cells.specs.Cells.{drawnOnto, whyDrawn}
 use Rattle.columned.specs.Columned.{onto}
 use Rattle.update.specs.declared.Decoded.the-variants.{Refused}
