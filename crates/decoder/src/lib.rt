@@ -13,7 +13,7 @@ use text::Part;
 use text::Units;
 ghost use mathlib.Core.Path.{_≡_};
 ghost use lib.ListN.{take};
-ghost use Rattle.decoder.specs.Fields.{startAt, textFrom, whyDraw, whyId, whyBuf, whyText, bounded, restoredBy, varAt, byteAt, clockAt, bufAt};
+ghost use Rattle.decoder.specs.Fields.{startAt, textFrom, whyDraw, whyBuf, bounded, varAt, byteAt, clockAt, bufAt};
 
 // A column and where it ends in the update.
 pub struct Numbers {
@@ -97,6 +97,7 @@ pub enum Draw {
     Refused(Refusal),
 }
 
+// An id. This and a text are what definitions give; code has them without the state (`line`, `cells`).
 pub enum Ident {
     Id(Id, State),
     Refused(Refusal),
@@ -127,18 +128,6 @@ pub fn why(d: Draw) -> Refusal
     }
 }
 
-pub fn why_id(i: Ident) -> Refusal
-    ensures { λ w. ⌜ w ≡ whyId i ⌝ }
-{
-    match i {
-        Ident::Id(_, _) => Refusal {
-            number: 0,
-            place: 0,
-        },
-        Ident::Refused(w) => w,
-    }
-}
-
 pub fn why_buf(b: Buf) -> Refusal
     ensures { λ w. ⌜ w ≡ whyBuf b ⌝ }
 {
@@ -148,18 +137,6 @@ pub fn why_buf(b: Buf) -> Refusal
             place: 0,
         },
         Buf::Refused(w) => w,
-    }
-}
-
-pub fn why_text(t: Text) -> Refusal
-    ensures { λ w. ⌜ w ≡ whyText t ⌝ }
-{
-    match t {
-        Text::Part(_, _, _) => Refusal {
-            number: 0,
-            place: 0,
-        },
-        Text::Refused(w) => w,
     }
 }
 
@@ -184,26 +161,6 @@ pub fn within(d: Draw, most: u64) -> Draw
                 return Draw::Refused(Refusal { number: 3, place });
             }
             Draw::Number(v, place, s)
-        }
-    }
-}
-
-// A number that is stored less `by`: restored, it must be a clock.
-pub fn restored(d: Draw, by: u64) -> Draw
-    ensures { λ r. ⌜ r ≡ restoredBy by d ⌝ }
-{
-    match d {
-        Draw::Refused(why) => Draw::Refused(why),
-        Draw::Number(v, place, s) => {
-            if numbers::MAX_CLOCK < by {
-                return Draw::Refused(Refusal { number: 3, place });
-            }
-            let left = numbers::MAX_CLOCK - by;
-            if left < v {
-                return Draw::Refused(Refusal { number: 3, place });
-            }
-            let whole = by + v;
-            Draw::Number(whole, place, s)
         }
     }
 }
