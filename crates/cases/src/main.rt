@@ -1,8 +1,4 @@
 // Runs calls of the public library from standard input, a case at a time, and prints a line a case: what the call answered.
-use column_cases::columns_of;
-use column_cases::columns_of::Column;
-use column_cases::lent::Writer;
-use column_cases::numbers_of;
 use part_cases::listings;
 use part_cases::parts;
 use part_cases::vectors;
@@ -22,54 +18,13 @@ fn case(
     used: usize,
 ) -> Done {
     match operation {
-        1 => numbers_of::read(false, source, place, bytes, sink, used),
-        2 => numbers_of::read(true, source, place, bytes, sink, used),
-        3 => numbers_of::write_unsigned(source, place, sink, used),
-        4 => numbers_of::write_signed(source, place, sink, used),
-        5 => columns_of::read(Column::Numbers, source, place, sink, used),
-        6 => columns_of::read(Column::Differences, source, place, sink, used),
-        _ => case_of_columns(operation, source, place, bytes, sink, used),
-    }
-}
-
-fn case_of_columns(
-    operation: u8,
-    source: &mut [u8],
-    place: Place,
-    bytes: &mut [u8],
-    sink: &mut [u8],
-    used: usize,
-) -> Done {
-    match operation {
-        7 => columns_of::read(Column::Bytes, source, place, sink, used),
-        8 => columns_of::read_texts(source, place, sink, used),
-        9 => columns_of::write(Writer::Numbers, source, place, sink, used),
-        10 => columns_of::write(Writer::Differences, source, place, sink, used),
-        11 => columns_of::write_bytes(source, place, bytes, sink, used),
-        12 => columns_of::write_texts(source, place, sink, used),
-        _ => case_of_updates(operation, source, place, bytes, sink, used),
-    }
-}
-
-fn case_of_updates(
-    operation: u8,
-    source: &mut [u8],
-    place: Place,
-    bytes: &mut [u8],
-    sink: &mut [u8],
-    used: usize,
-) -> Done {
-    match operation {
         13 => vectors::read(source, place, sink, used),
         14 => tables::read(source, place, bytes, sink, used),
         15 => parts::read(source, place, bytes, sink, used),
         16 => diff_cases::read(source, place, bytes, sink, used),
         17 => sort_cases::read(source, place, bytes, sink, used),
         18 => listings::read(source, place, bytes, sink, used),
-        _ => {
-            let place = input::spoiled(place);
-            Done { place, used }
-        }
+        _ => number_cases::case(operation, source, place, bytes, sink, used),
     }
 }
 

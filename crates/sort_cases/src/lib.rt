@@ -1,90 +1,14 @@
 // Operation 17 of the case program: a sort, its reports, and the tables that its update was read into.
 use block::Block;
-use part_cases::vectors;
 use sort_answers::Sorted;
 use stream::Done;
 use stream::input;
 use stream::input::Place;
 use stream::line;
-use update_cases::lines;
-use update_cases::lines::Listed;
 use update_cases::rows;
 use update_cases::rows::Told;
 use update_cases::tables;
 use updates::Update;
-
-// The numbers of the blocks taken; more than there is room for, which the library never says, are not printed.
-fn put_order(sink: &mut [u8], used: usize, steps: usize, order: &[u64]) -> Told {
-    if order.len() < steps {
-        return Told { used, zero: false };
-    }
-    let told = line::numbers(sink, used, &order[..steps]);
-    let zero = lines::are_zero(order, steps);
-    Told { used: told, zero }
-}
-
-// Clients, each with a number.
-fn put_entries(sink: &mut [u8], told: Told, count: usize, words: &[u64]) -> Told {
-    let parted = line::text(sink, told.used, b" ;");
-    let listed = vectors::entries(sink, parted, count, words);
-    let zero = told.zero && lines::are_zero(words, listed.at);
-    Told {
-        used: listed.used,
-        zero,
-    }
-}
-
-// A client that waits, with the space before it, the client that it waits for, and how far that reaches.
-fn wait(sink: &mut [u8], used: usize, client: u64, missing: u64, reach: u64) -> usize {
-    let begun = line::number(sink, used, client);
-    let parted = line::put(sink, begun, b'>');
-    lines::id(sink, parted, missing, reach)
-}
-
-fn waits(sink: &mut [u8], used: usize, count: usize, words: &[u64]) -> Listed {
-    let mut used = used;
-    let mut at = 0;
-    let mut left = count;
-    while 0 < left {
-        if words.len() - at < 3 {
-            return Listed { used, at };
-        }
-        used = wait(sink, used, words[at], words[at + 1], words[at + 2]);
-        at += 3;
-        left -= 1;
-    }
-    Listed { used, at }
-}
-
-fn put_pending(sink: &mut [u8], told: Told, count: usize, words: &[u64]) -> Told {
-    let parted = line::text(sink, told.used, b" ;");
-    let listed = waits(sink, parted, count, words);
-    let zero = told.zero && lines::are_zero(words, listed.at);
-    Told {
-        used: listed.used,
-        zero,
-    }
-}
-
-fn put_reports(
-    sink: &mut [u8],
-    told: Told,
-    answer: Sorted,
-    counts: &[u64],
-    reaches: &[u64],
-    pending: &[u64],
-) -> Told {
-    let counted = put_entries(sink, told, answer.counts, counts);
-    let reached = put_entries(sink, counted, answer.reaches, reaches);
-    put_pending(sink, reached, answer.pending, pending)
-}
-
-fn are_zero(order: &[u64], counts: &[u64], reaches: &[u64], pending: &[u64]) -> bool {
-    lines::are_zero(order, 0)
-        && lines::are_zero(counts, 0)
-        && lines::are_zero(reaches, 0)
-        && lines::are_zero(pending, 0)
-}
 
 // The line up to the rows, and whether all words lent for the order and the reports that hold nothing are zero; those of a refusal hold nothing,
 // whatever it says.
@@ -99,11 +23,11 @@ fn begin(
 ) -> Told {
     let begun = line::decimal(sink, used, answer.number as u64);
     if answer.number != 0 {
-        let zero = are_zero(order, counts, reaches, pending);
+        let zero = sort_lines::are_zero(order, counts, reaches, pending);
         return Told { used: begun, zero };
     }
-    let ordered = put_order(sink, begun, answer.steps, order);
-    let told = put_reports(sink, ordered, answer, counts, reaches, pending);
+    let ordered = sort_lines::put_order(sink, begun, answer.steps, order);
+    let told = sort_lines::put_reports(sink, ordered, answer, counts, reaches, pending);
     let parted = line::text(sink, told.used, b" ;");
     let used = rows::blocks(sink, parted, answer.blocks);
     Told {

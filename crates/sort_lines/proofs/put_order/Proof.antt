@@ -1,8 +1,8 @@
--- `sort_cases::put_order` is safe: no more are printed than there are.
+-- `sort_lines::put_order` is safe: no more are printed than there are.
 use lib.Seq.{length-take-le}
 use borrow.Author.Needs.{needs}
-use Rattle.sort_cases.proofs.put_order.Statement.{statement}
-use Rattle.sort_cases.proofs.put_order.Tie as tie
+use Rattle.sort_lines.proofs.put_order.Statement.{statement}
+use Rattle.sort_lines.proofs.put_order.Tie as tie
 
 returns : tie.Need-returns
 returns c = search needs

@@ -1,10 +1,10 @@
--- `sort_cases::waits` is safe and ends: `at` stays within the words, and the clients still to print fall.
+-- `sort_lines::waits` is safe and ends: `at` stays within the words, and the clients still to print fall.
 use mathlib.Core.Path.{_≡_}
 use Prim.Native.Nat.{_≤_}
 use lib.ListN.{length}
 use borrow.Author.Needs.{needs}
-use Rattle.sort_cases.proofs.waits.Statement.{statement}
-use Rattle.sort_cases.proofs.waits.Tie as tie
+use Rattle.sort_lines.proofs.waits.Statement.{statement}
+use Rattle.sort_lines.proofs.waits.Tie as tie
 
 abbrev Inv-loop : tie.InvT-loop
 Inv-loop sink₀ used count words used₀ at₀ left₀ sink used' at left = (length sink ≡ length sink₀) × (at ≤ length words)
