@@ -97,7 +97,7 @@ pub enum Draw {
     Refused(Refusal),
 }
 
-// An id. This and a text are what definitions give; code has them without the state (`line`, `cells`).
+// An id. This and a text are what definitions give; code has them without the state (`in_line`, `cells`).
 pub enum Ident {
     Id(Id, State),
     Refused(Refusal),

@@ -1,4 +1,4 @@
-// Form 1: everything in line. What a block has is read by `line`.
+// Form 1: everything in line. What a block has is read by `in_line`.
 use crate::Draw;
 use crate::State;
 ghost use mathlib.Core.Path.{_≡_};

@@ -13,7 +13,7 @@ use Rattle.text.specs.Utf8.{takeUnits}
 use Rattle.block.specs.declared.Id.{Id}
 use Rattle.block.specs.declared.Block.{Block}
 use Rattle.block.specs.Row.{noId, noPart}
-use Rattle.block.specs.Kinds.{GC, SKIP, TEXT}
+use Rattle.block.specs.Kinds.{SKIP, TEXT}
 use Rattle.readings.specs.Sound.{bytesIn}
 use Rattle.kept.specs.Kept.{Piece, Section}
 

@@ -8,7 +8,7 @@ use Rattle.numbers.specs.Number.{pick, none}
 use Rattle.numbers.specs.Words.{among}
 use Rattle.numbers.specs.Limits.{maxClock, maxClients, maxBlocks}
 use Rattle.block.specs.declared.Block.{Block}
-use Rattle.block.specs.Kinds.{GC, SKIP}
+use Rattle.block.specs.Kinds.{SKIP}
 use Rattle.decoder.specs.declared.State.{State}
 use Rattle.decoder.specs.declared.Draw.{Draw}
 use Rattle.decoder.specs.declared.Draw.the-variants as draw
