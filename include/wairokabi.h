@@ -76,20 +76,20 @@ typedef struct wairokabi_id {
 // binary or a text, zero for the others. A row that has no block is zero.
 typedef struct wairokabi_block {
     uint64_t client;
-    uint32_t clock;
     wairokabi_units length;
-    uint8_t kind;
-    bool has_left;
     wairokabi_id left;
-    bool has_right;
     wairokabi_id right;
-    bool has_parent;
     wairokabi_id parent;
-    bool has_name;
     wairokabi_part name;
-    bool has_key;
     wairokabi_part key;
     wairokabi_part part;
+    uint32_t clock;
+    uint8_t kind;
+    bool has_left;
+    bool has_right;
+    bool has_parent;
+    bool has_name;
+    bool has_key;
 } wairokabi_block;
 
 // What a block's `kind` says.

@@ -12,7 +12,7 @@ Run it in the repository. It reads crates/*/src/*.rt, the contracts there, and `
 
 A callee's contract is a fact of conjuncts `r ≡ ..` and `now (x .exit) ≡ ..`, one for each `&mut`, in any order, or a name that its crate's specs
 give such a fact. Where a conjunct is missing, as in a program, the card says nothing of what comes back, and the walk goes on with any result
-and any lists.
+and any lists; what the contract does say of them is written by hand, `Told` for `Loose` and `calls-knowing` for `calls-loosely` (crate reader).
 Sorts and cards are looked for in every crate's proofs/Sorts.antt and proofs/Cards.antt: print each once, in the lowest crate.
 The names: a type's Kind is its name in small letters (`Block`: block); a variant is Enum·Variant, and the facts on it enum·variant-has,
 enum·variant-0; a card is crate·fn!, or crate·fn-rows! where rows is lent from a `&mut`. A type whose name is not the only one in the
@@ -199,10 +199,11 @@ class Signature:
             if w.group(1) == 'requires':
                 self.asks = bare(t.strip('⌜⌝ '))
             else:
-                t = re.sub(r'^λ \w+\.\s*', '', t).strip().strip('⌜⌝').strip()
+                given, t = re.match(r'^λ (\w+)\.\s*(.*)$', t).groups()
+                t = t.strip().strip('⌜⌝').strip()
                 for c in split(unfolded(t, self.here), ' × '):
                     c = bare(c)
-                    m1, m2 = re.match(r'r ≡ (.*)$', c), re.match(r'\(?now \((\w+) \.exit\)\)? ≡ (.*)$', c)
+                    m1, m2 = re.match(r'%s ≡ (.*)$' % given, c), re.match(r'\(?now \((\w+) \.exit\)\)? ≡ (.*)$', c)
                     if m1:
                         self.gives = m1.group(1)
                         self.order.append('r')
@@ -263,7 +264,10 @@ def unfolded(t, here):
     if not spec:
         return t
     text = open('crates/%s/specs/%s.antt' % spec.groups()).read()
-    params, body = re.search(r'^%s ([^=\n]*)=\s*(.*?)(?:\n\n|\s*\Z)' % words[0], text, re.M | re.S).groups()
+    defined = re.search(r'^%s ([^=\n]*)=\s*(.*?)(?:\n\n|\s*\Z)' % words[0], text, re.M | re.S)
+    if not defined:  # a record
+        return t
+    params, body = defined.groups()
     at = dict(zip(params.split(), words[1:]))
     UNFOLDED.setdefault(here, []).append((*spec.groups(), set(re.findall(NAME, body))))
     return re.sub(r'(?<![^\s(){};,⌜⌝])' + NAME, lambda m: at.get(m.group(0), m.group(0)), re.sub(r'\s+', ' ', body))  # no field

@@ -35,20 +35,20 @@ pub struct Id {
 #[derive(Clone, Copy, Debug, Default, PartialEq, Eq, Hash)]
 pub struct Block {
     pub client: u64,
-    pub clock: u32,
     pub length: Units,
-    pub kind: u8,
-    pub has_left: bool,
     pub left: Id,
-    pub has_right: bool,
     pub right: Id,
-    pub has_parent: bool,
     pub parent: Id,
-    pub has_name: bool,
     pub name: Part,
-    pub has_key: bool,
     pub key: Part,
     pub part: Part,
+    pub clock: u32,
+    pub kind: u8,
+    pub has_left: bool,
+    pub has_right: bool,
+    pub has_parent: bool,
+    pub has_name: bool,
+    pub has_key: bool,
 }
 
 #[repr(C)]

@@ -1,6 +1,6 @@
 -- Numbers and columns: what is refused has a number from 1 to 8.
 use Prim.Native.Nat.{ℕ, _+_, _-_, _%_}
-use mathlib.Core.Bool.{Bool, true, false}
+use mathlib.Core.Bool.{Bool}
 use mathlib.Core.List.{List, [], _∷_}
 use native.Mathlib.Omega.{arith}
 use lib.Dec.{ltb, leb, eqb}
@@ -10,7 +10,7 @@ use Rattle.numbers.specs.declared.Read.{Read}
 use Rattle.numbers.specs.declared.Read.the-variants.{Number, Refused}
 use Rattle.numbers.specs.declared.Signed.{Signed}
 use Rattle.numbers.specs.declared.Signed.the-variants.{Value, Wrong}
-use Rattle.numbers.specs.Number.{pick, Spelt, got, short, long, placed, readUnsigned, withSign, readSigned}
+use Rattle.numbers.specs.Number.{Spelt, got, short, long, placed, readUnsigned, withSign, readSigned}
 use Rattle.numbers.specs.Limits.{maxValue, maxClock, maxCount}
 use Rattle.text.specs.declared.State as text-state
 use Rattle.text.specs.declared.Taken.{Taken}
@@ -35,12 +35,8 @@ use Rattle.columns.specs.Number as numbers
 use Rattle.columns.specs.Difference as differences
 use Rattle.columns.specs.Byte as bytes
 use Rattle.string.specs.String as strings
-use Rattle.agreement.specs.Numbered.{Low, Numbered}
-
--- what holds of both holds of the choice
-pub chosen : {A : Type 0} (P : A → Type 0) (b : Bool) {x y : A} → P x → P y → P (pick b x y)
-chosen P true p q = p
-chosen P false p q = q
+use Rattle.pieces.proofs.Forgets.{chosen}
+use Rattle.agreement.specs.Numbered.{Low}
 
 -- the numbers that are written down
 pub low1 : Low 1
@@ -62,11 +58,11 @@ low7 = (omega arith, omega arith)
 
 abbrev pub NumberedRead : Read → Type 0
 NumberedRead (Number v e) = Unit {0}
-NumberedRead (Refused why) = Numbered why
+NumberedRead (Refused why) = Low (why .number)
 
 abbrev NumberedSigned : Signed → Type 0
 NumberedSigned (Value m v e) = Unit {0}
-NumberedSigned (Wrong why) = Numbered why
+NumberedSigned (Wrong why) = Low (why .number)
 
 placed-numbered : (s : List ℕ) (at : ℕ) (x : Spelt) → NumberedRead (placed s at x)
 unfolding placed
@@ -91,7 +87,7 @@ signed-numbered s at = with-sign-numbered _ _ (placed-numbered s at _)
 
 abbrev pub NumberedNumber : number-answer.Answer → Type 0
 NumberedNumber (number.Next v c) = Unit {0}
-NumberedNumber (number.Bad why) = Numbered why
+NumberedNumber (number.Bad why) = Low (why .number)
 
 number-drawn : (c : number-place.Place) → NumberedNumber (numbers.drawn c)
 unfolding numbers.drawn
@@ -115,7 +111,7 @@ number-numbered s c = chosen NumberedNumber (ltb 0 (c .count)) (number-drawn c) 
 
 abbrev pub NumberedDifference : difference-answer.Answer → Type 0
 NumberedDifference (difference.Next v c) = Unit {0}
-NumberedDifference (difference.Bad why) = Numbered why
+NumberedDifference (difference.Bad why) = Low (why .number)
 
 difference-drawn : (c : difference-place.Place) → NumberedDifference (differences.drawn c)
 unfolding differences.drawn
@@ -144,7 +140,7 @@ difference-numbered s c =
 
 abbrev pub NumberedByte : byte-answer.Answer → Type 0
 NumberedByte (byte.Next v c) = Unit {0}
-NumberedByte (byte.Bad why) = Numbered why
+NumberedByte (byte.Bad why) = Low (why .number)
 
 byte-counted : (from b e : ℕ) (r : Read) → NumberedRead r → NumberedByte (bytes.counted from b e r)
 unfolding bytes.counted
@@ -165,11 +161,11 @@ byte-numbered s c = chosen NumberedByte (c .endless) tt (chosen NumberedByte (lt
 
 abbrev pub NumberedTexts : string-opened.Opened → Type 0
 NumberedTexts (strings-opened.At c) = Unit {0}
-NumberedTexts (strings-opened.Not why) = Numbered why
+NumberedTexts (strings-opened.Not why) = Low (why .number)
 
 abbrev pub NumberedString : string-answer.Answer → Type 0
 NumberedString (string.Next p c) = Unit {0}
-NumberedString (string.Bad why) = Numbered why
+NumberedString (string.Bad why) = Low (why .number)
 
 opened-numbered : (s : List ℕ) (r : Read) → NumberedRead r → NumberedTexts (strings.opened s r)
 unfolding strings.opened

@@ -22,25 +22,25 @@ pub struct Id {
     pub clock: u32,
 }
 
-// `has_left` says whether `left` is there, and so on; what is not there is zero.
+// `has_left` says whether `left` is there, and so on; what is not there is zero. Kind and flags stand side by side behind the numbers: 128 bytes.
 #[repr(C)]
 pub struct Block {
     pub client: u64,
-    pub clock: u32,
     pub length: Units,
-    pub kind: u8,
-    pub has_left: bool,
     pub left: Id,
-    pub has_right: bool,
     pub right: Id,
-    pub has_parent: bool,
     pub parent: Id,
-    pub has_name: bool,
     pub name: Part,
-    pub has_key: bool,
     pub key: Part,
     // the stored part of a binary or a text
     pub part: Part,
+    pub clock: u32,
+    pub kind: u8,
+    pub has_left: bool,
+    pub has_right: bool,
+    pub has_parent: bool,
+    pub has_name: bool,
+    pub has_key: bool,
 }
 
 // The row that has no block: all zero.

@@ -1,3 +1,8 @@
--- Words put in one column, and what a draw from it is for a state.
+-- Words stored in a column or behind the columns, and what that is for a state.
 pub mod Words
-pub mod Laws
+pub mod States
+pub mod Numbers
+pub mod Texts
+pub mod Opening
+pub mod Differences
+pub mod Bytes

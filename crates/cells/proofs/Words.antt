@@ -1,147 +1,216 @@
--- Words put in one column: the column holds them, and the other columns are as before.
-use Prim.Native.Nat.{ℕ, suc, _+_, _*_, _≤_, _<_}
-use mathlib.Core.Path.{_≡_, refl, sym, ap, _∙_}
-use mathlib.Core.List.{List, [], _∷_, _++_, append-assoc}
+-- Words stored in column k, or behind the columns: the column holds them, the other columns and the place in line are as before, and the words stay small.
+use Prim.Native.Nat.{ℕ, zero, suc, _+_, _*_, _≤_, _<_}
+use mathlib.Core.Path.{_≡_, refl, sym, _∙_}
+use mathlib.Core.Logic.{_≢_}
+use mathlib.Core.List.{List, [], _∷_}
 use mathlib.Core.Bool.{Bool, true, false}
 use native.Mathlib.Omega.{arith}
 use lib.Dec.{eqb}
-use lib.ListN.{length, getD, set, take, drop, length-set, List·getD-append}
-use lib.Seq.{sets, sets-eq, length-sets, getD-set-other, getD-set-same, getD-append-add, length-take-le}
-use Rattle.numbers.specs.Number.{pick}
-use Rattle.decoder.specs.declared.Numbers.{Numbers}
-use Rattle.decoder.specs.declared.Differences.{Differences}
-use Rattle.decoder.specs.declared.Bytes.{Bytes}
-use Rattle.decoder.specs.declared.Texts.{Texts}
-use Rattle.cells.specs.Cells.{cell, numbersIn, differencesIn, bytesIn, textsIn, ShortNumbers, ShortDifferences, ShortBytes, Elsewhere}
+use lib.ListN.{length, getD, set, length-set}
+use lib.Seq.{getD-set-other, getD-set-same}
+use borrow.Author.Tests.{eqb-true, eqb-false}
+use Rattle.cells.specs.Cells.{cell, numbersIn, differencesIn, bytesIn, textsIn, atIn, placeIn, whyIn, Short, Small, Wide, Elsewhere, Cut}
 
 -- ---- elsewhere
 
 pub elsewhere-none : (k : ℕ) (w : List ℕ) → Elsewhere k w w
-elsewhere-none k w = record { size = refl; same = λ j i h l. refl }
+elsewhere-none k w = record { at = refl; same = λ j i s h l. refl }
 
 pub elsewhere-on : (k : ℕ) (w v u : List ℕ) → Elsewhere k w v → Elsewhere k v u → Elsewhere k w u
-elsewhere-on k w v u a b = record { size = b .size ∙ a .size; same = λ j i h l. b .same j i h l ∙ a .same j i h l }
+elsewhere-on k w v u a b = record { at = b .at ∙ a .at; same = λ j i s h l. b .same j i s h l ∙ a .same j i s h l }
 
-elsewhere-set : (w : List ℕ) (k i n a : ℕ) → n ≡ 7 * k + i → i < 7 → Elsewhere k w (set w n a)
-unfolding cell
-elsewhere-set w k i n a e l =
-    record { size = length-set w n a; same = λ j m h b. getD-set-other w n (7 * j + m) a 0 (λ q. h (omega arith)) }
+-- where no column changed, none but k did
+pub elsewhere-any : (k : ℕ) (w v : List ℕ) → Elsewhere 9 w v → Elsewhere k w v
+elsewhere-any k w v e = record { at = e .at; same = λ j i s h l. e .same j i s (λ q. omega arith) l }
 
-pub elsewhere-sets : (vs w : List ℕ) (k i n : ℕ) → n ≡ 7 * k + i → i + length vs ≤ 7 → Elsewhere k w (sets w n vs)
-elsewhere-sets [] w k i n e l = elsewhere-none k w
-elsewhere-sets (a ∷ vs) w k i n e l =
-    elsewhere-on k w (set w n a) (sets (set w n a) (suc n) vs)
-    (elsewhere-set w k i n a e (omega arith))
-    (elsewhere-sets vs (set w n a) k (suc i) (suc n) (omega arith) (omega arith))
+-- a store in column k
+pub elsewhere-in : (k j n a : ℕ) (w : List ℕ) → n ≡ 7 * k + j → j < 7 → k ≤ 8 → Elsewhere k w (set w n a)
+unfolding cell atIn
+elsewhere-in k j n a w e l few = record {
+  at = getD-set-other w n 63 a 0 (λ q. omega arith);
+  same = λ m i s h b. getD-set-other w n (7 * m + i) a 0 (λ q. h (omega arith));
+}
 
--- the words that were put
-getD-sets : (w vs : List ℕ) (n j : ℕ) → n + length vs ≤ length w → j < length vs → getD (sets w n vs) (n + j) 0 ≡ getD vs j 0
-getD-sets w vs n j h l =
-    let e : length (take n w) ≡ n = length-take-le n w (omega arith) in
-    let back = drop (n + length vs) w in
-    ap (λ (t : List ℕ). getD t (n + j) 0) (sets-eq vs w n h ∙ append-assoc (take n w) vs back)
-    ∙ ap (λ (m : ℕ). getD (take n w ++ (vs ++ back)) (m + j) 0) (sym e)
-    ∙ getD-append-add (take n w) (vs ++ back) j 0
-    ∙ List·getD-append vs back 0 j l
+-- a store behind the place in line
+pub elsewhere-behind : (k n a : ℕ) (w : List ℕ) → 64 ≤ n → Elsewhere k w (set w n a)
+unfolding cell atIn
+elsewhere-behind k n a w l = record {
+  at = getD-set-other w n 63 a 0 (λ q. omega arith);
+  same = λ m i s h b. getD-set-other w n (7 * m + i) a 0 (λ q. omega arith);
+}
 
-pub cell-sets : (w vs : List ℕ) (k j : ℕ) → 7 * k + length vs ≤ length w → j < length vs → cell (sets w (7 * k) vs) k j ≡ getD vs j 0
-unfolding cell
-cell-sets w vs k j h l = getD-sets w vs (7 * k) j h l
+-- ---- small words
 
--- ---- a column put whole: it is held, its words are small, and no other words are
+pub short-same : (k j : ℕ) (w v : List ℕ) → Elsewhere k w v → j ≤ 8 → j ≢ k → Short w j → Short v j
+short-same k j w v e few h s = record { last = rw (e .same j 2 few h (omega arith)) (s .last); key = rw (e .same j 5 few h (omega arith)) (s .key) }
 
-module _ (w : List ℕ) (k : ℕ) (room : 7 * k + 7 ≤ length w) where
-  abbrev pub five : ℕ → ℕ → ℕ → ℕ → ℕ → List ℕ
-  five at from last count to = set (set (set (set (set w (7 * k) at) (7 * k + 1) from) (7 * k + 2) last) (7 * k + 3) count) (7 * k + 4) to
+-- a column that is none of differences changed
+pub small-wide : (k : ℕ) (w v : List ℕ) → Wide k → Small w → Elsewhere k w v → length v ≡ 67 → getD v 65 0 ≤ 255 → Small v
+small-wide k w v few s e l b = record {
+  size = l;
+  left = short-same k 2 w v e (omega arith) (λ q. few .1 (sym q)) (s .left);
+  right = short-same k 3 w v e (omega arith) (λ q. few .2 (sym q)) (s .right);
+  why = b;
+}
 
-  abbrev pub six : ℕ → ℕ → ℕ → ℕ → ℕ → ℕ → List ℕ
-  six at from last count to more = set (five at from last count to) (7 * k + 5) more
+-- any column changed, and is short if it is one of differences
+pub small-any : (k : ℕ) (w v : List ℕ) → Small w → Elsewhere k w v → length v ≡ 67 → getD v 65 0 ≤ 255 → Short v k → Small v
+small-any k w v s e l b short = record { size = l; left = at 2 (omega arith) (s .left); right = at 3 (omega arith) (s .right); why = b }
+  where
+    go : (j : ℕ) → j ≤ 8 → Short w j → (x : Bool) → eqb j k ≡ x → Short v j
+    go j few h true q = rw (eqb-true j k q) short
+    go j few h false q = short-same k j w v e few (eqb-false j k q) h
 
-  five-sets : (a b c d e : ℕ) → five a b c d e ≡ sets w (7 * k) (a ∷ b ∷ c ∷ d ∷ e ∷ [])
-  five-sets a b c d e =
-      let e1 : 7 * k + 1 ≡ suc (7 * k) = omega arith in
-      let e2 : 7 * k + 2 ≡ suc (suc (7 * k)) = omega arith in
-      let e3 : 7 * k + 3 ≡ suc (suc (suc (7 * k))) = omega arith in
-      let e4 : 7 * k + 4 ≡ suc (suc (suc (suc (7 * k)))) = omega arith in
-      rw (e1, e2, e3, e4) refl
+    at : (j : ℕ) → j ≤ 8 → Short w j → Short v j
+    at j few h = go j few h (eqb j k) refl
 
-  six-sets : (a b c d e f : ℕ) → six a b c d e f ≡ sets w (7 * k) (a ∷ b ∷ c ∷ d ∷ e ∷ f ∷ [])
-  six-sets a b c d e f =
-      let e1 : 7 * k + 1 ≡ suc (7 * k) = omega arith in
-      let e2 : 7 * k + 2 ≡ suc (suc (7 * k)) = omega arith in
-      let e3 : 7 * k + 3 ≡ suc (suc (suc (7 * k))) = omega arith in
-      let e4 : 7 * k + 4 ≡ suc (suc (suc (suc (7 * k)))) = omega arith in
-      let e5 : 7 * k + 5 ≡ suc (suc (suc (suc (suc (7 * k))))) = omega arith in
-      rw (e1, e2, e3, e4, e5) refl
+-- ---- words stored in column k, one after the other
 
-  module _ (vs : List ℕ) (few : length vs ≤ 7) where
-    put-room : 7 * k + 7 ≤ length (sets w (7 * k) vs)
-    put-room = omega (arith, length-sets w (7 * k) vs, room)
+-- v is w but for column k, whose seven words are c, and for the place blamed last
+pub record Held (k : ℕ) (w c v : List ℕ) : Type 0 where
+  pub size : length v ≡ 67
+  pub elsewhere : Elsewhere k w v
+  pub why : getD v 65 0 ≤ 255
+  pub seven : length c ≡ 7
+  pub words : (j : ℕ) → j < 7 → cell v k j ≡ getD c j 0
 
-    put-cell : (j : ℕ) → j < length vs → cell (sets w (7 * k) vs) k j ≡ getD vs j 0
-    put-cell j l = cell-sets w vs k j (omega (arith, room, few)) l
+abbrev pub column : List ℕ → ℕ → List ℕ
+column w k = cell w k 0 ∷ cell w k 1 ∷ cell w k 2 ∷ cell w k 3 ∷ cell w k 4 ∷ cell w k 5 ∷ cell w k 6 ∷ []
 
-    put-elsewhere : Elsewhere k w (sets w (7 * k) vs)
-    put-elsewhere = elsewhere-sets vs w k 0 (7 * k) (omega arith) (omega (arith, few))
+module _ (k : ℕ) (w : List ℕ) where
+  pub held : Small w → Held k w (column w k) w
+  held s = record { size = s .size; elsewhere = elsewhere-none k w; why = s .why; seven = refl; words = at }
+    where
+      at : (j : ℕ) → j < 7 → cell w k j ≡ getD (column w k) j 0
+      at zero l = refl
+      at (suc zero) l = refl
+      at (suc (suc zero)) l = refl
+      at (suc (suc (suc zero))) l = refl
+      at (suc (suc (suc (suc zero)))) l = refl
+      at (suc (suc (suc (suc (suc zero))))) l = refl
+      at (suc (suc (suc (suc (suc (suc zero)))))) l = refl
+      at (suc (suc (suc (suc (suc (suc (suc j))))))) l = omega arith
 
-  module _ (c : Numbers) (count : c .place .count ≤ 4294967295) where
-    pub numbers-put : (let v = five (c .place .at) (c .place .from) (c .place .last) (c .place .count) (c .to) in (numbersIn v k ≡ c) × ShortNumbers v k × Elsewhere k w v)
-    unfolding numbersIn
-    numbers-put =
-        let vs : List ℕ = c .place .at ∷ c .place .from ∷ c .place .last ∷ c .place .count ∷ c .to ∷ [] in
-        let at = put-cell vs (omega arith) in
-        rw (five-sets (c .place .at) (c .place .from) (c .place .last) (c .place .count) (c .to)) (
-          rw (at 0 (omega arith), at 1 (omega arith), at 2 (omega arith), at 3 (omega arith), at 4 (omega arith)) refl,
-          record { room = put-room vs (omega arith); count = rw (at 3 (omega arith)) count },
-          put-elsewhere vs (omega arith),
-        )
-
-  module _ (c : Differences) (last : c .place .last ≤ 4294967295) (count : c .place .count ≤ 4294967295) (key : c .place .key ≤ 4294967295) where
-    pub differences-put : (let v = six (c .place .at) (c .place .from) (c .place .last) (c .place .count) (c .to) (c .place .key) in (differencesIn v k ≡ c) × ShortDifferences v k × Elsewhere k w v)
-    unfolding differencesIn
-    differences-put =
-        let vs : List ℕ = c .place .at ∷ c .place .from ∷ c .place .last ∷ c .place .count ∷ c .to ∷ c .place .key ∷ [] in
-        let at = put-cell vs (omega arith) in
-        rw (six-sets (c .place .at) (c .place .from) (c .place .last) (c .place .count) (c .to) (c .place .key)) (
-          rw (at 0 (omega arith), at 1 (omega arith), at 2 (omega arith), at 3 (omega arith), at 4 (omega arith), at 5 (omega arith)) refl,
-          record { room = put-room vs (omega arith); last = rw (at 2 (omega arith)) last; count = rw (at 3 (omega arith)) count; key = rw (at 5 (omega arith)) key },
-          put-elsewhere vs (omega arith),
-        )
-
-  module _ (c : Bytes) (last : c .place .last ≤ 255) (count : c .place .count ≤ 4294967295) (x : ℕ) (e : x ≡ pick (c .place .endless) 1 0) where
-    pub bytes-put : (let v = six (c .place .at) (c .place .from) (c .place .last) (c .place .count) (c .to) x in (bytesIn v k ≡ c) × ShortBytes v k × Elsewhere k w v)
-    unfolding bytesIn
-    bytes-put =
-        let vs : List ℕ = c .place .at ∷ c .place .from ∷ c .place .last ∷ c .place .count ∷ c .to ∷ x ∷ [] in
-        let at = put-cell vs (omega arith) in
-        rw (six-sets (c .place .at) (c .place .from) (c .place .last) (c .place .count) (c .to) x) (
-          rw (at 0 (omega arith), at 1 (omega arith), at 2 (omega arith), at 3 (omega arith), at 4 (omega arith), at 5 (omega arith), e, told (c .place .endless)) refl,
-          record { room = put-room vs (omega arith); last = rw (at 2 (omega arith)) last; count = rw (at 3 (omega arith)) count },
-          put-elsewhere vs (omega arith),
-        )
+  module _ (c v : List ℕ) (few : k ≤ 8) (h : Held k w c v) where
+    pub put-at : (n j a : ℕ) → n ≡ 7 * k + j → j < 7 → Held k w (set c j a) (set v n a)
+    unfolding cell
+    put-at n j a e l = record {
+      size = length-set v n a ∙ h .size;
+      elsewhere = elsewhere-on k w v (set v n a) (h .elsewhere) (elsewhere-in k j n a v e l few);
+      why = rw (getD-set-other v n 65 a 0 (λ q. omega arith)) (h .why);
+      seven = length-set c j a ∙ h .seven;
+      words = λ i b. go i b (eqb i j) refl;
+    }
       where
-        told : (b : Bool) → eqb (pick b 1 0) 1 ≡ b
-        told true = refl
-        told false = refl
+        go : (i : ℕ) → i < 7 → (x : Bool) → eqb i j ≡ x → getD (set v n a) (7 * k + i) 0 ≡ getD (set c j a) i 0
+        go i b true q =
+            let s = eqb-true i j q in
+            rw (s, ← e) (getD-set-same v n a 0 (omega (arith, h .size)) ∙ sym (getD-set-same c j a 0 (omega (arith, h .seven))))
+        go i b false q =
+            let s = eqb-false i j q in
+            getD-set-other v n (7 * k + i) a 0 (λ p. s (omega arith)) ∙ h .words i b ∙ sym (getD-set-other c j i a 0 s)
 
-  -- a text column: the place of its units is put before
-  module _ (v : List ℕ) (c : Texts) (short : ShortNumbers v k) (e : Elsewhere k w v) where
-    pub texts-put : numbersIn v k ≡ record { place = c .place .units; to = c .to }
-        → (let z = set (set v (7 * k + 5) (c .place .at)) (7 * k + 6) (c .place .end) in (textsIn z k ≡ c) × ShortNumbers z k × Elsewhere k w z)
-    unfolding cell numbersIn textsIn
-    texts-put h =
-        let y = set v (7 * k + 5) (c .place .at) in
-        let l : 7 * k + 6 < length v = omega (arith, short .room) in
-        let ly : length y ≡ length v = length-set v (7 * k + 5) (c .place .at) in
-        let before : (i : ℕ) → i < 5 → cell (set y (7 * k + 6) (c .place .end)) k i ≡ cell v k i =
-        λ i b. getD-set-other y (7 * k + 6) (7 * k + i) (c .place .end) 0 (λ q. omega arith) ∙ getD-set-other v (7 * k + 5) (7 * k + i) (c .place .at) 0 (λ q. omega arith) in
-        let five : cell (set y (7 * k + 6) (c .place .end)) k 5 ≡ c .place .at =
-        getD-set-other y (7 * k + 6) (7 * k + 5) (c .place .end) 0 (λ q. omega arith) ∙ getD-set-same v (7 * k + 5) (c .place .at) 0 (omega arith) in
-        let six : cell (set y (7 * k + 6) (c .place .end)) k 6 ≡ c .place .end = getD-set-same y (7 * k + 6) (c .place .end) 0 (omega arith) in
-        let units : numbersIn (set y (7 * k + 6) (c .place .end)) k ≡ record { place = c .place .units; to = c .to } =
-        rw (before 0 (omega arith), before 1 (omega arith), before 2 (omega arith), before 3 (omega arith), before 4 (omega arith)) h in (
-          rw (five, six) (ap (λ (n : Numbers). record { place = record { at = c .place .at; end = c .place .end; units = n .place }; to = n .to }) units),
-          record { room = omega (arith, short .room, ly, length-set y (7 * k + 6) (c .place .end)); count = rw (before 3 (omega arith)) (short .count) },
-          elsewhere-on k w v (set y (7 * k + 6) (c .place .end)) e
-              (elsewhere-on k v y (set y (7 * k + 6) (c .place .end)) (elsewhere-set v k 5 (7 * k + 5) (c .place .at) refl (omega arith)) (elsewhere-set y k 6 (7 * k + 6) (c .place .end) refl (omega arith))),
-        )
+    -- the place blamed
+    pub put-place : (a : ℕ) → Held k w c (set v 64 a)
+    unfolding cell
+    put-place a = record {
+      size = length-set v 64 a ∙ h .size;
+      elsewhere = elsewhere-on k w v (set v 64 a) (h .elsewhere) (elsewhere-behind k 64 a v (omega arith));
+      why = rw (getD-set-other v 64 65 a 0 (λ q. omega arith)) (h .why);
+      seven = h .seven;
+      words = λ i b. getD-set-other v 64 (7 * k + i) a 0 (λ q. omega arith) ∙ h .words i b;
+    }
+
+    pub place-put : (a : ℕ) → placeIn (set v 64 a) ≡ a
+    unfolding placeIn
+    place-put a = getD-set-same v 64 a 0 (omega (arith, h .size))
+
+-- the first four words of a column, one after the other
+module _ (k : ℕ) (w : List ℕ) (s : Small w) (few : k ≤ 8) (at from last count : ℕ) where
+  abbrev pub run : List ℕ
+  run = set (set (set (set w (7 * k) at) (7 * k + 1) from) (7 * k + 2) last) (7 * k + 3) count
+
+  pub put-run : Held k w (at ∷ from ∷ last ∷ count ∷ cell w k 4 ∷ cell w k 5 ∷ cell w k 6 ∷ []) run
+  put-run =
+      let w0 = set w (7 * k) at in
+      let w1 = set w0 (7 * k + 1) from in
+      let w2 = set w1 (7 * k + 2) last in
+      let h0 = put-at k w (column w k) w few (held k w s) (7 * k) 0 at (omega arith) (omega arith) in
+      let h1 = put-at k w _ w0 few h0 (7 * k + 1) 1 from refl (omega arith) in
+      let h2 = put-at k w _ w1 few h1 (7 * k + 2) 2 last refl (omega arith) in
+      put-at k w _ w2 few h2 (7 * k + 3) 3 count refl (omega arith)
+
+-- ---- what the column is then
+
+module _ (k : ℕ) (w c v : List ℕ) (h : Held k w c v) where
+  pub numbers-held : numbersIn v k ≡ record { place = record { at = getD c 0 0; from = getD c 1 0; last = getD c 2 0; count = getD c 3 0 }; to = getD c 4 0 }
+  unfolding numbersIn
+  numbers-held = rw (h .words 0 (omega arith), h .words 1 (omega arith), h .words 2 (omega arith), h .words 3 (omega arith), h .words 4 (omega arith)) refl
+
+  pub differences-held : differencesIn v k ≡ record { place = record { at = getD c 0 0; from = getD c 1 0; last = getD c 2 0; key = getD c 5 0; count = getD c 3 0 }; to = getD c 4 0 }
+  unfolding differencesIn
+  differences-held = rw (h .words 0 (omega arith), h .words 1 (omega arith), h .words 2 (omega arith), h .words 3 (omega arith), h .words 4 (omega arith), h .words 5 (omega arith)) refl
+
+  pub bytes-held : bytesIn v k ≡ record { place = record { at = getD c 0 0; from = getD c 1 0; last = getD c 2 0; count = getD c 3 0; endless = eqb (getD c 5 0) 1 }; to = getD c 4 0 }
+  unfolding bytesIn
+  bytes-held = rw (h .words 0 (omega arith), h .words 1 (omega arith), h .words 2 (omega arith), h .words 3 (omega arith), h .words 4 (omega arith), h .words 5 (omega arith)) refl
+
+  pub texts-held : textsIn v k ≡ record { place = record { at = getD c 5 0; end = getD c 6 0; units = record { at = getD c 0 0; from = getD c 1 0; last = getD c 2 0; count = getD c 3 0 } }; to = getD c 4 0 }
+  unfolding textsIn numbersIn
+  texts-held = rw (h .words 0 (omega arith), h .words 1 (omega arith), h .words 2 (omega arith), h .words 3 (omega arith), h .words 4 (omega arith), h .words 5 (omega arith), h .words 6 (omega arith)) refl
+
+  pub held-wide : Wide k → Small w → Small v
+  held-wide few s = small-wide k w v few s (h .elsewhere) (h .size) (h .why)
+
+  pub held-short : Small w → getD c 2 0 ≤ 4294967295 → getD c 5 0 ≤ 4294967295 → Small v
+  held-short s last key =
+      small-any k w v s (h .elsewhere) (h .size) (h .why) (record { last = rw (h .words 2 (omega arith)) last; key = rw (h .words 5 (omega arith)) key })
+
+-- ---- a column that is cut
+
+module _ (k : ℕ) (w : List ℕ) (s : Small w) (few : k ≤ 8) (from to : ℕ) where
+  pub column-put : Cut k from to w (set (set (set (run k w s few from from 0 0) (7 * k + 4) to) (7 * k + 5) 2147483648) (7 * k + 6) 0)
+  column-put =
+      let w3 = run k w s few from from 0 0 in
+      let w4 = set w3 (7 * k + 4) to in
+      let w5 = set w4 (7 * k + 5) 2147483648 in
+      let w6 = set w5 (7 * k + 6) 0 in
+      let h4 = put-at k w _ w3 few (put-run k w s few from from 0 0) (7 * k + 4) 4 to refl (omega arith) in
+      let h5 = put-at k w _ w4 few h4 (7 * k + 5) 5 2147483648 refl (omega arith) in
+      let h6 = put-at k w _ w5 few h5 (7 * k + 6) 6 0 refl (omega arith) in
+      record {
+        small = held-short k w _ w6 h6 s (omega arith) (omega arith);
+        elsewhere = h6 .elsewhere;
+        begins = (h6 .words 0 (omega arith), h6 .words 1 (omega arith));
+        ends = h6 .words 4 (omega arith);
+        rest = (h6 .words 2 (omega arith), h6 .words 3 (omega arith), h6 .words 5 (omega arith), h6 .words 6 (omega arith));
+      }
+
+-- ---- why a field was refused
+
+module _ (w : List ℕ) (s : Small w) (number place : ℕ) where
+  abbrev pub blamed : List ℕ
+  blamed = set (set w 65 number) 66 place
+
+  pub elsewhere-refused : Elsewhere 9 w blamed
+  elsewhere-refused =
+      let v = set w 65 number in
+      elsewhere-on 9 w v blamed (elsewhere-behind 9 65 number w (omega arith)) (elsewhere-behind 9 66 place v (omega arith))
+
+  size-refused : length blamed ≡ 67
+  size-refused = length-set (set w 65 number) 66 place ∙ length-set w 65 number ∙ s .size
+
+  number-refused : getD blamed 65 0 ≡ number
+  number-refused = getD-set-other (set w 65 number) 66 65 place 0 (λ q. omega arith) ∙ getD-set-same w 65 number 0 (omega (arith, s .size))
+
+  pub why-refused : whyIn blamed ≡ record { number = number; place = place }
+  unfolding whyIn
+  why-refused = rw (number-refused, getD-set-same (set w 65 number) 66 place 0 (omega (arith, s .size, length-set w 65 number))) refl
+
+  pub small-refused : number ≤ 255 → Small blamed
+  small-refused l = record {
+    size = size-refused;
+    left = short-same 9 2 w blamed elsewhere-refused (omega arith) (λ q. omega arith) (s .left);
+    right = short-same 9 3 w blamed elsewhere-refused (omega arith) (λ q. omega arith) (s .right);
+    why = rw number-refused l;
+  }

@@ -1,43 +1,24 @@
--- The columns of form 2 as words: seven for each of the nine, in the format's order key, client, left clock, right clock, info, text, parent info,
--- type, length. A column's words are at, from, last, count, to and two more; the key and the type column are never drawn, and theirs stay unused.
+-- Where reading stands, as words: seven for each of the nine columns, in the format's order key, client, left clock, right clock, info, text, parent info,
+-- type, length; then the place in line (63), the place that the number drawn last is blamed at (64), and why a field was refused (65, 66). A column's words
+-- are at, from, last, count, to and two more.
 use Prim.Native.Nat.{ℕ, _+_, _*_, _≤_, _<_}
 use mathlib.Core.Path.{_≡_}
 use mathlib.Core.Logic.{_≢_}
 use mathlib.Core.List.{List}
 use lib.Dec.{eqb}
-use lib.ListN.{length, getD, take}
+use lib.ListN.{length, getD, set}
 use Rattle.numbers.specs.declared.Refusal.{Refusal}
-use Rattle.numbers.specs.Number.{none}
 use Rattle.text.specs.declared.Part.{Part}
+use Rattle.text.specs.declared.Units.{Units}
 use Rattle.columns.specs.declared.number.Answer as number-answer
-use Rattle.columns.specs.declared.number.Answer.the-variants as number
 use Rattle.columns.specs.declared.difference.Answer as difference-answer
-use Rattle.columns.specs.declared.difference.Answer.the-variants as difference
-use Rattle.columns.specs.declared.byte.Answer as byte-answer
-use Rattle.columns.specs.declared.byte.Answer.the-variants as byte
-use Rattle.string.specs.declared.Answer as string-answer
-use Rattle.string.specs.declared.Answer.the-variants as string
-use Rattle.columns.specs.Number.{nextNumber}
-use Rattle.columns.specs.Difference.{nextDifference}
-use Rattle.columns.specs.Byte.{nextByte}
-use Rattle.string.specs.String.{nextText}
-use Rattle.decoder.specs.declared.Numbers.{Numbers}
-use Rattle.decoder.specs.declared.Differences.{Differences}
-use Rattle.decoder.specs.declared.Bytes.{Bytes}
-use Rattle.decoder.specs.declared.Texts.{Texts}
-use Rattle.decoder.specs.declared.State.{State}
-use Rattle.decoder.specs.declared.Draw as decoder-draw
-use Rattle.decoder.specs.declared.Draw.the-variants as draw
-use Rattle.decoder.specs.declared.Ident as decoder-ident
-use Rattle.decoder.specs.declared.Ident.the-variants as idents
-use Rattle.decoder.specs.declared.Text as decoder-text
-use Rattle.decoder.specs.declared.Text.the-variants as texts
+use Rattle.columns.specs.declared.byte.Place as byte-place
+use Rattle.grammar.specs.Course as course
+use Rattle.decoder.specs.States.{Numbers, Differences, Bytes, Texts, State}
+use Rattle.decoder.specs.Columned.{numberDrawn, differenceDrawn, fromNumbers, fromDifferences, fromBytes, fromTexts}
+use Rattle.decoder.specs.Opening.{openedOf}
 use Rattle.cells.specs.declared.Drawn.{Drawn}
 use Rattle.cells.specs.declared.Drawn.the-variants.{Number, Refused}
-use Rattle.cells.specs.declared.Ident.{Ident}
-use Rattle.cells.specs.declared.Ident.the-variants as ident
-use Rattle.cells.specs.declared.Text.{Text}
-use Rattle.cells.specs.declared.Text.the-variants as text
 
 -- ---- what the words hold
 
@@ -60,113 +41,118 @@ bytesIn w k = record { place = record { at = cell w k 0; from = cell w k 1; last
 unfoldable pub textsIn : List ℕ → ℕ → Texts
 textsIn w k = record { place = record { at = cell w k 5; end = cell w k 6; units = numbersIn w k .place }; to = cell w k 4 }
 
--- a state with its seven drawn columns as the words have them, at a place in line
-unfoldable pub stateIn : List ℕ → State → ℕ → State
-stateIn w s at = record { form = s .form; at = at; key = s .key; client = numbersIn w 1; left = differencesIn w 2; right = differencesIn w 3; info = bytesIn w 4; text = textsIn w 5; parent = bytesIn w 6; types = s .types; len = numbersIn w 8 }
+unfoldable pub atIn : List ℕ → ℕ
+atIn w = getD w 63 0
 
--- ---- words that hold a u32 or a u8 are small
+unfoldable pub stateIn : List ℕ → State
+stateIn w = record { at = atIn w; key = differencesIn w 0; client = numbersIn w 1; left = differencesIn w 2; right = differencesIn w 3; info = bytesIn w 4; text = textsIn w 5; parent = bytesIn w 6; types = numbersIn w 7; len = numbersIn w 8 }
 
-pub record ShortNumbers (w : List ℕ) (k : ℕ) : Type 0 where
-  pub room : 7 * k + 7 ≤ length w
-  pub count : cell w k 3 ≤ 4294967295
+unfoldable pub placeIn : List ℕ → ℕ
+placeIn w = getD w 64 0
 
-pub record ShortDifferences (w : List ℕ) (k : ℕ) : Type 0 where
-  pub room : 7 * k + 7 ≤ length w
+unfoldable pub whyIn : List ℕ → Refusal
+whyIn w = record { number = getD w 65 0; place = getD w 66 0 }
+
+-- ---- what the words keep to
+
+-- the last value and the key of a difference column are added
+pub record Short (w : List ℕ) (k : ℕ) : Type 0 where
   pub last : cell w k 2 ≤ 4294967295
-  pub count : cell w k 3 ≤ 4294967295
   pub key : cell w k 5 ≤ 4294967295
 
-pub record ShortBytes (w : List ℕ) (k : ℕ) : Type 0 where
-  pub room : 7 * k + 7 ≤ length w
-  pub last : cell w k 2 ≤ 255
-  pub count : cell w k 3 ≤ 4294967295
-
--- the seven drawn columns; the last of them needs 63 words
 pub record Small (w : List ℕ) : Type 0 where
-  pub client : ShortNumbers w 1
-  pub left : ShortDifferences w 2
-  pub right : ShortDifferences w 3
-  pub info : ShortBytes w 4
-  pub text : ShortNumbers w 5
-  pub parent : ShortBytes w 6
-  pub len : ShortNumbers w 8
+  pub size : length w ≡ 67
+  pub left : Short w 2
+  pub right : Short w 3
+  pub why : getD w 65 0 ≤ 255
 
--- only column k is other words than before
+-- a column other than the two of differences
+abbrev pub Wide : ℕ → Type 0
+Wide k = (k ≤ 8) × (k ≢ 2) × (k ≢ 3)
+
+-- a column of differences
+abbrev pub Narrow : ℕ → Type 0
+Narrow k = (2 ≤ k) × (k ≤ 3)
+
+-- no column but k changed, nor the place in line; 9 is no column
 pub record Elsewhere (k : ℕ) (w v : List ℕ) : Type 0 where
-  pub size : length v ≡ length w
-  pub same : (j i : ℕ) → j ≢ k → i < 7 → cell v j i ≡ cell w j i
+  pub at : atIn v ≡ atIn w
+  pub same : (j i : ℕ) → j ≤ 8 → j ≢ k → i < 7 → cell v j i ≡ cell w j i
 
--- ---- one column's next value
+-- the two words of column k that are no number's stay
+abbrev pub Kept : ℕ → List ℕ → List ℕ → Type 0
+Kept k w v = (cell v k 5 ≡ cell w k 5) × (cell v k 6 ≡ cell w k 6)
 
-abbrev pub numberNext : List ℕ → Numbers → number-answer.Answer
-numberNext u c = nextNumber (take (c .to) u) (c .place)
+-- only words k and k + 1 of a row changed
+abbrev pub Beside : ℕ → List ℕ → List ℕ → Type 0
+Beside k r q = q ≡ set (set r k (getD q k 0)) (k + 1) (getD q (k + 1) 0)
 
-abbrev pub differenceNext : List ℕ → Differences → difference-answer.Answer
-differenceNext u c = nextDifference (take (c .to) u) (c .place)
+unfoldable pub partIn : List ℕ → ℕ → Part
+partIn r k = record { place = getD r k 0; bytes = record { 0 = getD r (k + 1) 0 } }
 
-abbrev pub byteNext : List ℕ → Bytes → byte-answer.Answer
-byteNext u c = nextByte (take (c .to) u) (c .place)
+-- column k is cut: it stands from a place to its end
+pub record Cut (k from to : ℕ) (w v : List ℕ) : Type 0 where
+  pub small : Small v
+  pub elsewhere : Elsewhere k w v
+  pub begins : (cell v k 0 ≡ from) × (cell v k 1 ≡ from)
+  pub ends : cell v k 4 ≡ to
+  pub rest : (cell v k 2 ≡ 0) × (cell v k 3 ≡ 0) × (cell v k 5 ≡ 2147483648) × (cell v k 6 ≡ 0)
 
-abbrev pub textNext : List ℕ → Texts → string-answer.Answer
-textNext u c = nextText (take (c .to) u) (c .place)
+-- ---- an answer, with the words v that it leaves
 
--- what is drawn, blamed at its run's first byte
-unfoldable pub numberDrawn : number-answer.Answer → Drawn
-numberDrawn (number.Next v c) = Number v (c .from)
-numberDrawn (number.Bad why) = Refused why
+-- of a whole state
+unfoldable pub given : List ℕ → Drawn → course.Drawn State (ℕ × ℕ)
+given v (Number x) = course.got (x, placeIn v) (stateIn v)
+given v Refused = course.not (whyIn v)
 
-unfoldable pub differenceDrawn : difference-answer.Answer → Drawn
-differenceDrawn (difference.Next v c) = Number v (c .from)
-differenceDrawn (difference.Bad why) = Refused why
+-- of one column
+unfoldable pub numbersGiven : List ℕ → ℕ → Drawn → course.Drawn Numbers (ℕ × ℕ)
+numbersGiven v k (Number x) = course.got (x, placeIn v) (numbersIn v k)
+numbersGiven v k Refused = course.not (whyIn v)
 
-unfoldable pub byteDrawn : byte-answer.Answer → Drawn
-byteDrawn (byte.Next v c) = Number v (c .from)
-byteDrawn (byte.Bad why) = Refused why
+unfoldable pub differencesGiven : List ℕ → ℕ → Drawn → course.Drawn Differences (ℕ × ℕ)
+differencesGiven v k (Number x) = course.got (x, placeIn v) (differencesIn v k)
+differencesGiven v k Refused = course.not (whyIn v)
 
-unfoldable pub textDrawn : string-answer.Answer → Text
-textDrawn (string.Next p c) = text.Part p (record { 0 = c .units .last })
-textDrawn (string.Bad why) = text.Refused why
+unfoldable pub bytesGiven : List ℕ → ℕ → Drawn → course.Drawn Bytes (ℕ × ℕ)
+bytesGiven v k (Number x) = course.got (x, placeIn v) (bytesIn v k)
+bytesGiven v k Refused = course.not (whyIn v)
 
--- and the column after it
-unfoldable pub numbersAfter : number-answer.Answer → Numbers → Numbers
-numbersAfter (number.Next v c) n = record { place = c; to = n .to }
-numbersAfter (number.Bad why) n = n
+-- of the text column: the part in words k and k + 1 of the row q, the units given
+unfoldable pub textsGiven : List ℕ → List ℕ → ℕ → Drawn → course.Drawn Texts (Part × Units)
+textsGiven v q k (Number n) = course.got (partIn q k, record { 0 = n }) (textsIn v 5)
+textsGiven v q k Refused = course.not (whyIn v)
 
-unfoldable pub differencesAfter : difference-answer.Answer → Differences → Differences
-differencesAfter (difference.Next v c) n = record { place = c; to = n .to }
-differencesAfter (difference.Bad why) n = n
+-- form 2 opened
+unfoldable pub openedIn : List ℕ → Drawn → course.Drawn State (Unit {0})
+openedIn v (Number n) = course.got tt (stateIn v)
+openedIn v Refused = course.not (whyIn v)
 
-unfoldable pub bytesAfter : byte-answer.Answer → Bytes → Bytes
-bytesAfter (byte.Next v c) n = record { place = c; to = n .to }
-bytesAfter (byte.Bad why) n = n
+-- ---- what a draw from column k does, from words w to words v
 
-unfoldable pub textsAfter : string-answer.Answer → Texts → Texts
-textsAfter (string.Next p c) n = record { place = c; to = n .to }
-textsAfter (string.Bad why) n = n
+-- the column's answer a
+abbrev pub NumberPut : ℕ → List ℕ → List ℕ → Drawn → number-answer.Answer → Type 0
+NumberPut k w v r a = Small v × Elsewhere k w v × (numbersGiven v k r ≡ numberDrawn (λ c. c) (cell w k 4) a) × Kept k w v
 
--- ---- an answer put onto a state, with the words after it
+abbrev pub DifferencePut : ℕ → List ℕ → List ℕ → Drawn → difference-answer.Answer → Type 0
+DifferencePut k w v r a = Small v × Elsewhere k w v × (differencesGiven v k r ≡ differenceDrawn (λ c. c) (cell w k 4) a)
 
-unfoldable pub drawnOnto : List ℕ → State → ℕ → Drawn → decoder-draw.Draw
-drawnOnto w s at (Number v p) = draw.Number v p (stateIn w s at)
-drawnOnto w s at (Refused why) = draw.Refused why
+-- the column's place p
+abbrev pub BytePut : ℕ → List ℕ → List ℕ → byte-place.Place → Type 0
+BytePut k w v p = Small v × Elsewhere k w v × (placeIn v ≡ p .from) × (bytesIn v k ≡ record { place = p; to = cell w k 4 })
 
-unfoldable pub idOnto : List ℕ → State → ℕ → Ident → decoder-ident.Ident
-idOnto w s at (ident.Id i) = idents.Id i (stateIn w s at)
-idOnto w s at (ident.Refused why) = idents.Refused why
+abbrev pub NumberDrawn : List ℕ → ℕ → List ℕ → List ℕ → Drawn → Type 0
+NumberDrawn u k w v r = Small v × Elsewhere k w v × (numbersGiven v k r ≡ fromNumbers u (numbersIn w k) (λ c. c)) × Kept k w v
 
-unfoldable pub textOnto : List ℕ → State → ℕ → Text → decoder-text.Text
-textOnto w s at (text.Part p n) = texts.Part p n (stateIn w s at)
-textOnto w s at (text.Refused why) = texts.Refused why
+abbrev pub DifferenceDrawn : List ℕ → ℕ → List ℕ → List ℕ → Drawn → Type 0
+DifferenceDrawn u k w v r = Small v × Elsewhere k w v × (differencesGiven v k r ≡ fromDifferences u (differencesIn w k) (λ c. c))
 
--- why an answer was refused
-abbrev pub whyDrawn : Drawn → Refusal
-whyDrawn (Number v p) = none
-whyDrawn (Refused why) = why
+abbrev pub ByteDrawn : List ℕ → ℕ → List ℕ → List ℕ → Drawn → Type 0
+ByteDrawn u k w v r = Small v × Elsewhere k w v × (bytesGiven v k r ≡ fromBytes u (bytesIn w k) (λ c. c))
 
-abbrev pub whyId : Ident → Refusal
-whyId (ident.Id i) = none
-whyId (ident.Refused why) = why
+-- the part goes to words k and k + 1 of the row, which was r and is q
+abbrev pub TextDrawn : List ℕ → ℕ → List ℕ → List ℕ → List ℕ → List ℕ → Drawn → Type 0
+TextDrawn u k w v r q d = Small v × Elsewhere 5 w v × Beside k r q × (textsGiven v q k d ≡ fromTexts u (textsIn w 5) (λ c. c))
 
-abbrev pub whyText : Text → Refusal
-whyText (text.Part p n) = none
-whyText (text.Refused why) = why
+abbrev pub Opened : List ℕ → List ℕ → Drawn → Type 0
+Opened u v r = Small v × (openedIn v r ≡ openedOf u)

@@ -1,2 +1,2 @@
--- What the words of lent columns hold.
+-- What the words hold in which reading stands.
 pub mod Cells

@@ -1,397 +1,389 @@
-// The columns of form 2, their places lent as words: a draw stores a few words, where a state given back by value is 390 bytes.
-// Each function gives what `decoder` and `item` give at any state of form 2 whose columns the words hold.
-use block::Id;
-use columns::byte;
-use columns::difference;
-use columns::number;
-use decoder::Bytes;
-use decoder::Differences;
-use decoder::Numbers;
-use decoder::State;
-use decoder::Texts;
+// Where reading stands, as words that the loop over blocks lends: the columns of form 2, the place in line, and why a field was refused. A draw stores a few
+// words and gives back one, where a state given back by value was 390 bytes.
+use numbers::Read;
 use numbers::Refusal;
-use text::Part;
-use text::Units;
+use numbers::Signed;
+use text::Taken;
 ghost use mathlib.Core.Path.{_≡_};
 ghost use mathlib.Core.Logic.{_≢_};
-ghost use Prim.Native.Nat.{ℕ, _+_, _*_, _≤_};
-ghost use lib.ListN.{length};
-ghost use Rattle.numbers.specs.Number.{pick};
-ghost use Rattle.decoder.specs.declared.State.{State};
-ghost use Rattle.item.specs.Fields.{infoOf, parentInfoOf, lenOf, leftIdOf, rightIdOf, textOf};
-ghost use Rattle.cells.specs.Cells.{numbersIn, differencesIn, bytesIn, textsIn, stateIn, ShortNumbers, ShortDifferences, ShortBytes, Small, Elsewhere, numberNext, differenceNext, byteNext, textNext, numberDrawn, differenceDrawn, byteDrawn, textDrawn, numbersAfter, differencesAfter, bytesAfter, textsAfter, drawnOnto, idOnto, textOnto, whyDrawn, whyId, whyText};
+ghost use Prim.Native.Nat.{_+_, _≤_, _<_};
+ghost use lib.ListN.{length, take};
+ghost use lib.Dec.{eqb};
+ghost use Rattle.columns.specs.Number as numbers;
+ghost use Rattle.columns.specs.Difference as differences;
+ghost use Rattle.columns.specs.Difference.{outside, keyRead};
+ghost use Rattle.cells.specs.declared.Drawn.the-variants as drawn;
+ghost use Rattle.decoder.specs.Opening.{textOpened};
+ghost use Rattle.cells.specs.Cells.{cell, atIn, placeIn, whyIn, stateIn, Small, Wide, Narrow, Elsewhere, Cut, openedIn, NumberPut, DifferencePut, BytePut, NumberDrawn, DifferenceDrawn, ByteDrawn, TextDrawn, Opened};
 
-// A value, and the place that it is blamed at.
+// How many words there are, and which of them are no column's.
+pub const WORDS: usize = 67;
+
+pub const AT: usize = 63;
+
+pub const PLACE: usize = 64;
+
+pub const NUMBER: usize = 65;
+
+pub const BLAMED: usize = 66;
+
+// A number; the words have the place that it is blamed at, or why there is none.
 pub enum Drawn {
-    Number(u64, usize),
-    Refused(Refusal),
+    Number(u64),
+    Refused,
 }
 
-pub enum Ident {
-    Id(Id),
-    Refused(Refusal),
+// Whether a field is in its row; the words have why not.
+pub enum Field {
+    Done,
+    Refused,
 }
 
-// A text, and how many units it has.
-pub enum Text {
-    Part(Part, Units),
-    Refused(Refusal),
-}
-
-// Why a draw was refused, for the `else` of a `let .. else`.
-pub fn why_drawn(d: Drawn) -> Refusal
-    ensures { λ r. ⌜ r ≡ whyDrawn d ⌝ }
+// The words say why.
+pub fn refuse(w: &mut [u64], number: u8, place: usize) -> Drawn
+    requires { ⌜ Small (now w) ⌝ }
+    ensures { λ r. ⌜ (r ≡ drawn.Refused) × Small (now (w .exit)) × Elsewhere 9 (now (w .entry)) (now (w .exit)) × (whyIn (now (w .exit)) ≡ record { number = number; place = place }) ⌝ }
 {
-    match d {
-        Drawn::Number(_, _) => Refusal {
-            number: 0,
-            place: 0,
-        },
-        Drawn::Refused(w) => w,
+    w[NUMBER] = number as u64;
+    w[BLAMED] = place as u64;
+    Drawn::Refused
+}
+
+pub fn why(w: &[u64]) -> Refusal
+    requires { ⌜ Small (now w) ⌝ }
+    ensures { λ r. ⌜ r ≡ whyIn (now (w .entry)) ⌝ }
+{
+    let number = w[NUMBER] as u8;
+    let place = w[BLAMED] as usize;
+    Refusal { number, place }
+}
+
+// The column up to its end; one that ends past the update is the whole of it.
+fn upto(update: &[u8], to: usize) -> &[u8]
+    ensures { λ r. ⌜ now r ≡ take to (now (update .entry)) ⌝ }
+{
+    if update.len() <= to {
+        return update;
     }
+    &update[..to]
 }
 
-pub fn why_id(i: Ident) -> Refusal
-    ensures { λ r. ⌜ r ≡ whyId i ⌝ }
+// ---- the next value of column k
+
+// A run under way takes two words.
+pub fn draw_number(update: &[u8], w: &mut [u64], k: usize) -> Drawn
+    requires { ⌜ Small (now w) × Wide k ⌝ }
+    ensures { λ r. ⌜ NumberDrawn (now (update .entry)) k (now (w .entry)) (now (w .exit)) r ⌝ }
 {
-    match i {
-        Ident::Id(_) => Refusal {
-            number: 0,
-            place: 0,
-        },
-        Ident::Refused(w) => w,
+    let b = 7 * k;
+    let count = w[b + 3];
+    if count == 0 {
+        return begin_numbers(update, w, k);
     }
-}
-
-pub fn why_text(t: Text) -> Refusal
-    ensures { λ r. ⌜ r ≡ whyText t ⌝ }
-{
-    match t {
-        Text::Part(_, _) => Refusal {
-            number: 0,
-            place: 0,
-        },
-        Text::Refused(w) => w,
+    let from = w[b + 1];
+    let last = w[b + 2];
+    if numbers::MAX_VALUE < last {
+        return refuse(w, 3, from as usize);
     }
+    w[b + 3] = count - 1;
+    w[PLACE] = from;
+    Drawn::Number(last)
 }
 
-// ---- a column of words
-
-fn numbers_at(w: &[u64], k: usize) -> Numbers
-    requires { ⌜ ShortNumbers (now w) k ⌝ }
-    ensures { λ r. ⌜ r ≡ numbersIn (now (w .entry)) k ⌝ }
+// The run that begins at the column's place, and its first value.
+fn begin_numbers(update: &[u8], w: &mut [u64], k: usize) -> Drawn
+    requires { ⌜ Small (now w) × Wide k × (cell (now w) k 3 ≡ 0) ⌝ }
+    ensures { λ r. ⌜ NumberDrawn (now (update .entry)) k (now (w .entry)) (now (w .exit)) r ⌝ }
 {
-    let base = 7 * k;
-    let at = w[base] as usize;
-    let from = w[base + 1] as usize;
-    let last = w[base + 2];
-    let count = w[base + 3] as u32;
-    let to = w[base + 4] as usize;
-    let place = number::Place {
-        at,
-        from,
-        last,
-        count,
+    let b = 7 * k;
+    let at = w[b] as usize;
+    let end = w[b + 4] as usize;
+    let column = upto(update, end);
+    let s = numbers::read_signed(column, at);
+    let Signed::Value(minus, x, e) = s else {
+        let why = numbers::why_signed(s);
+        return refuse(w, why.number, why.place);
     };
-    Numbers { place, to }
-}
-
-fn differences_at(w: &[u64], k: usize) -> Differences
-    requires { ⌜ ShortDifferences (now w) k ⌝ }
-    ensures { λ r. ⌜ r ≡ differencesIn (now (w .entry)) k ⌝ }
-{
-    let base = 7 * k;
-    let at = w[base] as usize;
-    let from = w[base + 1] as usize;
-    let last = w[base + 2] as u32;
-    let count = w[base + 3] as u32;
-    let to = w[base + 4] as usize;
-    let key = w[base + 5] as u32;
-    let place = difference::Place {
-        at,
-        from,
-        last,
-        key,
-        count,
-    };
-    Differences { place, to }
-}
-
-fn bytes_at(w: &[u64], k: usize) -> Bytes
-    requires { ⌜ ShortBytes (now w) k ⌝ }
-    ensures { λ r. ⌜ r ≡ bytesIn (now (w .entry)) k ⌝ }
-{
-    let base = 7 * k;
-    let at = w[base] as usize;
-    let from = w[base + 1] as usize;
-    let last = w[base + 2] as u8;
-    let count = w[base + 3] as u32;
-    let to = w[base + 4] as usize;
-    let endless = w[base + 5] == 1;
-    let place = byte::Place {
-        at,
-        from,
-        last,
-        count,
-        endless,
-    };
-    Bytes { place, to }
-}
-
-fn texts_at(w: &[u64], k: usize) -> Texts
-    requires { ⌜ ShortNumbers (now w) k ⌝ }
-    ensures { λ r. ⌜ r ≡ textsIn (now (w .entry)) k ⌝ }
-{
-    let c = numbers_at(w, k);
-    let units = c.place;
-    let to = c.to;
-    let base = 7 * k;
-    let at = w[base + 5] as usize;
-    let end = w[base + 6] as usize;
-    let place = string::Place { at, end, units };
-    Texts { place, to }
-}
-
-fn put_numbers(w: &mut [u64], k: usize, c: Numbers)
-    requires { ⌜ 7 * k + 7 ≤ length (now w) ⌝ }
-    ensures { λ _. ⌜ (numbersIn (now (w .exit)) k ≡ c) × ShortNumbers (now (w .exit)) k × Elsewhere k (now (w .entry)) (now (w .exit)) ⌝ }
-{
-    let base = 7 * k;
-    let p = c.place;
-    w[base] = p.at as u64;
-    w[base + 1] = p.from as u64;
-    w[base + 2] = p.last;
-    w[base + 3] = p.count as u64;
-    w[base + 4] = c.to as u64;
-}
-
-fn put_differences(w: &mut [u64], k: usize, c: Differences)
-    requires { ⌜ 7 * k + 7 ≤ length (now w) ⌝ }
-    ensures { λ _. ⌜ (differencesIn (now (w .exit)) k ≡ c) × ShortDifferences (now (w .exit)) k × Elsewhere k (now (w .entry)) (now (w .exit)) ⌝ }
-{
-    let base = 7 * k;
-    let p = c.place;
-    w[base] = p.at as u64;
-    w[base + 1] = p.from as u64;
-    w[base + 2] = p.last as u64;
-    w[base + 3] = p.count as u64;
-    w[base + 4] = c.to as u64;
-    w[base + 5] = p.key as u64;
-}
-
-// Yes as a word.
-fn word(yes: bool) -> u64
-    ensures { λ r. ⌜ r ≡ pick yes 1 0 ⌝ }
-{
-    if yes {
-        return 1;
+    if minus {
+        let n = numbers::read_unsigned(column, e);
+        let Read::Number(c, f) = n else {
+            let why = numbers::why_read(n);
+            return refuse(w, why.number, why.place);
+        };
+        if numbers::MAX_COUNT < c {
+            return refuse(w, 3, e);
+        }
+        return put_number(w, k, f, at, x, c + 1);
     }
-    0
+    put_number(w, k, e, at, x, 0)
 }
 
-fn put_bytes(w: &mut [u64], k: usize, c: Bytes)
-    requires { ⌜ 7 * k + 7 ≤ length (now w) ⌝ }
-    ensures { λ _. ⌜ (bytesIn (now (w .exit)) k ≡ c) × ShortBytes (now (w .exit)) k × Elsewhere k (now (w .entry)) (now (w .exit)) ⌝ }
+// The run of x that begins at `from`, its first value drawn: it stands `left` times more.
+fn put_number(w: &mut [u64], k: usize, past: usize, from: usize, x: u64, left: u64) -> Drawn
+    requires { ⌜ Small (now w) × Wide k ⌝ }
+    ensures { λ r. ⌜ NumberPut k (now (w .entry)) (now (w .exit)) r (numbers.drawn (numbers.placeAt past from x (left + 1))) ⌝ }
 {
-    let base = 7 * k;
-    let p = c.place;
-    w[base] = p.at as u64;
-    w[base + 1] = p.from as u64;
-    w[base + 2] = p.last as u64;
-    w[base + 3] = p.count as u64;
-    w[base + 4] = c.to as u64;
-    w[base + 5] = word(p.endless);
+    if numbers::MAX_VALUE < x {
+        return refuse(w, 3, from);
+    }
+    let b = 7 * k;
+    w[b] = past as u64;
+    w[b + 1] = from as u64;
+    w[b + 2] = x;
+    w[b + 3] = left;
+    w[PLACE] = from as u64;
+    Drawn::Number(x)
 }
 
-fn put_texts(w: &mut [u64], k: usize, c: Texts)
-    requires { ⌜ 7 * k + 7 ≤ length (now w) ⌝ }
-    ensures { λ _. ⌜ (textsIn (now (w .exit)) k ≡ c) × ShortNumbers (now (w .exit)) k × Elsewhere k (now (w .entry)) (now (w .exit)) ⌝ }
+fn is_outside(minus: bool, x: u64) -> bool
+    ensures { λ r. ⌜ r ≡ outside minus x ⌝ }
 {
-    let p = c.place;
-    let place = p.units;
-    let to = c.to;
-    put_numbers(w, k, Numbers { place, to });
-    let base = 7 * k;
-    w[base + 5] = p.at as u64;
-    w[base + 6] = p.end as u64;
+    if minus {
+        return 2147483648 < x;
+    }
+    2147483648 <= x
 }
 
-// ---- all of them
-
-// The columns of a state as words.
-pub fn pack(w: &mut [u64], s: State)
-    requires { ⌜ 63 ≤ length (now w) ⌝ }
-    ensures { λ _. ⌜ Small (now (w .exit)) × (stateIn (now (w .exit)) s (s .at) ≡ s) ⌝ }
+// The difference that was read, plus 2^31.
+fn key_read(minus: bool, x: u64) -> u64
+    requires { ⌜ x ≤ 2147483648 ⌝ }
+    ensures { λ r. ⌜ (r ≡ keyRead minus x) × (r ≤ 4294967295) ⌝ }
 {
-    put_numbers(w, 1, s.client);
-    put_differences(w, 2, s.left);
-    put_differences(w, 3, s.right);
-    put_bytes(w, 4, s.info);
-    put_texts(w, 5, s.text);
-    put_bytes(w, 6, s.parent);
-    put_numbers(w, 8, s.len);
+    if minus {
+        return 2147483648 - (x + 1) / 2;
+    }
+    2147483648 + x / 2
 }
 
-// A state with the columns that the words hold.
-pub fn unpack(w: &[u64], s: State, at: usize) -> State
-    requires { ⌜ Small (now w) ⌝ }
-    ensures { λ r. ⌜ r ≡ stateIn (now (w .entry)) s at ⌝ }
+pub fn draw_difference(update: &[u8], w: &mut [u64], k: usize) -> Drawn
+    requires { ⌜ Small (now w) × Narrow k ⌝ }
+    ensures { λ r. ⌜ DifferenceDrawn (now (update .entry)) k (now (w .entry)) (now (w .exit)) r ⌝ }
 {
-    let mut t = s;
-    t.at = at;
-    t.client = numbers_at(w, 1);
-    t.left = differences_at(w, 2);
-    t.right = differences_at(w, 3);
-    t.info = bytes_at(w, 4);
-    t.text = texts_at(w, 5);
-    t.parent = bytes_at(w, 6);
-    t.len = numbers_at(w, 8);
-    t
+    let b = 7 * k;
+    let count = w[b + 3];
+    if count == 0 {
+        return begin_differences(update, w, k);
+    }
+    let from = w[b + 1];
+    let sum = w[b + 2] + w[b + 5];
+    if sum < 2147483648 {
+        return refuse(w, 3, from as usize);
+    }
+    let v = sum - 2147483648;
+    if numbers::MAX_CLOCK < v {
+        return refuse(w, 3, from as usize);
+    }
+    w[b + 2] = v;
+    w[b + 3] = count - 1;
+    w[PLACE] = from;
+    Drawn::Number(v)
 }
 
-// ---- the next value of a column
-
-fn draw_number(update: &[u8], w: &mut [u64], k: usize) -> Drawn
-    requires { ⌜ ShortNumbers (now w) k ⌝ }
-    ensures { λ r. ⌜ (r ≡ numberDrawn (numberNext (now (update .entry)) (numbersIn (now (w .entry)) k)))
-        × (numbersIn (now (w .exit)) k ≡ numbersAfter (numberNext (now (update .entry)) (numbersIn (now (w .entry)) k)) (numbersIn (now (w .entry)) k))
-        × ShortNumbers (now (w .exit)) k × Elsewhere k (now (w .entry)) (now (w .exit)) ⌝ }
+fn begin_differences(update: &[u8], w: &mut [u64], k: usize) -> Drawn
+    requires { ⌜ Small (now w) × Narrow k × (cell (now w) k 3 ≡ 0) ⌝ }
+    ensures { λ r. ⌜ DifferenceDrawn (now (update .entry)) k (now (w .entry)) (now (w .exit)) r ⌝ }
 {
-    let c = numbers_at(w, k);
-    let to = c.to;
-    let r = number::next(decoder::upto(update, to), c.place);
-    let number::Answer::Next(v, next) = r else {
-        return Drawn::Refused(number::why(r));
+    let b = 7 * k;
+    let at = w[b] as usize;
+    let end = w[b + 4] as usize;
+    let column = upto(update, end);
+    let s = numbers::read_signed(column, at);
+    let Signed::Value(minus, x, e) = s else {
+        let why = numbers::why_signed(s);
+        return refuse(w, why.number, why.place);
     };
-    put_numbers(w, k, Numbers { place: next, to });
-    Drawn::Number(v, next.from)
+    if is_outside(minus, x) {
+        return refuse(w, 3, at);
+    }
+    let key = key_read(minus, x);
+    if x % 2 == 1 {
+        let n = numbers::read_unsigned(column, e);
+        let Read::Number(c, f) = n else {
+            let why = numbers::why_read(n);
+            return refuse(w, why.number, why.place);
+        };
+        if numbers::MAX_COUNT < c {
+            return refuse(w, 3, e);
+        }
+        return put_difference(w, k, f, at, key, c + 1);
+    }
+    put_difference(w, k, e, at, key, 0)
 }
 
-fn draw_difference(update: &[u8], w: &mut [u64], k: usize) -> Drawn
-    requires { ⌜ ShortDifferences (now w) k ⌝ }
-    ensures { λ r. ⌜ (r ≡ differenceDrawn (differenceNext (now (update .entry)) (differencesIn (now (w .entry)) k)))
-        × (differencesIn (now (w .exit)) k ≡ differencesAfter (differenceNext (now (update .entry)) (differencesIn (now (w .entry)) k)) (differencesIn (now (w .entry)) k))
-        × ShortDifferences (now (w .exit)) k × Elsewhere k (now (w .entry)) (now (w .exit)) ⌝ }
+// The run of a difference that begins at `from`, its first value drawn onto the value before: it applies `left` times more.
+fn put_difference(w: &mut [u64], k: usize, past: usize, from: usize, key: u64, left: u64) -> Drawn
+    requires { ⌜ Small (now w) × Narrow k × (key ≤ 4294967295) ⌝ }
+    ensures { λ r. ⌜ DifferencePut k (now (w .entry)) (now (w .exit)) r (differences.drawn (differences.placeAt past from (cell (now (w .entry)) k 2) key (left + 1))) ⌝ }
 {
-    let c = differences_at(w, k);
-    let to = c.to;
-    let r = difference::next(decoder::upto(update, to), c.place);
-    let difference::Answer::Next(v, next) = r else {
-        return Drawn::Refused(difference::why(r));
+    let b = 7 * k;
+    let sum = w[b + 2] + key;
+    if sum < 2147483648 {
+        return refuse(w, 3, from);
+    }
+    let v = sum - 2147483648;
+    if numbers::MAX_CLOCK < v {
+        return refuse(w, 3, from);
+    }
+    w[b] = past as u64;
+    w[b + 1] = from as u64;
+    w[b + 2] = v;
+    w[b + 3] = left;
+    w[b + 5] = key;
+    w[PLACE] = from as u64;
+    Drawn::Number(v)
+}
+
+pub fn draw_byte(update: &[u8], w: &mut [u64], k: usize) -> Drawn
+    requires { ⌜ Small (now w) × Wide k ⌝ }
+    ensures { λ r. ⌜ ByteDrawn (now (update .entry)) k (now (w .entry)) (now (w .exit)) r ⌝ }
+{
+    let b = 7 * k;
+    let from = w[b + 1];
+    let last = w[b + 2];
+    if w[b + 5] == 1 {
+        w[PLACE] = from;
+        return Drawn::Number(last);
+    }
+    let count = w[b + 3];
+    if count == 0 {
+        return begin_bytes(update, w, k);
+    }
+    w[b + 3] = count - 1;
+    w[PLACE] = from;
+    Drawn::Number(last)
+}
+
+fn begin_bytes(update: &[u8], w: &mut [u64], k: usize) -> Drawn
+    requires { ⌜ Small (now w) × Wide k × (cell (now w) k 3 ≡ 0) × (cell (now w) k 5 ≢ 1) ⌝ }
+    ensures { λ r. ⌜ ByteDrawn (now (update .entry)) k (now (w .entry)) (now (w .exit)) r ⌝ }
+{
+    let b = 7 * k;
+    let at = w[b] as usize;
+    let end = w[b + 4] as usize;
+    let column = upto(update, end);
+    if column.len() <= at {
+        return refuse(w, 1, column.len());
+    }
+    let v = column[at] as u64;
+    let e = at + 1;
+    if column.len() <= e {
+        put_byte(w, k, e, at, v, 0, 1);
+        return Drawn::Number(v);
+    }
+    let n = numbers::read_unsigned(column, e);
+    let Read::Number(c, f) = n else {
+        let why = numbers::why_read(n);
+        return refuse(w, why.number, why.place);
     };
-    put_differences(w, k, Differences { place: next, to });
-    Drawn::Number(v as u64, next.from)
+    if numbers::MAX_COUNT < c {
+        return refuse(w, 3, e);
+    }
+    put_byte(w, k, f, at, v, c, 0);
+    Drawn::Number(v)
 }
 
-fn draw_byte(update: &[u8], w: &mut [u64], k: usize) -> Drawn
-    requires { ⌜ ShortBytes (now w) k ⌝ }
-    ensures { λ r. ⌜ (r ≡ byteDrawn (byteNext (now (update .entry)) (bytesIn (now (w .entry)) k)))
-        × (bytesIn (now (w .exit)) k ≡ bytesAfter (byteNext (now (update .entry)) (bytesIn (now (w .entry)) k)) (bytesIn (now (w .entry)) k))
-        × ShortBytes (now (w .exit)) k × Elsewhere k (now (w .entry)) (now (w .exit)) ⌝ }
+// The run of a byte that begins at `from`, its first value drawn: it stands `left` times more, or (1) without end.
+fn put_byte(w: &mut [u64], k: usize, past: usize, from: usize, v: u64, left: u64, endless: u64)
+    requires { ⌜ Small (now w) × Wide k ⌝ }
+    ensures { λ _. ⌜ BytePut k (now (w .entry)) (now (w .exit)) (record { at = past; from = from; last = v; count = left; endless = eqb endless 1 }) ⌝ }
 {
-    let c = bytes_at(w, k);
-    let to = c.to;
-    let r = byte::next(decoder::upto(update, to), c.place);
-    let byte::Answer::Next(v, next) = r else {
-        return Drawn::Refused(byte::why(r));
-    };
-    put_bytes(w, k, Bytes { place: next, to });
-    Drawn::Number(v as u64, next.from)
+    let b = 7 * k;
+    w[b] = past as u64;
+    w[b + 1] = from as u64;
+    w[b + 2] = v;
+    w[b + 3] = left;
+    w[b + 5] = endless;
+    w[PLACE] = from as u64;
 }
 
-// The units of a text are the number drawn.
-fn draw_text(update: &[u8], w: &mut [u64], k: usize) -> Text
-    requires { ⌜ ShortNumbers (now w) k ⌝ }
-    ensures { λ r. ⌜ (r ≡ textDrawn (textNext (now (update .entry)) (textsIn (now (w .entry)) k)))
-        × (textsIn (now (w .exit)) k ≡ textsAfter (textNext (now (update .entry)) (textsIn (now (w .entry)) k)) (textsIn (now (w .entry)) k))
-        × ShortNumbers (now (w .exit)) k × Elsewhere k (now (w .entry)) (now (w .exit)) ⌝ }
+// The text's place and bytes go to words k and k + 1 of the row; its units, which are the number drawn, are given back.
+pub fn draw_text(update: &[u8], w: &mut [u64], r: &mut [u64], k: usize) -> Drawn
+    requires { ⌜ Small (now w) × (k + 1 < length (now r)) ⌝ }
+    ensures { λ d. ⌜ TextDrawn (now (update .entry)) k (now (w .entry)) (now (w .exit)) (now (r .entry)) (now (r .exit)) d ⌝ }
 {
-    let c = texts_at(w, k);
-    let to = c.to;
-    let r = string::next(decoder::upto(update, to), c.place);
-    let string::Answer::Next(part, next) = r else {
-        return Text::Refused(string::why(r));
-    };
-    put_texts(w, k, Texts { place: next, to });
-    let drawn = next.units;
-    Text::Part(part, Units(drawn.last))
-}
-
-// ---- a field from its column
-
-pub fn read_info(update: &[u8], w: &mut [u64]) -> Drawn
-    requires { ⌜ Small (now w) ⌝ }
-    ensures { λ r. ⌜ Small (now (w .exit)) × ((s : State) (at : ℕ) → s .form ≢ 1 → drawnOnto (now (w .exit)) s at r ≡ infoOf (now (update .entry)) (stateIn (now (w .entry)) s at)) ⌝ }
-{
-    draw_byte(update, w, 4)
-}
-
-pub fn read_string(update: &[u8], w: &mut [u64]) -> Text
-    requires { ⌜ Small (now w) ⌝ }
-    ensures { λ r. ⌜ Small (now (w .exit)) × ((s : State) (at : ℕ) → s .form ≢ 1 → textOnto (now (w .exit)) s at r ≡ textOf (now (update .entry)) (stateIn (now (w .entry)) s at)) ⌝ }
-{
-    draw_text(update, w, 5)
-}
-
-pub fn read_parent_info(update: &[u8], w: &mut [u64]) -> Drawn
-    requires { ⌜ Small (now w) ⌝ }
-    ensures { λ r. ⌜ Small (now (w .exit)) × ((s : State) (at : ℕ) → s .form ≢ 1 → drawnOnto (now (w .exit)) s at r ≡ parentInfoOf (now (update .entry)) (stateIn (now (w .entry)) s at)) ⌝ }
-{
-    draw_byte(update, w, 6)
-}
-
-// A length must be a clock.
-pub fn read_len(update: &[u8], w: &mut [u64]) -> Drawn
-    requires { ⌜ Small (now w) ⌝ }
-    ensures { λ r. ⌜ Small (now (w .exit)) × ((s : State) (at : ℕ) → s .form ≢ 1 → drawnOnto (now (w .exit)) s at r ≡ lenOf (now (update .entry)) (stateIn (now (w .entry)) s at)) ⌝ }
-{
-    let d = draw_number(update, w, 8);
-    let Drawn::Number(v, place) = d else {
+    let d = draw_number(update, w, 5);
+    let Drawn::Number(units) = d else {
         return d;
     };
-    if numbers::MAX_CLOCK < v {
-        return Drawn::Refused(Refusal { number: 3, place });
+    let to = w[39] as usize;
+    let at = w[40] as usize;
+    let end = w[41] as usize;
+    match string::take_text(upto(update, to), at, end, units) {
+        Taken::Took(bytes) => {
+            let size = bytes.0;
+            let next = at + size;
+            w[40] = next as u64;
+            r[k] = at as u64;
+            r[k + 1] = size as u64;
+            Drawn::Number(units)
+        }
+        Taken::Refused(number) => refuse(w, number, at),
     }
-    d
 }
 
-// An id: client, then clock.
-pub fn read_left_id(update: &[u8], w: &mut [u64]) -> Ident
+// ---- opening: the flag, the nine columns, the text
+
+fn open_text(update: &[u8], w: &mut [u64]) -> Drawn
     requires { ⌜ Small (now w) ⌝ }
-    ensures { λ r. ⌜ Small (now (w .exit)) × ((s : State) (at : ℕ) → s .form ≢ 1 → idOnto (now (w .exit)) s at r ≡ leftIdOf (now (update .entry)) (stateIn (now (w .entry)) s at)) ⌝ }
+    ensures { λ r. ⌜ Small (now (w .exit)) × (openedIn (now (w .exit)) r ≡ textOpened (now (update .entry)) (stateIn (now (w .entry)))) ⌝ }
 {
-    let c = draw_number(update, w, 1);
-    let Drawn::Number(client, _) = c else {
-        return Ident::Refused(why_drawn(c));
-    };
-    let k = draw_difference(update, w, 2);
-    let Drawn::Number(clock, _) = k else {
-        return Ident::Refused(why_drawn(k));
-    };
-    let short = clock as u32;
-    let id = Id {
-        client,
-        clock: short,
-    };
-    Ident::Id(id)
+    let at = w[35] as usize;
+    let to = w[39] as usize;
+    match string::open(upto(update, to), at) {
+        string::Opened::Not(why) => refuse(w, why.number, why.place),
+        string::Opened::At(place) => {
+            let units = place.units;
+            w[35] = units.at as u64;
+            w[36] = units.from as u64;
+            w[37] = units.last;
+            w[38] = units.count as u64;
+            w[40] = place.at as u64;
+            w[41] = place.end as u64;
+            Drawn::Number(0)
+        }
+    }
 }
 
-pub fn read_right_id(update: &[u8], w: &mut [u64]) -> Ident
-    requires { ⌜ Small (now w) ⌝ }
-    ensures { λ r. ⌜ Small (now (w .exit)) × ((s : State) (at : ℕ) → s .form ≢ 1 → idOnto (now (w .exit)) s at r ≡ rightIdOf (now (update .entry)) (stateIn (now (w .entry)) s at)) ⌝ }
+// Column k from a place to its end, nothing drawn from it yet: a difference of 0, and no byte without end.
+fn put_column(w: &mut [u64], k: usize, from: usize, to: usize)
+    requires { ⌜ Small (now w) × (k ≤ 8) ⌝ }
+    ensures { λ _. ⌜ Cut k from to (now (w .entry)) (now (w .exit)) ⌝ }
 {
-    let c = draw_number(update, w, 1);
-    let Drawn::Number(client, _) = c else {
-        return Ident::Refused(why_drawn(c));
-    };
-    let k = draw_difference(update, w, 3);
-    let Drawn::Number(clock, _) = k else {
-        return Ident::Refused(why_drawn(k));
-    };
-    let short = clock as u32;
-    let id = Id {
-        client,
-        clock: short,
-    };
-    Ident::Id(id)
+    let b = 7 * k;
+    w[b] = from as u64;
+    w[b + 1] = from as u64;
+    w[b + 2] = 0;
+    w[b + 3] = 0;
+    w[b + 4] = to as u64;
+    w[b + 5] = 2147483648;
+    w[b + 6] = 0;
+}
+
+// The state before form 2's first number: a flag byte of any value, nine columns, and the text among them opened.
+pub fn open(update: &[u8], w: &mut [u64]) -> Drawn
+    requires { ⌜ Small (now w) ⌝ }
+    ensures { λ r. ⌜ Opened (now (update .entry)) (now (w .exit)) r ⌝ }
+{
+    if update.len() == 0 {
+        return refuse(w, 1, 0);
+    }
+    let mut at: usize = 1;
+    let mut k: usize = 0;
+    while k < 9 {
+        let n = numbers::read_unsigned(update, at);
+        let Read::Number(size, from) = n else {
+            let why = numbers::why_read(n);
+            return refuse(w, why.number, why.place);
+        };
+        let left = (update.len() - from) as u64;
+        if left < size {
+            return refuse(w, 1, update.len());
+        }
+        let to = from + size as usize;
+        put_column(w, k, from, to);
+        at = to;
+        k += 1;
+    }
+    w[AT] = at as u64;
+    open_text(update, w)
 }

@@ -7,13 +7,12 @@ use Rattle.numbers.specs.Number.{pick, none}
 use Rattle.block.specs.declared.Block.{Block}
 use Rattle.block.specs.Row.{noBlock}
 use Rattle.block.specs.Kinds.{BINARY}
-use Rattle.decoder.specs.Course.{Course, item, over, stopped, ending}
+use Rattle.grammar.specs.Course.{Course, item, over, stopped, ending}
+use Rattle.decoder.specs.Update.{blocksOf, deleteSet}
 use Rattle.update.specs.declared.Begun.{Begun}
 use Rattle.update.specs.declared.Begun.the-variants as begun
-use Rattle.update.specs.Update.{blocksOf}
 use Rattle.deletes.specs.declared.Checked.{Checked}
 use Rattle.deletes.specs.declared.Checked.the-variants as checked
-use Rattle.deletes.specs.DeleteSet.{deleteSet}
 use Rattle.content.specs.declared.Scanned.{Scanned}
 use Rattle.content.specs.declared.Scanned.the-variants as scanned
 use Rattle.content.specs.declared.Found.{Found}
@@ -23,11 +22,11 @@ use Rattle.content.specs.declared.Found.the-variants.{Part, Refused}
 unfoldable pub nth : ℕ → Course Block → Block
 nth zero (item b p c) = b
 nth (suc n) (item b p c) = nth n c
-nth n (over s) = noBlock
+nth n (over a s) = noBlock
 nth n (stopped why) = noBlock
 
 unfoldable pub scannedOf : ℕ → Course Block → Scanned
-scannedOf n c = ending c (λ s. scanned.Row (nth n c) s) (λ why. scanned.Refused why)
+scannedOf n c = ending c (λ at. scanned.Row (nth n c) at) (λ why. scanned.Refused why)
 
 -- a binary (4) or a text (5)
 unfoldable pub stored : Block → Found
@@ -36,7 +35,7 @@ stored b = pick (ltb (b .kind) BINARY) (Refused (record { number = 11; place = 0
 unfoldable pub contentOf : ℕ → List ℕ → ℕ → Found
 contentOf form u n =
     ending (blocksOf form u)
-    (λ s. ending (deleteSet u s) (λ t. stored (nth n (blocksOf form u))) (λ why. Refused why))
+    (λ at. ending (deleteSet form u at) (λ e. stored (nth n (blocksOf form u))) (λ why. Refused why))
     (λ why. Refused why)
 
 -- ---- why not
@@ -46,9 +45,9 @@ whyBegun (begun.At s) = none
 whyBegun (begun.Refused why) = why
 
 abbrev pub whyScanned : Scanned → Refusal
-whyScanned (scanned.Row b s) = none
+whyScanned (scanned.Row b at) = none
 whyScanned (scanned.Refused why) = why
 
 abbrev pub whyChecked : Checked → Refusal
-whyChecked (checked.Done s) = none
+whyChecked (checked.Done e) = none
 whyChecked (checked.Refused why) = why

@@ -1,40 +1,41 @@
 // Where the stored part of a block lies in its update: the whole update is read, with no table.
 use block::Block;
-use decoder::State;
 use deletes::Checked;
 use numbers::Refusal;
 use text::Part;
 use update::Begun;
-use update::Blocks;
+use update::Spot;
 use update::Step;
 ghost use mathlib.Core.Path.{_≡_};
 ghost use lib.ListN.{replicate};
-ghost use Rattle.update.specs.Steps.{rest, Fine};
+ghost use Rattle.cells.specs.Cells.{Small};
+ghost use Rattle.update.specs.Steps.{comes, Fine};
 ghost use Rattle.content.specs.Content.{scannedOf, stored, contentOf, whyBegun, whyScanned, whyChecked};
 
-// The row of the block sought, or the row that has none; and the state after all blocks.
+// The row of the block sought, or the row that has none; and the place after all blocks.
 pub enum Scanned {
-    Row(Block, State),
+    Row(Block, usize),
     Refused(Refusal),
 }
 
 // Reads all blocks, and keeps block n.
-fn scan(update: &[u8], s: Blocks, n: usize) -> Scanned
-    requires { ⌜ Fine (replicate 64 0) s ⌝ }
-    ensures { λ r. ⌜ r ≡ scannedOf n (rest (now (update .entry)) (replicate 64 0) s) ⌝ }
+fn scan(form: u8, update: &[u8], w: &mut [u64], s: Spot, n: usize) -> Scanned
+    requires { ⌜ Small (now w) × Fine (replicate 64 0) s ⌝ }
+    ensures { λ r. ⌜ r ≡ scannedOf n (comes form (now (update .entry)) (replicate 64 0) (now (w .entry)) s) ⌝ }
 {
+    let mut fields = [0u64; 21];
     let mut memory = [0u64; 64];
     let mut s = s;
     let mut ahead = n;
     let mut found = false;
     let mut row = block::none();
     loop {
-        match update::next(update, &mut memory, s) {
-            Step::Block(b, _, t) => {
+        match update::next(form, update, w, &mut fields, &mut memory, s) {
+            Step::Block(_, t) => {
                 s = t;
                 if !found {
                     if ahead == 0 {
-                        row = b;
+                        row = item::row_in(&fields);
                         found = true;
                     } else {
                         ahead -= 1;
@@ -44,8 +45,8 @@ fn scan(update: &[u8], s: Blocks, n: usize) -> Scanned
             Step::On(t) => {
                 s = t;
             }
-            Step::Done(t) => {
-                return Scanned::Row(row, t);
+            Step::Done(at) => {
+                return Scanned::Row(row, at);
             }
             Step::Refused(why) => {
                 return Scanned::Refused(why);
@@ -77,15 +78,16 @@ fn stored_part(b: Block) -> Found
 pub fn find(form: u8, update: &[u8], n: usize) -> Found
     ensures { λ r. ⌜ r ≡ contentOf form (now (update .entry)) n ⌝ }
 {
-    let b = update::begin(form, update);
+    let mut words = [0u64; 67];
+    let b = update::begin(form, update, &mut words);
     let Begun::At(s) = b else {
         return Found::Refused(why_begun(b));
     };
-    let r = scan(update, s, n);
-    let Scanned::Row(row, t) = r else {
+    let r = scan(form, update, &mut words, s, n);
+    let Scanned::Row(row, at) = r else {
         return Found::Refused(why_scanned(r));
     };
-    let c = deletes::check_delete_set(update, t);
+    let c = deletes::check_delete_set(form, update, at);
     let Checked::Done(_) = c else {
         return Found::Refused(why_checked(c));
     };

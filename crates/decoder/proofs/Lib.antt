@@ -1,2 +1,2 @@
--- The laws of draws.
+-- What holds of the readers of either form.
 pub mod Laws

@@ -1,4 +1,6 @@
--- What the fields of an update are in either form.
-pub mod Course
-pub mod Fields
+-- What the fields of an update are in either form, and what an update means.
+pub mod Line
 pub mod States
+pub mod Columned
+pub mod Opening
+pub mod Update

@@ -1,5 +1,4 @@
--- The laws of the delete set's steps (Laws), of the moves that come to them (Spots), of the rows that they fill (Rows), and of the set that these come to (Sets).
-pub mod Laws
-pub mod Spots
+-- The laws of the delete set's steps, the rows that they fill, and the set in normal form.
+pub mod Steps
 pub mod Rows
 pub mod Sets

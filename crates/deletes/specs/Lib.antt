@@ -1,4 +1,3 @@
--- What the delete set of an update is, and the steps that read it, with the state or from spot to spot.
+-- What is read of the delete set of an update, and the steps that read it.
 pub mod DeleteSet
 pub mod Steps
-pub mod Spots

@@ -1,78 +1,59 @@
--- The delete set a step at a time: a client's head, or one range.
-use Prim.Native.Nat.{ℕ, _+_, _-_, _*_, _≤_, _<_}
+-- The delete set a step at a time, a client's head or one range: what is to come before a step is what it gives, and then what is to come after it.
+use Prim.Native.Nat.{ℕ, _+_, _*_, _≤_, _<_}
 use mathlib.Core.Path.{_≡_}
 use mathlib.Core.List.{List}
-use lib.Dec.{ltb, eqb}
+use lib.Dec.{ltb}
 use lib.ListN.{length}
-use Rattle.numbers.specs.declared.Refusal.{Refusal}
-use Rattle.numbers.specs.Number.{pick, none}
-use Rattle.numbers.specs.Limits.{maxClock, maxClients}
-use Rattle.decoder.specs.declared.State.{State}
-use Rattle.decoder.specs.declared.Draw.{Draw}
-use Rattle.decoder.specs.declared.Draw.the-variants.{Number, Refused}
-use Rattle.decoder.specs.Fields.{bounded, varAt, client1}
-use Rattle.decoder.specs.Course.{Course, items, ending}
+use Rattle.numbers.specs.declared.Read.{Read}
+use Rattle.numbers.specs.declared.Read.the-variants as read
+use Rattle.numbers.specs.Number.{pick}
+use Rattle.numbers.specs.Limits.{maxValue}
 use Rattle.ranges.specs.Ranges.{Range}
-use Rattle.ranges.specs.Table.{rowsFrom, AllFine}
-use Rattle.deletes.specs.declared.Ranges.{Ranges}
-use Rattle.deletes.specs.declared.Begun.{Begun}
-use Rattle.deletes.specs.declared.Begun.the-variants as begun
-use Rattle.deletes.specs.declared.Step.{Step}
-use Rattle.deletes.specs.declared.Step.the-variants as step
+use Rattle.ranges.specs.Table.{range, rowsFrom, Fine, AllFine}
+use Rattle.grammar.specs.Grammar.{Grammar, _>>=_}
+use Rattle.grammar.specs.Course.{Course, item, over, stopped, run, items, ending}
+use Rattle.grammar.specs.Deletes.{ranges, clients}
+use Rattle.decoder.specs.Line.{line}
+use Rattle.deletes.specs.declared.Spot.{Spot}
+use Rattle.deletes.specs.declared.Move.{Move}
+use Rattle.deletes.specs.declared.Move.the-variants as move
 use Rattle.deletes.specs.declared.Collected.{Collected}
 use Rattle.deletes.specs.declared.Collected.the-variants as collected
-use Rattle.deletes.specs.DeleteSet.{clockIn, lenIn, ranges, clients}
 
-unfoldable pub drawnTo : Draw → (ℕ → ℕ → State → Step) → Step
-drawnTo (Number v p s) then = then v p s
-drawnTo (Refused why) then = step.Refused why
+-- a number that is stored less `by`: restored, it is at most `most`; blamed where it stands
+unfoldable pub restoredTo : ℕ → ℕ → ℕ → Read → Read
+restoredTo most by at (read.Number v e) = pick (ltb most (by + v)) (read.Refused (record { number = 3; place = at })) (read.Number (by + v) e)
+restoredTo most by at (read.Refused why) = read.Refused why
 
-unfoldable pub begunBy : Draw → Begun
-begunBy (Number n p s) = begun.At (record { fields = s; clients = n; ranges = 0; client = 0; end = 0 })
-begunBy (Refused why) = begun.Refused why
+abbrev pub firstOf : ℕ → ℕ → Spot
+firstOf n at = record { at = at; clients = n; ranges = 0; client = 0; end = 0 }
 
-unfoldable pub beginOf : List ℕ → State → Begun
-beginOf u s = begunBy (bounded maxClients (varAt u s))
+-- the ranges left of this client, and the clients left
+unfoldable pub toCome : Spot → Grammar Range (Unit {0})
+toCome p = ranges (p .ranges) (p .client) (p .end) >>= λ _. clients (p .clients)
 
-abbrev pub whyBegun : Begun → Refusal
-whyBegun (begun.At s) = none
-whyBegun (begun.Refused why) = why
+unfoldable pub comes : ℕ → List ℕ → Spot → Course Range
+comes form u p = run (line form u) (toCome p) (p .at)
 
--- a client's head
-unfoldable pub headOf : List ℕ → Ranges → Step
-headOf u s =
-    drawnTo (client1 u (s .fields)) (λ client p t.
-    drawnTo (varAt u t) (λ k q v.
-    step.On (record { fields = v; clients = s .clients - 1; ranges = k; client = client; end = 0 })))
-
--- what is left after a range that ends at `end`
-abbrev pub past : Ranges → State → ℕ → Ranges
-past s v end = record { fields = v; clients = s .clients; ranges = s .ranges - 1; client = s .client; end = end }
-
-unfoldable pub rangeOf : List ℕ → Ranges → Step
-rangeOf u s =
-    drawnTo (clockIn u (s .fields) (s .end)) (λ clock p t.
-    drawnTo (lenIn u t) (λ len q v.
-    pick (ltb maxClock (clock + len)) (step.Refused (record { number = 3; place = p }))
-    (pick (eqb len 0) (step.On (past s v (clock + len)))
-    (step.Range (s .client) clock len p (past s v (clock + len))))))
-
-unfoldable pub nextOf : List ℕ → Ranges → Step
-nextOf u s = pick (ltb 0 (s .ranges)) (rangeOf u s) (pick (ltb 0 (s .clients)) (headOf u s) (step.Done (s .fields)))
-
--- the ranges from here on
-unfoldable pub rest : List ℕ → Ranges → Course Range
-rest u s = ranges (s .ranges) u (s .client) (s .end) (s .fields) (clients (s .clients) u)
+unfoldable pub after : ℕ → List ℕ → Move → Course Range
+after form u (move.Range client clock len p t) = item (range client clock len) p (comes form u t)
+after form u (move.On t) = comes form u t
+after form u (move.Done at) = over tt at
+after form u (move.Refused why) = stopped why
 
 -- every count is below 2^64, so each step leaves less
-unfoldable pub left : Ranges → ℕ
-left s = s .clients * 18446744073709551616 + s .ranges
+unfoldable pub left : Spot → ℕ
+left p = p .clients * 18446744073709551616 + p .ranges
 
-unfoldable pub Falls : Ranges → Step → Type 0
-Falls s (step.Range client clock len p t) = left t < left s
-Falls s (step.On t) = left t < left s
-Falls s (step.Done t) = Unit {0}
-Falls s (step.Refused why) = Unit {0}
+-- from client to client within the limit, a range can be stored
+unfoldable pub Keeps : Spot → Move → Type 0
+Keeps p (move.Range client clock len place t) = (left t < left p) × (p .client ≤ maxValue → Fine (range client clock len) × (t .client ≤ maxValue))
+Keeps p (move.On t) = (left t < left p) × (p .client ≤ maxValue → t .client ≤ maxValue)
+Keeps p (move.Done at) = Unit {0}
+Keeps p (move.Refused why) = Unit {0}
+
+abbrev pub Follows : ℕ → List ℕ → Spot → Move → Type 0
+Follows form u p r = (comes form u p ≡ after form u r) × Keeps p r
 
 -- the rows of the words w that were e: what the course c has, with its ending
 pub record Kept (e w : List ℕ) (c : Course Range) (r : Collected) : Type 0 where

@@ -1,103 +1,17 @@
-// The delete set of an update, in either form: read into words that are lent, three a range, in normal form; or only checked.
-use decoder::Draw;
-use decoder::State;
+// The delete set of an update, in either form: read into words that are lent, three a range, in normal form; or only checked. All of it is in
+// line, so it is read by its place.
 use numbers::Read;
 use numbers::Refusal;
 ghost use mathlib.Core.Path.{_≡_};
-ghost use Prim.Native.Nat.{_/_, _≤_, _<_};
+ghost use Prim.Native.Nat.{_/_, _<_};
 ghost use lib.Dec.{eqb};
 ghost use lib.ListN.{length};
-ghost use Rattle.numbers.specs.Limits.{maxValue};
-ghost use Rattle.numbers.specs.Number.{pick};
-ghost use Rattle.decoder.specs.Course.{fit, ending};
+ghost use Rattle.numbers.specs.Number.{pick, readUnsigned};
+ghost use Rattle.grammar.specs.Course.{fit, ending};
+ghost use Rattle.decoder.specs.Update.{deleteSet};
 ghost use Rattle.deletes.specs.declared.Checked.the-variants as checked;
-ghost use Rattle.deletes.specs.DeleteSet.{deleteSet, setOf, wordsOf};
-ghost use Rattle.deletes.specs.Steps.{beginOf, whyBegun, headOf, rangeOf, nextOf, rest, Falls, Kept};
-ghost use Rattle.deletes.specs.Spots.{restoredAt, spotOf, Follows};
-
-// Where reading stands: how many clients are left, how many ranges of this client, and where its range before ended.
-pub struct Ranges {
-    pub fields: State,
-    pub clients: u64,
-    pub ranges: u64,
-    pub client: u64,
-    pub end: u64,
-}
-
-pub enum Begun {
-    At(Ranges),
-    Refused(Refusal),
-}
-
-// The client count.
-pub fn begin(update: &[u8], s: State) -> Begun
-    ensures { λ r. ⌜ r ≡ beginOf (now (update .entry)) s ⌝ }
-{
-    let d = decoder::within(decoder::read_var(update, s), numbers::MAX_CLIENTS);
-    let Draw::Number(n, _, t) = d else {
-        return Begun::Refused(decoder::why(d));
-    };
-    let first = Ranges {
-        fields: t,
-        clients: n,
-        ranges: 0,
-        client: 0,
-        end: 0,
-    };
-    Begun::At(first)
-}
-
-// Why reading did not begin, for the `else` of a `let .. else`.
-fn why_begun(b: Begun) -> Refusal
-    ensures { λ w. ⌜ w ≡ whyBegun b ⌝ }
-{
-    match b {
-        Begun::At(_) => Refusal {
-            number: 0,
-            place: 0,
-        },
-        Begun::Refused(w) => w,
-    }
-}
-
-// A range is its client, clock and length, and the place that its clock is blamed at. `On`: a client's head or an empty range was read.
-pub enum Step {
-    Range(u64, u64, u64, usize, Ranges),
-    On(Ranges),
-    Done(State),
-    Refused(Refusal),
-}
-
-// What a step changes of it: a delete set is in line, so only the place moves, and the columns stay.
-struct Spot {
-    at: usize,
-    clients: u64,
-    ranges: u64,
-    client: u64,
-    end: u64,
-}
-
-fn spot_of(s: Ranges) -> Spot
-    ensures { λ r. ⌜ r ≡ spotOf s ⌝ }
-{
-    let fields = s.fields;
-    let at = fields.at;
-    Spot {
-        at,
-        clients: s.clients,
-        ranges: s.ranges,
-        client: s.client,
-        end: s.end,
-    }
-}
-
-// A step from spot to spot; `Done` has the place after the last range.
-enum Move {
-    Range(u64, u64, u64, usize, Spot),
-    On(Spot),
-    Done(usize),
-    Refused(Refusal),
-}
+ghost use Rattle.deletes.specs.DeleteSet.{setOf, wordsOf};
+ghost use Rattle.deletes.specs.Steps.{restoredTo, firstOf, Follows, Kept};
 
 // In form 1 a clock and a length stand as they are, in form 2 less `by`.
 fn base(form: u8, by: u64) -> u64
@@ -109,23 +23,22 @@ fn base(form: u8, by: u64) -> u64
     by
 }
 
-// A clock or a length, restored, and the place after it.
-fn read_at(update: &[u8], form: u8, at: usize, by: u64) -> Read
-    ensures { λ r. ⌜ r ≡ restoredAt (now (update .entry)) form at by ⌝ }
+// A number that is stored less `low`, restored, and the place after it; over `most` it is refused.
+fn read_at(update: &[u8], at: usize, low: u64, most: u64) -> Read
+    ensures { λ r. ⌜ r ≡ restoredTo most low at (readUnsigned (now (update .entry)) at) ⌝ }
 {
     let r = numbers::read_unsigned(update, at);
     let Read::Number(v, e) = r else {
         return r;
     };
-    let low = base(form, by);
     let over = Refusal {
         number: 3,
         place: at,
     };
-    if numbers::MAX_CLOCK < low {
+    if most < low {
         return Read::Refused(over);
     }
-    let left = numbers::MAX_CLOCK - low;
+    let left = most - low;
     if left < v {
         return Read::Refused(over);
     }
@@ -133,18 +46,46 @@ fn read_at(update: &[u8], form: u8, at: usize, by: u64) -> Read
     Read::Number(whole, e)
 }
 
-fn next_client(update: &[u8], p: Spot) -> Move
+// Where reading stands: the next byte, how many clients are left, how many ranges of this client, and where its range before ended.
+struct Spot {
+    at: usize,
+    clients: u64,
+    ranges: u64,
+    client: u64,
+    end: u64,
+}
+
+// So many clients, before the first.
+fn first(clients: u64, at: usize) -> Spot
+    ensures { λ r. ⌜ r ≡ firstOf clients at ⌝ }
+{
+    Spot {
+        at,
+        clients,
+        ranges: 0,
+        client: 0,
+        end: 0,
+    }
+}
+
+// A range is its client, clock and length, and the place that its clock is blamed at. `On`: a client's head or an empty range was read.
+// `Done` has the place after the last range.
+enum Move {
+    Range(u64, u64, u64, usize, Spot),
+    On(Spot),
+    Done(usize),
+    Refused(Refusal),
+}
+
+fn next_client(form: u8, update: &[u8], p: Spot) -> Move
     requires { ⌜ (0 < p .clients) × (p .ranges ≡ 0) ⌝ }
-    ensures { λ r. ⌜ ((f : State) → Follows p (headOf (now (update .entry))) r f) ⌝ }
+    ensures { λ r. ⌜ Follows form (now (update .entry)) p r ⌝ }
 {
     let place = p.at;
-    let c = numbers::read_unsigned(update, place);
+    let c = read_at(update, place, 0, numbers::MAX_VALUE);
     let Read::Number(client, t) = c else {
         return Move::Refused(numbers::why_read(c));
     };
-    if numbers::MAX_VALUE < client {
-        return Move::Refused(Refusal { number: 3, place });
-    }
     let k = numbers::read_unsigned(update, t);
     let Read::Number(count, at) = k else {
         return Move::Refused(numbers::why_read(k));
@@ -160,17 +101,18 @@ fn next_client(update: &[u8], p: Spot) -> Move
     Move::On(after)
 }
 
-fn next_range(update: &[u8], form: u8, p: Spot) -> Move
+fn next_range(form: u8, update: &[u8], p: Spot) -> Move
     requires { ⌜ 0 < p .ranges ⌝ }
-    ensures { λ r. ⌜ ((f : State) → f .form ≡ form → Follows p (rangeOf (now (update .entry))) r f) ⌝ }
+    ensures { λ r. ⌜ Follows form (now (update .entry)) p r ⌝ }
 {
     let place = p.at;
-    let before = p.end;
-    let d = read_at(update, form, place, before);
+    let before = base(form, p.end);
+    let d = read_at(update, place, before, numbers::MAX_CLOCK);
     let Read::Number(clock, t) = d else {
         return Move::Refused(numbers::why_read(d));
     };
-    let e = read_at(update, form, t, 1);
+    let one = base(form, 1);
+    let e = read_at(update, t, one, numbers::MAX_CLOCK);
     let Read::Number(len, at) = e else {
         return Move::Refused(numbers::why_read(e));
     };
@@ -193,33 +135,36 @@ fn next_range(update: &[u8], form: u8, p: Spot) -> Move
     Move::Range(client, clock, len, place, after)
 }
 
-// One step, whatever the columns are: a client's head, or one range.
-fn move_on(update: &[u8], form: u8, p: Spot) -> Move
-    ensures { λ r. ⌜ ((f : State) → f .form ≡ form → Follows p (nextOf (now (update .entry))) r f) ⌝ }
+// One step: a client's head, or one range.
+fn move_on(form: u8, update: &[u8], p: Spot) -> Move
+    ensures { λ r. ⌜ Follows form (now (update .entry)) p r ⌝ }
 {
     if 0 < p.ranges {
-        return next_range(update, form, p);
+        return next_range(form, update, p);
     }
     if 0 < p.clients {
-        return next_client(update, p);
+        return next_client(form, update, p);
     }
     let at = p.at;
     Move::Done(at)
 }
 
 pub enum Checked {
-    Done(State),
+    Done(usize),
     Refused(Refusal),
 }
 
-fn check_ranges(update: &[u8], s: Ranges) -> Checked
-    ensures { λ r. ⌜ r ≡ ending (rest (now (update .entry)) s) checked.Done checked.Refused ⌝ }
+// The delete set is read through, and nothing kept.
+pub fn check_delete_set(form: u8, update: &[u8], at: usize) -> Checked
+    ensures { λ r. ⌜ r ≡ ending (deleteSet form (now (update .entry)) at) checked.Done checked.Refused ⌝ }
 {
-    let fields = s.fields;
-    let form = fields.form;
-    let mut p = spot_of(s);
+    let r = read_at(update, at, 0, numbers::MAX_CLIENTS);
+    let Read::Number(clients, e) = r else {
+        return Checked::Refused(numbers::why_read(r));
+    };
+    let mut p = first(clients, e);
     loop {
-        let x = move_on(update, form, p);
+        let x = move_on(form, update, p);
         match x {
             Move::Range(_, _, _, _, t) => {
                 p = t;
@@ -229,10 +174,8 @@ fn check_ranges(update: &[u8], s: Ranges) -> Checked
                 p = t;
                 continue;
             }
-            Move::Done(at) => {
-                let mut t = fields;
-                t.at = at;
-                return Checked::Done(t);
+            Move::Done(to) => {
+                return Checked::Done(to);
             }
             Move::Refused(why) => {
                 return Checked::Refused(why);
@@ -241,34 +184,24 @@ fn check_ranges(update: &[u8], s: Ranges) -> Checked
     }
 }
 
-// The delete set is read through, and nothing kept.
-pub fn check_delete_set(update: &[u8], s: State) -> Checked
-    ensures { λ r. ⌜ r ≡ ending (deleteSet (now (update .entry)) s) checked.Done checked.Refused ⌝ }
-{
-    let b = begin(update, s);
-    let Begun::At(first) = b else {
-        return Checked::Refused(why_begun(b));
-    };
-    check_ranges(update, first)
-}
-
 enum Collected {
-    Rows(usize, State),
+    Rows(usize, usize),
     Refused(Refusal),
 }
 
 // The ranges as they are read, three words each, while there are words.
-fn collect(update: &[u8], s: Ranges, words: &mut [u64]) -> Collected
-    requires { ⌜ s .client ≤ maxValue ⌝ }
-    ensures { λ r. ⌜ Kept (now (words .entry)) (now (words .exit)) (fit (length (now (words .entry)) / 3) (rest (now (update .entry)) s)) r ⌝ }
+fn collect(form: u8, update: &[u8], at: usize, words: &mut [u64]) -> Collected
+    ensures { λ r. ⌜ Kept (now (words .entry)) (now (words .exit)) (fit (length (now (words .entry)) / 3) (deleteSet form (now (update .entry)) at)) r ⌝ }
 {
     let most = words.len() / 3;
-    let fields = s.fields;
-    let form = fields.form;
-    let mut p = spot_of(s);
+    let r = read_at(update, at, 0, numbers::MAX_CLIENTS);
+    let Read::Number(clients, e) = r else {
+        return Collected::Refused(numbers::why_read(r));
+    };
+    let mut p = first(clients, e);
     let mut n: usize = 0;
     loop {
-        let x = move_on(update, form, p);
+        let x = move_on(form, update, p);
         match x {
             Move::Range(client, clock, len, place, t) => {
                 if most <= n {
@@ -283,10 +216,8 @@ fn collect(update: &[u8], s: Ranges, words: &mut [u64]) -> Collected
                 p = t;
                 continue;
             }
-            Move::Done(at) => {
-                let mut t = fields;
-                t.at = at;
-                return Collected::Rows(n, t);
+            Move::Done(to) => {
+                return Collected::Rows(n, to);
             }
             Move::Refused(why) => {
                 return Collected::Refused(why);
@@ -295,26 +226,21 @@ fn collect(update: &[u8], s: Ranges, words: &mut [u64]) -> Collected
     }
 }
 
-// How many ranges the normal form has, and the state after them.
+// How many ranges the normal form has, and the place after them.
 pub enum Set {
-    Ranges(usize, State),
+    Ranges(usize, usize),
     Refused(Refusal),
 }
 
 // The delete set in normal form, three words a range, and zeros after it; on a refusal all words are zero.
-pub fn read_delete_set(update: &[u8], s: State, words: &mut [u64]) -> Set
-    ensures { λ r. ⌜ (r ≡ setOf (now (update .entry)) s (length (now (words .entry)))) × (now (words .exit) ≡ wordsOf (now (update .entry)) s (length (now (words .entry)))) ⌝ }
+pub fn read_delete_set(form: u8, update: &[u8], at: usize, words: &mut [u64]) -> Set
+    ensures { λ r. ⌜ (r ≡ setOf form (now (update .entry)) at (length (now (words .entry)))) × (now (words .exit) ≡ wordsOf form (now (update .entry)) at (length (now (words .entry)))) ⌝ }
 {
-    let b = begin(update, s);
-    let Begun::At(first) = b else {
-        numbers::words::clear(words, 0);
-        return Set::Refused(why_begun(b));
-    };
-    let c = collect(update, first, words);
+    let c = collect(form, update, at, words);
     match c {
-        Collected::Rows(n, t) => {
+        Collected::Rows(n, to) => {
             let m = ranges::normalize(words, n);
-            return Set::Ranges(m, t);
+            return Set::Ranges(m, to);
         }
         Collected::Refused(why) => {
             numbers::words::clear(words, 0);

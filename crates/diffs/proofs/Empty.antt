@@ -6,14 +6,15 @@ use lib.ListN.{length, replicate}
 use Rattle.numbers.specs.Number.{spelt, placed, readUnsigned}
 use Rattle.numbers.specs.Output.{padded}
 use Rattle.block.specs.declared.Block.{Block}
-use Rattle.decoder.specs.Fields.{bounded, varDraw, varAt}
-use Rattle.decoder.specs.Course.{drawn}
-use Rattle.vector.specs.Vector.{entries, vectorOf}
+use Rattle.grammar.specs.Grammar as grammar
+use Rattle.grammar.specs.Course.{onDrawn, run}
+use Rattle.decoder.specs.Line.{numberAt, varAt, bounded, upTo, numberOf, line}
+use Rattle.vector.specs.Vector.{entries, aVector, vectorOf}
 use Rattle.updates.specs.Promises.{rowsOf, wordsOf}
 use Rattle.diffs.specs.Promises.{Diffed, diffOf, answered, Diffs, emptyVector}
 
 zeros-none : vectorOf (replicate 16 0) ≡ vectorOf emptyVector
-unfolding vectorOf entries drawn bounded varDraw varAt readUnsigned placed spelt
+unfolding vectorOf aVector entries grammar._>>=_ run onDrawn line numberOf upTo varAt numberAt bounded readUnsigned placed spelt
 zeros-none = refl
 
 pub zeros-empty : (form : ℕ) (u : List ℕ) (to m n room : ℕ) → diffOf form u (replicate 16 0) to m n room ≡ diffOf form u emptyVector to m n room

@@ -13,7 +13,7 @@ use Rattle.numbers.specs.Number.{pick}
 use Rattle.numbers.specs.Output.{padded, verdict, refusal, done, written, put}
 use Rattle.numbers.proofs.Output.{refused-answer, refused-bytes, done-answer, done-bytes}
 use Rattle.block.specs.declared.Block.{Block}
-use Rattle.decoder.specs.Course.{items}
+use Rattle.grammar.specs.Course.{items}
 use Rattle.ranges.specs.Table.{rowsFrom}
 use Rattle.vector.specs.Vector.{Entry, vectorOf}
 use Rattle.passes.proofs.Wholes.{IsForm}

@@ -6,9 +6,9 @@ use native.Mathlib.Omega.{arith}
 use lib.Dec.{eqb}
 use lib.ListN.{length}
 use Rattle.numbers.specs.Number.{pick}
-use Rattle.decoder.specs.Course.{fit}
-use Rattle.deletes.specs.DeleteSet.{deleteSet}
-use Rattle.update.specs.Update.{blocksOf}
+use Rattle.grammar.specs.Course.{fit}
+use Rattle.decoder.specs.Update.{deleteSet}
+use Rattle.decoder.specs.Update.{blocksOf}
 use Rattle.updates.specs.Promises.{Reading, refused, withRanges, withBlocks, early, reading}
 use Rattle.updates.proofs.Read.{followed}
 use Rattle.writing.proofs.SmallRanges.{found-few}
@@ -20,15 +20,15 @@ module _ (form : ℕ) (u : List ℕ) (n m : ℕ) where
   refused-few : (k : ℕ) → Few (refused k)
   refused-few k = omega arith
 
-  with-few : Few (withBlocks u m (fit n (blocksOf form u)))
+  with-few : Few (withBlocks form u m (fit n (blocksOf form u)))
   unfolding withBlocks withRanges
   with-few =
-      followed Few _ refused-few (fit n (blocksOf form u)) (λ _ s. followed Few _ refused-few (fit m (deleteSet u s)) (λ _ _. found-few u s m))
+      followed Few _ refused-few (fit n (blocksOf form u)) (λ _ s. followed Few _ refused-few (fit m (deleteSet form u s)) (λ _ _. found-few form u s m))
 
   pub reading-few : Few (reading form u n m)
   unfolding reading
   reading-few = go (eqb (early form u) 0)
     where
-      go : (x : Bool) → Few (pick x (withBlocks u m (fit n (blocksOf form u))) (refused (early form u)))
+      go : (x : Bool) → Few (pick x (withBlocks form u m (fit n (blocksOf form u))) (refused (early form u)))
       go true = with-few
       go false = refused-few (early form u)

@@ -1,39 +1,31 @@
 -- Form 2: tokens are drawn from a state whose columns give what the lanes took of them.
 use Prim.Native.Nat.{ℕ, _+_, _^_, _≤_, _<_}
 use mathlib.Core.Path.{_≡_, refl, sym, ap, subst, _∙_}
-use mathlib.Core.Bool.{true, false}
+use mathlib.Core.Bool.{true}
 use mathlib.Core.List.{List, [], _∷_}
 use native.Mathlib.Omega.{arith}
-use lib.Dec.{eqb}
 use lib.ListN.{length, take, drop, length-take}
 use lib.Seq.{slice, take-take}
-use borrow.Author.Tests.{ne-eqb}
 use Rattle.numbers.specs.Number.{unsigned}
 use Rattle.numbers.specs.Limits.{maxClock}
 use Rattle.text.specs.declared.Part.{Part}
 use Rattle.text.specs.Utf8.{unitsOf}
 use Rattle.string.proofs.Steps.{GivesNumbers, GivesDifferences, GivesBytes, GivesTexts}
-use Rattle.decoder.specs.declared.Numbers.{Numbers}
-use Rattle.decoder.specs.declared.Differences.{Differences}
-use Rattle.decoder.specs.declared.Bytes.{Bytes}
-use Rattle.decoder.specs.declared.State.{State}
-use Rattle.decoder.specs.declared.Draw.the-variants.{Number}
-use Rattle.decoder.specs.declared.Buf.the-variants as buf-answer
-use Rattle.decoder.specs.declared.Text.the-variants as text-answer
-use Rattle.decoder.specs.States.{movedTo, withText}
-use Rattle.decoder.specs.Fields.{varAt, bufAt, clientDrawn, client2, leftDrawn, leftClock, rightDrawn, rightClock, infoDrawn, infoDraw, parentDrawn, parentDraw, lenDrawn, lenColumn, len2, textDrawn, text2}
-use Rattle.item.specs.Fields.{clientOf, infoOf, parentInfoOf, lenOf, textOf}
+use Rattle.grammar.specs.Grammar as grammar
+use Rattle.grammar.specs.Course.{got}
+use Rattle.decoder.specs.Line.{numberOf, line}
+use Rattle.decoder.specs.States.{State, movedTo, withClient, withLeft, withRight, withInfo, withText, withParent, withLen}
+use Rattle.decoder.specs.Columned.{numberDrawn, differenceDrawn, byteDrawn, textDrawn, onto, numberIn, columned}
 use Rattle.readings.specs.Sound.{bytesIn}
 use Rattle.readings.proofs.Columns.{Within, TextHeld, text-held}
 use Rattle.tokens.specs.Tokens.{Token, field, text, var, buf, taken, takenAll, clients, lefts, rights, infos, parents, lens, rest}
-use Rattle.draws.specs.Draws.{leftClockOf, rightClockOf, fieldOf, Draws, most, isField, Legal, AllLegal}
-use Rattle.draws.proofs.Standing.{From, past, var-here, behind, partOf, led-past, bytes-here, buf-here}
+use Rattle.draws.specs.Draws.{laneField, Draws, most, isField, Legal, AllLegal}
+use Rattle.draws.proofs.Standing.{From, past, var-here, behind, partOf, led-past, bytes-here, bytes-read}
 use Rattle.draws.proofs.Fields.{by-field, bounded-in}
 use Rattle.draws.proofs.Values.{textsOf}
 
--- a state of form 2 whose columns give the tokens
+-- a state whose columns give the tokens
 pub record Holds (u : List ℕ) (s : State) (ts : List Token) : Type 0 where
-  pub form : s .form ≡ 2
   pub client : GivesNumbers (take (s .client .to) u) (s .client .place) (takenAll clients ts)
   pub left : GivesDifferences (take (s .left .to) u) (s .left .place) (takenAll lefts ts)
   pub right : GivesDifferences (take (s .right .to) u) (s .right .place) (takenAll rights ts)
@@ -44,94 +36,71 @@ pub record Holds (u : List ℕ) (s : State) (ts : List Token) : Type 0 where
   pub len : GivesNumbers (take (s .len .to) u) (s .len .place) (takenAll lens ts)
   pub rest : From u (s .at) (takenAll rest ts)
 
--- ---- one column changed
-
-abbrev withClient : State → Numbers → State
-withClient s c = record { form = s .form; at = s .at; key = s .key; client = c; left = s .left; right = s .right; info = s .info; text = s .text; parent = s .parent; types = s .types; len = s .len }
-
-abbrev withLeft : State → Differences → State
-withLeft s c = record { form = s .form; at = s .at; key = s .key; client = s .client; left = c; right = s .right; info = s .info; text = s .text; parent = s .parent; types = s .types; len = s .len }
-
-abbrev withRight : State → Differences → State
-withRight s c = record { form = s .form; at = s .at; key = s .key; client = s .client; left = s .left; right = c; info = s .info; text = s .text; parent = s .parent; types = s .types; len = s .len }
-
-abbrev withInfo : State → Bytes → State
-withInfo s c = record { form = s .form; at = s .at; key = s .key; client = s .client; left = s .left; right = s .right; info = c; text = s .text; parent = s .parent; types = s .types; len = s .len }
-
-abbrev withParent : State → Bytes → State
-withParent s c = record { form = s .form; at = s .at; key = s .key; client = s .client; left = s .left; right = s .right; info = s .info; text = s .text; parent = c; types = s .types; len = s .len }
-
-abbrev withLen : State → Numbers → State
-withLen s c = record { form = s .form; at = s .at; key = s .key; client = s .client; left = s .left; right = s .right; info = s .info; text = s .text; parent = s .parent; types = s .types; len = c }
-
 -- ---- a number of a column
 
 -- it is drawn, and the columns give the tokens after it
 abbrev Drawn : List ℕ → State → ℕ → List Token → ℕ → Type 0
-Drawn u s v ts k = v ≤ most k → Holds u s (field k v ∷ ts) → (p : ℕ) × (m : State) × (fieldOf k u s ≡ Number v p m) × Holds u m ts
-
-second : (s : State) → s .form ≡ 2 → eqb (s .form) 1 ≡ false
-second s f = ne-eqb (s .form) 1 (omega arith)
+Drawn u s v ts k = v ≤ most k → Holds u s (field k v ∷ ts) → (p : ℕ) × (m : State) × (columned u (grammar.number (laneField k)) s ≡ got (v, p) m) × Holds u m ts
 
 module _ (u : List ℕ) (s : State) (v : ℕ) (ts : List Token) where
   client-drawn : Drawn u s v ts clients
-  unfolding taken takenAll textsOf fieldOf clientOf client2 clientDrawn
+  unfolding taken takenAll textsOf columned numberIn laneField numberDrawn
   client-drawn l h =
       let d = h .client in (
         d .0 .from,
-        withClient s (record { place = d .0; to = s .client .to }),
-        rw (second s (h .form), d .1),
-        record { form = h .form; client = d .2; left = h .left; right = h .right; info = h .info; text = h .text; within = h .within; parent = h .parent; len = h .len; rest = h .rest },
+        withClient (record { place = d .0; to = s .client .to }) s,
+        rw (d .1),
+        record { client = d .2; left = h .left; right = h .right; info = h .info; text = h .text; within = h .within; parent = h .parent; len = h .len; rest = h .rest },
       )
 
   left-drawn : Drawn u s v ts lefts
-  unfolding taken takenAll textsOf fieldOf leftClockOf leftClock leftDrawn
+  unfolding taken takenAll textsOf columned numberIn laneField differenceDrawn
   left-drawn l h =
       let d = h .left in (
         d .0 .from,
-        withLeft s (record { place = d .0; to = s .left .to }),
-        rw (second s (h .form), d .1),
-        record { form = h .form; client = h .client; left = d .2; right = h .right; info = h .info; text = h .text; within = h .within; parent = h .parent; len = h .len; rest = h .rest },
+        withLeft (record { place = d .0; to = s .left .to }) s,
+        rw (d .1),
+        record { client = h .client; left = d .2; right = h .right; info = h .info; text = h .text; within = h .within; parent = h .parent; len = h .len; rest = h .rest },
       )
 
   right-drawn : Drawn u s v ts rights
-  unfolding taken takenAll textsOf fieldOf rightClockOf rightClock rightDrawn
+  unfolding taken takenAll textsOf columned numberIn laneField differenceDrawn
   right-drawn l h =
       let d = h .right in (
         d .0 .from,
-        withRight s (record { place = d .0; to = s .right .to }),
-        rw (second s (h .form), d .1),
-        record { form = h .form; client = h .client; left = h .left; right = d .2; info = h .info; text = h .text; within = h .within; parent = h .parent; len = h .len; rest = h .rest },
+        withRight (record { place = d .0; to = s .right .to }) s,
+        rw (d .1),
+        record { client = h .client; left = h .left; right = d .2; info = h .info; text = h .text; within = h .within; parent = h .parent; len = h .len; rest = h .rest },
       )
 
   info-drawn : Drawn u s v ts infos
-  unfolding taken takenAll textsOf fieldOf infoOf infoDraw infoDrawn
+  unfolding taken takenAll textsOf columned numberIn laneField byteDrawn
   info-drawn l h =
       let d = h .info in (
         d .0 .from,
-        withInfo s (record { place = d .0; to = s .info .to }),
-        rw (second s (h .form), d .1),
-        record { form = h .form; client = h .client; left = h .left; right = h .right; info = d .2; text = h .text; within = h .within; parent = h .parent; len = h .len; rest = h .rest },
+        withInfo (record { place = d .0; to = s .info .to }) s,
+        rw (d .1),
+        record { client = h .client; left = h .left; right = h .right; info = d .2; text = h .text; within = h .within; parent = h .parent; len = h .len; rest = h .rest },
       )
 
   parent-drawn : Drawn u s v ts parents
-  unfolding taken takenAll textsOf fieldOf parentInfoOf parentDraw parentDrawn
+  unfolding taken takenAll textsOf columned numberIn laneField byteDrawn
   parent-drawn l h =
       let d = h .parent in (
         d .0 .from,
-        withParent s (record { place = d .0; to = s .parent .to }),
-        rw (second s (h .form), d .1),
-        record { form = h .form; client = h .client; left = h .left; right = h .right; info = h .info; text = h .text; within = h .within; parent = d .2; len = h .len; rest = h .rest },
+        withParent (record { place = d .0; to = s .parent .to }) s,
+        rw (d .1),
+        record { client = h .client; left = h .left; right = h .right; info = h .info; text = h .text; within = h .within; parent = d .2; len = h .len; rest = h .rest },
       )
 
   len-drawn : Drawn u s v ts lens
-  unfolding taken takenAll textsOf fieldOf lenOf len2 lenColumn lenDrawn most
+  unfolding taken takenAll textsOf columned numberIn laneField numberDrawn most
   len-drawn l h =
       let d = h .len in (
         d .0 .from,
-        withLen s (record { place = d .0; to = s .len .to }),
-        rw (second s (h .form), d .1) (bounded-in maxClock v (d .0 .from) (withLen s (record { place = d .0; to = s .len .to })) l),
-        record { form = h .form; client = h .client; left = h .left; right = h .right; info = h .info; text = h .text; within = h .within; parent = h .parent; len = d .2; rest = h .rest },
+        withLen (record { place = d .0; to = s .len .to }) s,
+        rw (d .1) (bounded-in maxClock v (d .0 .from) (withLen (record { place = d .0; to = s .len .to }) s) l),
+        record { client = h .client; left = h .left; right = h .right; info = h .info; text = h .text; within = h .within; parent = h .parent; len = d .2; rest = h .rest },
       )
 
   field-drawn : (k : ℕ) → isField k ≡ true → Drawn u s v ts k
@@ -145,60 +114,60 @@ unfolding bytesIn
 front-part n u p l = ap (drop (p .place)) (sym (take-take (p .place + p .bytes .0) n u (omega (arith, length-take n u))))
 
 text-drawn : (u : List ℕ) (s : State) (b : List ℕ) (n : ℕ) (ts : List Token) → unitsOf b ≡ n → Holds u s (text b n ∷ ts)
-    → (p : Part) × (m : State) × (textOf u s ≡ text-answer.Part p (record { 0 = n }) m) × (bytesIn u p ≡ b) × Holds u m ts
-unfolding taken takenAll textsOf textOf text2 textDrawn
+    → (p : Part) × (m : State) × (columned u grammar.text s ≡ got (p, record { 0 = n }) m) × (bytesIn u p ≡ b) × Holds u m ts
+unfolding taken takenAll textsOf columned textDrawn
 text-drawn u s b n ts e h =
     let t = h .text in
     let held = subst (TextHeld (take (s .text .to) u)) (t .2) (text-held (take (s .text .to) u) (s .text .place) (h .within)) in (
       t .0,
       withText (record { place = t .1; to = s .text .to }) s,
-      rw (second s (h .form), t .2, ← e, ← t .4),
+      rw (t .2, ← e, ← t .4),
       front-part (s .text .to) u (t .0) (held .0 .lies) ∙ t .3,
-      record { form = h .form; client = h .client; left = h .left; right = h .right; info = h .info; text = t .5; within = held .1; parent = h .parent; len = h .len; rest = h .rest },
+      record { client = h .client; left = h .left; right = h .right; info = h .info; text = t .5; within = held .1; parent = h .parent; len = h .len; rest = h .rest },
     )
 
 -- ---- the rest
 
 var-drawn : (u : List ℕ) (s : State) (v : ℕ) (ts : List Token) → v < 2 ^ 63 → Holds u s (var v ∷ ts)
-    → (p : ℕ) × (m : State) × (varAt u s ≡ Number v p m) × Holds u m ts
-unfolding taken takenAll textsOf
+    → (p : ℕ) × (m : State) × (columned u (grammar.number grammar.any) s ≡ got (v, p) m) × Holds u m ts
+unfolding taken takenAll textsOf columned numberIn line numberOf onto
 var-drawn u s v ts l h = (
   s .at,
   movedTo s (s .at + length (unsigned v)),
-  var-here u s v (takenAll rest ts) (h .rest) l,
-  record { form = h .form; client = h .client; left = h .left; right = h .right; info = h .info; text = h .text; within = h .within; parent = h .parent; len = h .len; rest = past u (s .at) (unsigned v) (takenAll rest ts) (h .rest) },
+  rw (var-here u (s .at) v (takenAll rest ts) (h .rest) l),
+  record { client = h .client; left = h .left; right = h .right; info = h .info; text = h .text; within = h .within; parent = h .parent; len = h .len; rest = past u (s .at) (unsigned v) (takenAll rest ts) (h .rest) },
 )
 
 buf-drawn : (u : List ℕ) (s : State) (b : List ℕ) (ts : List Token) → length b < 2 ^ 63 → Holds u s (buf b ∷ ts)
-    → (p : Part) × (m : State) × (bufAt u s ≡ buf-answer.Part p m) × (bytesIn u p ≡ b) × Holds u m ts
-unfolding taken takenAll textsOf
+    → (p : Part) × (m : State) × (columned u grammar.bytes s ≡ got p m) × (bytesIn u p ≡ b) × Holds u m ts
+unfolding taken takenAll textsOf columned line onto
 buf-drawn u s b ts l h =
     let q : List ℕ = takenAll rest ts in (
       partOf (behind (s .at) b) b,
       movedTo s (behind (s .at) b + length b),
-      buf-here u s b q (h .rest) l,
+      rw (bytes-read u (s .at) b q (h .rest) l),
       bytes-here u (s .at) b q (h .rest),
-      record { form = h .form; client = h .client; left = h .left; right = h .right; info = h .info; text = h .text; within = h .within; parent = h .parent; len = h .len; rest = led-past u (s .at) b q (h .rest) },
+      record { client = h .client; left = h .left; right = h .right; info = h .info; text = h .text; within = h .within; parent = h .parent; len = h .len; rest = led-past u (s .at) b q (h .rest) },
     )
 
 -- ---- one after the other
 
-pub columns-from : (u : List ℕ) (ts : List Token) → AllLegal ts → (s : State) → Holds u s ts → (t : State) × Draws u s ts t × (t .form ≡ 2)
+pub columns-from : (u : List ℕ) (ts : List Token) → AllLegal ts → (s : State) → Holds u s ts → (t : State) × Draws (columned u) u s ts t
 unfolding AllLegal Legal Draws
-columns-from u [] a s h = (s, refl, h .form)
+columns-from u [] a s h = (s, refl)
 columns-from u (field k v ∷ ts) a s h =
     let d = field-drawn u s v ts k (a .0 .0) (a .0 .1) h in
     let r = columns-from u ts (a .1) (d .1) (d .3) in
-    (r .0, (d .0, d .1, d .2, r .1), r .2)
+    (r .0, (d .0, d .1, d .2, r .1))
 columns-from u (text b n ∷ ts) a s h =
     let d = text-drawn u s b n ts (a .0 .1) h in
     let r = columns-from u ts (a .1) (d .1) (d .4) in
-    (r .0, (d .0, d .1, d .2, d .3, r .1), r .2)
+    (r .0, (d .0, d .1, d .2, d .3, r .1))
 columns-from u (var v ∷ ts) a s h =
     let d = var-drawn u s v ts (a .0) h in
     let r = columns-from u ts (a .1) (d .1) (d .3) in
-    (r .0, (d .0, d .1, d .2, r .1), r .2)
+    (r .0, (d .0, d .1, d .2, r .1))
 columns-from u (buf b ∷ ts) a s h =
     let d = buf-drawn u s b ts (a .0) h in
     let r = columns-from u ts (a .1) (d .1) (d .4) in
-    (r .0, (d .0, d .1, d .2, d .3, r .1), r .2)
+    (r .0, (d .0, d .1, d .2, d .3, r .1))

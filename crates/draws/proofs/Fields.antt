@@ -6,9 +6,8 @@ use native.Mathlib.Omega.{arith}
 use lib.Dec.{eqb}
 use borrow.Author.Tests.{eqb-true, le-ltb}
 use Rattle.numbers.specs.Number.{pick}
-use Rattle.decoder.specs.declared.State.{State}
-use Rattle.decoder.specs.declared.Draw.the-variants.{Number}
-use Rattle.decoder.specs.Fields.{bounded}
+use Rattle.grammar.specs.Course.{got}
+use Rattle.decoder.specs.Line.{bounded}
 use Rattle.tokens.specs.Tokens.{clients, lefts, rights, infos, parents, lens}
 use Rattle.draws.specs.Draws.{isField}
 
@@ -28,6 +27,6 @@ by-field P c l r i p n k h = go (eqb k clients) (eqb k lefts) (eqb k rights) (eq
     go false false false false false true e0 e1 e2 e3 e4 e5 h = subst P (sym (eqb-true k lens e5)) n
     go false false false false false false e0 e1 e2 e3 e4 e5 h = let z : _≡_ {A = ℕ} 0 1 = cc in absurd (omega arith)
 
-pub bounded-in : (m v p : ℕ) (s : State) → v ≤ m → bounded m (Number v p s) ≡ Number v p s
+pub bounded-in : {S : Type 0} (m v p : ℕ) (s : S) → v ≤ m → bounded m (got (v, p) s) ≡ got (v, p) s
 unfolding bounded
 bounded-in m v p s h = rw (le-ltb m v h)

@@ -1,6 +1,6 @@
 -- A column that is cut out of an update gives what was written of it.
-use Prim.Native.Nat.{ℕ, _^_, _<_}
-use mathlib.Core.Path.{_≡_, refl, ap, subst, _∙_}
+use Prim.Native.Nat.{ℕ, _+_, _^_, _<_}
+use mathlib.Core.Path.{_≡_, refl, subst}
 use mathlib.Core.Bool.{true}
 use mathlib.Core.List.{List, [], _++_, append-nil}
 use native.Mathlib.Omega.{arith}
@@ -26,21 +26,20 @@ use Rattle.draws.proofs.Opening.{Cut}
 
 -- what a column has at the end of a list, it has where it is cut out
 module _ {u : List ℕ} {at : ℕ} {c q : List ℕ} (x : Cut u at c q) where
-  cut-front : take (x .to) u ≡ take (x .from) u ++ c
-  cut-front = ap (λ (n : ℕ). take n u) (x .ends) ∙ front u (x .from) c q (x .column)
-
-  cut-out : (G : List ℕ → ℕ → Type 0) → ((p : List ℕ) → G (p ++ c) (length p)) → G (take (x .to) u) (x .from)
-  cut-out G g = rw cut-front (subst (G (take (x .from) u ++ c)) (length-take-le (x .from) u (x .column .inside)) (g (take (x .from) u)))
+  cut-out : (G : List ℕ → ℕ → Type 0) → ((p : List ℕ) → G (p ++ c) (length p)) → G (take (x .from + length c) u) (x .from)
+  cut-out G g = rw (front u (x .from) c q (x .column)) (subst (G (take (x .from) u ++ c)) (length-take-le (x .from) u (x .column .inside)) (g (take (x .from) u)))
 
 module _ {u : List ℕ} {at : ℕ} {q : List ℕ} (vs : List ℕ) where
-  pub numbers-cut : (x : Cut u at (columnOf Number vs) q) → why (coding Number) vs ≡ 0 → GivesNumbers (take (x .to) u) (numbers.startAt (x .from)) vs
+  pub numbers-cut : (x : Cut u at (columnOf Number vs) q) → why (coding Number) vs ≡ 0
+      → GivesNumbers (take (x .from + length (columnOf Number vs)) u) (numbers.startAt (x .from)) vs
   numbers-cut x w = cut-out x (λ s n. GivesNumbers s (numbers.startAt n) vs) (λ p. number-gives p vs w)
 
   pub differences-cut : (x : Cut u at (columnOf Difference vs) q) → why (coding Difference) vs ≡ 0
-      → GivesDifferences (take (x .to) u) (differences.startAt (x .from)) vs
+      → GivesDifferences (take (x .from + length (columnOf Difference vs)) u) (differences.startAt (x .from)) vs
   differences-cut x w = cut-out x (λ s n. GivesDifferences s (differences.startAt n) vs) (λ p. difference-gives p vs w)
 
-  pub bytes-cut : (x : Cut u at (columnOf Byte vs) q) → why (coding Byte) vs ≡ 0 → GivesBytes (take (x .to) u) (bytes.startAt (x .from)) vs
+  pub bytes-cut : (x : Cut u at (columnOf Byte vs) q) → why (coding Byte) vs ≡ 0
+      → GivesBytes (take (x .from + length (columnOf Byte vs)) u) (bytes.startAt (x .from)) vs
   bytes-cut x w = cut-out x (λ s n. GivesBytes s (bytes.startAt n) vs) (λ p. byte-gives p vs w)
 
 -- bytes opened as a text column from a place on give these texts
@@ -55,7 +54,7 @@ unfolding wellFormed after settled
 none-whole = refl
 
 pub texts-cut : {u : List ℕ} {at : ℕ} {q : List ℕ} (ts : List (List ℕ)) → length u < 2 ^ 62 → (x : Cut u at (textColumn (joined ts) (unitsEach ts)) q)
-    → Formed ts → why (coding Number) (unitsEach ts) ≡ 0 → GivesOpened (take (x .to) u) (x .from) ts
+    → Formed ts → why (coding Number) (unitsEach ts) ≡ 0 → GivesOpened (take (x .from + length (textColumn (joined ts) (unitsEach ts))) u) (x .from) ts
 texts-cut {u} {at} {q} ts l x f w = cut-out x (λ s n. GivesOpened s n ts) go
   where
     few : length (joined ts) < 2 ^ 63

@@ -1,6 +1,6 @@
 -- Written tokens are drawn again. What stands at a place is read there (Standing); form 1 (Line); form 2: no column refuses what it takes of the
 -- tokens (Runs, Values, Whys), the columns are cut out again and give it (Opening, Giving), and tokens are drawn from columns that do (Columns,
--- Written); either form (Drawn). Every draw keeps the form (Forms), and draws can be split (Splits).
+-- Written); either form (Drawn). And draws can be split (Splits).
 pub mod Standing
 pub mod Fields
 pub mod Line
@@ -12,5 +12,4 @@ pub mod Opening
 pub mod Giving
 pub mod Written
 pub mod Drawn
-pub mod Forms
 pub mod Splits

@@ -1,101 +1,60 @@
--- Opening form 2: nine columns, each led by its length, are cut one after the other.
-use Prim.Native.Nat.{ℕ, _+_, _-_, _^_, _<_}
-use mathlib.Core.Path.{_≡_, refl, _∙_}
-use mathlib.Core.List.{List, _++_}
+-- Opening form 2: columns, each led by its length, are cut one after the other.
+use Prim.Native.Nat.{ℕ, _+_, _^_, _<_}
+use mathlib.Core.Path.{_≡_, sym, ap, _∙_}
+use mathlib.Core.List.{List, [], _∷_, _++_, append-assoc, append-nil}
 use native.Mathlib.Omega.{arith}
 use lib.ListN.{length}
-use Rattle.columns.specs.Number as numbers
-use Rattle.columns.specs.Difference as differences
-use Rattle.columns.specs.Byte as bytes
-use Rattle.decoder.specs.declared.Numbers.{Numbers}
-use Rattle.decoder.specs.declared.Differences.{Differences}
-use Rattle.decoder.specs.declared.Bytes.{Bytes}
-use Rattle.decoder.specs.declared.Texts.{Texts}
-use Rattle.decoder.specs.declared.State.{State}
-use Rattle.decoder.specs.declared.Buf.the-variants as buf
-use Rattle.decoder.specs.declared.v2.Opened.the-variants as opened
-use Rattle.decoder.specs.States.{movedTo}
-use Rattle.decoder.specs.Fields.{bufAt, textFrom, startAt, putDifferences, putNumbers, putBytes, holdsDifferences, holdsBytes, putColumn, cutFrom}
-use Rattle.decoder.proofs.Laws.{cut-none, cut-more}
+use Rattle.text.specs.declared.Part.{Part}
+use Rattle.grammar.specs.Grammar.{_>>=_}
+use Rattle.grammar.specs.Course.{got, over, onDrawn, run}
+use Rattle.decoder.specs.Line.{bytesAt, line}
+use Rattle.decoder.specs.Opening.{cut}
 use Rattle.tokens.specs.Tokens.{led}
-use Rattle.draws.proofs.Standing.{From, past-length, behind, partOf, led-bytes, led-past, buf-here}
-
--- ---- a column that is cut
+use Rattle.draws.proofs.Standing.{From, past-length, behind, partOf, led-bytes, led-past, bytes-read}
 
 -- c stands in u behind its length at a place, and q behind it
 pub record Cut (u : List ℕ) (at : ℕ) (c q : List ℕ) : Type 0 where
   pub from : ℕ
-  pub to : ℕ
   pub column : From u from (c ++ q)
-  pub ends : to ≡ from + length c
-  pub rest : From u to q
-  pub reads : (s : State) → s .at ≡ at → bufAt u s ≡ buf.Part (partOf from c) (movedTo s to)
+  pub rest : From u (from + length c) q
+  pub reads : bytesAt u at ≡ got (partOf from c) (from + length c)
 
-pub cut-here : (u : List ℕ) → length u < 2 ^ 62 → (at : ℕ) (c q : List ℕ) → From u at (led c ++ q) → Cut u at c q
-cut-here u l at c q h =
-    let few : length c < 2 ^ 63 = omega (arith, past-length u (behind at c) c q (led-bytes u at c q h)) in
-    record {
-      from = behind at c;
-      to = behind at c + length c;
-      column = led-bytes u at c q h;
-      ends = refl;
-      rest = led-past u at c q h;
-      reads = λ s e. rw (← e) (buf-here u s c q (rw e h) few);
-    }
+-- columns, each behind its length, and q behind them
+unfoldable pub ledAll : List (List ℕ) → List ℕ → List ℕ
+ledAll [] q = q
+ledAll (c ∷ cs) q = led c ++ ledAll cs q
 
-module _ {u : List ℕ} {at : ℕ} {c q : List ℕ} (x : Cut u at c q) where
-  abbrev pub numbersCut : Numbers
-  numbersCut = record { place = numbers.startAt (x .from); to = x .to }
+module _ (u q : List ℕ) where
+  unfoldable pub Cuts : ℕ → List (List ℕ) → Type 0
+  Cuts at [] = From u at q
+  Cuts at (c ∷ cs) = (x : Cut u at c (ledAll cs q)) × Cuts (x .from + length c) cs
 
-  abbrev pub differencesCut : Differences
-  differencesCut = record { place = differences.startAt (x .from); to = x .to }
+  pub cut-here : length u < 2 ^ 62 → (cs : List (List ℕ)) (at : ℕ) → From u at (ledAll cs q) → Cuts at cs
+  unfolding Cuts ledAll
+  cut-here l [] at h = h
+  cut-here l (c ∷ cs) at h =
+      let few : length c < 2 ^ 63 = omega (arith, past-length u (behind at c) c (ledAll cs q) (led-bytes u at c (ledAll cs q) h)) in
+      let rest = led-past u at c (ledAll cs q) h in
+      let x : Cut u at c (ledAll cs q) = record { from = behind at c; column = led-bytes u at c (ledAll cs q) h; rest = rest; reads = bytes-read u at c (ledAll cs q) h few } in
+      (x, cut-here l cs (behind at c + length c) rest)
 
-  abbrev pub bytesCut : Bytes
-  bytesCut = record { place = bytes.startAt (x .from); to = x .to }
+  -- their parts, and the place behind them
+  unfoldable pub partsIn : (cs : List (List ℕ)) (at : ℕ) → Cuts at cs → List Part
+  unfolding Cuts
+  partsIn [] at x = []
+  partsIn (c ∷ cs) at x = partOf (x .0 .from) c ∷ partsIn cs (x .0 .from + length c) (x .1)
 
-  abbrev pub textsCut : Texts
-  textsCut = textFrom (x .from) (x .to)
+  unfoldable pub endIn : (cs : List (List ℕ)) (at : ℕ) → Cuts at cs → ℕ
+  unfolding Cuts
+  endIn [] at x = at
+  endIn (c ∷ cs) at x = endIn cs (x .0 .from + length c) (x .1)
 
--- ---- all nine
-
--- a state of form 2
-abbrev pub state : ℕ → Differences → Numbers → Differences → Differences → Bytes → Texts → Bytes → Numbers → Numbers → State
-state at key client left right info text parent types len =
-    record { form = 2; at = at; key = key; client = client; left = left; right = right; info = info; text = text; parent = parent; types = types; len = len }
-
-cut-on : (u : List ℕ) (s : State) (k : ℕ) → k < 9 → {c q : List ℕ} (x : Cut u (s .at) c q)
-    → cutFrom (9 - k) u s ≡ cutFrom (9 - (k + 1)) u (putColumn k (x .from) (x .to) (movedTo s (x .to)))
-cut-on u s k l {c} x = cut-more u s k (partOf (x .from) c) (movedTo s (x .to)) l (x .reads s refl)
-
-module _ {u c0 c1 c2 c3 c4 c5 c6 c7 c8 q0 q1 q2 q3 q4 q5 q6 q7 q8 : List ℕ}
-    (x0 : Cut u 1 c0 q0) (x1 : Cut u (x0 .to) c1 q1) (x2 : Cut u (x1 .to) c2 q2) (x3 : Cut u (x2 .to) c3 q3) (x4 : Cut u (x3 .to) c4 q4)
-    (x5 : Cut u (x4 .to) c5 q5) (x6 : Cut u (x5 .to) c6 q6) (x7 : Cut u (x6 .to) c7 q7) (x8 : Cut u (x7 .to) c8 q8) where
-  abbrev pub cutState : State
-  cutState =
-      state (x8 .to) (differencesCut x0) (numbersCut x1) (differencesCut x2) (differencesCut x3) (bytesCut x4) (textsCut x5) (bytesCut x6) (numbersCut x7) (numbersCut x8)
-
-  pub cuts : cutFrom 9 u (startAt 2 1) ≡ opened.At cutState
-  unfolding putDifferences putNumbers putBytes holdsDifferences holdsBytes putColumn
-  cuts =
-      let d : Differences = startAt 2 1 .left in
-      let n : Numbers = startAt 2 1 .client in
-      let b : Bytes = startAt 2 1 .info in
-      let t : Texts = startAt 2 1 .text in
-      let y0 : Differences = differencesCut x0 in
-      let y1 : Numbers = numbersCut x1 in
-      let y2 : Differences = differencesCut x2 in
-      let y3 : Differences = differencesCut x3 in
-      let y4 : Bytes = bytesCut x4 in
-      let y5 : Texts = textsCut x5 in
-      let y6 : Bytes = bytesCut x6 in
-      let y7 : Numbers = numbersCut x7 in
-      cut-on u (state 1 d n d d b t b n n) 0 (omega arith) x0
-      ∙ cut-on u (state (x0 .to) y0 n d d b t b n n) 1 (omega arith) x1
-      ∙ cut-on u (state (x1 .to) y0 y1 d d b t b n n) 2 (omega arith) x2
-      ∙ cut-on u (state (x2 .to) y0 y1 y2 d b t b n n) 3 (omega arith) x3
-      ∙ cut-on u (state (x3 .to) y0 y1 y2 y3 b t b n n) 4 (omega arith) x4
-      ∙ cut-on u (state (x4 .to) y0 y1 y2 y3 y4 t b n n) 5 (omega arith) x5
-      ∙ cut-on u (state (x5 .to) y0 y1 y2 y3 y4 y5 b n n) 6 (omega arith) x6
-      ∙ cut-on u (state (x6 .to) y0 y1 y2 y3 y4 y5 y6 n n) 7 (omega arith) x7
-      ∙ cut-on u (state (x7 .to) y0 y1 y2 y3 y4 y5 y6 y7 n) 8 (omega arith) x8
-      ∙ cut-none 0 u cutState refl
+  pub cuts : (cs : List (List ℕ)) (at : ℕ) (x : Cuts at cs) (ps : List Part)
+      → run (line 2 u) (cut (length cs) ps) at ≡ over (ps ++ partsIn cs at x) (endIn cs at x)
+  unfolding Cuts partsIn endIn run cut _>>=_ onDrawn line
+  cuts [] at x ps = ap (λ (l : List Part). over l at) (sym (append-nil ps))
+  cuts (c ∷ cs) at x ps =
+      let p : Part = partOf (x .0 .from) c in
+      let e : ℕ = x .0 .from + length c in
+      rw (x .0 .reads)
+      (cuts cs e (x .1) (ps ++ (p ∷ [])) ∙ ap (λ (l : List Part). over l (endIn cs e (x .1))) (append-assoc ps (p ∷ []) (partsIn cs e (x .1))))

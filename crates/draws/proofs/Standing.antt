@@ -1,4 +1,4 @@
--- What stands in bytes from a place on, and what a draw in line gives there: a number, a byte, bytes led by their length.
+-- What stands in bytes from a place on, and what is read there in line: a number, a byte, bytes led by their length.
 use Prim.Native.Nat.{ℕ, suc, _+_, _-_, _^_, _≤_, _<_}
 use mathlib.Core.Path.{_≡_, sym, ap, _∙_}
 use mathlib.Core.List.{List, _∷_, _++_, append-assoc}
@@ -10,11 +10,8 @@ use Rattle.numbers.specs.declared.Read.the-variants as read
 use Rattle.numbers.specs.Number.{unsigned, placed, readUnsigned}
 use Rattle.numbers.proofs.Laws.{spell-fuel, spelt-spell}
 use Rattle.text.specs.declared.Part.{Part}
-use Rattle.decoder.specs.declared.State.{State}
-use Rattle.decoder.specs.declared.Draw.the-variants.{Number}
-use Rattle.decoder.specs.declared.Buf.the-variants as buf
-use Rattle.decoder.specs.States.{movedTo}
-use Rattle.decoder.specs.Fields.{varDraw, varAt, byteAt, bytesAfter, bufAt}
+use Rattle.grammar.specs.Course.{got}
+use Rattle.decoder.specs.Line.{numberAt, varAt, byteAt, soMany, bytesAt}
 use Rattle.readings.specs.Sound.{bytesIn}
 use Rattle.tokens.specs.Tokens.{led}
 
@@ -44,19 +41,18 @@ module _ (u : List ℕ) (at x : ℕ) (q : List ℕ) (h : From u at (unsigned x +
   unfolding readUnsigned placed unsigned
   read-here = rw (h .here, spell-fuel 9 8 x (omega arith) l, spelt-spell 8 at x q l)
 
-module _ (u : List ℕ) (s : State) (x : ℕ) (q : List ℕ) (h : From u (s .at) (unsigned x ++ q)) (l : x < 2 ^ 63) where
-  pub var-here : varAt u s ≡ Number x (s .at) (movedTo s (s .at + length (unsigned x)))
-  unfolding varAt varDraw
-  var-here = rw (read-here u (s .at) x q h l)
+  pub var-here : varAt u at ≡ got (x, at) (at + length (unsigned x))
+  unfolding varAt numberAt
+  var-here = rw read-here
 
-pub byte-here : (u : List ℕ) (s : State) (x : ℕ) (q : List ℕ) → From u (s .at) (x ∷ q) → byteAt u s ≡ Number x (s .at) (movedTo s (s .at + 1))
+pub byte-here : (u : List ℕ) (at x : ℕ) (q : List ℕ) → From u at (x ∷ q) → byteAt u at ≡ got (x, at) (at + 1)
 unfolding byteAt
-byte-here u s x q h =
-    let l : s .at < length u = omega (arith, h .inside, length-drop (s .at) u, ap length (h .here)) in
-    let c : drop (s .at) u ≡ getD u (s .at) 0 ∷ drop (suc (s .at)) u = drop-cons u (s .at) 0 l in
-    let e : drop (s .at) u ≡ x ∷ q = h .here in
-    let v : getD u (s .at) 0 ≡ x = cc in
-    rw (lt-leb (length u) (s .at) l, v)
+byte-here u at x q h =
+    let l : at < length u = omega (arith, h .inside, length-drop at u, ap length (h .here)) in
+    let c : drop at u ≡ getD u at 0 ∷ drop (suc at) u = drop-cons u at 0 l in
+    let e : drop at u ≡ x ∷ q = h .here in
+    let v : getD u at 0 ≡ x = cc in
+    rw (lt-leb (length u) at l, v)
 
 -- ---- bytes led by their length
 
@@ -81,9 +77,9 @@ module _ (u : List ℕ) (at : ℕ) (b q : List ℕ) (h : From u at (led b ++ q))
   unfolding bytesIn
   bytes-here = part-here u (behind at b) b q led-bytes
 
-pub buf-here : (u : List ℕ) (s : State) (b q : List ℕ) → From u (s .at) (led b ++ q) → length b < 2 ^ 63
-    → bufAt u s ≡ buf.Part (partOf (behind (s .at) b) b) (movedTo s (behind (s .at) b + length b))
-unfolding bufAt bytesAfter
-buf-here u s b q h l =
-    let t : behind (s .at) b + length b + length q ≡ length u = past-length u (behind (s .at) b) b q (led-bytes u (s .at) b q h) in
-    rw (var-here u s (length b) (b ++ q) (led-apart u (s .at) b q h) l, le-ltb (length u - behind (s .at) b) (length b) (omega arith))
+pub bytes-read : (u : List ℕ) (at : ℕ) (b q : List ℕ) → From u at (led b ++ q) → length b < 2 ^ 63
+    → bytesAt u at ≡ got (partOf (behind at b) b) (behind at b + length b)
+unfolding bytesAt soMany
+bytes-read u at b q h l =
+    let t : behind at b + length b + length q ≡ length u = past-length u (behind at b) b q (led-bytes u at b q h) in
+    rw (read-here u at (length b) (b ++ q) (led-apart u at b q h) l, le-ltb (length u - behind at b) (length b) (omega arith))

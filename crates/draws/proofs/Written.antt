@@ -1,107 +1,86 @@
 -- Form 2: the columns of written tokens, cut and opened, give the tokens; so these are drawn again.
-use Prim.Native.Nat.{ℕ, _^_, _≤_, _<_}
-use mathlib.Core.Path.{_≡_, refl}
-use mathlib.Core.Bool.{true}
-use mathlib.Core.List.{List, [], _∷_, _++_}
+use Prim.Native.Nat.{ℕ, _+_, _^_, _≤_, _<_}
+use mathlib.Core.Path.{_≡_, refl, sym, ap, _∙_}
+use mathlib.Core.Bool.{Bool, true, false}
+use mathlib.Core.List.{List, [], _∷_}
 use native.Mathlib.Omega.{arith}
+use lib.Dec.{ltb}
 use lib.ListN.{length, take}
+use Rattle.numbers.specs.Number.{pick}
 use Rattle.numbers.specs.Limits.{maxCount}
 use Rattle.runs.specs.declared.Column.the-variants.{Number, Difference, Byte}
 use Rattle.runs.specs.Runs.{columnOf}
 use Rattle.string.specs.String.{textHead, textColumn}
 use Rattle.string.proofs.TextTrip.{joined, unitsEach}
-use Rattle.decoder.specs.declared.State.{State}
-use Rattle.decoder.specs.declared.v2.Opened.the-variants as opened
-use Rattle.decoder.specs.States.{withText}
-use Rattle.decoder.specs.Fields.{startAt, textIn, textOpened, onOpened, afterFlag, opened2}
-use Rattle.item.specs.Fields.{openedOf}
-use Rattle.tokens.specs.Tokens.{Token, led, takenAll, inLine, columnIn, lane, clients, lefts, rights, infos, parents, lens, rest}
+use Rattle.grammar.specs.Grammar.{_>>=_}
+use Rattle.grammar.specs.Course.{Drawn, got, not, onDrawn, run}
+use Rattle.decoder.specs.Line.{upTo, bounded, varAt, numberOf, line}
+use Rattle.decoder.specs.States.{State, movedTo, withText}
+use Rattle.decoder.specs.Columned.{onto, numberIn, columned}
+use Rattle.decoder.specs.Opening.{heads, standing, withOpened, textOpened, onHeads, openedOf}
+use Rattle.decoder.specs.Update.{placed, inColumns, blocksOf}
+use Rattle.tokens.specs.Tokens.{Token, takenAll, inLine, columnIn, lane, clients, lefts, rights, infos, parents, lens, rest}
 use Rattle.tokens.specs.Bytes.{form2, near}
-use Rattle.draws.specs.Draws.{Draws, AllLegal}
+use Rattle.draws.specs.Draws.{AllLegal, Lined, DrawnAgain}
 use Rattle.draws.proofs.Standing.{From, past, byte-here}
 use Rattle.draws.proofs.Values.{textsOf, texted}
 use Rattle.draws.proofs.Whys.{Whys, whys}
 use Rattle.draws.proofs.Columns.{Holds, columns-from}
-use Rattle.draws.proofs.Opening.{Cut, cut-here, cutState, cuts}
+use Rattle.draws.proofs.Opening.{ledAll, Cuts, cut-here, partsIn, endIn, cuts}
 use Rattle.draws.proofs.Giving.{numbers-cut, differences-cut, bytes-cut, GivesOpened, texts-cut}
 
 -- ---- the columns of tokens
 
--- what form 2 has, from each column on
 module _ (ts : List Token) where
   abbrev textsWritten : List ℕ
   textsWritten = textColumn (joined (textsOf ts)) (unitsEach (textsOf ts))
 
-  abbrev fromLens : List ℕ
-  fromLens = led (columnOf Number (takenAll lens ts)) ++ takenAll rest ts
+  -- the nine in their order
+  abbrev columns : List (List ℕ)
+  columns =
+      [] ∷ (columnOf Number (takenAll clients ts) ∷ (columnOf Difference (takenAll lefts ts) ∷ (columnOf Difference (takenAll rights ts)
+      ∷ (columnOf Byte (takenAll infos ts) ∷ (textsWritten ∷ (columnOf Byte (takenAll parents ts) ∷ ([] ∷ (columnOf Number (takenAll lens ts) ∷ []))))))))
 
-  abbrev fromParents : List ℕ
-  fromParents = led (columnOf Byte (takenAll parents ts)) ++ (led [] ++ fromLens)
-
-  abbrev fromTexts : List ℕ
-  fromTexts = led textsWritten ++ fromParents
-
-  abbrev fromInfos : List ℕ
-  fromInfos = led (columnOf Byte (takenAll infos ts)) ++ fromTexts
-
-  abbrev fromRights : List ℕ
-  fromRights = led (columnOf Difference (takenAll rights ts)) ++ fromInfos
-
-  abbrev fromLefts : List ℕ
-  fromLefts = led (columnOf Difference (takenAll lefts ts)) ++ fromRights
-
-  abbrev fromClients : List ℕ
-  fromClients = led (columnOf Number (takenAll clients ts)) ++ fromLefts
-
-  form2-spelled : AllLegal ts → form2 ts ≡ 0 ∷ (led [] ++ fromClients)
-  unfolding form2 lane inLine columnIn textColumn textHead
+  form2-spelled : AllLegal ts → form2 ts ≡ 0 ∷ ledAll columns (takenAll rest ts)
+  unfolding form2 lane inLine columnIn textColumn textHead ledAll
   form2-spelled a = let t = texted ts a in rw (t .bytes, t .units)
 
-module _ (ts : List Token) (a : AllLegal ts) (w : Whys ts) {u : List ℕ} (l : length u < 2 ^ 62)
-    (x0 : Cut u 1 [] (fromClients ts)) (x1 : Cut u (x0 .to) (columnOf Number (takenAll clients ts)) (fromLefts ts))
-    (x2 : Cut u (x1 .to) (columnOf Difference (takenAll lefts ts)) (fromRights ts)) (x3 : Cut u (x2 .to) (columnOf Difference (takenAll rights ts)) (fromInfos ts))
-    (x4 : Cut u (x3 .to) (columnOf Byte (takenAll infos ts)) (fromTexts ts)) (x5 : Cut u (x4 .to) (textsWritten ts) (fromParents ts))
-    (x6 : Cut u (x5 .to) (columnOf Byte (takenAll parents ts)) (led [] ++ fromLens ts)) (x7 : Cut u (x6 .to) [] (fromLens ts))
-    (x8 : Cut u (x7 .to) (columnOf Number (takenAll lens ts)) (takenAll rest ts)) where
-  texts-opened : GivesOpened (take (x5 .to) u) (x5 .from) (textsOf ts)
-  texts-opened = let t = texted ts a in texts-cut (textsOf ts) l x5 (t .formed) (rw (t .units) (w .units))
+module _ (ts : List Token) (a : AllLegal ts) (w : Whys ts) (u : List ℕ) (l : length u < 2 ^ 62) (x : Cuts u (takenAll rest ts) 1 (columns ts)) where
+  abbrev from5 : ℕ
+  unfolding Cuts
+  from5 = x .1 .1 .1 .1 .1 .0 .from
+
+  texts-opened : GivesOpened (take (from5 + length (textsWritten ts)) u) from5 (textsOf ts)
+  unfolding Cuts
+  texts-opened = let t = texted ts a in texts-cut (textsOf ts) l (x .1 .1 .1 .1 .1 .0) (t .formed) (rw (t .units) (w .units))
 
   abbrev openedState : State
-  openedState = withText (record { place = texts-opened .place; to = x5 .to }) (cutState x0 x1 x2 x3 x4 x5 x6 x7 x8)
+  openedState =
+      withText (record { place = texts-opened .place; to = from5 + length (textsWritten ts) })
+      (standing (partsIn u (takenAll rest ts) (columns ts) 1 x) (endIn u (takenAll rest ts) (columns ts) 1 x))
 
-  opens : From u 0 (0 ∷ (led [] ++ fromClients ts)) → openedOf 2 u ≡ opened.At openedState
-  unfolding openedOf opened2 afterFlag onOpened textOpened textIn
-  opens h = rw (byte-here u (startAt 2 0) 0 (led [] ++ fromClients ts) h, cuts x0 x1 x2 x3 x4 x5 x6 x7 x8, texts-opened .opens)
+  opens : From u 0 (0 ∷ ledAll (columns ts) (takenAll rest ts)) → openedOf u ≡ got tt openedState
+  unfolding openedOf heads onHeads textOpened withOpened run _>>=_ onDrawn line numberOf Cuts partsIn endIn
+  opens h = rw (byte-here u 0 0 (ledAll (columns ts) (takenAll rest ts)) h, cuts u (takenAll rest ts) (columns ts) 1 x [], texts-opened .opens)
 
   holds : Holds u openedState ts
+  unfolding Cuts partsIn endIn
   holds =
       record {
-        form = refl;
-        client = numbers-cut (takenAll clients ts) x1 (w .client);
-        left = differences-cut (takenAll lefts ts) x2 (w .left);
-        right = differences-cut (takenAll rights ts) x3 (w .right);
-        info = bytes-cut (takenAll infos ts) x4 (w .info);
+        client = numbers-cut (takenAll clients ts) (x .1 .0) (w .client);
+        left = differences-cut (takenAll lefts ts) (x .1 .1 .0) (w .left);
+        right = differences-cut (takenAll rights ts) (x .1 .1 .1 .0) (w .right);
+        info = bytes-cut (takenAll infos ts) (x .1 .1 .1 .1 .0) (w .info);
         text = texts-opened .gives;
         within = texts-opened .within;
-        parent = bytes-cut (takenAll parents ts) x6 (w .parent);
-        len = numbers-cut (takenAll lens ts) x8 (w .len);
-        rest = x8 .rest;
+        parent = bytes-cut (takenAll parents ts) (x .1 .1 .1 .1 .1 .1 .0) (w .parent);
+        len = numbers-cut (takenAll lens ts) (x .1 .1 .1 .1 .1 .1 .1 .1 .0) (w .len);
+        rest = x .1 .1 .1 .1 .1 .1 .1 .1 .1;
       }
 
--- cut one after the other; each is a variable where the next is cut
-pub columns-open : (ts : List Token) → AllLegal ts → near 2 ts ≡ true → length ts ≤ maxCount → length (form2 ts) < 2 ^ 62
-    → (s : State) × (openedOf 2 (form2 ts) ≡ opened.At s) × Holds (form2 ts) s ts
-columns-open ts a n few l =
-    next 1 [] (fromClients ts) behind-flag
-    (λ x0. next (x0 .to) (columnOf Number (takenAll clients ts)) (fromLefts ts) (x0 .rest)
-    (λ x1. next (x1 .to) (columnOf Difference (takenAll lefts ts)) (fromRights ts) (x1 .rest)
-    (λ x2. next (x2 .to) (columnOf Difference (takenAll rights ts)) (fromInfos ts) (x2 .rest)
-    (λ x3. next (x3 .to) (columnOf Byte (takenAll infos ts)) (fromTexts ts) (x3 .rest)
-    (λ x4. next (x4 .to) (textsWritten ts) (fromParents ts) (x4 .rest)
-    (λ x5. next (x5 .to) (columnOf Byte (takenAll parents ts)) (led [] ++ fromLens ts) (x5 .rest)
-    (λ x6. next (x6 .to) [] (fromLens ts) (x6 .rest)
-    (λ x7. next (x7 .to) (columnOf Number (takenAll lens ts)) (takenAll rest ts) (x7 .rest)
-    (λ x8. (openedState ts a w l x0 x1 x2 x3 x4 x5 x6 x7 x8, opens ts a w l x0 x1 x2 x3 x4 x5 x6 x7 x8 flag, holds ts a w l x0 x1 x2 x3 x4 x5 x6 x7 x8))))))))))
+columns-open : (ts : List Token) → AllLegal ts → near 2 ts ≡ true → length ts ≤ maxCount → length (form2 ts) < 2 ^ 62
+    → (s : State) × (openedOf (form2 ts) ≡ got tt s) × Holds (form2 ts) s ts
+columns-open ts a n few l = (openedState ts a w u l x, opens ts a w u l x flag, holds ts a w u l x)
   where
     u : List ℕ
     u = form2 ts
@@ -109,19 +88,50 @@ columns-open ts a n few l =
     w : Whys ts
     w = whys ts a few n
 
-    next : (at : ℕ) (c q : List ℕ) → From u at (led c ++ q) → (Cut u at c q → (s : State) × (openedOf 2 u ≡ opened.At s) × Holds u s ts)
-        → (s : State) × (openedOf 2 u ≡ opened.At s) × Holds u s ts
-    next at c q h k = k (cut-here u l at c q h)
-
-    flag : From u 0 (0 ∷ (led [] ++ fromClients ts))
+    flag : From u 0 (0 ∷ ledAll (columns ts) (takenAll rest ts))
     flag = record { inside = omega arith; here = form2-spelled ts a }
 
-    behind-flag : From u 1 (led [] ++ fromClients ts)
-    behind-flag = past u 0 (0 ∷ []) (led [] ++ fromClients ts) flag
+    x : Cuts u (takenAll rest ts) 1 (columns ts)
+    x = cut-here u (takenAll rest ts) l (columns ts) 1 (past u 0 (0 ∷ []) (ledAll (columns ts) (takenAll rest ts)) flag)
 
-pub columns-draw : (ts : List Token) → AllLegal ts → near 2 ts ≡ true → length ts ≤ maxCount → length (form2 ts) < 2 ^ 62
-    → (s : State) × (t : State) × (openedOf 2 (form2 ts) ≡ opened.At s) × Draws (form2 ts) s ts t × (s .form ≡ 2) × (t .form ≡ 2)
+-- ---- the reader of form 2
+
+-- a field in line, its state's place alone
+inPlace : Drawn State (ℕ × ℕ) → Drawn ℕ (ℕ × ℕ)
+inPlace (got a s) = got a (s .at)
+inPlace (not why) = not why
+
+lined : (u : List ℕ) → Lined 2 u (columned u) (λ s. s .at)
+unfolding columned numberIn line numberOf upTo bounded onto inPlace
+lined u = record { bounds = λ n s. bound n s (varAt u (s .at)); any = λ v p s m e. sym (stands s (varAt u (s .at))) ∙ ap inPlace e }
+  where
+    bound : (n : ℕ) (s : State) (d : Drawn ℕ (ℕ × ℕ)) → onto s (bounded n d) ≡ bounded n (onto s d)
+    bound n s (got a e) = go (ltb n (a .0))
+      where
+        go : (x : Bool) → onto s (pick x (not (record { number = 3; place = a .1 })) (got a e)) ≡ pick x (not (record { number = 3; place = a .1 })) (got a (movedTo s e))
+        go true = refl
+        go false = refl
+    bound n s (not why) = refl
+
+    stands : (s : State) (d : Drawn ℕ (ℕ × ℕ)) → inPlace (onto s d) ≡ d
+    stands s (got a e) = refl
+    stands s (not why) = refl
+
+pub columns-draw : (ts : List Token) → AllLegal ts → near 2 ts ≡ true → length ts ≤ maxCount → length (form2 ts) < 2 ^ 62 → DrawnAgain 2 (form2 ts) ts
+unfolding blocksOf inColumns onDrawn placed
 columns-draw ts a n few l =
     let o = columns-open ts a n few l in
     let r = columns-from (form2 ts) ts a (o .0) (o .2) in
-    (o .0, r .0, o .1, r .1, o .2 .form, r .2)
+    record {
+      State = State;
+      reader = columned (form2 ts);
+      place = λ s. s .at;
+      lined = lined (form2 ts);
+      first = o .0;
+      last = r .0;
+      drawn = r .1;
+      leave = placed;
+      leaves = λ b p c. refl;
+      leaves-over = λ s. refl;
+      blocks = rw (o .1);
+    }

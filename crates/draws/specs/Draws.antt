@@ -1,4 +1,4 @@
--- A state draws tokens: each is what reading gives next, up to a last state. And which tokens can be written and read again.
+-- A reader draws tokens: each is what reading gives next, from a state up to a last one. And which tokens can be written and read again.
 use Prim.Native.Nat.{ℕ, _≤_, _<_, _^_}
 use mathlib.Core.Path.{_≡_}
 use mathlib.Core.Bool.{Bool, true}
@@ -9,38 +9,34 @@ use Rattle.numbers.specs.Number.{pick}
 use Rattle.numbers.specs.Limits.{maxClock, maxValue}
 use Rattle.text.specs.declared.Part.{Part}
 use Rattle.text.specs.Utf8.{wellFormed, unitsOf}
-use Rattle.decoder.specs.declared.State.{State}
-use Rattle.decoder.specs.declared.Draw.{Draw}
-use Rattle.decoder.specs.declared.Draw.the-variants as draw
-use Rattle.decoder.specs.declared.Buf.the-variants as buf
-use Rattle.decoder.specs.declared.Text.the-variants as text-answer
-use Rattle.decoder.specs.Fields.{clockAt, varAt, bufAt, leftClock, rightClock}
-use Rattle.item.specs.Fields.{clientOf, infoOf, parentInfoOf, lenOf, textOf}
+use Rattle.block.specs.declared.Block.{Block}
+use Rattle.grammar.specs.Grammar as grammar
+use Rattle.grammar.specs.Grammar.{Number}
+use Rattle.grammar.specs.Course.{got, Reader, Run, item, over, Course, run}
+use Rattle.grammar.specs.Blocks.{allBlocks}
+use Rattle.decoder.specs.Line.{bounded, line}
+use Rattle.decoder.specs.Update.{blocksOf}
 use Rattle.readings.specs.Sound.{bytesIn}
 use Rattle.tokens.specs.Tokens.{Token, field, text, var, buf, clients, lefts, rights, infos, parents, lens}
 
--- the clock of a left id, and of a right id, as the state's form has it
-unfoldable pub leftClockOf : List ℕ → State → Draw
-leftClockOf u s = pick (eqb (s .form) 1) (clockAt u s) (leftClock u s)
+-- the field that a lane's numbers are
+unfoldable pub laneField : ℕ → Number
+laneField k =
+    pick (eqb k clients) grammar.client
+    (pick (eqb k lefts) grammar.leftClock
+    (pick (eqb k rights) grammar.rightClock
+    (pick (eqb k infos) grammar.info
+    (pick (eqb k parents) grammar.parentInfo grammar.len))))
 
-unfoldable pub rightClockOf : List ℕ → State → Draw
-rightClockOf u s = pick (eqb (s .form) 1) (clockAt u s) (rightClock u s)
+module _ {S : Type 0} (r : Reader S) (u : List ℕ) where
+  unfoldable pub Draws : S → List Token → S → Type 0
+  Draws s [] t = s ≡ t
+  Draws s (field k v ∷ ts) t = (p : ℕ) × (m : S) × (r (grammar.number (laneField k)) s ≡ got (v, p) m) × Draws m ts t
+  Draws s (text b n ∷ ts) t = (p : Part) × (m : S) × (r grammar.text s ≡ got (p, record { 0 = n }) m) × (bytesIn u p ≡ b) × Draws m ts t
+  Draws s (var v ∷ ts) t = (p : ℕ) × (m : S) × (r (grammar.number grammar.any) s ≡ got (v, p) m) × Draws m ts t
+  Draws s (buf b ∷ ts) t = (p : Part) × (m : S) × (r grammar.bytes s ≡ got p m) × (bytesIn u p ≡ b) × Draws m ts t
 
--- the next number of a lane
-unfoldable pub fieldOf : ℕ → List ℕ → State → Draw
-fieldOf k u s =
-    pick (eqb k clients) (clientOf u s)
-    (pick (eqb k lefts) (leftClockOf u s)
-    (pick (eqb k rights) (rightClockOf u s)
-    (pick (eqb k infos) (infoOf u s)
-    (pick (eqb k parents) (parentInfoOf u s) (lenOf u s)))))
-
-unfoldable pub Draws : List ℕ → State → List Token → State → Type 0
-Draws u s [] t = s ≡ t
-Draws u s (field k v ∷ ts) t = (p : ℕ) × (m : State) × (fieldOf k u s ≡ draw.Number v p m) × Draws u m ts t
-Draws u s (text b n ∷ ts) t = (p : Part) × (m : State) × (textOf u s ≡ text-answer.Part p (record { 0 = n }) m) × (bytesIn u p ≡ b) × Draws u m ts t
-Draws u s (var v ∷ ts) t = (p : ℕ) × (m : State) × (varAt u s ≡ draw.Number v p m) × Draws u m ts t
-Draws u s (buf b ∷ ts) t = (p : Part) × (m : State) × (bufAt u s ≡ buf.Part p m) × (bytesIn u p ≡ b) × Draws u m ts t
+-- ---- which tokens
 
 -- a number that its lane takes and that reading allows
 unfoldable pub most : ℕ → ℕ
@@ -60,3 +56,25 @@ Legal (buf b) = length b < 2 ^ 63
 unfoldable pub AllLegal : List Token → Type 0
 AllLegal [] = Unit {0}
 AllLegal (t ∷ ts) = Legal t × AllLegal ts
+
+-- ---- bytes that are read
+
+-- numbers without a column stand in line, where a state's place is; a limit is tested where a number stands
+pub record Lined {S : Type 0} (form : ℕ) (u : List ℕ) (r : Reader S) (place : S → ℕ) : Type 0 where
+  pub bounds : (n : ℕ) (s : S) → r (grammar.number (grammar.upTo n)) s ≡ bounded n (r (grammar.number grammar.any) s)
+  pub any : (v p : ℕ) (s m : S) → r (grammar.number grammar.any) s ≡ got (v, p) m → line form u (grammar.number grammar.any) (place s) ≡ got (v, p) (place m)
+
+-- the bytes u of a form have a reader, and a state that their blocks are read from; from there it draws the tokens
+pub record DrawnAgain (form : ℕ) (u : List ℕ) (ts : List Token) : Type 1 where
+  pub State : Type 0
+  pub reader : Reader State
+  pub place : State → ℕ
+  pub lined : Lined form u reader place
+  pub first : State
+  pub last : State
+  pub drawn : Draws reader u first ts last
+  -- a reading that leaves, of its last state, the place
+  pub leave : Run State Block (Unit {0}) → Course Block
+  pub leaves : (b : Block) (p : ℕ) (c : Run State Block (Unit {0})) → leave (item b p c) ≡ item b p (leave c)
+  pub leaves-over : (s : State) → leave (over tt s) ≡ over tt (place s)
+  pub blocks : blocksOf form u ≡ leave (run reader allBlocks first)

@@ -1,2 +1,2 @@
--- What it is that a state draws tokens.
+-- What it is that a reader draws tokens.
 pub mod Draws

@@ -1,4 +1,2 @@
--- What a block of an update is, behind its info byte.
-pub mod Block
-pub mod Fields
-pub mod Rows
+-- What is read of a block: its row as words.
+pub mod Row

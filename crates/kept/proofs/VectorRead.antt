@@ -7,8 +7,7 @@ use native.Mathlib.Omega.{arith}
 use lib.ListN.{length, take, replicate, length-append, length-map}
 use Rattle.numbers.specs.declared.Refusal.{Refusal}
 use Rattle.numbers.specs.Output.{padded}
-use Rattle.decoder.specs.declared.State.{State}
-use Rattle.decoder.specs.Course.{Course, item, over, stopped, items, ending}
+use Rattle.grammar.specs.Course.{Course, item, over, stopped, items, ending}
 use Rattle.vector.specs.declared.Entries.{Entries}
 use Rattle.vector.specs.declared.Entries.the-variants.{Read, Refused}
 use Rattle.vector.specs.Vector.{Entry, clientsIn, clocksIn, kept}
@@ -17,31 +16,31 @@ use Rattle.kept.specs.Plan.{paired, entriesOf}
 
 -- ---- how a course ends
 
-abbrev Over : Course Entry → State → Type 0
+abbrev Over : Course Entry → ℕ → Type 0
 Over (item a p c) s = Over c s
-Over (over t) s = t ≡ s
+Over (over x t) s = t ≡ s
 Over (stopped why) s = ⊥
 
 abbrev Stopped : Course Entry → Refusal → Type 0
 Stopped (item a p c) why = Stopped c why
-Stopped (over t) why = ⊥
+Stopped (over x t) why = ⊥
 Stopped (stopped r) why = r ≡ why
 
-ends : (c : Course Entry) → ((s : State) × Over c s) ⊎ ((why : Refusal) × Stopped c why)
+ends : (c : Course Entry) → ((s : ℕ) × Over c s) ⊎ ((why : Refusal) × Stopped c why)
 ends (item a p c) = ends c
-ends (over t) = inl (t, refl)
+ends (over x t) = inl (t, refl)
 ends (stopped why) = inr (why, refl)
 
-over-ends : {X : Type 0} (c : Course Entry) (s : State) (f : State → X) (g : Refusal → X) → Over c s → ending c f g ≡ f s
+over-ends : {X : Type 0} (c : Course Entry) (s : ℕ) (f : ℕ → X) (g : Refusal → X) → Over c s → ending c f g ≡ f s
 unfolding ending
 over-ends (item a p c) s f g h = over-ends c s f g h
-over-ends (over t) s f g h = ap f h
+over-ends (over x t) s f g h = ap f h
 over-ends (stopped why) s f g h = absurd h
 
-stopped-ends : {X : Type 0} (c : Course Entry) (why : Refusal) (f : State → X) (g : Refusal → X) → Stopped c why → ending c f g ≡ g why
+stopped-ends : {X : Type 0} (c : Course Entry) (why : Refusal) (f : ℕ → X) (g : Refusal → X) → Stopped c why → ending c f g ≡ g why
 unfolding ending
 stopped-ends (item a p c) why f g h = stopped-ends c why f g h
-stopped-ends (over t) why f g h = absurd h
+stopped-ends (over x t) why f g h = absurd h
 stopped-ends (stopped r) why f g h = ap g h
 
 -- ---- clients and clocks, in pairs again
@@ -83,8 +82,8 @@ why-of (Refused why) r = why
 
 -- m entries were read
 pub record WasRead (c : Course Entry) (m : ℕ) : Type 1 where
-  pub after : State
-  pub ends-so : {X : Type 0} (f : State → X) (g : Refusal → X) → ending c f g ≡ f after
+  pub after : ℕ
+  pub ends-so : {X : Type 0} (f : ℕ → X) (g : Refusal → X) → ending c f g ≡ f after
   pub size : m ≡ length (items c)
   pub room : (k : ℕ) → m ≤ length (padded k (clientsIn (kept c)))
   pub clients : (k : ℕ) → take m (padded k (clientsIn (kept c))) ≡ clientsIn (items c)
@@ -94,11 +93,11 @@ pub was-read : (c : Course Entry) (m : ℕ) → vector.entriesOf c ≡ Read m �
 unfolding vector.entriesOf kept
 was-read c m e = go (ends c)
   where
-    go : ((s : State) × Over c s) ⊎ ((why : Refusal) × Stopped c why) → WasRead c m
+    go : ((s : ℕ) × Over c s) ⊎ ((why : Refusal) × Stopped c why) → WasRead c m
     go (inl x) =
         let h = x .1 in
-        let all : kept c ≡ items c = over-ends c (x .0) (λ (s : State). items c) (λ (why : Refusal). []) h in
-        let size : m ≡ length (items c) = sym (ap count e) ∙ ap count (over-ends c (x .0) (λ (s : State). Read (length (items c))) (λ (why : Refusal). Refused why) h) in
+        let all : kept c ≡ items c = over-ends c (x .0) (λ (s : ℕ). items c) (λ (why : Refusal). []) h in
+        let size : m ≡ length (items c) = sym (ap count e) ∙ ap count (over-ends c (x .0) (λ (s : ℕ). Read (length (items c))) (λ (why : Refusal). Refused why) h) in
         record {
           after = x .0;
           ends-so = λ f g. over-ends c (x .0) f g h;
@@ -107,15 +106,15 @@ was-read c m e = go (ends c)
           clients = λ k. rw (all, size) (clients-again (items c) k);
           entries = λ k l. rw (all, size) (entries-again (items c) k l);
         }
-    go (inr x) = absurd (subst read-is (sym e ∙ stopped-ends c (x .0) (λ (s : State). Read (length (items c))) (λ (why : Refusal). Refused why) (x .1)) tt)
+    go (inr x) = absurd (subst read-is (sym e ∙ stopped-ends c (x .0) (λ (s : ℕ). Read (length (items c))) (λ (why : Refusal). Refused why) (x .1)) tt)
 
 -- it was refused
-pub was-refused : {X : Type 0} (c : Course Entry) (why : Refusal) → vector.entriesOf c ≡ Refused why → (f : State → X) (g : Refusal → X) → ending c f g ≡ g why
+pub was-refused : {X : Type 0} (c : Course Entry) (why : Refusal) → vector.entriesOf c ≡ Refused why → (f : ℕ → X) (g : Refusal → X) → ending c f g ≡ g why
 unfolding vector.entriesOf
 was-refused {X} c why e f g = go (ends c)
   where
-    go : ((s : State) × Over c s) ⊎ ((r : Refusal) × Stopped c r) → ending c f g ≡ g why
-    go (inl x) = absurd (subst read-is (sym (over-ends c (x .0) (λ (s : State). Read (length (items c))) (λ (r : Refusal). Refused r) (x .1)) ∙ e) tt)
+    go : ((s : ℕ) × Over c s) ⊎ ((r : Refusal) × Stopped c r) → ending c f g ≡ g why
+    go (inl x) = absurd (subst read-is (sym (over-ends c (x .0) (λ (s : ℕ). Read (length (items c))) (λ (r : Refusal). Refused r) (x .1)) ∙ e) tt)
     go (inr x) =
-        let same : x .0 ≡ why = ap (λ (a : Entries). why-of a why) (sym (stopped-ends c (x .0) (λ (s : State). Read (length (items c))) (λ (r : Refusal). Refused r) (x .1)) ∙ e) in
+        let same : x .0 ≡ why = ap (λ (a : Entries). why-of a why) (sym (stopped-ends c (x .0) (λ (s : ℕ). Read (length (items c))) (λ (r : Refusal). Refused r) (x .1)) ∙ e) in
         stopped-ends c (x .0) f g (x .1) ∙ ap g same

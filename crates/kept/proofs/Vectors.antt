@@ -1,6 +1,7 @@
 -- What every vector has: clocks within their limit, and, where it is refused, a number other than 0, so 0 says that all of it was read.
 use Prim.Native.Nat.{ℕ, zero, suc, _≤_}
 use mathlib.Core.Path.{_≡_, refl}
+use mathlib.Core.Bool.{Bool, true, false}
 use mathlib.Core.List.{List, [], _∷_, _++_}
 use native.Mathlib.Omega.{arith}
 use lib.Dec.{ltb, eqb}
@@ -11,12 +12,10 @@ use Rattle.numbers.specs.declared.Read.{Read}
 use Rattle.numbers.specs.declared.Read.the-variants as read
 use Rattle.numbers.specs.Number.{pick, Spelt, got, short, long, spelt, placed, readUnsigned}
 use Rattle.numbers.specs.Limits.{maxClients, maxValue, maxClock}
-use Rattle.decoder.specs.declared.State.{State}
-use Rattle.decoder.specs.declared.Draw.{Draw}
-use Rattle.decoder.specs.declared.Draw.the-variants.{Number, Refused}
-use Rattle.decoder.specs.Fields.{startAt, bounded, varDraw, varAt, client1, clockAt}
-use Rattle.decoder.specs.Course.{Course, item, over, stopped, drawn, items, ending}
-use Rattle.vector.specs.Vector.{Entry, entry, holds, entries, vectorOf}
+use Rattle.grammar.specs.Grammar.{Grammar, _>>=_}
+use Rattle.grammar.specs.Course.{Drawn, got as drew, not, Course, item, over, stopped, onDrawn, run, items, ending}
+use Rattle.decoder.specs.Line.{numberAt, varAt, bounded, upTo, numberOf, line}
+use Rattle.vector.specs.Vector.{Entry, entry, holds, entries, aVector, vectorOf}
 use Rattle.readings.specs.Sound.{All}
 use Rattle.readings.proofs.Columns.{chosen}
 
@@ -29,13 +28,9 @@ abbrev SomeRead : Read → Type 0
 SomeRead (read.Number v e) = Unit {0}
 SomeRead (read.Refused why) = Some why
 
-abbrev SomeDraw : Draw → Type 0
-SomeDraw (Number v p s) = Unit {0}
-SomeDraw (Refused why) = Some why
-
-abbrev Within : ℕ → Draw → Type 0
-Within most (Number v p s) = v ≤ most
-Within most (Refused why) = Some why
+abbrev Within : ℕ → Drawn ℕ (ℕ × ℕ) → Type 0
+Within most (drew a e) = a .0 ≤ most
+Within most (not why) = Some why
 
 placed-some : (s : List ℕ) (at : ℕ) (x : Spelt) → SomeRead (placed s at x)
 unfolding placed
@@ -43,54 +38,43 @@ placed-some s at (got v e) = tt
 placed-some s at short = omega arith
 placed-some s at long = omega arith
 
-bounded-within : (most : ℕ) (x : Draw) → SomeDraw x → Within most (bounded most x)
-unfolding bounded
-bounded-within most (Number v p s) h = chosen (Within most) (ltb most v) (λ _. omega arith) (λ e. ltb-false most v e)
-bounded-within most (Refused why) h = h
-
-module _ (u : List ℕ) (s : State) where
-  var-some : SomeDraw (varAt u s)
-  unfolding varAt varDraw readUnsigned
-  var-some = go (readUnsigned u (s .at)) (placed-some u (s .at) (spelt 9 (s .at) (drop (s .at) u)))
-    where
-      go : (x : Read) → SomeRead x → SomeDraw (varDraw s x)
-      go (read.Number v e) h = tt
-      go (read.Refused why) h = h
-
-  client-within : Within maxValue (client1 u s)
-  unfolding client1
-  client-within = bounded-within maxValue (varAt u s) var-some
-
-  clock-within : Within maxClock (clockAt u s)
-  unfolding clockAt
-  clock-within = bounded-within maxClock (varAt u s) var-some
+up-to-within : (most : ℕ) (u : List ℕ) (at : ℕ) → Within most (upTo most u at)
+unfolding upTo varAt numberAt bounded readUnsigned
+up-to-within most u at = go (readUnsigned u at) (placed-some u at (spelt 9 at (drop at u)))
+  where
+    go : (x : Read) → SomeRead x → Within most (bounded most (numberAt at x))
+    go (read.Number v e) h = chosen (Within most) (ltb most v) (λ _. omega arith) (λ l. ltb-false most v l)
+    go (read.Refused why) h = h
 
 -- ---- the whole of it
 
 abbrev Fair : Course Entry → Type 0
 Fair (item e p c) = (e .clock ≤ maxClock) × Fair c
-Fair (over s) = Unit {0}
+Fair (over x s) = Unit {0}
 Fair (stopped why) = Some why
 
-drawn-fair : (most : ℕ) (d : Draw) (then : ℕ → ℕ → State → Course Entry) → Within most d → ((v p : ℕ) (s : State) → v ≤ most → Fair (then v p s))
-    → Fair (drawn d then)
-unfolding drawn
-drawn-fair most (Number v p s) then h k = k v p s h
-drawn-fair most (Refused why) then h k = h
+drawn-fair : (most : ℕ) (d : Drawn ℕ (ℕ × ℕ)) (then : ℕ × ℕ → ℕ → Course Entry) → Within most d → ((a : ℕ × ℕ) (s : ℕ) → a .0 ≤ most → Fair (then a s))
+    → Fair (onDrawn d then)
+unfolding onDrawn
+drawn-fair most (drew a e) then h k = k a e h
+drawn-fair most (not why) then h k = h
 
-entries-fair : (n : ℕ) (v : List ℕ) (seen : List Entry) (s : State) → Fair (entries n v seen s)
-unfolding entries
-entries-fair zero v seen s = tt
-entries-fair (suc n) v seen s =
-    drawn-fair maxValue (client1 v s) _ (client-within v s) (λ c p t _.
-    chosen Fair (holds c seen) (λ _. omega arith)
-    (λ _. drawn-fair maxClock (clockAt v t) _ (clock-within v t) (λ k q w h. (h, entries-fair n v (seen ++ (entry c k ∷ [])) w))))
+module _ (v : List ℕ) where
+  picked : (b : Bool) (x y : Grammar Entry (Unit {0})) (at : ℕ) → Fair (run (line 1 v) x at) → Fair (run (line 1 v) y at) → Fair (run (line 1 v) (pick b x y) at)
+  picked true x y at p q = p
+  picked false x y at p q = q
 
-vector-fair : (v : List ℕ) → Fair (vectorOf v)
-unfolding vectorOf
-vector-fair v =
-    drawn-fair maxClients (bounded maxClients (varAt v (startAt 1 0))) _ (bounded-within maxClients _ (var-some v (startAt 1 0)))
-    (λ n p s _. entries-fair n v [] s)
+  entries-fair : (n : ℕ) (seen : List Entry) (at : ℕ) → Fair (run (line 1 v) (entries n seen) at)
+  unfolding entries run line numberOf _>>=_
+  entries-fair zero seen at = tt
+  entries-fair (suc n) seen at =
+      drawn-fair maxValue (upTo maxValue v at) _ (up-to-within maxValue v at) (λ c t _.
+      picked (holds (c .0) seen) _ _ t (omega arith)
+      (drawn-fair maxClock (upTo maxClock v t) _ (up-to-within maxClock v t) (λ k w h. (h, entries-fair n (seen ++ (entry (c .0) (k .0) ∷ [])) w))))
+
+  vector-fair : Fair (vectorOf v)
+  unfolding vectorOf aVector run line numberOf _>>=_
+  vector-fair = drawn-fair maxClients (upTo maxClients v 0) _ (up-to-within maxClients v 0) (λ n s _. entries-fair (n .0) [] s)
 
 pub vector-clocks : (v : List ℕ) → All (λ (e : Entry). e .clock ≤ maxClock) (items (vectorOf v))
 unfolding items
@@ -98,7 +82,7 @@ vector-clocks v = go (vectorOf v) (vector-fair v)
   where
     go : (c : Course Entry) → Fair c → All (λ (e : Entry). e .clock ≤ maxClock) (items c)
     go (item e p c) h = (h .0, go c (h .1))
-    go (over s) h = tt
+    go (over x s) h = tt
     go (stopped why) h = tt
 
 -- ---- its number
@@ -114,5 +98,5 @@ by-number {X} v x g = go (vectorOf v) (vector-fair v)
     go : (c : Course Entry) → Fair c
         → ending c (λ s. x) (λ why. g (why .number)) ≡ pick (eqb (ending c (λ s. 0) (λ why. why .number)) 0) x (g (ending c (λ s. 0) (λ why. why .number)))
     go (item a p c) h = go c (h .1)
-    go (over s) h = refl
+    go (over y s) h = refl
     go (stopped why) h = rw (ne-eqb (why .number) 0 (λ e. omega (arith, e, h))) refl

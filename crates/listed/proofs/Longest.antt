@@ -11,12 +11,11 @@ use Rattle.numbers.specs.declared.Written.{Written}
 use Rattle.numbers.specs.Number.{pick}
 use Rattle.numbers.specs.Output.{written}
 use Rattle.numbers.proofs.Output.{verdict-done}
-use Rattle.decoder.specs.declared.State.{State}
-use Rattle.decoder.specs.Course.{Course, item, over, stopped, fit, items, ending}
-use Rattle.update.specs.Update.{blocksOf}
+use Rattle.grammar.specs.Course.{Course, item, over, stopped, fit, items, ending}
+use Rattle.decoder.specs.Update.{blocksOf}
 use Rattle.ranges.specs.Ranges.{normal}
 use Rattle.ranges.proofs.Theory.{normal-length}
-use Rattle.deletes.specs.DeleteSet.{deleteSet}
+use Rattle.decoder.specs.Update.{deleteSet}
 use Rattle.updates.specs.Promises.{Reading, refused, withRanges, withBlocks, early, reading}
 use Rattle.listing_text.specs.Listing.{emptyLine, refusedLine}
 use Rattle.listing_text.specs.Words.{wordRefused}
@@ -28,16 +27,16 @@ fit-short : {A : Type 0} (n : ℕ) (c : Course A) → length (items (fit n c)) �
 unfolding fit items
 fit-short zero (item a p c) = omega arith
 fit-short (suc n) (item a p c) = omega (arith, fit-short n c)
-fit-short zero (over s) = omega arith
-fit-short (suc n) (over s) = omega arith
+fit-short zero (over x s) = omega arith
+fit-short (suc n) (over x s) = omega arith
 fit-short zero (stopped why) = omega arith
 fit-short (suc n) (stopped why) = omega arith
 
 -- what holds of each way that a course can end
-ends-in : {A X : Type 0} (P : X → Type 0) (c : Course A) (done : State → X) (not : Refusal → X) → ((s : State) → P (done s)) → ((why : Refusal) → P (not why)) → P (ending c done not)
+ends-in : {A X : Type 0} (P : X → Type 0) (c : Course A) (done : ℕ → X) (not : Refusal → X) → ((s : ℕ) → P (done s)) → ((why : Refusal) → P (not why)) → P (ending c done not)
 unfolding ending
 ends-in P (item a p c) done not h k = ends-in P c done not h k
-ends-in P (over s) done not h k = h s
+ends-in P (over x s) done not h k = h s
 ends-in P (stopped why) done not h k = k why
 
 -- either way
@@ -55,10 +54,10 @@ reading-within : (form : ℕ) (u : List ℕ) (n m : ℕ) → Within n m (reading
 unfolding reading withBlocks withRanges
 reading-within form u n m =
     let c = fit n (blocksOf form u) in
-    picks (Within n m) (eqb (early form u) 0) (withBlocks u m c) (refused (early form u))
-    (ends-in (Within n m) c (λ s. withRanges (items c) (fit m (deleteSet u s))) (λ why. refused (why .number))
-    (λ s. let d = fit m (deleteSet u s) in ends-in (Within n m) d (λ e. record { number = 0; blocks = items c; ranges = normal (items d) }) (λ why. refused (why .number))
-    (λ e. (fit-short n (blocksOf form u), omega (arith, normal-length (items d), fit-short m (deleteSet u s))))
+    picks (Within n m) (eqb (early form u) 0) (withBlocks form u m c) (refused (early form u))
+    (ends-in (Within n m) c (λ s. withRanges (items c) (fit m (deleteSet form u s))) (λ why. refused (why .number))
+    (λ s. let d = fit m (deleteSet form u s) in ends-in (Within n m) d (λ e. record { number = 0; blocks = items c; ranges = normal (items d) }) (λ why. refused (why .number))
+    (λ e. (fit-short n (blocksOf form u), omega (arith, normal-length (items d), fit-short m (deleteSet form u s))))
     (λ why. none-within n m (why .number)))
     (λ why. none-within n m (why .number)))
     (none-within n m (early form u))

@@ -9,29 +9,28 @@ use lib.Seq.{take-suc-set, length-take-le}
 use Rattle.numbers.specs.declared.Refusal.{Refusal}
 use Rattle.block.specs.declared.Block.{Block}
 use Rattle.block.specs.Row.{noBlock}
-use Rattle.table.specs.Rows.{clearedFrom}
-use Rattle.decoder.specs.declared.State.{State}
-use Rattle.decoder.specs.Course.{Course, item, over, stopped, fit, items, ending}
+use Rattle.table.specs.Rows.{clearedFrom, filledFrom}
+use Rattle.grammar.specs.Course.{Course, item, over, stopped, fit, items, ending}
 use Rattle.reader.specs.declared.Filled.{Filled}
 use Rattle.reader.specs.declared.Filled.the-variants.{Rows, Refused}
 use Rattle.reader.specs.Reader.{filledOf, rowsOf}
 
 -- ---- how a course ends, as a value
 pub data Last : Type 0 where
-  done : State → Last
+  done : ℕ → Last
   refused : Refusal → Last
 
 abbrev pub last : Course Block → Last
 last c = ending c done refused
 
-abbrev onLast : {X : Type 0} → Last → (State → X) → (Refusal → X) → X
+abbrev onLast : {X : Type 0} → Last → (ℕ → X) → (Refusal → X) → X
 onLast (done s) d r = d s
 onLast (refused why) d r = r why
 
-ending-last : {X : Type 0} (c : Course Block) (d : State → X) (r : Refusal → X) → ending c d r ≡ onLast (last c) d r
+ending-last : {X : Type 0} (c : Course Block) (d : ℕ → X) (r : Refusal → X) → ending c d r ≡ onLast (last c) d r
 unfolding ending
 ending-last (item a p c) d r = ending-last c d r
-ending-last (over s) d r = refl
+ending-last (over a s) d r = refl
 ending-last (stopped why) d r = refl
 
 -- ---- so many rows: the blocks and the end, each known apart
@@ -60,15 +59,15 @@ last-full : (b : Block) (p : ℕ) (c : Course Block) → last (fit 0 (item b p c
 unfolding fit ending
 last-full b p c = refl
 
-items-over : (k : ℕ) (s : State) → _≡_ {A = List Block} (items (fit k (over s))) []
+items-over : (k : ℕ) (a : Unit {0}) (s : ℕ) → _≡_ {A = List Block} (items (fit k (over a s))) []
 unfolding fit items
-items-over zero s = refl
-items-over (suc k) s = refl
+items-over zero a s = refl
+items-over (suc k) a s = refl
 
-last-over : (k : ℕ) (s : State) → last (fit k (over s)) ≡ done s
+last-over : (k : ℕ) (a : Unit {0}) (s : ℕ) → last (fit k (over a s)) ≡ done s
 unfolding fit ending
-last-over zero s = refl
-last-over (suc k) s = refl
+last-over zero a s = refl
+last-over (suc k) a s = refl
 
 last-stopped : (k : ℕ) (why : Refusal) → last (fit k (stopped why)) ≡ refused why
 unfolding fit ending
@@ -91,7 +90,7 @@ module _ (N : ℕ) (c₀ : Course Block) where
       all = omega (arith)
 
   refuses : (rows : List Block) (why : Refusal) → length rows ≡ N → last (fit N c₀) ≡ refused why → Ends N c₀ (Refused why) (clearedFrom 0 rows)
-  unfolding clearedFrom
+  unfolding clearedFrom filledFrom
   refuses rows why size h = (sym (filled-by N c₀ (items (fit N c₀)) (refused why) refl h), ap (λ (k : ℕ). replicate k noBlock) all ∙ sym (rows-by N c₀ (items (fit N c₀)) (refused why) refl h))
     where
       all : length rows - 0 ≡ N
@@ -128,18 +127,18 @@ module _ (N : ℕ) (c₀ : Course Block) where
       pub on-refusal : (why : Refusal) → c ≡ stopped why → Ends N c₀ (Refused why) (clearedFrom 0 rows)
       on-refusal why e = refuses rows why size (passed (stopped why) e .2 ∙ last-stopped (N - n) why)
 
-      pub on-end : (s : State) → c ≡ over s → Ends N c₀ (Rows n s) (clearedFrom n rows)
-      unfolding clearedFrom
+      pub on-end : (s : ℕ) → c ≡ over tt s → Ends N c₀ (Rows n s) (clearedFrom n rows)
+      unfolding clearedFrom filledFrom
       on-end s e = (
         sym (filled-by N c₀ (take n rows) (done s) blocks end ∙ ap (λ (k : ℕ). Rows k s) taken),
         ap (λ (k : ℕ). take n rows ++ replicate (k - n) noBlock) size ∙ sym (rows-by N c₀ (take n rows) (done s) blocks end ∙ ap (λ (k : ℕ). take n rows ++ replicate (N - k) noBlock) taken),
       )
         where
           blocks : items (fit N c₀) ≡ take n rows
-          blocks = passed (over s) e .1 ∙ ap (λ (bs : List Block). take n rows ++ bs) (items-over (N - n) s) ∙ append-nil (take n rows)
+          blocks = passed (over tt s) e .1 ∙ ap (λ (bs : List Block). take n rows ++ bs) (items-over (N - n) tt s) ∙ append-nil (take n rows)
 
           end : last (fit N c₀) ≡ done s
-          end = passed (over s) e .2 ∙ last-over (N - n) s
+          end = passed (over tt s) e .2 ∙ last-over (N - n) tt s
 
           taken : length (take n rows) ≡ n
           taken = length-take-le n rows (omega (arith, known .0, size))

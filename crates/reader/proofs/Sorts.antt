@@ -4,21 +4,18 @@ use Prim.Native.Nat.{ℕ}
 use denote.Struct.Laws as LL
 use denote.Enum.Laws as EL
 use Rattle.walks.proofs.Rows.{Kind, Has, byte, word}
-use Rattle.block.specs.declared.Block.{Block}
-use Rattle.decoder.specs.declared.State.{State as decoder·State}
 use Rattle.numbers.specs.declared.Refusal.{Refusal}
 use Rattle.reader.specs.declared.Filled.{Filled}
 use Rattle.reader.specs.declared.Filled.the-variants.{Rows as Filled·Rows, Refused as Filled·Refused}
-use Rattle.update.specs.declared.Blocks.{Blocks as update·Blocks}
+use Rattle.update.specs.declared.Spot.{Spot as update·Spot}
 use Rattle.update.specs.declared.Step.{Step as update·Step}
 use Rattle.update.specs.declared.Step.the-variants.{Block as update·Step·Block, On as update·Step·On, Done as update·Step·Done, Refused as update·Step·Refused}
 use Rattle.update.specs.declared.Begun.{Begun}
 use Rattle.update.specs.declared.Begun.the-variants.{At as Begun·At, Refused as Begun·Refused}
-use Rattle.table.proofs.Sorts.{block}
-use Rattle.decoder.proofs.State as decoder·State₁
-use Rattle.decoder.proofs.State.Laws as decoder·State₂
-use Rattle.update.proofs.Blocks as update·Blocks₁
-use Rattle.update.proofs.Blocks.Laws as update·Blocks₂
+use Rattle.vector.specs.declared.Entries.{Entries}
+use Rattle.vector.specs.declared.Entries.the-variants.{Read as Entries·Read, Refused as Entries·Refused}
+use Rattle.update.proofs.Spot as update·Spot₁
+use Rattle.update.proofs.Spot.Laws as update·Spot₂
 use Rattle.numbers.proofs.Refusal as Refusal₁
 use Rattle.numbers.proofs.Refusal.Laws as Refusal₂
 use Rattle.update.proofs.Step as update·Step₁
@@ -27,34 +24,41 @@ use Rattle.update.proofs.Begun as Begun₁
 use Rattle.update.proofs.Begun.Laws as Begun₂
 use Rattle.reader.proofs.Filled as Filled₁
 use Rattle.reader.proofs.Filled.Laws as Filled₂
-use Rattle.vector.specs.declared.Entries.{Entries}
-use Rattle.vector.specs.declared.Entries.the-variants.{Read as Entries·Read, Refused as Entries·Refused}
 use Rattle.vector.proofs.Entries as Entries₁
 use Rattle.vector.proofs.Entries.Laws as Entries₂
 
-abbrev pub decoder·state : Kind
-decoder·state = record {
-  row = decoder·State₁.the-row;
-  val = LL.val decoder·State₁.the-type decoder·State₂.the-laws;
-  tells = LL.tells decoder·State₁.the-type decoder·State₂.the-laws;
-  copy = λ M 𝓤 H A W. LL.copy decoder·State₁.the-type decoder·State₂.the-copy 𝓤 H A W;
-  makes = λ M 𝓤 H A W. LL.makes decoder·State₁.the-type decoder·State₂.the-plain 𝓤 H A;
-  lawful = λ M 𝓤 H A W. LL.lawful decoder·State₁.the-type decoder·State₂.the-laws 𝓤 H A W;
+abbrev pub update·spot : Kind
+update·spot = record {
+  row = update·Spot₁.the-row;
+  val = LL.val update·Spot₁.the-type update·Spot₂.the-laws;
+  tells = LL.tells update·Spot₁.the-type update·Spot₂.the-laws;
+  copy = λ M 𝓤 H A W. LL.copy update·Spot₁.the-type update·Spot₂.the-copy 𝓤 H A W;
+  makes = λ M 𝓤 H A W. LL.makes update·Spot₁.the-type update·Spot₂.the-plain 𝓤 H A;
+  lawful = λ M 𝓤 H A W. LL.lawful update·Spot₁.the-type update·Spot₂.the-laws 𝓤 H A W;
   last = λ x. tt;
   silent = λ x w. refl;
 }
 
-abbrev pub update·blocks : Kind
-update·blocks = record {
-  row = update·Blocks₁.the-row;
-  val = LL.val update·Blocks₁.the-type update·Blocks₂.the-laws;
-  tells = LL.tells update·Blocks₁.the-type update·Blocks₂.the-laws;
-  copy = λ M 𝓤 H A W. LL.copy update·Blocks₁.the-type update·Blocks₂.the-copy 𝓤 H A W;
-  makes = λ M 𝓤 H A W. LL.makes update·Blocks₁.the-type update·Blocks₂.the-plain 𝓤 H A;
-  lawful = λ M 𝓤 H A W. LL.lawful update·Blocks₁.the-type update·Blocks₂.the-laws 𝓤 H A W;
-  last = λ x. tt;
-  silent = λ x w. refl;
-}
+pub update·spot-has : (sections₀ : ℕ) (g-sections : Has word sections₀) (blocks₀ : ℕ) (g-blocks : Has word blocks₀) (room₀ : ℕ) (g-room : Has word room₀) (seen₀ : ℕ) (g-seen : Has word seen₀) (client₀ : ℕ) (g-client : Has word client₀) (clock₀ : ℕ) (g-clock : Has word clock₀) → Has update·spot (record { sections = sections₀; blocks = blocks₀; room = room₀; seen = seen₀; client = client₀; clock = clock₀ })
+update·spot-has sections₀ g-sections blocks₀ g-blocks room₀ g-room seen₀ g-seen client₀ g-client clock₀ g-clock = LL.owes update·Spot₁.the-type update·Spot₂.the-laws (record { sections = sections₀; blocks = blocks₀; room = room₀; seen = seen₀; client = client₀; clock = clock₀ }) (g-sections, (g-blocks, (g-room, (g-seen, (g-client, (g-clock, tt))))))
+
+pub update·spot-sections : (x : update·Spot) → Has update·spot x → Has word (x .sections)
+update·spot-sections x g = LL.owed update·Spot₁.the-type update·Spot₂.the-laws x _ g .0
+
+pub update·spot-blocks : (x : update·Spot) → Has update·spot x → Has word (x .blocks)
+update·spot-blocks x g = LL.owed update·Spot₁.the-type update·Spot₂.the-laws x _ g .1 .0
+
+pub update·spot-room : (x : update·Spot) → Has update·spot x → Has word (x .room)
+update·spot-room x g = LL.owed update·Spot₁.the-type update·Spot₂.the-laws x _ g .1 .1 .0
+
+pub update·spot-seen : (x : update·Spot) → Has update·spot x → Has word (x .seen)
+update·spot-seen x g = LL.owed update·Spot₁.the-type update·Spot₂.the-laws x _ g .1 .1 .1 .0
+
+pub update·spot-client : (x : update·Spot) → Has update·spot x → Has word (x .client)
+update·spot-client x g = LL.owed update·Spot₁.the-type update·Spot₂.the-laws x _ g .1 .1 .1 .1 .0
+
+pub update·spot-clock : (x : update·Spot) → Has update·spot x → Has word (x .clock)
+update·spot-clock x g = LL.owed update·Spot₁.the-type update·Spot₂.the-laws x _ g .1 .1 .1 .1 .1 .0
 
 abbrev pub refusal : Kind
 refusal = record {
@@ -89,28 +93,25 @@ update·step = record {
   silent = λ x w. refl;
 }
 
-pub update·step·block-has : (x0 : Block) (g0 : Has block x0) (x1 : ℕ) (g1 : Has word x1) (x2 : update·Blocks) (g2 : Has update·blocks x2) → Has update·step (update·Step·Block x0 x1 x2)
-update·step·block-has x0 g0 x1 g1 x2 g2 = EL.owes update·Step₁.the-type update·Step₂.the-laws (update·Step·Block x0 x1 x2) (g0, (g1, (g2, tt)))
+pub update·step·block-has : (x0 : ℕ) (g0 : Has word x0) (x1 : update·Spot) (g1 : Has update·spot x1) → Has update·step (update·Step·Block x0 x1)
+update·step·block-has x0 g0 x1 g1 = EL.owes update·Step₁.the-type update·Step₂.the-laws (update·Step·Block x0 x1) (g0, (g1, tt))
 
-pub update·step·block-0 : (x0 : Block) (x1 : ℕ) (x2 : update·Blocks) → Has update·step (update·Step·Block x0 x1 x2) → Has block x0
-update·step·block-0 x0 x1 x2 g = EL.owed update·Step₁.the-type update·Step₂.the-laws (update·Step·Block x0 x1 x2) _ g .0
+pub update·step·block-0 : (x0 : ℕ) (x1 : update·Spot) → Has update·step (update·Step·Block x0 x1) → Has word x0
+update·step·block-0 x0 x1 g = EL.owed update·Step₁.the-type update·Step₂.the-laws (update·Step·Block x0 x1) _ g .0
 
-pub update·step·block-1 : (x0 : Block) (x1 : ℕ) (x2 : update·Blocks) → Has update·step (update·Step·Block x0 x1 x2) → Has word x1
-update·step·block-1 x0 x1 x2 g = EL.owed update·Step₁.the-type update·Step₂.the-laws (update·Step·Block x0 x1 x2) _ g .1 .0
+pub update·step·block-1 : (x0 : ℕ) (x1 : update·Spot) → Has update·step (update·Step·Block x0 x1) → Has update·spot x1
+update·step·block-1 x0 x1 g = EL.owed update·Step₁.the-type update·Step₂.the-laws (update·Step·Block x0 x1) _ g .1 .0
 
-pub update·step·block-2 : (x0 : Block) (x1 : ℕ) (x2 : update·Blocks) → Has update·step (update·Step·Block x0 x1 x2) → Has update·blocks x2
-update·step·block-2 x0 x1 x2 g = EL.owed update·Step₁.the-type update·Step₂.the-laws (update·Step·Block x0 x1 x2) _ g .1 .1 .0
-
-pub update·step·on-has : (x0 : update·Blocks) (g0 : Has update·blocks x0) → Has update·step (update·Step·On x0)
+pub update·step·on-has : (x0 : update·Spot) (g0 : Has update·spot x0) → Has update·step (update·Step·On x0)
 update·step·on-has x0 g0 = EL.owes update·Step₁.the-type update·Step₂.the-laws (update·Step·On x0) (g0, tt)
 
-pub update·step·on-0 : (x0 : update·Blocks) → Has update·step (update·Step·On x0) → Has update·blocks x0
+pub update·step·on-0 : (x0 : update·Spot) → Has update·step (update·Step·On x0) → Has update·spot x0
 update·step·on-0 x0 g = EL.owed update·Step₁.the-type update·Step₂.the-laws (update·Step·On x0) _ g .0
 
-pub update·step·done-has : (x0 : decoder·State) (g0 : Has decoder·state x0) → Has update·step (update·Step·Done x0)
+pub update·step·done-has : (x0 : ℕ) (g0 : Has word x0) → Has update·step (update·Step·Done x0)
 update·step·done-has x0 g0 = EL.owes update·Step₁.the-type update·Step₂.the-laws (update·Step·Done x0) (g0, tt)
 
-pub update·step·done-0 : (x0 : decoder·State) → Has update·step (update·Step·Done x0) → Has decoder·state x0
+pub update·step·done-0 : (x0 : ℕ) → Has update·step (update·Step·Done x0) → Has word x0
 update·step·done-0 x0 g = EL.owed update·Step₁.the-type update·Step₂.the-laws (update·Step·Done x0) _ g .0
 
 pub update·step·refused-has : (x0 : Refusal) (g0 : Has refusal x0) → Has update·step (update·Step·Refused x0)
@@ -119,8 +120,8 @@ update·step·refused-has x0 g0 = EL.owes update·Step₁.the-type update·Step�
 pub update·step·refused-0 : (x0 : Refusal) → Has update·step (update·Step·Refused x0) → Has refusal x0
 update·step·refused-0 x0 g = EL.owed update·Step₁.the-type update·Step₂.the-laws (update·Step·Refused x0) _ g .0
 
-pub update·step-cases {ℓ} : {X : Type ℓ} (r : update·Step) → ((x0 : Block) → (x1 : ℕ) → (x2 : update·Blocks) → r ≡ update·Step·Block x0 x1 x2 → X) → ((x0 : update·Blocks) → r ≡ update·Step·On x0 → X) → ((x0 : decoder·State) → r ≡ update·Step·Done x0 → X) → ((x0 : Refusal) → r ≡ update·Step·Refused x0 → X) → X
-update·step-cases (update·Step·Block x0 x1 x2) k0 k1 k2 k3 = k0 x0 x1 x2 refl
+pub update·step-cases {ℓ} : {X : Type ℓ} (r : update·Step) → ((x0 : ℕ) → (x1 : update·Spot) → r ≡ update·Step·Block x0 x1 → X) → ((x0 : update·Spot) → r ≡ update·Step·On x0 → X) → ((x0 : ℕ) → r ≡ update·Step·Done x0 → X) → ((x0 : Refusal) → r ≡ update·Step·Refused x0 → X) → X
+update·step-cases (update·Step·Block x0 x1) k0 k1 k2 k3 = k0 x0 x1 refl
 update·step-cases (update·Step·On x0) k0 k1 k2 k3 = k1 x0 refl
 update·step-cases (update·Step·Done x0) k0 k1 k2 k3 = k2 x0 refl
 update·step-cases (update·Step·Refused x0) k0 k1 k2 k3 = k3 x0 refl
@@ -137,10 +138,10 @@ begun = record {
   silent = λ x w. refl;
 }
 
-pub begun·at-has : (x0 : update·Blocks) (g0 : Has update·blocks x0) → Has begun (Begun·At x0)
+pub begun·at-has : (x0 : update·Spot) (g0 : Has update·spot x0) → Has begun (Begun·At x0)
 begun·at-has x0 g0 = EL.owes Begun₁.the-type Begun₂.the-laws (Begun·At x0) (g0, tt)
 
-pub begun·at-0 : (x0 : update·Blocks) → Has begun (Begun·At x0) → Has update·blocks x0
+pub begun·at-0 : (x0 : update·Spot) → Has begun (Begun·At x0) → Has update·spot x0
 begun·at-0 x0 g = EL.owed Begun₁.the-type Begun₂.the-laws (Begun·At x0) _ g .0
 
 pub begun·refused-has : (x0 : Refusal) (g0 : Has refusal x0) → Has begun (Begun·Refused x0)
@@ -149,7 +150,7 @@ begun·refused-has x0 g0 = EL.owes Begun₁.the-type Begun₂.the-laws (Begun·R
 pub begun·refused-0 : (x0 : Refusal) → Has begun (Begun·Refused x0) → Has refusal x0
 begun·refused-0 x0 g = EL.owed Begun₁.the-type Begun₂.the-laws (Begun·Refused x0) _ g .0
 
-pub begun-cases {ℓ} : {X : Type ℓ} (r : Begun) → ((x0 : update·Blocks) → r ≡ Begun·At x0 → X) → ((x0 : Refusal) → r ≡ Begun·Refused x0 → X) → X
+pub begun-cases {ℓ} : {X : Type ℓ} (r : Begun) → ((x0 : update·Spot) → r ≡ Begun·At x0 → X) → ((x0 : Refusal) → r ≡ Begun·Refused x0 → X) → X
 begun-cases (Begun·At x0) k0 k1 = k0 x0 refl
 begun-cases (Begun·Refused x0) k0 k1 = k1 x0 refl
 
@@ -165,13 +166,13 @@ filled = record {
   silent = λ x w. refl;
 }
 
-pub filled·rows-has : (x0 : ℕ) (g0 : Has word x0) (x1 : decoder·State) (g1 : Has decoder·state x1) → Has filled (Filled·Rows x0 x1)
+pub filled·rows-has : (x0 : ℕ) (g0 : Has word x0) (x1 : ℕ) (g1 : Has word x1) → Has filled (Filled·Rows x0 x1)
 filled·rows-has x0 g0 x1 g1 = EL.owes Filled₁.the-type Filled₂.the-laws (Filled·Rows x0 x1) (g0, (g1, tt))
 
-pub filled·rows-0 : (x0 : ℕ) (x1 : decoder·State) → Has filled (Filled·Rows x0 x1) → Has word x0
+pub filled·rows-0 : (x0 : ℕ) (x1 : ℕ) → Has filled (Filled·Rows x0 x1) → Has word x0
 filled·rows-0 x0 x1 g = EL.owed Filled₁.the-type Filled₂.the-laws (Filled·Rows x0 x1) _ g .0
 
-pub filled·rows-1 : (x0 : ℕ) (x1 : decoder·State) → Has filled (Filled·Rows x0 x1) → Has decoder·state x1
+pub filled·rows-1 : (x0 : ℕ) (x1 : ℕ) → Has filled (Filled·Rows x0 x1) → Has word x1
 filled·rows-1 x0 x1 g = EL.owed Filled₁.the-type Filled₂.the-laws (Filled·Rows x0 x1) _ g .1 .0
 
 pub filled·refused-has : (x0 : Refusal) (g0 : Has refusal x0) → Has filled (Filled·Refused x0)
@@ -180,7 +181,7 @@ filled·refused-has x0 g0 = EL.owes Filled₁.the-type Filled₂.the-laws (Fille
 pub filled·refused-0 : (x0 : Refusal) → Has filled (Filled·Refused x0) → Has refusal x0
 filled·refused-0 x0 g = EL.owed Filled₁.the-type Filled₂.the-laws (Filled·Refused x0) _ g .0
 
-pub filled-cases {ℓ} : {X : Type ℓ} (r : Filled) → ((x0 : ℕ) → (x1 : decoder·State) → r ≡ Filled·Rows x0 x1 → X) → ((x0 : Refusal) → r ≡ Filled·Refused x0 → X) → X
+pub filled-cases {ℓ} : {X : Type ℓ} (r : Filled) → ((x0 : ℕ) → (x1 : ℕ) → r ≡ Filled·Rows x0 x1 → X) → ((x0 : Refusal) → r ≡ Filled·Refused x0 → X) → X
 filled-cases (Filled·Rows x0 x1) k0 k1 = k0 x0 x1 refl
 filled-cases (Filled·Refused x0) k0 k1 = k1 x0 refl
 

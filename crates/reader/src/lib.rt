@@ -1,18 +1,57 @@
 // The blocks of an update, read into lent rows.
 ghost use mathlib.Core.Path.{_≡_};
-ghost use lib.ListN.{length};
-ghost use Rattle.update.specs.Update.{blocksOf};
+ghost use lib.ListN.{length, replicate};
+ghost use Rattle.cells.specs.Cells.{Small};
+ghost use Rattle.decoder.specs.Update.{blocksOf};
+ghost use Rattle.update.specs.Steps.{comes, Fine};
 ghost use Rattle.reader.specs.Reader.{filledOf, rowsOf};
 use block::Block;
-use decoder::State;
 use numbers::Refusal;
 use update::Begun;
+use update::Spot;
 use update::Step;
 
-// How many rows hold a block and where reading stands after the blocks, or why there are none.
+// How many rows hold a block and the place after the blocks, or why there are none.
 pub enum Filled {
-    Rows(usize, State),
+    Rows(usize, usize),
     Refused(Refusal),
+}
+
+// From the first section on, where the words stand.
+fn read_sections(form: u8, update: &[u8], w: &mut [u64], rows: &mut [Block], first: Spot) -> Filled
+    requires { ⌜ Small (now w) × Fine (replicate 64 0) first ⌝ }
+    ensures { λ r. ⌜ (r ≡ filledOf (length (now (rows .entry))) (comes form (now (update .entry)) (replicate 64 0) (now (w .entry)) first))
+        × (now (rows .exit) ≡ rowsOf (length (now (rows .entry))) (comes form (now (update .entry)) (replicate 64 0) (now (w .entry)) first)) ⌝ }
+{
+    let mut fields = [0u64; 21];
+    let r = &mut fields[..];
+    let mut memory = [0u64; 64];
+    let seen = &mut memory[..];
+    let mut s = first;
+    let mut n = 0;
+    loop {
+        match update::next(form, update, w, r, seen, s) {
+            Step::Block(place, t) => {
+                if rows.len() <= n {
+                    table::clear(rows, 0);
+                    return Filled::Refused(Refusal { number: 8, place });
+                }
+                let b = item::row_in(r);
+                table::fill(rows, n, b);
+                n += 1;
+                s = t;
+            }
+            Step::On(t) => s = t,
+            Step::Done(at) => {
+                table::clear(rows, n);
+                return Filled::Rows(n, at);
+            }
+            Step::Refused(why) => {
+                table::clear(rows, 0);
+                return Filled::Refused(why);
+            }
+        }
+    }
 }
 
 // The blocks of an update in the first rows; the others have none. After a refusal no row has one.
@@ -20,36 +59,13 @@ pub fn read_blocks(form: u8, update: &[u8], rows: &mut [Block]) -> Filled
     ensures { λ r. ⌜ (r ≡ filledOf (length (now (rows .entry))) (blocksOf form (now (update .entry))))
         × (now (rows .exit) ≡ rowsOf (length (now (rows .entry))) (blocksOf form (now (update .entry)))) ⌝ }
 {
-    let mut s = match update::begin(form, update) {
-        Begun::At(first) => first,
+    let mut words = [0u64; 67];
+    let w = &mut words[..];
+    match update::begin(form, update, w) {
+        Begun::At(first) => read_sections(form, update, w, rows, first),
         Begun::Refused(why) => {
             table::clear(rows, 0);
-            return Filled::Refused(why);
-        }
-    };
-    let mut memory = [0u64; 64];
-    let seen = &mut memory[..];
-    let mut n = 0;
-    loop {
-        match update::next(update, seen, s) {
-            Step::Block(b, place, t) => {
-                if rows.len() <= n {
-                    table::clear(rows, 0);
-                    return Filled::Refused(Refusal { number: 8, place });
-                }
-                table::fill(rows, n, b);
-                n += 1;
-                s = t;
-            }
-            Step::On(t) => s = t,
-            Step::Done(t) => {
-                table::clear(rows, n);
-                return Filled::Rows(n, t);
-            }
-            Step::Refused(why) => {
-                table::clear(rows, 0);
-                return Filled::Refused(why);
-            }
+            Filled::Refused(why)
         }
     }
 }

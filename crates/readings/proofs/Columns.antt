@@ -1,10 +1,11 @@
--- What columns give: a number within its limit, which the place then holds, and texts that are whole characters of so many units.
-use Prim.Native.Nat.{ℕ, _+_, _-_, _≤_}
+-- What columns give: a number within its limit, which the place then holds, a difference that comes to a clock, and texts that are whole characters of so
+-- many units.
+use Prim.Native.Nat.{ℕ, _+_, _-_, _%_, _≤_}
 use mathlib.Core.Path.{_≡_, refl, sym, ap, _∙_}
 use mathlib.Core.Bool.{Bool, true, false}
 use mathlib.Core.List.{List}
 use native.Mathlib.Omega.{arith}
-use lib.Dec.{ltb}
+use lib.Dec.{ltb, eqb}
 use lib.ListN.{length, take, drop, length-take}
 use lib.Seq.{slice, take-take}
 use borrow.Author.Tests.{ltb-false}
@@ -13,7 +14,7 @@ use Rattle.numbers.specs.declared.Read.the-variants.{Number, Refused}
 use Rattle.numbers.specs.declared.Signed.{Signed}
 use Rattle.numbers.specs.declared.Signed.the-variants.{Value, Wrong}
 use Rattle.numbers.specs.Number.{pick, readUnsigned}
-use Rattle.numbers.specs.Limits.{maxValue, maxCount}
+use Rattle.numbers.specs.Limits.{maxValue, maxClock, maxCount}
 use Rattle.text.specs.declared.Part.{Part}
 use Rattle.text.specs.declared.Taken.{Taken}
 use Rattle.text.specs.declared.Taken.the-variants as units
@@ -22,12 +23,16 @@ use Rattle.text.proofs.Cutting.{cut-at}
 use Rattle.columns.specs.declared.number.Place as number-place
 use Rattle.columns.specs.declared.number.Answer as number-answer
 use Rattle.columns.specs.declared.number.Answer.the-variants as number
+use Rattle.columns.specs.declared.difference.Place as difference-place
+use Rattle.columns.specs.declared.difference.Answer as difference-answer
+use Rattle.columns.specs.declared.difference.Answer.the-variants as difference
 use Rattle.string.specs.declared.Place as string-place
 use Rattle.string.specs.declared.Answer as string-answer
 use Rattle.string.specs.declared.Answer.the-variants as string
 use Rattle.string.specs.declared.Opened as string-opened
 use Rattle.string.specs.declared.Opened.the-variants as strings-opened
 use Rattle.columns.specs.Number as numbers
+use Rattle.columns.specs.Difference as differences
 use Rattle.string.specs.String as strings
 use Rattle.string.proofs.Texts.{read-ends}
 
@@ -59,6 +64,34 @@ number-begun s at (Value m x e) = chosen ValueHeld m (λ _. number-counted at x 
 pub number-held : (s : List ℕ) (c : number-place.Place) → ValueHeld (numbers.nextNumber s c)
 unfolding numbers.nextNumber
 number-held s c = chosen ValueHeld (ltb 0 (c .count)) (λ _. number-drawn c) (λ _. number-begun s (c .at) _)
+
+-- ---- the difference column
+
+abbrev pub Clock : difference-answer.Answer → Type 0
+Clock (difference.Next v c) = v ≤ maxClock
+Clock (difference.Bad why) = Unit {0}
+
+clock-drawn : (c : difference-place.Place) → Clock (differences.drawn c)
+unfolding differences.drawn
+clock-drawn c =
+    chosen Clock (ltb (c .last + c .key) 2147483648) (λ _. tt)
+    (λ _. chosen Clock (ltb maxClock (c .last + c .key - 2147483648)) (λ _. tt) (λ l. ltb-false maxClock (c .last + c .key - 2147483648) l))
+
+clock-counted : (from last key e : ℕ) (r : Read) → Clock (differences.counted from last key e r)
+unfolding differences.counted
+clock-counted from last key e (Refused why) = tt
+clock-counted from last key e (Number c f) = chosen Clock (ltb maxCount c) (λ _. tt) (λ _. clock-drawn _)
+
+clock-begun : (s : List ℕ) (at last : ℕ) (r : Signed) → Clock (differences.begun s at last r)
+unfolding differences.begun
+clock-begun s at last (Wrong why) = tt
+clock-begun s at last (Value m x e) =
+    chosen Clock (differences.outside m x) (λ _. tt)
+    (λ _. chosen Clock (eqb (x % 2) 0) (λ _. clock-drawn _) (λ _. clock-counted at last (differences.keyRead m x) e _))
+
+pub clock-held : (s : List ℕ) (c : difference-place.Place) → Clock (differences.nextDifference s c)
+unfolding differences.nextDifference
+clock-held s c = chosen Clock (ltb 0 (c .count)) (λ _. clock-drawn c) (λ _. clock-begun s (c .at) (c .last) _)
 
 -- ---- the text column
 

@@ -6,8 +6,8 @@ use native.Mathlib.Omega.{arith}
 use lib.ListN.{length}
 use Rattle.numbers.specs.Limits.{maxClients, maxBlocks}
 use Rattle.block.specs.declared.Block.{Block}
-use Rattle.decoder.specs.Course.{items}
-use Rattle.update.specs.Update.{blocksOf}
+use Rattle.grammar.specs.Course.{items}
+use Rattle.decoder.specs.Update.{blocksOf}
 use Rattle.readings.specs.Sound.{owner}
 use Rattle.readings.specs.Groups.{groups}
 use Rattle.readings.proofs.Groups.{join-length, same-length}

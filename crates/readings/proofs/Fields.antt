@@ -1,9 +1,9 @@
--- The fields of an update: each draw keeps what is left of the texts inside their column, ids are within the limits, and parts lie in the update.
+-- The answers of either form are good: numbers within their limits, bytes inside the update, texts whole characters of so many units.
 use Prim.Native.Nat.{ℕ, _+_, _-_, _≤_}
-use mathlib.Core.Path.{_≡_, refl, ap}
+use mathlib.Core.Path.{_≡_, refl}
 use mathlib.Core.List.{List}
 use native.Mathlib.Omega.{arith}
-use lib.Dec.{ltb, leb, eqb}
+use lib.Dec.{ltb}
 use lib.ListN.{length, take}
 use lib.Seq.{slice}
 use borrow.Author.Tests.{ltb-false}
@@ -22,242 +22,190 @@ use Rattle.columns.specs.declared.byte.Answer.the-variants as byte
 use Rattle.string.specs.declared.Answer as string-answer
 use Rattle.string.specs.declared.Answer.the-variants as string
 use Rattle.string.specs.declared.Opened as string-opened
-use Rattle.string.specs.declared.Opened.the-variants as strings-opened
+use Rattle.string.specs.declared.Opened.the-variants as opened
 use Rattle.columns.specs.Number.{nextNumber}
 use Rattle.columns.specs.Difference.{nextDifference}
 use Rattle.columns.specs.Byte.{nextByte}
 use Rattle.string.specs.String.{openText, nextText}
-use Rattle.block.specs.declared.Id.{Id}
-use Rattle.decoder.specs.declared.State.{State}
-use Rattle.decoder.specs.declared.Draw.{Draw}
-use Rattle.decoder.specs.declared.Draw.the-variants.{Number, Refused}
-use Rattle.decoder.specs.declared.Ident.{Ident}
-use Rattle.decoder.specs.declared.Ident.the-variants as ident
-use Rattle.decoder.specs.declared.Buf.{Buf}
-use Rattle.decoder.specs.declared.Buf.the-variants as buf
-use Rattle.decoder.specs.declared.Text.{Text}
-use Rattle.decoder.specs.declared.Text.the-variants as text
-use Rattle.decoder.specs.declared.v2.Opened.{Opened}
-use Rattle.decoder.specs.declared.v2.Opened.the-variants as opened
-use Rattle.decoder.specs.Fields.{bounded, varDraw, varAt, byteAt, clockAt, bytesAfter, bufAt, client1, idOf, idDraw, id1, checkedText, textIn1, text1, clientDrawn, client2, leftDrawn, leftClock, rightDrawn, rightClock, leftId, rightId, infoDrawn, infoDraw, parentDrawn, parentDraw, lenDrawn, lenColumn, len2, textDrawn, text2, startAt, cutFrom, textIn, textOpened, onOpened, afterFlag, opened2}
-use Rattle.decoder.proofs.Laws.{var-ends, left-fits, right-fits}
-use Rattle.item.specs.Fields.{openedOf, clientOf, leftIdOf, rightIdOf, infoOf, parentInfoOf, lenOf, textOf}
+use Rattle.string.proofs.Texts.{read-ends}
+use Rattle.grammar.specs.Grammar as grammar
+use Rattle.grammar.specs.Grammar.{Number, Field, Answer}
+use Rattle.grammar.specs.Course.{Drawn, got, not, Run, item, over, stopped, run}
+use Rattle.decoder.specs.Line.{bounded, upTo, varAt, numberOf, soMany, bytesAt, checked, line}
+use Rattle.decoder.specs.States.{Numbers, Differences, Bytes, State, withText}
+use Rattle.decoder.specs.Columned.{numberDrawn, fromNumbers, differenceDrawn, fromDifferences, byteDrawn, fromBytes, textDrawn, onto, numberIn, columned}
+use Rattle.decoder.specs.Opening.{heads, withOpened, textOpened, onHeads, openedOf}
 use Rattle.readings.specs.Sound.{Lies}
-use Rattle.readings.proofs.Columns.{chosen, ValueHeld, number-held, Within, Opens, WholeText, TextHeld, text-opens, text-held, whole-of}
+use Rattle.readings.proofs.Walks.{Gives, Faithful}
+use Rattle.readings.proofs.Columns.{chosen, ValueHeld, number-held, Clock, clock-held, Within, Opens, WholeText, TextHeld, text-opens, text-held, whole-of}
 
--- what is left of the texts lies in their column
-abbrev pub Inside : List ℕ → State → Type 0
-Inside u s = Within (take (s .text .to) u) (s .text .place)
+-- ---- good answers
 
--- ---- what each draw gives
+unfoldable pub GoodNumber : Number → ℕ → Type 0
+GoodNumber (grammar.upTo most) v = v ≤ most
+GoodNumber grammar.client v = v ≤ maxValue
+GoodNumber grammar.leftClock v = v ≤ maxClock
+GoodNumber grammar.rightClock v = v ≤ maxClock
+GoodNumber grammar.len v = v ≤ maxClock
+GoodNumber grammar.byte v = Unit {0}
+GoodNumber grammar.any v = Unit {0}
+GoodNumber grammar.info v = Unit {0}
+GoodNumber grammar.parentInfo v = Unit {0}
+GoodNumber (grammar.deleteClock end) v = Unit {0}
+GoodNumber grammar.deleteLen v = Unit {0}
 
-abbrev pub Gives : List ℕ → (ℕ → Type 0) → Draw → Type 0
-Gives u P (Number v p s) = P v × Inside u s
-Gives u P (Refused why) = Unit {0}
+unfoldable pub Good : List ℕ → (f : Field) → Answer f → Type 0
+Good u (grammar.number n) = λ a. GoodNumber n (a .0)
+Good u grammar.text = λ a. WholeText u (a .0) (a .1 .0)
+Good u grammar.bytes = λ p. Lies u p
 
-abbrev pub Any : ℕ → Type 0
-Any v = Unit {0}
+abbrev Any : {X : Type 0} → X → Type 0
+Any x = Unit {0}
 
-abbrev pub GivesId : List ℕ → Ident → Type 0
-GivesId u (ident.Id i s) = (i .client ≤ maxValue) × (i .clock ≤ maxClock) × Inside u s
-GivesId u (ident.Refused why) = Unit {0}
+abbrev UpTo : ℕ → ℕ × ℕ → Type 0
+UpTo most a = a .0 ≤ most
 
-abbrev pub GivesBytes : List ℕ → Buf → Type 0
-GivesBytes u (buf.Part p s) = Lies u p × Inside u s
-GivesBytes u (buf.Refused why) = Unit {0}
+bounded-gives : {S : Type 0} (Inv : S → Type 0) (most : ℕ) (d : Drawn S (ℕ × ℕ)) → Gives Any Inv d → Gives (UpTo most) Inv (bounded most d)
+unfolding bounded Gives
+bounded-gives Inv most (got a s) h = chosen (Gives (UpTo most) Inv) (ltb most (a .0)) (λ _. tt) (λ e. (ltb-false most (a .0) e, h .1))
+bounded-gives Inv most (not why) h = tt
 
-abbrev pub GivesText : List ℕ → Text → Type 0
-GivesText u (text.Part p n s) = WholeText u p (n .0) × Inside u s
-GivesText u (text.Refused why) = Unit {0}
+-- ---- in line, in either form, at any place
 
-abbrev pub GivesState : List ℕ → Opened → Type 0
-GivesState u (opened.At s) = Inside u s
-GivesState u (opened.Refused why) = Unit {0}
-
-abbrev pub UpTo : ℕ → ℕ → Type 0
-UpTo most v = v ≤ most
+free : {X : Type 0} (d : Drawn ℕ X) → Gives {S = ℕ} Any Any d
+unfolding Gives
+free (got a e) = (tt, tt)
+free (not why) = tt
 
 module _ (u : List ℕ) where
-  any : (P : ℕ → Type 0) (x : Draw) → Gives u P x → Gives u Any x
-  any P (Number v p s) h = (tt, h .1)
-  any P (Refused why) h = tt
+  up-to-gives : (most at : ℕ) → Gives (UpTo most) Any (upTo most u at)
+  unfolding upTo
+  up-to-gives most at = bounded-gives Any most (varAt u at) (free (varAt u at))
 
-  pub bounded-gives : (most : ℕ) (x : Draw) → Gives u Any x → Gives u (UpTo most) (bounded most x)
-  unfolding bounded
-  bounded-gives most (Number v p s) h = chosen (Gives u (UpTo most)) (ltb most v) (λ _. tt) (λ e. (ltb-false most v e, h .1))
-  bounded-gives most (Refused why) h = tt
-
-  -- ---- in line
-
-  pub var-gives : (s : State) → Inside u s → Gives u Any (varAt u s)
-  unfolding varAt varDraw
-  var-gives s h = go (readUnsigned u (s .at))
+  bytes-give : (at : ℕ) → Gives (Lies u) Any (bytesAt u at)
+  unfolding bytesAt soMany Gives
+  bytes-give at = go (readUnsigned u at) refl
     where
-      go : (r : Read) → Gives u Any (varDraw s r)
-      go (read.Number v e) = (tt, h)
-      go (read.Refused why) = tt
+      go : (r : Read) → readUnsigned u at ≡ r → Gives (Lies u) Any (soMany u r)
+      go (read.Number n e) q =
+          chosen (Gives (Lies u) Any) (ltb (length u - e) n) (λ _. tt) (λ l. (omega (arith, ltb-false (length u - e) n l, read-ends u at n e q), tt))
+      go (read.Refused why) q = tt
 
-  byte-gives : (s : State) → Inside u s → Gives u Any (byteAt u s)
-  unfolding byteAt
-  byte-gives s h = chosen (Gives u Any) (leb (length u) (s .at)) (λ _. tt) (λ _. (tt, h))
+  checked-gives : (d : Drawn ℕ Part) → Gives (Lies u) Any d → Gives (Good u grammar.text) Any (checked u d)
+  unfolding checked Gives Good
+  checked-gives (got p e) h =
+      chosen (Gives (Good u grammar.text) Any) (wellFormed (slice (p .place) (p .place + p .bytes .0) u))
+      (λ w. (record { lies = h .0; formed = w; units = refl }, tt)) (λ _. tt)
+  checked-gives (not why) h = tt
 
-  pub clock-gives : (s : State) → Inside u s → Gives u (UpTo maxClock) (clockAt u s)
-  unfolding clockAt
-  clock-gives s h = bounded-gives maxClock (varAt u s) (var-gives s h)
+  module _ (form : ℕ) where
+    number-gives : (n : Number) (at : ℕ) → Gives (Good u (grammar.number n)) Any (numberOf form u n at)
+    unfolding numberOf Good GoodNumber
+    number-gives (grammar.upTo most) at = up-to-gives most at
+    number-gives grammar.client at = up-to-gives maxValue at
+    number-gives grammar.leftClock at = up-to-gives maxClock at
+    number-gives grammar.rightClock at = up-to-gives maxClock at
+    number-gives grammar.len at = up-to-gives maxClock at
+    number-gives grammar.byte at = free _
+    number-gives grammar.any at = free _
+    number-gives grammar.info at = free _
+    number-gives grammar.parentInfo at = free _
+    number-gives (grammar.deleteClock end) at = free _
+    number-gives grammar.deleteLen at = free _
 
-  pub buf-gives : (s : State) → Inside u s → GivesBytes u (bufAt u s)
-  unfolding bufAt bytesAfter
-  buf-gives s h = go (varAt u s) refl (var-gives s h)
-    where
-      go : (x : Draw) → varAt u s ≡ x → Gives u Any x → GivesBytes u (bytesAfter u x)
-      go (Number n p t) e k =
-          chosen (GivesBytes u) (ltb (length u - t .at) n) (λ _. tt)
-          (λ l. (omega (arith, ltb-false (length u - t .at) n l, var-ends u s n p t e), k .1))
-      go (Refused why) e k = tt
+    pub line-faithful : Faithful (Good u) Any (line form u)
+    unfolding line Good
+    line-faithful (grammar.number n) at i = number-gives n at
+    line-faithful grammar.text at i = checked-gives (bytesAt u at) (bytes-give at)
+    line-faithful grammar.bytes at i = bytes-give at
 
-  -- ---- ids
+  -- ---- from columns: what is left of the texts lies in their column
 
-  id-of-gives : (client : ℕ) (x : Draw) → client ≤ maxValue → Gives u (UpTo maxClock) x → GivesId u (idOf client x)
-  unfolding idOf
-  id-of-gives client (Number clock p s) c h = (c, h .0, h .1)
-  id-of-gives client (Refused why) c h = tt
+  abbrev pub Inside : State → Type 0
+  Inside s = Within (take (s .text .to) u) (s .text .place)
 
-  id-gives : (x : Draw) (f : State → Draw) → Gives u (UpTo maxValue) x → ((t : State) → Inside u t → Gives u (UpTo maxClock) (f t)) → GivesId u (idDraw x f)
-  unfolding idDraw
-  id-gives (Number client p s) f h k = id-of-gives client (f s) (h .0) (k s (h .1))
-  id-gives (Refused why) f h k = tt
-
-  -- ---- from columns
-
-  module _ (s : State) (h : Inside u s) where
-    client2-gives : Gives u (UpTo maxValue) (client2 u s)
-    unfolding client2 clientDrawn
-    client2-gives = go (nextNumber (take (s .client .to) u) (s .client .place)) (number-held (take (s .client .to) u) (s .client .place))
+  module _ {S : Type 0} (Inv : S → Type 0) where
+    numbers-give : (c : Numbers) (put : Numbers → S) → ((d : Numbers) → Inv (put d)) → Gives (UpTo maxValue) Inv (fromNumbers u c put)
+    unfolding numberDrawn Gives
+    numbers-give c put h = go (nextNumber (take (c .to) u) (c .place)) (number-held (take (c .to) u) (c .place))
       where
-        go : (r : number-answer.Answer) → ValueHeld r → Gives u (UpTo maxValue) (clientDrawn s r)
-        go (number.Next v c) k = (k .0, h)
+        go : (r : number-answer.Answer) → ValueHeld r → Gives (UpTo maxValue) Inv (numberDrawn put (c .to) r)
+        go (number.Next v d) k = (k .0, h _)
         go (number.Bad why) k = tt
 
-    left-gives : Gives u (UpTo maxClock) (leftClock u s)
-    unfolding leftClock leftDrawn
-    left-gives = go (nextDifference (take (s .left .to) u) (s .left .place)) refl
+    differences-give : (c : Differences) (put : Differences → S) → ((d : Differences) → Inv (put d)) → Gives (UpTo maxClock) Inv (fromDifferences u c put)
+    unfolding differenceDrawn Gives
+    differences-give c put h = go (nextDifference (take (c .to) u) (c .place)) (clock-held (take (c .to) u) (c .place))
       where
-        go : (r : difference-answer.Answer) → nextDifference (take (s .left .to) u) (s .left .place) ≡ r → Gives u (UpTo maxClock) (leftDrawn s r)
-        go (difference.Next v c) e = (left-fits u s v (c .from) _ (ap (leftDrawn s) e), h)
-        go (difference.Bad why) e = tt
+        go : (r : difference-answer.Answer) → Clock r → Gives (UpTo maxClock) Inv (differenceDrawn put (c .to) r)
+        go (difference.Next v d) k = (k, h _)
+        go (difference.Bad why) k = tt
 
-    right-gives : Gives u (UpTo maxClock) (rightClock u s)
-    unfolding rightClock rightDrawn
-    right-gives = go (nextDifference (take (s .right .to) u) (s .right .place)) refl
+    bytes-drawn : (c : Bytes) (put : Bytes → S) → ((d : Bytes) → Inv (put d)) → Gives Any Inv (fromBytes u c put)
+    unfolding byteDrawn Gives
+    bytes-drawn c put h = go (nextByte (take (c .to) u) (c .place))
       where
-        go : (r : difference-answer.Answer) → nextDifference (take (s .right .to) u) (s .right .place) ≡ r → Gives u (UpTo maxClock) (rightDrawn s r)
-        go (difference.Next v c) e = (right-fits u s v (c .from) _ (ap (rightDrawn s) e), h)
-        go (difference.Bad why) e = tt
-
-    info2-gives : Gives u Any (infoDraw u s)
-    unfolding infoDraw infoDrawn
-    info2-gives = go (nextByte (take (s .info .to) u) (s .info .place))
-      where
-        go : (r : byte-answer.Answer) → Gives u Any (infoDrawn s r)
-        go (byte.Next v c) = (tt, h)
+        go : (r : byte-answer.Answer) → Gives Any Inv (byteDrawn put (c .to) r)
+        go (byte.Next v d) = (tt, h _)
         go (byte.Bad why) = tt
 
-    parent2-gives : Gives u Any (parentDraw u s)
-    unfolding parentDraw parentDrawn
-    parent2-gives = go (nextByte (take (s .parent .to) u) (s .parent .place))
+  any : {S X : Type 0} (P : X → Type 0) (Inv : S → Type 0) (d : Drawn S X) → Gives P Inv d → Gives Any Inv d
+  unfolding Gives
+  any P Inv (got a s) h = (tt, h .1)
+  any P Inv (not why) h = tt
+
+  module _ (s : State) (h : Inside s) where
+    onto-gives : {X : Type 0} (P : X → Type 0) (d : Drawn ℕ X) → Gives P Any d → Gives P Inside (onto s d)
+    unfolding onto Gives
+    onto-gives P (got a e) k = (k .0, h)
+    onto-gives P (not why) k = tt
+
+    in-line : (f : Field) → Gives (Good u f) Inside (onto s (line 2 u f (s .at)))
+    in-line f = onto-gives (Good u f) (line 2 u f (s .at)) (line-faithful 2 f (s .at) tt)
+
+    number-in-gives : (n : Number) → Gives (Good u (grammar.number n)) Inside (numberIn u n s)
+    unfolding numberIn Good GoodNumber
+    number-in-gives grammar.client = numbers-give Inside (s .client) _ (λ c. h)
+    number-in-gives grammar.leftClock = differences-give Inside (s .left) _ (λ c. h)
+    number-in-gives grammar.rightClock = differences-give Inside (s .right) _ (λ c. h)
+    number-in-gives grammar.info = bytes-drawn Inside (s .info) _ (λ c. h)
+    number-in-gives grammar.parentInfo = bytes-drawn Inside (s .parent) _ (λ c. h)
+    number-in-gives grammar.len = bounded-gives Inside maxClock _ (any (UpTo maxValue) Inside _ (numbers-give Inside (s .len) _ (λ c. h)))
+    number-in-gives grammar.byte = in-line (grammar.number grammar.byte)
+    number-in-gives (grammar.upTo most) = in-line (grammar.number (grammar.upTo most))
+    number-in-gives grammar.any = in-line (grammar.number grammar.any)
+    number-in-gives (grammar.deleteClock end) = in-line (grammar.number (grammar.deleteClock end))
+    number-in-gives grammar.deleteLen = in-line (grammar.number grammar.deleteLen)
+
+    text-gives : Gives (Good u grammar.text) Inside (columned u grammar.text s)
+    unfolding columned textDrawn Gives Good
+    text-gives = go (nextText (take (s .text .to) u) (s .text .place)) (text-held (take (s .text .to) u) (s .text .place) h)
       where
-        go : (r : byte-answer.Answer) → Gives u Any (parentDrawn s r)
-        go (byte.Next v c) = (tt, h)
-        go (byte.Bad why) = tt
-
-    len2-gives : Gives u (UpTo maxClock) (len2 u s)
-    unfolding len2 lenColumn lenDrawn
-    len2-gives = bounded-gives maxClock _ (go (nextNumber (take (s .len .to) u) (s .len .place)))
-      where
-        go : (r : number-answer.Answer) → Gives u Any (lenDrawn s r)
-        go (number.Next v c) = (tt, h)
-        go (number.Bad why) = tt
-
-    -- ---- texts
-
-    checked-gives : (p : Part) → Lies u p → GivesText u (checkedText u p s)
-    unfolding checkedText
-    checked-gives p l =
-        chosen (GivesText u) (wellFormed (slice (p .place) (p .place + p .bytes .0) u)) (λ e. (record { lies = l; formed = e; units = refl }, h)) (λ _. tt)
-
-    text2-gives : GivesText u (text2 u s)
-    unfolding text2 textDrawn
-    text2-gives = go (nextText (take (s .text .to) u) (s .text .place)) (text-held (take (s .text .to) u) (s .text .place) h)
-      where
-        go : (r : string-answer.Answer) → TextHeld (take (s .text .to) u) r → GivesText u (textDrawn s r)
+        go : (r : string-answer.Answer) → TextHeld (take (s .text .to) u) r → Gives (Good u grammar.text) Inside (textDrawn (λ c. withText c s) (s .text .to) r)
         go (string.Next p c) k = (whole-of (s .text .to) u p (c .units .last) (k .0), k .1)
         go (string.Bad why) k = tt
 
-  text1-gives : (s : State) → Inside u s → GivesText u (text1 u s)
-  unfolding text1 textIn1
-  text1-gives s h = go (bufAt u s) (buf-gives s h)
-    where
-      go : (x : Buf) → GivesBytes u x → GivesText u (textIn1 u x)
-      go (buf.Part p t) k = checked-gives t (k .1) p (k .0)
-      go (buf.Refused why) k = tt
-
-  -- ---- the fields, as the form has them
-
-  module _ (s : State) (h : Inside u s) where
-    pub client-gives : Gives u (UpTo maxValue) (clientOf u s)
-    unfolding clientOf client1
-    client-gives = chosen (Gives u (UpTo maxValue)) (eqb (s .form) 1) (λ _. bounded-gives maxValue (varAt u s) (var-gives s h)) (λ _. client2-gives s h)
-
-    id1-gives : GivesId u (id1 u s)
-    unfolding id1 client1
-    id1-gives = id-gives _ _ (bounded-gives maxValue (varAt u s) (var-gives s h)) clock-gives
-
-    pub left-id-gives : GivesId u (leftIdOf u s)
-    unfolding leftIdOf leftId
-    left-id-gives = chosen (GivesId u) (eqb (s .form) 1) (λ _. id1-gives) (λ _. id-gives _ _ (client2-gives s h) left-gives)
-
-    pub right-id-gives : GivesId u (rightIdOf u s)
-    unfolding rightIdOf rightId
-    right-id-gives = chosen (GivesId u) (eqb (s .form) 1) (λ _. id1-gives) (λ _. id-gives _ _ (client2-gives s h) right-gives)
-
-    pub info-gives : Gives u Any (infoOf u s)
-    unfolding infoOf
-    info-gives = chosen (Gives u Any) (eqb (s .form) 1) (λ _. byte-gives s h) (λ _. info2-gives s h)
-
-    pub parent-gives : Gives u Any (parentInfoOf u s)
-    unfolding parentInfoOf
-    parent-gives = chosen (Gives u Any) (eqb (s .form) 1) (λ _. any (UpTo maxClock) (clockAt u s) (clock-gives s h)) (λ _. parent2-gives s h)
-
-    pub len-gives : Gives u (UpTo maxClock) (lenOf u s)
-    unfolding lenOf
-    len-gives = chosen (Gives u (UpTo maxClock)) (eqb (s .form) 1) (λ _. clock-gives s h) (λ _. len2-gives s h)
-
-    pub text-gives : GivesText u (textOf u s)
-    unfolding textOf
-    text-gives = chosen (GivesText u) (eqb (s .form) 1) (λ _. text1-gives s h) (λ _. text2-gives s h)
+  pub columned-faithful : Faithful (Good u) Inside (columned u)
+  unfolding columned
+  columned-faithful (grammar.number n) s h = number-in-gives s h n
+  columned-faithful grammar.text s h = text-gives s h
+  columned-faithful grammar.bytes s h = in-line s h grammar.bytes
 
   -- ---- opening
 
-  texts-open : (s : State) → GivesState u (textOpened u s)
-  unfolding textOpened textIn
-  texts-open s = go (openText (take (s .text .to) u) (s .text .place .at)) (text-opens (take (s .text .to) u) (s .text .place .at))
+  text-opened : (s : State) → Gives Any Inside (textOpened u s)
+  unfolding textOpened withOpened Gives
+  text-opened s = go (openText (take (s .text .to) u) (s .text .place .units .at)) (text-opens (take (s .text .to) u) (s .text .place .units .at))
     where
-      go : (r : string-opened.Opened) → Opens (take (s .text .to) u) r → GivesState u (textIn s r)
-      go (strings-opened.At c) k = k
-      go (strings-opened.Not why) k = tt
+      go : (r : string-opened.Opened) → Opens (take (s .text .to) u) r → Gives Any Inside (withOpened s r)
+      go (opened.At c) k = (tt, k)
+      go (opened.Not why) k = tt
 
-  opened2-gives : GivesState u (opened2 u)
-  unfolding opened2 afterFlag onOpened
-  opened2-gives = flag (byteAt u (startAt 2 0))
+  pub opened-gives : Gives Any Inside (openedOf u)
+  unfolding openedOf onHeads Gives
+  opened-gives = go (run (line 2 u) heads 0)
     where
-      columns : (x : Opened) → GivesState u (onOpened x (textOpened u))
-      columns (opened.At s) = texts-open s
-      columns (opened.Refused why) = tt
-
-      flag : (x : Draw) → GivesState u (afterFlag x (λ s. onOpened (cutFrom 9 u s) (textOpened u)))
-      flag (Number v p s) = columns (cutFrom 9 u s)
-      flag (Refused why) = tt
-
-  pub opened-gives : (form : ℕ) → GivesState u (openedOf form u)
-  unfolding openedOf
-  opened-gives form = chosen (GivesState u) (eqb form 1) (λ _. (omega arith, omega arith)) (λ _. opened2-gives)
+      go : (c : Run ℕ _ _) → Gives Any Inside (onHeads u c)
+      go (item e p c) = go c
+      go (over ps at) = text-opened _
+      go (stopped why) = tt

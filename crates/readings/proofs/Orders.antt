@@ -10,11 +10,10 @@ use borrow.Author.Tests.{eqb-false}
 use Rattle.numbers.specs.Words.{among}
 use Rattle.numbers.specs.Number.{pick}
 use Rattle.block.specs.declared.Block.{Block}
-use Rattle.decoder.specs.Course.{items}
-use Rattle.update.specs.Update.{blocksOf}
-use Rattle.readings.specs.Sound.{owner, All, Follows, Stays, Ordered, Chain}
-use Rattle.readings.specs.Groups.{groups, clients, Distinct}
-use Rattle.readings.proofs.Groups.{all-map, ordered-distinct, ordered-chains}
+use Rattle.grammar.specs.Course.{items}
+use Rattle.decoder.specs.Update.{blocksOf}
+use Rattle.readings.specs.Sound.{All, Follows, Stays, Ordered}
+use Rattle.readings.proofs.Groups.{all-map}
 use Rattle.readings.proofs.Sections.{OfSections, OfPart, Holds, blocks-by}
 
 -- a client that is not among these and one more
@@ -84,10 +83,3 @@ hold u =
 
 pub blocks-ordered : (form : ℕ) (u : List ℕ) → Ordered (items (blocksOf form u))
 blocks-ordered form u = blocks-by u Whole Part (hold u) form .holds .0
-
--- so each client has one group of them, and a group is a chain
-pub blocks-distinct : (form : ℕ) (u : List ℕ) → Distinct (clients owner (groups owner (items (blocksOf form u))))
-blocks-distinct form u = ordered-distinct (items (blocksOf form u)) (blocks-ordered form u)
-
-pub blocks-chains : (form : ℕ) (u : List ℕ) → All Chain (groups owner (items (blocksOf form u)))
-blocks-chains form u = ordered-chains (items (blocksOf form u)) (blocks-ordered form u)

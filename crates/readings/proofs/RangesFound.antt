@@ -1,59 +1,31 @@
 -- What the delete ranges of every update have: each is fine, and so is their normal form; and they are of at most 64 clients, those announced.
 use Prim.Native.Nat.{ℕ, zero, suc, _+_, _≤_, _<_}
 use mathlib.Core.Path.{_≡_, refl, ap}
-use mathlib.Core.Bool.{Bool, true, false}
 use mathlib.Core.Logic.{_⊎_, inl, inr}
-use mathlib.Core.List.{List, [], _∷_}
+use mathlib.Core.List.{List, [], _∷_, _++_}
 use native.Mathlib.Omega.{arith}
 use lib.Dec.{ltb, eqb}
 use lib.ListN.{length}
 use borrow.Author.Tests.{ltb-false, eqb-false}
-use Rattle.numbers.specs.declared.Refusal.{Refusal}
 use Rattle.numbers.specs.Number.{pick}
 use Rattle.numbers.specs.Limits.{maxClock, maxValue, maxClients}
-use Rattle.decoder.specs.declared.State.{State}
-use Rattle.decoder.specs.declared.Draw.{Draw}
-use Rattle.decoder.specs.declared.Draw.the-variants.{Number, Refused}
-use Rattle.decoder.specs.Fields.{bounded, varAt, client1}
-use Rattle.decoder.specs.Course.{Course, item, over, stopped, drawn, fit, items}
-use Rattle.decoder.proofs.Laws.{within-limit}
+use Rattle.grammar.specs.Grammar.{Grammar, emit, stop, _>>=_}
+use Rattle.grammar.specs.Course.{fit, items}
+use Rattle.grammar.specs.Deletes as grammar
+use Rattle.decoder.specs.Line.{line}
+use Rattle.decoder.specs.Update.{deleteSet}
 use Rattle.ranges.specs.Ranges.{Range, hull, add, normal}
 use Rattle.ranges.specs.Table.{range, Fine}
 use Rattle.ranges.proofs.Theory.{normal-is, add-by, normal-by}
 use Rattle.ranges.proofs.Fines.{hull-fine}
-use Rattle.deletes.specs.DeleteSet.{clockIn, lenIn, ranges, clients, deleteSet}
 use Rattle.readings.specs.Groups.{groups}
 use Rattle.readings.specs.Sound.{All}
 use Rattle.readings.proofs.Groups.{all-map, groups-all}
 use Rattle.readings.proofs.RangeGroups.{clientIn, clientOf, Grouped, grouped}
-
--- ---- what is so of each thing of a course, is so of those that rows take
-
-abbrev Each : {A : Type 0} → (A → Type 0) → Course A → Type 0
-Each P (item a p c) = P a × Each P c
-Each P (over s) = Unit {0}
-Each P (stopped why) = Unit {0}
-
-module _ {A : Type 0} (P : A → Type 0) where
-  each-items : (c : Course A) → Each P c → All P (items c)
-  unfolding items
-  each-items (item a p c) e = (e .0, each-items c (e .1))
-  each-items (over s) e = tt
-  each-items (stopped why) e = tt
-
-  each-fit : (c : Course A) (n : ℕ) → Each P c → Each P (fit n c)
-  unfolding fit
-  each-fit (item a p c) zero e = tt
-  each-fit (item a p c) (suc n) e = (e .0, each-fit c n (e .1))
-  each-fit (over s) zero e = tt
-  each-fit (over s) (suc n) e = tt
-  each-fit (stopped why) zero e = tt
-  each-fit (stopped why) (suc n) e = tt
-
-  each-map : (Q : A → Type 0) → ((a : A) → P a → Q a) → (c : Course A) → Each P c → Each Q c
-  each-map Q f (item a p c) e = (f a (e .0), each-map Q f c (e .1))
-  each-map Q f (over s) e = tt
-  each-map Q f (stopped why) e = tt
+use Rattle.readings.proofs.Walks as walks
+use Rattle.readings.proofs.Columns.{chosen}
+use Rattle.readings.proofs.Fields.{GoodNumber, Good, line-faithful}
+use Rattle.readings.proofs.Fits.{fit-all}
 
 -- ---- the clients announced
 
@@ -65,91 +37,68 @@ In c (x ∷ xs) = (x ≡ c) ⊎ In c xs
 abbrev Known : List ℕ → Range → Type 0
 Known cs r = Fine r × In (r .client) cs
 
--- at most n clients have the ranges of c
-record Announced (n : ℕ) (c : Course Range) : Type 0 where
+-- the ranges are of these clients and at most n others
+record Announced (first : List ℕ) (n : ℕ) (rs : List Range) : Type 0 where
   names : List ℕ
   few : length names ≤ n
-  each : Each (Known names) c
+  each : All (Known (first ++ names)) rs
 
--- so have at most n clients and this one
-record Beside (client n : ℕ) (c : Course Range) : Type 0 where
-  names : List ℕ
-  few : length names ≤ n
-  each : Each (Known (client ∷ names)) c
+none : (first : List ℕ) (n : ℕ) → Announced first n []
+none first n = record { names = []; few = omega arith; each = tt }
 
-module _ (u : List ℕ) (client n : ℕ) (h : client ≤ maxValue) (then : State → Course Range) (rest : (t : State) → Announced n (then t)) where
-  none : (why : Refusal) → Beside client n (stopped why)
-  none why = record { names = []; few = omega arith; each = tt }
+module _ (u : List ℕ) where
+  abbrev Keeps : (List Range → Type 0) → Grammar Range (Unit {0}) → Type 0
+  Keeps N x = walks.Keeps (Good u) N x
 
-  one : (clock len p : ℕ) (c : Course Range) → Fine (range client clock len) → Beside client n c → Beside client n (item (range client clock len) p c)
-  one clock len p c f b = record { names = b .names; few = b .few; each = ((f, inl refl), b .each) }
+  -- k ranges of a client, and then those of n others
+  module _ (client n : ℕ) (most : client ≤ maxValue) (then : Unit {0} → Grammar Range (Unit {0})) where
+    abbrev Here : Grammar Range (Unit {0}) → Type 0
+    Here x = Keeps (Announced (client ∷ []) n) (x >>= then)
 
-  abbrev Rest : ℕ → Type 0
-  Rest k = (end : ℕ) (s : State) → Beside client n (ranges k u client end s then)
+    ended : (clock at len : ℕ) (x : Grammar Range (Unit {0})) → Here x
+        → Here (pick (ltb maxClock (clock + len)) (stop 3 at) (pick (eqb len 0) x (emit (range client clock len) at x)))
+    unfolding walks.Keeps _>>=_
+    ended clock at len x rest =
+        chosen Here (ltb maxClock (clock + len)) (λ _. none (client ∷ []) n)
+        (λ l. chosen Here (eqb len 0) (λ _. rest)
+        (λ e. walks.keeps-map (Good u) _ _ (x >>= then) (λ rs a. record {
+          names = a .names;
+          few = a .few;
+          each = ((record { some = omega (arith, eqb-false len 0 e); end = ltb-false maxClock (clock + len) l; client = most }, inl refl), a .each);
+        }) rest))
 
-  module _ (k : ℕ) (rec : Rest k) where
-    ranged : (clock len p : ℕ) (v : State) (a b : Bool) → ltb maxClock (clock + len) ≡ a → eqb len 0 ≡ b
-        → Beside client n (pick a (stopped (record { number = 3; place = p }))
-        (pick b (ranges k u client (clock + len) v then) (item (range client clock len) p (ranges k u client (clock + len) v then))))
-    ranged clock len p v true b l e = none (record { number = 3; place = p })
-    ranged clock len p v false true l e = rec (clock + len) v
-    ranged clock len p v false false l e =
-        one clock len p (ranges k u client (clock + len) v then)
-        (record { some = omega (arith, eqb-false len 0 e); end = ltb-false maxClock (clock + len) l; client = h })
-        (rec (clock + len) v)
+    ranges-keep : Keeps (Announced [] n) (then tt) → (k end : ℕ) → Here (grammar.ranges k client end)
+    unfolding walks.Keeps _>>=_ grammar.ranges
+    ranges-keep rest zero end =
+        walks.keeps-map (Good u) _ _ (then tt)
+        (λ rs a. record { names = a .names; few = a .few; each = all-map _ _ (λ r x. (x .0, inr (x .1))) rs (a .each) }) rest
+    ranges-keep rest (suc k) end =
+        (none (client ∷ []) n, λ c _. (none (client ∷ []) n, λ l _. ended (c .0) (c .1) (l .0) _ (ranges-keep rest k (c .0 + l .0))))
 
-    lengthed : (clock p : ℕ) (d : Draw)
-        → Beside client n (drawn d (λ len q v. pick (ltb maxClock (clock + len)) (stopped (record { number = 3; place = p }))
-        (pick (eqb len 0) (ranges k u client (clock + len) v then) (item (range client clock len) p (ranges k u client (clock + len) v then)))))
-    unfolding drawn
-    lengthed clock p (Number len q v) = ranged clock len p v (ltb maxClock (clock + len)) (eqb len 0) refl refl
-    lengthed clock p (Refused why) = none why
+  clients-keep : (n : ℕ) → Keeps (Announced [] n) (grammar.clients n)
+  unfolding walks.Keeps _>>=_ grammar.clients Good GoodNumber
+  clients-keep zero = none [] 0
+  clients-keep (suc n) = (
+    none [] (suc n),
+    λ c most. (
+      none [] (suc n),
+      λ k _.
+          walks.keeps-map (Good u) _ _ (grammar.ranges (k .0) (c .0) 0 >>= λ _. grammar.clients n)
+          (λ rs a. record { names = c .0 ∷ a .names; few = omega (arith, a .few); each = a .each }) (ranges-keep (c .0) n most _ (clients-keep n) (k .0) 0),
+    ),
+  )
 
-    clocked : (d : Draw)
-        → Beside client n (drawn d (λ clock p t. drawn (lenIn u t) (λ len q v. pick (ltb maxClock (clock + len)) (stopped (record { number = 3; place = p }))
-        (pick (eqb len 0) (ranges k u client (clock + len) v then) (item (range client clock len) p (ranges k u client (clock + len) v then))))))
-    unfolding drawn
-    clocked (Number clock p t) = lengthed clock p (lenIn u t)
-    clocked (Refused why) = none why
+  all-keep : Keeps (Announced [] maxClients) grammar.allRanges
+  unfolding walks.Keeps _>>=_ grammar.allRanges Good GoodNumber
+  all-keep = (
+    none [] maxClients,
+    λ n l. walks.keeps-map (Good u) _ _ (grammar.clients (n .0))
+        (λ rs a. record { names = a .names; few = omega (arith, a .few); each = a .each }) (clients-keep (n .0)),
+  )
 
-  ranges-beside : (k : ℕ) → Rest k
-  unfolding ranges
-  ranges-beside zero end s =
-      let a = rest s in
-      record {
-        names = a .names;
-        few = a .few;
-        each = each-map (Known (a .names)) (Known (client ∷ a .names)) (λ r x. (x .0, inr (x .1))) (then s) (a .each);
-      }
-  ranges-beside (suc k) end s = clocked k (ranges-beside k) (clockIn u s end)
-
-clients-announced : (u : List ℕ) (n : ℕ) (s : State) → Announced n (clients n u s)
-unfolding clients drawn client1
-clients-announced u zero s = record { names = []; few = omega arith; each = tt }
-clients-announced u (suc n) s = go (clients-announced u n) (client1 u s) refl
-  where
-    named : (client : ℕ) (c : Course Range) → Beside client n c → Announced (suc n) c
-    named client c b = record { names = client ∷ b .names; few = omega (arith, b .few); each = b .each }
-
-    counted : ((t : State) → Announced n (clients n u t)) → (client : ℕ) → client ≤ maxValue → (d : Draw)
-        → Announced (suc n) (drawn d (λ k q v. ranges k u client 0 v (clients n u)))
-    counted rec client h (Number k q v) = named client _ (ranges-beside u client n h (clients n u) rec k 0 v)
-    counted rec client h (Refused why) = record { names = []; few = omega arith; each = tt }
-
-    go : ((t : State) → Announced n (clients n u t)) → (d : Draw) → client1 u s ≡ d
-        → Announced (suc n) (drawn d (λ client p t. drawn (varAt u t) (λ k q v. ranges k u client 0 v (clients n u))))
-    go rec (Number client p t) e = counted rec client (within-limit maxValue (varAt u s) client p t e) (varAt u t)
-    go rec (Refused why) e = record { names = []; few = omega arith; each = tt }
-
-set-announced : (u : List ℕ) (s : State) → Announced maxClients (deleteSet u s)
-unfolding deleteSet drawn
-set-announced u s = go (bounded maxClients (varAt u s)) refl
-  where
-    go : (d : Draw) → bounded maxClients (varAt u s) ≡ d → Announced maxClients (drawn d (λ n p t. clients n u t))
-    go (Number n p t) e =
-        let a = clients-announced u n t in
-        record { names = a .names; few = omega (arith, a .few, within-limit maxClients (varAt u s) n p t e); each = a .each }
-    go (Refused why) e = record { names = []; few = omega arith; each = tt }
+set-announced : (form : ℕ) (u : List ℕ) (at : ℕ) → Announced [] maxClients (items (deleteSet form u at))
+unfolding deleteSet
+set-announced form u at = walks.kept-has (Good u) (λ (e : ℕ). Unit {0}) (line form u) (line-faithful u form) (Announced [] maxClients) grammar.allRanges (all-keep u) at tt
 
 -- ---- each range is fine
 
@@ -167,25 +116,21 @@ module _ (P : Range → Type 0) (keeps : (r q : Range) → P r → P q → P (hu
 pub normal-fine : (l : List Range) → All Fine l → All Fine (normal l)
 normal-fine l f = normal-all Fine hull-fine l f
 
-module _ (u : List ℕ) (s : State) where
+module _ (form : ℕ) (u : List ℕ) (at n : ℕ) where
   abbrev names : List ℕ
-  names = set-announced u s .names
+  names = set-announced form u at .names
 
-  pub ranges-fine : All Fine (items (deleteSet u s))
-  ranges-fine = all-map (Known names) Fine (λ r x. x .0) (items (deleteSet u s)) (each-items (Known names) (deleteSet u s) (set-announced u s .each))
+  abbrev found : List Range
+  found = items (fit n (deleteSet form u at))
 
-  module _ (n : ℕ) where
-    abbrev found : List Range
-    found = items (fit n (deleteSet u s))
+  fit-known : All (Known names) found
+  fit-known = fit-all (Known names) n (deleteSet form u at) (set-announced form u at .each)
 
-    fit-known : All (Known names) found
-    fit-known = each-items (Known names) (fit n (deleteSet u s)) (each-fit (Known names) (deleteSet u s) n (set-announced u s .each))
+  pub fit-fine : All Fine (items (fit n (deleteSet form u at)))
+  fit-fine = all-map (Known names) Fine (λ r x. x .0) found fit-known
 
-    pub fit-fine : All Fine (items (fit n (deleteSet u s)))
-    fit-fine = all-map (Known names) Fine (λ r x. x .0) found fit-known
-
-    normal-known : All (Known names) (normal found)
-    normal-known = normal-all (Known names) (λ r q x y. (hull-fine r q (x .0) (y .0), x .1)) found fit-known
+  normal-known : All (Known names) (normal found)
+  normal-known = normal-all (Known names) (λ r q x y. (hull-fine r q (x .0) (y .0), x .1)) found fit-known
 
 -- ---- at most 64 clients have ranges
 
@@ -233,18 +178,13 @@ groups-named cs [] h k = tt
 groups-named cs ([] ∷ gs) h k = absurd h
 groups-named cs ((r ∷ g) ∷ gs) h k = (k .0 .0 .1, groups-named cs gs (h .2) (k .1))
 
--- ---- the groups of the normal form, for any rows
-
-module _ (u : List ℕ) (s : State) (n : ℕ) where
-  pub ranges-grouped : Grouped (groups (λ (r : Range). r .client) (normal (items (fit n (deleteSet u s)))))
-  ranges-grouped = grouped (normal (found u s n)) (normal-is (found u s n) .0)
-
-  pub groups-fine : All (All Fine) (groups (λ (r : Range). r .client) (normal (items (fit n (deleteSet u s)))))
-  groups-fine = groups-all clientIn Fine (normal (found u s n)) (normal-fine (found u s n) (fit-fine u s n))
-
-  pub range-clients : length (groups (λ (r : Range). r .client) (normal (items (fit n (deleteSet u s))))) ≤ maxClients
+-- the normal form, for any rows
+module _ (form : ℕ) (u : List ℕ) (at n : ℕ) where
+  pub range-clients : length (groups (λ (r : Range). r .client) (normal (items (fit n (deleteSet form u at))))) ≤ maxClients
   range-clients =
-      let gs : List (List Range) = groups clientIn (normal (found u s n)) in
-      let known : Named (names u s) gs =
-      groups-named (names u s) gs ranges-grouped (groups-all clientIn (Known (names u s)) (normal (found u s n)) (normal-known u s n)) in
-      omega (arith, among gs (names u s) ranges-grouped known, set-announced u s .few)
+      let rs : List Range = normal (found form u at n) in
+      let gs : List (List Range) = groups clientIn rs in
+      let cs : List ℕ = names form u at n in
+      let apart : Grouped gs = grouped rs (normal-is (found form u at n) .0) in
+      let known : Named cs gs = groups-named cs gs apart (groups-all clientIn (Known cs) rs (normal-known form u at n)) in
+      omega (arith, among gs cs apart known, set-announced form u at .few)

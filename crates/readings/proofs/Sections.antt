@@ -1,30 +1,30 @@
--- What is shown of an update's blocks, section by section: it holds of no block, and each head and each block more keeps it up. One induction for all facts.
+-- What is shown of an update's blocks, section by section: it holds of no block, and each head and each block more keeps it up. One walk over the grammar
+-- for all facts and both forms.
 use Prim.Native.Nat.{ℕ, zero, suc, _+_, _-_, _≤_}
-use mathlib.Core.Path.{_≡_, refl, subst}
-use mathlib.Core.Bool.{Bool, true, false}
+use mathlib.Core.Path.{_≡_, refl, sym, ap, subst}
+use mathlib.Core.Bool.{false}
 use mathlib.Core.List.{List, [], _∷_, _++_}
 use native.Mathlib.Omega.{arith}
 use lib.Dec.{ltb, eqb}
-use borrow.Author.Tests.{ltb-false, eqb-true}
+use borrow.Author.Tests.{ltb-false}
 use Rattle.numbers.specs.Words.{among}
 use Rattle.numbers.specs.Number.{pick}
 use Rattle.numbers.specs.Limits.{maxValue, maxClock, maxClients, maxBlocks}
 use Rattle.block.specs.declared.Block.{Block}
-use Rattle.decoder.specs.declared.State.{State}
-use Rattle.decoder.specs.declared.Draw.{Draw}
-use Rattle.decoder.specs.declared.Draw.the-variants as draw
-use Rattle.decoder.specs.declared.v2.Opened.{Opened}
-use Rattle.decoder.specs.declared.v2.Opened.the-variants as opened
-use Rattle.decoder.specs.Fields.{bounded, varAt}
-use Rattle.decoder.specs.Course.{Course, drawn, items}
-use Rattle.update.specs.declared.Decoded.{Decoded}
-use Rattle.update.specs.declared.Decoded.the-variants as decoded
-use Rattle.item.specs.Fields.{openedOf}
-use Rattle.update.specs.Update.{blockOf, dropped, kept, ended, blocks, sections, fromOpened, blocksOf}
+use Rattle.grammar.specs.Grammar.{Grammar, stop, _>>=_}
+use Rattle.grammar.specs.Course.{Drawn, got, not, Run, item, over, stopped, onDrawn, run, items}
+use Rattle.grammar.specs.Blocks as grammar
+use Rattle.decoder.specs.Line.{line}
+use Rattle.decoder.specs.States.{State}
+use Rattle.decoder.specs.Columned.{columned}
+use Rattle.decoder.specs.Opening.{openedOf}
+use Rattle.decoder.specs.Update.{placed, inColumns, blocksOf}
 use Rattle.readings.specs.Sound.{Sound}
+use Rattle.readings.proofs.Walks as walks
+use Rattle.readings.proofs.Walks.{Gives}
 use Rattle.readings.proofs.Columns.{chosen}
-use Rattle.readings.proofs.Fields.{Inside, Gives, UpTo, GivesState, bounded-gives, var-gives, clock-gives, client-gives, opened-gives}
-use Rattle.readings.proofs.Blocks.{Body, Decodes, block-body, body-sound}
+use Rattle.readings.proofs.Fields.{GoodNumber, Good, line-faithful, Inside, columned-faithful, opened-gives}
+use Rattle.readings.proofs.Blocks.{dropped-empty, Body, block-comes}
 
 -- what is said of n sections, and of the rest of one with n after it
 abbrev pub OfSections : Type 1
@@ -46,59 +46,64 @@ pub record Holds (u : List ℕ) (Whole : OfSections) (Part : OfPart) : Type 0 wh
   pub block : (n : ℕ) (seen : List ℕ) (room k client clock : ℕ) (b : Block) (bs : List Block) → among client seen ≡ false → Sound u b → b .client ≡ client
       → b .clock ≡ clock → Part n seen room k client (clock + b .length .0) bs → Part n seen room (suc k) client clock (b ∷ bs)
 
--- an item that is dropped ends where it starts
-dropped-empty : (b : Block) → dropped b ≡ true → b .length .0 ≡ 0
-unfolding dropped
-dropped-empty b e = go (eqb (b .length .0) 0) refl e
-  where
-    go : (t : Bool) → eqb (b .length .0) 0 ≡ t → pick t (ltb 2 (b .kind)) false ≡ true → b .length .0 ≡ 0
-    go true q e = eqb-true (b .length .0) 0 q
-    go false q e = absurd (let z : _≡_ {A = ℕ} 0 1 = cc in omega arith)
-
--- a number, and what comes after it
-drawn-holds : (u : List ℕ) (R : List Block → Type 0) (T : ℕ → Type 0) (x : Draw) (f : ℕ → ℕ → State → Course Block) → R [] → Gives u T x
-    → ((v p : ℕ) (t : State) → T v → Inside u t → R (items (f v p t))) → R (items (drawn x f))
-unfolding drawn items
-drawn-holds u R T (draw.Number v p t) f none h k = k v p t (h .0) (h .1)
-drawn-holds u R T (draw.Refused why) f none h k = none
+-- the place alone is other
+items-placed : (c : Run State Block (Unit {0})) → items (placed c) ≡ items c
+unfolding items placed
+items-placed (item e p c) = ap (λ (l : List Block). e ∷ l) (items-placed c)
+items-placed (over a s) = refl
+items-placed (stopped why) = refl
 
 module _ (u : List ℕ) (Whole : OfSections) (Part : OfPart) (hold : Holds u Whole Part) where
-  module _ (n : ℕ) (seen : List ℕ) (room client : ℕ) (most : client ≤ maxValue) (new : among client seen ≡ false) (f : State → Course Block) where
-    ended-holds : (k clock : ℕ) (x : Decoded) → Decodes u (Body u client clock) x
-        → ((e : ℕ) (t : State) → Inside u t → Part n seen room k client e (items (blocks k u client e t f)))
-        → Part n seen room (suc k) client clock (items (ended clock x (λ e t. blocks k u client e t f)))
-    unfolding ended kept items
-    ended-holds k clock (decoded.Refused why) h on = hold .stopped n seen room (suc k) client clock
-    ended-holds k clock (decoded.Block b p t) h on =
+  abbrev Keeps : (List Block → Type 0) → Grammar Block (Unit {0}) → Type 0
+  Keeps N x = walks.Keeps (Good u) N x
+
+  module _ (n : ℕ) (seen : List ℕ) (room client : ℕ) (most : client ≤ maxValue) (new : among client seen ≡ false) (then : Unit {0} → Grammar Block (Unit {0})) where
+    -- k blocks of the client from a clock on, and what is then read
+    abbrev from : ℕ → ℕ → Grammar Block (Unit {0})
+    from k clock = grammar.blocks k client clock >>= then
+
+    abbrev Here : ℕ → ℕ → List Block → Type 0
+    Here k clock = Part n seen room k client clock
+
+    ended : (k clock : ℕ) (b : Block) (at : ℕ) → Body u client clock most b → Keeps (Here k (clock + b .length .0)) (from k (clock + b .length .0))
+        → Keeps (Here (suc k) clock)
+        (pick (ltb maxClock (clock + b .length .0)) (stop 3 at) (grammar.kept b at (grammar.blocks k client (clock + b .length .0))) >>= then)
+    unfolding walks.Keeps _>>=_ grammar.kept
+    ended k clock b at h on =
         let end : ℕ = clock + b .length .0 in
-        let R : Course Block → Type 0 = λ c. Part n seen room (suc k) client clock (items c) in
+        let R : Grammar Block (Unit {0}) → Type 0 = λ x. Keeps (Here (suc k) clock) (x >>= then) in
         chosen R (ltb maxClock end) (λ _. hold .stopped n seen room (suc k) client clock)
-        (λ l. chosen R (dropped b)
-        (λ d. hold .drop n seen room k client clock _ (subst (λ (e : ℕ). Part n seen room k client e (items (blocks k u client end t f))) (same d) (on end t (h .1))))
-        (λ d. hold .block n seen room k client clock b _ new (body-sound u client clock b (h .0) most (ltb-false maxClock end l) d) (h .0 .frame .client)
-        (h .0 .frame .clock) (on end t (h .1))))
-      where
-        same : dropped b ≡ true → clock + b .length .0 ≡ clock
-        same d = omega (arith, dropped-empty b d)
+        (λ l. chosen R (grammar.dropped b)
+        (λ d. walks.keeps-map (Good u) _ _ (from k end) (λ bs i. hold .drop n seen room k client clock bs
+        (subst (λ (e : ℕ). Here k e bs) (omega (arith, dropped-empty b d)) i)) on)
+        (λ d. walks.keeps-map (Good u) _ _ (from k end)
+        (λ bs i. hold .block n seen room k client clock b bs new (h .sound (ltb-false maxClock end l) d) (h .client) (h .clock) i) on))
 
-    blocks-hold : ((t : State) → Inside u t → Whole n (seen ++ (client ∷ [])) room (items (f t))) → (k clock : ℕ) (s : State) → Inside u s
-        → Part n seen room k client clock (items (blocks k u client clock s f))
-    unfolding blocks
-    blocks-hold rest zero clock s h = hold .end n seen room client clock _ new (rest s h)
-    blocks-hold rest (suc k) clock s h = ended-holds k clock (blockOf u client clock s) (block-body u client clock s h) (λ e t i. blocks-hold rest k e t i)
+    blocks-keep : Keeps (Whole n (seen ++ (client ∷ [])) room) (then tt) → (k clock : ℕ) → Keeps (Here k clock) (from k clock)
+    unfolding walks.Keeps _>>=_ grammar.blocks
+    blocks-keep rest zero clock = walks.keeps-map (Good u) _ _ (then tt) (λ bs h. hold .end n seen room client clock bs new h) rest
+    blocks-keep rest (suc k) clock =
+        walks.comes-then (Good u) (λ (a : Block × ℕ). Body u client clock most (a .0)) (Here (suc k) clock) (grammar.block client clock) _ then
+        (hold .stopped n seen room (suc k) client clock) (block-comes u client clock most)
+        (λ a h. ended k clock (a .0) (a .1) h (blocks-keep rest k (clock + a .0 .length .0)))
 
-  sections-hold : (n : ℕ) (seen : List ℕ) (room : ℕ) (s : State) → Inside u s → Whole n seen room (items (sections n u seen room s))
-  unfolding sections items
-  sections-hold zero seen room s h = hold .none zero seen room
-  sections-hold (suc n) seen room s h =
-      let R : List Block → Type 0 = Whole (suc n) seen room in
-      let none : R [] = hold .none (suc n) seen room in
-      drawn-holds u R (UpTo room) _ _ none (bounded-gives u room (varAt u s) (var-gives u s h)) (λ k at t l i.
-      drawn-holds u R (UpTo maxValue) _ _ none (client-gives u t i) (λ client place v most j.
-      chosen (λ (c : Course Block). R (items c)) (among client seen) (λ _. none) (λ new.
-      drawn-holds u R (UpTo maxClock) _ _ none (clock-gives u v j) (λ clock from w _ m.
-      hold .head n seen room k client clock _ l new
-      (blocks-hold n seen (room - k) client most new _ (λ x y. sections-hold n (seen ++ (client ∷ [])) (room - k) x y) k clock w m)))))
+  sections-keep : (n : ℕ) (seen : List ℕ) (room : ℕ) → Keeps (Whole n seen room) (grammar.sections n seen room)
+  unfolding walks.Keeps _>>=_ grammar.sections Good GoodNumber
+  sections-keep zero seen room = hold .none zero seen room
+  sections-keep (suc n) seen room =
+      let none = hold .none (suc n) seen room in (
+        none,
+        λ k l. (
+          none,
+          λ c most. chosen (Keeps (Whole (suc n) seen room)) (among (c .0) seen) (λ _. none) (λ new. (
+            none,
+            λ t _.
+                walks.keeps-map (Good u) _ _ (grammar.blocks (k .0) (c .0) (t .0) >>= λ _. grammar.sections n (seen ++ (c .0 ∷ [])) (room - k .0))
+                (λ bs h. hold .head n seen room (k .0) (c .0) (t .0) bs l new h)
+                (blocks-keep n seen (room - k .0) (c .0) most new _ (sections-keep n (seen ++ (c .0 ∷ [])) (room - k .0)) (k .0) (t .0)),
+          )),
+        ),
+      )
 
   -- so it holds of the blocks of any update, however they end
   pub record AllBlocks (bs : List Block) : Type 0 where
@@ -106,16 +111,27 @@ module _ (u : List ℕ) (Whole : OfSections) (Part : OfPart) (hold : Holds u Who
     pub fits : count ≤ maxClients
     pub holds : Whole count [] maxBlocks bs
 
-  pub blocks-by : (form : ℕ) → AllBlocks (items (blocksOf form u))
-  unfolding blocksOf fromOpened items
-  blocks-by form = go (openedOf form u) (opened-gives u form)
-    where
-      none : AllBlocks []
-      none = record { count = 0; fits = omega arith; holds = hold .none 0 [] maxBlocks }
+  no-blocks : AllBlocks []
+  no-blocks = record { count = 0; fits = omega arith; holds = hold .none 0 [] maxBlocks }
 
-      go : (x : Opened) → GivesState u x
-          → AllBlocks (items (fromOpened x (λ s. drawn (bounded maxClients (varAt u s)) (λ n at t. sections n u [] maxBlocks t))))
-      go (opened.At s) h =
-          drawn-holds u AllBlocks (UpTo maxClients) _ _ none (bounded-gives u maxClients (varAt u s) (var-gives u s h))
-          (λ n at t l i. record { count = n; fits = l; holds = sections-hold n [] maxBlocks t i })
-      go (opened.Refused why) h = none
+  all-keep : Keeps AllBlocks grammar.allBlocks
+  unfolding walks.Keeps _>>=_ grammar.allBlocks Good GoodNumber
+  all-keep = (
+    no-blocks,
+    λ n l. walks.keeps-map (Good u) _ _ (grammar.sections (n .0) [] maxBlocks) (λ bs h. record { count = n .0; fits = l; holds = h }) (sections-keep (n .0) [] maxBlocks),
+  )
+
+  in-columns : AllBlocks (items (inColumns u))
+  unfolding inColumns onDrawn items Gives walks.Keeps
+  in-columns = go (openedOf u) (opened-gives u)
+    where
+      go : (d : Drawn State (Unit {0})) → Gives (λ x. Unit {0}) (Inside u) d → AllBlocks (items (onDrawn d (λ x s. run (columned u) grammar.allBlocks s)))
+      go (got x s) h = walks.kept-has (Good u) (Inside u) (columned u) (columned-faithful u) AllBlocks grammar.allBlocks all-keep s (h .1)
+      go (not why) h = no-blocks
+
+  pub blocks-by : (form : ℕ) → AllBlocks (items (blocksOf form u))
+  unfolding blocksOf
+  blocks-by form =
+      chosen (λ (c : Run ℕ Block (Unit {0})). AllBlocks (items c)) (eqb form 1)
+      (λ _. walks.kept-has (Good u) (λ (at : ℕ). Unit {0}) (line 1 u) (line-faithful u 1) AllBlocks grammar.allBlocks all-keep 0 tt)
+      (λ _. subst AllBlocks (sym (items-placed (inColumns u))) in-columns)

@@ -1,8 +1,8 @@
 -- Every block of an update is sound, whatever the update and however its blocks end.
 use Prim.Native.Nat.{ℕ}
 use mathlib.Core.List.{List}
-use Rattle.decoder.specs.Course.{items}
-use Rattle.update.specs.Update.{blocksOf}
+use Rattle.grammar.specs.Course.{items}
+use Rattle.decoder.specs.Update.{blocksOf}
 use Rattle.readings.specs.Sound.{Sound, All}
 use Rattle.readings.proofs.Sections.{OfSections, OfPart, Holds, blocks-by}
 

@@ -1,24 +1,20 @@
 -- A diff with the number 0 was made: form, update and vector were good, nothing was cut inside a pair, every difference could be spelled.
-use Prim.Native.Nat.{ℕ, zero, suc}
+use Prim.Native.Nat.{ℕ}
 use mathlib.Core.Path.{_≡_, refl, sym, ap, _∙_}
 use mathlib.Core.Bool.{Bool, true, false}
-use mathlib.Core.List.{List, [], _∷_, _++_}
+use mathlib.Core.List.{List}
 use native.Mathlib.Omega.{arith}
 use lib.Dec.{leb, eqb}
 use lib.ListN.{length}
 use borrow.Author.Tests.{eqb-true, eqb-false}
 use Rattle.numbers.specs.Number.{pick}
-use Rattle.numbers.specs.Limits.{maxClients}
 use Rattle.numbers.specs.Output.{verdict}
-use Rattle.decoder.specs.declared.State.{State}
-use Rattle.decoder.specs.Fields.{startAt, varAt, client1, clockAt}
-use Rattle.decoder.specs.Course.{Course, item, over, stopped, ending}
-use Rattle.vector.specs.Vector.{Entry, entry, holds, entries, vectorOf}
+use Rattle.grammar.specs.Course.{Course, item, over, stopped, ending}
+use Rattle.vector.specs.Vector.{Entry, vectorOf}
 use Rattle.updates.specs.Promises.{Reading, known, reading}
-use Rattle.agreement.specs.Numbered.{Low, Stops}
-use Rattle.agreement.proofs.NumberedColumns.{chosen}
-use Rattle.agreement.proofs.NumberedFields.{bounded-numbered, var-numbered, client1-numbered, clock-numbered}
-use Rattle.agreement.proofs.NumberedCourses.{drawn-stops}
+use Rattle.grammar.specs.Numbered.{Stops}
+use Rattle.agreement.specs.Numbered.{Low}
+use Rattle.agreement.proofs.Vectors.{vector-numbered}
 use Rattle.writing.specs.Diff.{diffBytes, diffWhy}
 use Rattle.diffs.specs.Promises.{Diffed, refusedWith, whyNot, kept, against, afterReading, diffOf}
 use Rattle.rereading.specs.Vectors.{Reads, entriesIn}
@@ -26,39 +22,11 @@ use Rattle.rereading.proofs.Elsewhere.{vector-read}
 
 -- ---- a vector is never refused with 0
 
-low4 : Low 4
-low4 = (omega arith, omega arith)
-
-repeated : (p : ℕ) → Stops {A = Entry} (stopped (record { number = 4; place = p }))
-unfolding Stops
-repeated p = low4
-
-over-stops : (s : State) → Stops {A = Entry} (over s)
-unfolding Stops
-over-stops s = tt
-
-item-stops : (e : Entry) (p : ℕ) (c : Course Entry) → Stops c → Stops (item e p c)
-unfolding Stops
-item-stops e p c h = h
-
-module _ (v : List ℕ) where
-  entries-stop : (n : ℕ) (seen : List Entry) (s : State) → Stops (entries n v seen s)
-  unfolding entries
-  entries-stop zero seen s = over-stops s
-  entries-stop (suc n) seen s =
-      drawn-stops (client1 v s) _ (client1-numbered v s) (λ c p t.
-      chosen Stops (holds c seen) (repeated p)
-      (drawn-stops (clockAt v t) _ (clock-numbered v t) (λ k q w. item-stops (entry c k) p _ (entries-stop n (seen ++ (entry c k ∷ [])) w))))
-
-  vector-numbered : Stops (vectorOf v)
-  unfolding vectorOf
-  vector-numbered = drawn-stops _ _ (bounded-numbered maxClients (varAt v (startAt 1 0)) (var-numbered v (startAt 1 0))) (λ n p s. entries-stop n [] s)
-
-read-whole : (c : Course Entry) (d : Diffed) → Stops c → ending c (λ s. d) (λ why. refusedWith (why .number)) .number ≡ 0
+read-whole : (c : Course Entry) (d : Diffed) → Stops Low c → ending c (λ s. d) (λ why. refusedWith (why .number)) .number ≡ 0
     → ending c (λ s. true) (λ why. false) ≡ true
 unfolding ending Stops
 read-whole (item e p c) d h z = read-whole c d h z
-read-whole (over s) d h z = refl
+read-whole (over x s) d h z = refl
 read-whole (stopped why) d h z = absurd (omega (arith, h .0, z))
 
 -- ---- what 0 says of a diff

@@ -8,7 +8,7 @@ use native.Mathlib.Omega.{arith}
 use Rattle.numbers.specs.declared.Refusal.{Refusal}
 use Rattle.numbers.specs.Number.{pick}
 use Rattle.block.specs.declared.Block.{Block}
-use Rattle.decoder.specs.Course.{Course, item, over, stopped, ending}
+use Rattle.grammar.specs.Course.{Course, item, over, stopped, ending}
 use Rattle.vector.specs.Vector.{Entry, vectorOf}
 use Rattle.updates.specs.Promises.{Reading, known, reading}
 use Rattle.kept.specs.Kept.{remote, sectionsOf}
@@ -23,7 +23,7 @@ pub ends-well : {A X : Type 0} (c : Course A) → ending c (λ s. true) (λ why.
     → ending c (λ s. x) refused ≡ x
 unfolding ending
 ends-well (item a p c) e x refused = ends-well c e x refused
-ends-well (over s) e x refused = refl
+ends-well (over y s) e x refused = refl
 ends-well (stopped why) e x refused = absurd (omega (arith, ap (λ (t : Bool). pick {A = ℕ} t 1 0) e))
 
 module _ (u : List ℕ) (to room : ℕ) (r : Reading) where

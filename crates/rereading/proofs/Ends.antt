@@ -11,9 +11,10 @@ use borrow.Author.Tests.{le-leb}
 use Rattle.numbers.specs.Number.{pick, spelt, after, placed, readUnsigned}
 use Rattle.numbers.specs.Output.{verdict}
 use Rattle.runs.specs.Runs.{spellable}
-use Rattle.decoder.specs.Course.{drawn, items}
-use Rattle.decoder.specs.Fields.{bounded, varDraw, varAt}
-use Rattle.vector.specs.Vector.{Entry, entries, vectorOf}
+use Rattle.grammar.specs.Grammar as grammar
+use Rattle.grammar.specs.Course.{onDrawn, run, items}
+use Rattle.decoder.specs.Line.{numberAt, varAt, bounded, upTo, numberOf, line}
+use Rattle.vector.specs.Vector.{Entry, entries, aVector, vectorOf}
 use Rattle.ranges.specs.Ranges.{Range}
 use Rattle.updates.specs.Promises.{known, reading}
 use Rattle.readings.specs.Groups.{groups}
@@ -91,7 +92,7 @@ module _ (form : ℕ) (u : List ℕ) (to m n room : ℕ) where
   -- ---- nothing: every block, but for a client's leading Skips and leading blocks that end at 0
 
   no-entries : entriesIn emptyVector ≡ []
-  unfolding vectorOf entries bounded varAt varDraw drawn items readUnsigned placed spelt after
+  unfolding vectorOf aVector entries grammar._>>=_ run onDrawn line numberOf upTo varAt numberAt bounded items readUnsigned placed spelt after
   no-entries = refl
 
   pub against-empty : diffOf form u emptyVector to m n room .number ≡ 0

@@ -11,9 +11,9 @@ use borrow.Author.Tests.{eqb-true}
 use Rattle.numbers.specs.Number.{pick}
 use Rattle.numbers.specs.Limits.{maxUpdate}
 use Rattle.block.specs.declared.Block.{Block}
-use Rattle.decoder.specs.Course.{items}
+use Rattle.grammar.specs.Course.{items}
 use Rattle.ranges.specs.Ranges.{Range}
-use Rattle.update.specs.Update.{blocksOf}
+use Rattle.decoder.specs.Update.{blocksOf}
 use Rattle.updates.specs.Promises.{Reading, refused, withRanges, withBlocks, known, reading}
 use Rattle.readings.specs.Sound.{All}
 use Rattle.tokens.specs.Tokens.{Token}
@@ -87,12 +87,12 @@ module _ (to : ℕ) (u : List ℕ) (ss : List Section) (rs : List Range) (k : Ke
   unfolding withBlocks withRanges
   found e short few close small m n rows ranges =
       let drawn = draws to (one-or-two to e) ts (update-legal to u ss rs short k l) close (few-tokens to u ss rs short k few) (omega arith) in
-      let reads = written-reads to d u ss rs (drawn .0) (drawn .1) (drawn .2) (drawn .4) k l (drawn .3) in
+      let reads = written-reads to d u ss rs drawn k l in
       record {
         same = read-on to d m n (in-time to d e small)
-            ∙ reading-written to d u ss rs (drawn .1) reads {X = Reading} (λ bs rs. record { number = 0; blocks = bs; ranges = rs }) (λ why. refused (why .number))
+            ∙ reading-written to d u ss rs (drawn .place (drawn .last)) reads {X = Reading} (λ bs rs. record { number = 0; blocks = bs; ranges = rs }) (λ why. refused (why .number))
             m n rows ranges (l .normal);
-        alike = records-alike to d u ss rs (drawn .1) reads;
+        alike = records-alike to d u ss rs (drawn .place (drawn .last)) reads;
       }
 
 -- ---- a diff
@@ -127,8 +127,8 @@ module _ (form : ℕ) (u v : List ℕ) (to m n room : ℕ) where
       let g = good to u (keptBy v R) (R .ranges) (h .why) in
       let k = subst (λ (bs : List Block). Clean u (sectionsOf (entriesIn v) bs) → Kept u (sectionsOf (entriesIn v) bs)) (sym (a .blocks))
       (kept-sections form u (entriesIn v)) (clean-sections u (keptBy v R) (g .clean)) in
-      let l = subst KeptRanges (sym (a .ranges)) (kept-ranges u (a .middle) n) in
-      let few : length (R .ranges) ≤ length u = omega (arith, ap length (a .ranges), found-few u (a .middle) n) in
+      let l = subst KeptRanges (sym (a .ranges)) (kept-ranges form u (a .middle) n) in
+      let few : length (R .ranges) ≤ length u = omega (arith, ap length (a .ranges), found-few form u (a .middle) n) in
       found to u (keptBy v R) (R .ranges) k l (h .target) (a .short) few (g .close) small m′ n′ rows ranges
 
   pub reread : diffOf form u v to m n room .number ≡ 0 → length (diffOf form u v to m n room .bytes) ≤ maxUpdate

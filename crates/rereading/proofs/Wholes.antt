@@ -10,12 +10,10 @@ use borrow.Author.Tests.{ltb-false, le-ltb}
 use Rattle.numbers.specs.Number.{pick}
 use Rattle.numbers.specs.Limits.{maxUpdate}
 use Rattle.block.specs.declared.Block.{Block}
-use Rattle.decoder.specs.declared.State.{State}
-use Rattle.decoder.specs.Course.{Course, fit, items}
+use Rattle.grammar.specs.Course.{Course, fit, items}
 use Rattle.ranges.specs.Ranges.{normal}
 use Rattle.ranges.proofs.Theory.{normal-length}
-use Rattle.deletes.specs.DeleteSet.{deleteSet}
-use Rattle.update.specs.Update.{blocksOf}
+use Rattle.decoder.specs.Update.{blocksOf, deleteSet}
 use Rattle.updates.specs.Promises.{Reading, refused, withRanges, withBlocks, known, early, reading}
 use Rattle.readings.proofs.Fits.{fit-items, fit-count}
 use Rattle.agreement.specs.Ends.{Whole}
@@ -27,8 +25,8 @@ pub record AllRead (form : ℕ) (u : List ℕ) (r : Reading) (m n : ℕ) : Type 
   pub short : length u ≤ maxUpdate
   pub blocks : r .blocks ≡ items (blocksOf form u)
   pub rows : length (r .blocks) ≤ m
-  pub middle : State
-  pub ranges : r .ranges ≡ normal (items (fit n (deleteSet u middle)))
+  pub middle : ℕ
+  pub ranges : r .ranges ≡ normal (items (fit n (deleteSet form u middle)))
   pub range-rows : length (r .ranges) ≤ n
 
 short-of : (form : ℕ) (u : List ℕ) → early form u ≡ 0 → length u ≤ maxUpdate
@@ -45,21 +43,21 @@ pub in-time : (form : ℕ) (u : List ℕ) → known form ≡ true → length u �
 unfolding early
 in-time form u e l = rw (e, le-ltb maxUpdate (length u) l)
 
-pub read-on : (form : ℕ) (u : List ℕ) (m n : ℕ) → early form u ≡ 0 → reading form u m n ≡ withBlocks u n (fit m (blocksOf form u))
+pub read-on : (form : ℕ) (u : List ℕ) (m n : ℕ) → early form u ≡ 0 → reading form u m n ≡ withBlocks form u n (fit m (blocksOf form u))
 unfolding reading
-read-on form u m n e = ap (λ (k : ℕ). pick (eqb k 0) (withBlocks u n (fit m (blocksOf form u))) (refused k)) e
+read-on form u m n e = ap (λ (k : ℕ). pick (eqb k 0) (withBlocks form u n (fit m (blocksOf form u))) (refused k)) e
 
 module _ (form : ℕ) (u : List ℕ) (m n : ℕ) where
   abbrev c : Course Block
   c = fit m (blocksOf form u)
 
   whole-at : early form u ≡ 0 → (w : Whole form u m n)
-      → reading form u m n ≡ record { number = 0; blocks = items (fit m (blocksOf form u)); ranges = normal (items (fit n (deleteSet u (w .middle)))) }
+      → reading form u m n ≡ record { number = 0; blocks = items (fit m (blocksOf form u)); ranges = normal (items (fit n (deleteSet form u (w .middle)))) }
   unfolding withBlocks withRanges
   whole-at e w =
       read-on form u m n e
-      ∙ ending-at c (λ s. withRanges (items c) (fit n (deleteSet u s))) _ (w .middle) (w .blocks)
-      ∙ ending-at (fit n (deleteSet u (w .middle))) _ _ (w .last) (w .ranges)
+      ∙ ending-at c (λ s. withRanges (items c) (fit n (deleteSet form u s))) _ (w .middle) (w .blocks)
+      ∙ ending-at (fit n (deleteSet form u (w .middle))) _ _ (w .last) (w .ranges)
 
   pub all-read : reading form u m n .number ≡ 0 → AllRead form u (reading form u m n) m n
   all-read z =
@@ -75,7 +73,7 @@ module _ (form : ℕ) (u : List ℕ) (m n : ℕ) where
         range-rows = omega (
           arith,
           ap (λ (r : Reading). length (r .ranges)) same,
-          normal-length (items (fit n (deleteSet u (w .middle)))),
-          fit-count n (deleteSet u (w .middle)),
+          normal-length (items (fit n (deleteSet form u (w .middle)))),
+          fit-count n (deleteSet form u (w .middle)),
         );
       }

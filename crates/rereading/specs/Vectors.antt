@@ -6,7 +6,7 @@ use mathlib.Core.List.{List, [], _∷_}
 use lib.Dec.{eqb}
 use Rattle.numbers.specs.Number.{pick}
 use Rattle.block.specs.declared.Block.{Block}
-use Rattle.decoder.specs.Course.{items, ending}
+use Rattle.grammar.specs.Course.{items, ending}
 use Rattle.vector.specs.Vector.{Entry, vectorOf}
 use Rattle.readings.specs.Sound.{All}
 use Rattle.kept.specs.Kept.{remote}

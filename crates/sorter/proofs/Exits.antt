@@ -7,8 +7,7 @@ use lib.ListN.{length, take, replicate, length-replicate}
 use Rattle.numbers.specs.declared.Refusal.{Refusal}
 use Rattle.numbers.specs.Output.{padded}
 use Rattle.block.specs.declared.Block.{Block}
-use Rattle.decoder.specs.declared.State.{State}
-use Rattle.decoder.specs.Course.{Course, items, ending}
+use Rattle.grammar.specs.Course.{Course, items, ending}
 use Rattle.vector.specs.declared.Entries.the-variants.{Read, Refused}
 use Rattle.vector.specs.Vector.{Entry, clientsIn, clocksIn, kept}
 use Rattle.vector.specs.Vector as vector
@@ -150,7 +149,7 @@ module _ (c : Course Entry) (rows : List Block) (blocks : ℕ) (order counts rea
     by-read f g =
         let r = was-read c m e in
         ap (λ (v : List Entry). f names v) (r .entries k l) ∙ ap (λ (ns : List ℕ). f ns (items c)) (r .clients k)
-        ∙ sym (r .ends-so (λ (s : State). f (clientsIn (items c)) (items c)) g)
+        ∙ sym (r .ends-so (λ (s : ℕ). f (clientsIn (items c)) (items c)) g)
 
     pub names-fit : m ≤ length (padded k (clientsIn (kept c)))
     names-fit = was-read c m e .room k

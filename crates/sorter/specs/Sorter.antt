@@ -4,7 +4,7 @@ use mathlib.Core.List.{List, [], _∷_, _++_}
 use lib.ListN.{length, take, replicate}
 use Rattle.block.specs.declared.Block.{Block}
 use Rattle.vector.specs.Vector.{Entry, clientsIn}
-use Rattle.decoder.specs.Course.{Course, items, ending}
+use Rattle.grammar.specs.Course.{Course, items, ending}
 use Rattle.slots.specs.declared.Noted.{Noted}
 use Rattle.slots.specs.Slots.{Slot, notedIn, notedAt, notedAll, namedAll}
 use Rattle.picker.specs.declared.Look.{Look}

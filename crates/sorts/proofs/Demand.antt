@@ -7,7 +7,7 @@ use lib.Dec.{eqb}
 use borrow.Author.Tests.{eqb-true, eqb-false}
 use Rattle.numbers.specs.Number.{pick}
 use Rattle.block.specs.declared.Block.{Block}
-use Rattle.decoder.specs.Course.{items, ending}
+use Rattle.grammar.specs.Course.{items, ending}
 use Rattle.vector.specs.Vector.{Entry, vectorOf}
 use Rattle.kept.specs.Kept.{remote}
 use Rattle.kept.proofs.Vectors.{whyVector, by-number}

@@ -10,7 +10,7 @@ use borrow.Author.Tests.{eqb-false, eq-eqb, ne-eqb, ltb-false}
 use Rattle.numbers.specs.Number.{pick}
 use Rattle.numbers.specs.Output.{padded}
 use Rattle.block.specs.declared.Block.{Block}
-use Rattle.decoder.specs.Course.{items}
+use Rattle.grammar.specs.Course.{items}
 use Rattle.vector.specs.Vector.{Entry, vectorOf}
 use Rattle.vector.proofs.Clients.{vector-most}
 use Rattle.kept.proofs.Vectors.{vector-clocks, whyVector, by-number}

@@ -7,7 +7,7 @@ use mathlib.Core.List.{List}
 use mathlib.Core.Option.{some}
 use lib.ListN.{length}
 use Rattle.block.specs.declared.Id.{Id}
-use Rattle.decoder.specs.Course.{Course, items, ending}
+use Rattle.grammar.specs.Course.{Course, items, ending}
 use Rattle.vector.specs.Vector.{Entry}
 use Rattle.kept.specs.Kept.{remote}
 use Rattle.readings.specs.Sound.{All}

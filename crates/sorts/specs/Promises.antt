@@ -7,7 +7,7 @@ use lib.ListN.{length}
 use Rattle.numbers.specs.Number.{pick}
 use Rattle.numbers.specs.Output.{padded}
 use Rattle.block.specs.declared.Block.{Block}
-use Rattle.decoder.specs.Course.{Course, items, ending}
+use Rattle.grammar.specs.Course.{Course, items, ending}
 use Rattle.vector.specs.Vector.{Entry, vectorOf}
 use Rattle.updates.specs.Promises.{Reading, reading, rowsOf, wordsOf}
 use Rattle.sorting.specs.Sorted.{orderOf, countsOf, reachesOf, pendingOf}

@@ -21,13 +21,15 @@ use Rattle.columns.specs.Reading.{Reading, andThen, reads, numberDraw, differen
 use Rattle.columns.proofs.RoundTrip.{byte-on}
 use Rattle.block.specs.declared.Block.{Block}
 use Rattle.block.specs.Row.{noId, noPart}
-use Rattle.decoder.specs.Fields as field
-use Rattle.decoder.specs.Course as course
-use Rattle.item.specs.Fields as fields
-use Rattle.item.specs.Block as block
-use Rattle.update.specs.Update as update
+use Rattle.grammar.specs.Grammar as grammar
+use Rattle.grammar.specs.Course as course
+use Rattle.grammar.specs.Blocks as blocks
+use Rattle.grammar.specs.Deletes as deletes
+use Rattle.decoder.specs.Line as line
+use Rattle.decoder.specs.Columned as columned
+use Rattle.decoder.specs.Opening as opening
+use Rattle.decoder.specs.Update as update
 use Rattle.ranges.specs.Ranges as ranges
-use Rattle.deletes.specs.DeleteSet as deletes
 use Rattle.updates.specs.Promises as promises
 use Rattle.updates.specs.Promises.{reading}
 use Rattle.text.specs.Utf8 as utf8
@@ -161,7 +163,7 @@ Updates n m =
     × (reading 1 updateM3 (suc (suc n)) m ≡ blocksRead (after-id 5 9 8 ∷ after-id 9 5 16 ∷ []))
 
 updates : (n m : ℕ) → Updates n m
-unfolding field.bounded field.varDraw field.varAt field.byteAt field.clockAt field.bytesAfter field.bufAt field.client1 field.idOf field.idDraw field.id1 field.checkedText field.textIn1 field.text1 field.clientDrawn field.client2 field.infoDrawn field.infoDraw field.parentDrawn field.parentDraw field.lenDrawn field.lenColumn field.len2 field.textDrawn field.text2 field.restoredBy field.dsClock field.dsLen field.putDifferences field.putNumbers field.putBytes field.holdsDifferences field.holdsBytes field.putColumn field.onPart field.cutFrom field.textIn field.textOpened field.onOpened field.afterFlag field.opened2 course.drawn course.fit course.items course.ending fields.openedOf fields.clientOf fields.leftIdOf fields.rightIdOf fields.infoOf fields.parentInfoOf fields.lenOf fields.textOf block.number block.id block.bytes block.words block.andThen block.leftOf block.rightOf block.parentAfter block.parentOf block.keyOf block.placeOf block.deletedOf block.binaryOf block.stringOf block.contentOf block.itemOf block.skipOf block.gcOf block.bodyOf update.atPlace update.afterInfo update.blockOf update.dropped update.kept update.ended update.blocks words.among update.sections update.fromOpened update.blocksOf deletes.clockIn deletes.lenIn deletes.ranges deletes.clients deletes.deleteSet ranges.normal promises.withRanges promises.withBlocks promises.known promises.early promises.reading utf8.charsFrom utf8.chars utf8.widths utf8.unitsOf utf8.lead utf8.next utf8.width utf8.after utf8.settled utf8.wellFormed utf8.gain utf8.takeFrom utf8.takeUnits spelling.after spelt placed readUnsigned readSigned speltSigned minusOf withSign number.drawn number.counted number.begun number.nextNumber byte.counted byte.begun byte.nextByte string.opened string.openText string.ending string.taken string.drawn string.nextText utf8.ended
+unfolding words.among ranges.normal promises.withRanges promises.withBlocks promises.known promises.early promises.reading utf8.charsFrom utf8.chars utf8.widths utf8.unitsOf utf8.lead utf8.next utf8.width utf8.after utf8.settled utf8.wellFormed utf8.gain utf8.takeFrom utf8.takeUnits spelling.after spelt placed readUnsigned readSigned speltSigned minusOf withSign number.drawn number.counted number.begun number.nextNumber byte.counted byte.begun byte.nextByte string.opened string.openText string.ending string.taken string.drawn string.nextText utf8.ended line.numberAt line.varAt line.bounded line.upTo line.byteAt line.restored line.deleteAt line.numberOf line.soMany line.bytesAt line.checked line.line grammar._>>=_ course.onDrawn course.run course.fit course.items course.ending blocks.anId blocks.left blocks.right blocks.parentAfter blocks.parent blocks.key blocks.place blocks.deleted blocks.binary blocks.string blocks.content blocks.anItem blocks.bare blocks.body blocks.block blocks.dropped blocks.kept blocks.blocks blocks.sections blocks.allBlocks deletes.ranges deletes.clients deletes.allRanges columned.numberDrawn columned.differenceDrawn columned.byteDrawn columned.textDrawn columned.onto columned.numberIn columned.columned opening.cut opening.heads opening.withOpened opening.textOpened opening.onHeads opening.openedOf update.placed update.inColumns update.blocksOf update.deleteSet
 updates zero zero = (refl, refl, refl, refl, refl, refl, refl)
 updates zero (suc m) = (refl, refl, refl, refl, refl, refl, refl)
 updates (suc n) zero = (refl, refl, refl, refl, refl, refl, refl)
@@ -183,7 +185,7 @@ against r = afterReading (record { order = 2; counts = 4; reaches = 4; pending =
 sorting : (against (blocksRead (after-id 5 9 8 ∷ in-parent 9 15 17 ∷ [])) ≡ sorted (1 ∷ 0 ∷ []) (9 ∷ 1 ∷ 5 ∷ 1 ∷ []) (9 ∷ 1 ∷ 5 ∷ 1 ∷ []) [] (after-id 5 9 8 ∷ in-parent 9 15 17 ∷ []))
     × (against (blocksRead (after-id 5 9 8 ∷ [])) ≡ sorted [] (5 ∷ 0 ∷ []) (5 ∷ 0 ∷ []) (5 ∷ 9 ∷ 0 ∷ []) (after-id 5 9 8 ∷ []))
     × (against (blocksRead (after-id 5 9 8 ∷ after-id 9 5 16 ∷ [])) ≡ sorted [] (9 ∷ 0 ∷ 5 ∷ 0 ∷ []) (9 ∷ 0 ∷ 5 ∷ 0 ∷ []) (9 ∷ 5 ∷ 0 ∷ 5 ∷ 9 ∷ 0 ∷ []) (after-id 5 9 8 ∷ after-id 9 5 16 ∷ []))
-unfolding sort-answers.whyNot sort-promises.whole sort-promises.whySort sort-promises.fitting sort-promises.against sort-promises.afterReading vector.holds vector.entries vector.vectorOf field.bounded field.varDraw field.varAt field.client1 field.clockAt spelling.after spelt placed readUnsigned course.drawn course.items course.ending remote outcomes.insert outcomes.insertAll outcomes.clients outcomes.order outcomes.outcome outcomes.numbersFrom outcomes.numbersBy outcomes.orderOf outcomes.countsIn outcomes.countsOf outcomes.reachesIn outcomes.reachesOf outcomes.pendingIn outcomes.pendingOf quick.order quick.left quick.best quick.quick steps.can steps.step steps.after rules.queue rules.deps rules.system rules.unmet rules.rule28 rules.report
+unfolding sort-answers.whyNot sort-promises.whole sort-promises.whySort sort-promises.fitting sort-promises.against sort-promises.afterReading vector.holds vector.entries vector.aVector vector.vectorOf spelling.after spelt placed readUnsigned remote outcomes.insert outcomes.insertAll outcomes.clients outcomes.order outcomes.outcome outcomes.numbersFrom outcomes.numbersBy outcomes.orderOf outcomes.countsIn outcomes.countsOf outcomes.reachesIn outcomes.reachesOf outcomes.pendingIn outcomes.pendingOf quick.order quick.left quick.best quick.quick steps.can steps.step steps.after rules.queue rules.deps rules.system rules.unmet rules.rule28 rules.report line.numberAt line.varAt line.bounded line.upTo line.byteAt line.restored line.deleteAt line.numberOf line.soMany line.bytesAt line.checked line.line grammar._>>=_ course.onDrawn course.run course.items course.ending
 sorting = (refl, refl, refl)
 
 sorts-M : (n m : ℕ) → (sorts updateM1 n m ≡ sorted (1 ∷ 0 ∷ []) (9 ∷ 1 ∷ 5 ∷ 1 ∷ []) (9 ∷ 1 ∷ 5 ∷ 1 ∷ []) [] (after-id 5 9 8 ∷ in-parent 9 15 17 ∷ []))

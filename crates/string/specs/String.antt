@@ -1,5 +1,7 @@
 -- The text column: byte length, UTF-8 bytes, then a number column of unit lengths. A text takes whole characters until its units are used.
-use Prim.Native.Nat.{ℕ, zero, suc, _+_, _-_}
+use Prim.Native.Nat.{ℕ, zero, suc, _+_, _-_, _≤_}
+use mathlib.Core.Path.{_≡_}
+use mathlib.Core.Logic.{_⊎_}
 use mathlib.Core.List.{List, [], _∷_, _++_}
 use mathlib.Core.Bool.{Bool, true, false}
 use lib.Dec.{ltb, eqb}
@@ -46,6 +48,11 @@ openText s at = opened s (readUnsigned s at)
 unfoldable pub ending : ℕ → ℕ → number-place.Place → Taken → Answer
 ending at end rest (units.Took b) = Next (record { place = at; bytes = b }) (placeAt (at + b .0) end rest)
 ending at end rest (units.Refused why) = Bad (record { number = why; place = at })
+
+-- what is taken from a place on lies in the bytes, or is nothing
+unfoldable pub TookWithin : List ℕ → ℕ → Taken → Type 0
+TookWithin s at (units.Took b) = (at + b .0 ≤ length s) ⊎ (b .0 ≡ 0)
+TookWithin s at (units.Refused why) = Unit {0}
 
 unfoldable pub taken : List ℕ → ℕ → ℕ → ℕ → number-place.Place → Answer
 taken s at end u rest = ending at end rest (takeUnits 7 u (slice at end s))

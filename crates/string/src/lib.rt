@@ -14,7 +14,8 @@ ghost use Prim.Native.Nat.{_+_, _≤_};
 ghost use lib.ListN.{length};
 ghost use lib.Seq.{sets, slice};
 ghost use Rattle.numbers.specs.Output.{written, put};
-ghost use Rattle.string.specs.String.{openText, taken, nextText, whyText, takeNext, textHead, textColumn, whyTexts};
+ghost use Rattle.text.specs.Utf8.{takeUnits};
+ghost use Rattle.string.specs.String.{openText, TookWithin, taken, nextText, whyText, takeNext, textHead, textColumn, whyTexts};
 
 // The next text's first byte, the end of all texts, and the place of the next unit length.
 #[repr(C)]
@@ -66,14 +67,20 @@ fn least(a: usize, b: usize) -> usize
     if a < b { a } else { b }
 }
 
-// The text of u units at `at`, with the place after it. A place that no reading made may lie anywhere, so it is brought within the bytes.
-fn take(column: &[u8], at: usize, end: usize, u: u64, units: number::Place) -> Answer
-    ensures { λ r. ⌜ r ≡ taken (now (column .entry)) at end u units ⌝ }
+// The bytes of the text of u units at `at`, among those up to `end`. A place that no reading made may lie anywhere, so it is brought within the bytes.
+pub fn take_text(column: &[u8], at: usize, end: usize, u: u64) -> Taken
+    ensures { λ r. ⌜ (r ≡ takeUnits 7 u (slice at end (now (column .entry)))) × TookWithin (now (column .entry)) at r ⌝ }
 {
     let to = least(end, column.len());
     let from = least(at, to);
-    let t = text::take_units(column, from, to, Units(u), 7);
-    match t {
+    text::take_units(column, from, to, Units(u), 7)
+}
+
+// The same, with the place after it.
+fn take(column: &[u8], at: usize, end: usize, u: u64, units: number::Place) -> Answer
+    ensures { λ r. ⌜ r ≡ taken (now (column .entry)) at end u units ⌝ }
+{
+    match take_text(column, at, end, u) {
         Taken::Took(bytes) => {
             let next = at + bytes.0;
             Answer::Next(

@@ -17,7 +17,7 @@ use Rattle.walks.proofs.Rows.{Has, word, unit-kind}
 use Rattle.walks.proofs.Refs.{Seat, val, mut, read, pass, Card, since}
 use Rattle.block.specs.declared.Block.{Block}
 use Rattle.block.specs.Row.{noBlock}
-use Rattle.table.specs.Rows.{clearedFrom}
+use Rattle.table.specs.Rows.{clearedFrom, filledFrom}
 use Rattle.table.proofs.Sorts.{block}
 use Rattle.block.proofs.none as block·none-fn
 use Rattle.block.proofs.none.Symbol.{name as #block·none}
@@ -25,6 +25,8 @@ use Rattle.table.proofs.fetch as table·fetch-fn
 use Rattle.table.proofs.fetch.Symbol.{name as #table·fetch}
 use Rattle.table.proofs.fill as table·fill-fn
 use Rattle.table.proofs.fill.Symbol.{name as #table·fill}
+use Rattle.table.proofs.fill_from as table·fill-from-fn
+use Rattle.table.proofs.fill_from.Symbol.{name as #table·fill-from}
 use Rattle.table.proofs.clear as table·clear-fn
 use Rattle.table.proofs.clear.Symbol.{name as #table·clear}
 
@@ -37,6 +39,9 @@ module _ {M : Type 1} (𝓤 : URA M) (H : Heap 𝓤) (A : Atoms 𝓤) (mem : Mem
 
   abbrev pub Table·fill : Contract 𝓤
   Table·fill = tripleOf 𝓤 H A table·fill-fn.signature (table·fill-fn.spec 𝓤 H A mem run)
+
+  abbrev pub Table·fill-from : Contract 𝓤
+  Table·fill-from = tripleOf 𝓤 H A table·fill-from-fn.signature (table·fill-from-fn.spec 𝓤 H A mem run)
 
   abbrev pub Table·clear : Contract 𝓤
   Table·clear = tripleOf 𝓤 H A table·clear-fn.signature (table·clear-fn.spec 𝓤 H A mem run)
@@ -94,6 +99,20 @@ module _ {M : Type 1} (𝓤 : URA M) (H : Heap 𝓤) (A : Atoms 𝓤) (mem : Mem
       asks = factI 𝓤 (i₀ < length rows₀) (emp 𝓤) h;
       into = λ ns. id⊢ 𝓤 _;
       ensured = λ x r ws. table·fill-fn.clauses 𝓤 H A mem run (x .0) (x .3) .ensures tt r (atExit table·fill-fn.ended (x .0) (x .3) ws);
+      out = λ ns v. id⊢ 𝓤 _;
+      said = λ ns r ws. since 𝓤 (λ e. (refl, (e, tt)));
+    }
+
+    pub table·fill-from! : Triple 𝓤 (C #table·fill-from) Table·fill-from → (at-rows : Seat) (rows₀ : List Block) (from₀ : ℕ) (g-from : Has word from₀) (b₀ : Block) (g-b : Has block b₀) → Card 𝓤 H A C #table·fill-from (mut block at-rows rows₀ (filledFrom from₀ b₀ rows₀) ∷ val word from₀ g-from ∷ val block b₀ g-b ∷ []) unit-kind tt
+    table·fill-from! known at-rows rows₀ from₀ g-from b₀ g-b = record {
+      contract = Table·fill-from;
+      known = known;
+      ghost = λ x. (x, tt);
+      args = λ ns. refl;
+      asked = emp 𝓤;
+      asks = id⊢ 𝓤 _;
+      into = λ ns. id⊢ 𝓤 _;
+      ensured = λ x r ws. table·fill-from-fn.clauses 𝓤 H A mem run (x .0) (x .3) .ensures tt r (atExit table·fill-from-fn.ended (x .0) (x .3) ws);
       out = λ ns v. id⊢ 𝓤 _;
       said = λ ns r ws. since 𝓤 (λ e. (refl, (e, tt)));
     }

@@ -3,7 +3,7 @@ ghost use mathlib.Core.Path.{_≡_};
 ghost use Prim.Native.Nat.{_<_};
 ghost use lib.ListN.{length, getD, set};
 ghost use Rattle.block.specs.Row.{noBlock};
-ghost use Rattle.table.specs.Rows.{clearedFrom};
+ghost use Rattle.table.specs.Rows.{filledFrom, clearedFrom};
 use block::Block;
 
 // Row i.
@@ -22,14 +22,25 @@ pub fn fill(rows: &mut [Block], i: usize, b: Block)
     rows[i] = b;
 }
 
-// The rows from `from` on have no block from now on.
-pub fn clear(rows: &mut [Block], from: usize)
-    ensures { λ _. ⌜ now (rows .exit) ≡ clearedFrom from (now (rows .entry)) ⌝ }
+// Each row from `from` on is b.
+fn fill_from(rows: &mut [Block], from: usize, b: Block)
+    ensures { λ _. ⌜ now (rows .exit) ≡ filledFrom from b (now (rows .entry)) ⌝ }
 {
-    let b = block::none();
     let mut i = from;
     while i < rows.len() {
         fill(rows, i, b);
         i += 1;
+    }
+}
+
+// The rows from `from` on have no block from now on. The first is made so and copied whole to the others: made so one by one, a row is stored field by field.
+pub fn clear(rows: &mut [Block], from: usize)
+    ensures { λ _. ⌜ now (rows .exit) ≡ clearedFrom from (now (rows .entry)) ⌝ }
+{
+    if from < rows.len() {
+        let none = block::none();
+        fill(rows, from, none);
+        let b = fetch(rows, from);
+        fill_from(rows, from, b);
     }
 }

@@ -1,207 +1,285 @@
--- The steps of reading make up the update's blocks: what is still to come before a step is what the step gives, and then what is still to come.
-use Prim.Native.Nat.{ℕ, zero, suc, _+_, _-_, _*_, _<_, _≤_}
+-- One step of the grammar, with no machine: what is to come before a section's head, a block or the end is what reading it gives, and then what is to come.
+use Prim.Native.Nat.{ℕ, suc, _+_, _-_, _<_, _≤_}
 use native.Mathlib.Omega.{arith}
 use native.Mathlib.Numerals.{add-one}
-use mathlib.Core.Path.{_≡_, refl, sym, ap, _∙_, subst}
+use mathlib.Core.Path.{_≡_, refl, sym, ap, _∙_}
+use mathlib.Core.Logic.{_≢_}
 use mathlib.Core.Bool.{Bool, true, false}
 use mathlib.Core.List.{List, [], _∷_, _++_}
 use lib.Dec.{ltb}
 use lib.ListN.{length, take, set, replicate, length-set}
 use lib.Seq.{take-suc-set}
-use borrow.Author.Tests.{lt-leb, eq-eqb, ne-eqb}
+use borrow.Author.Tests.{lt-ltb, le-ltb, ltb-false, ne-eqb}
 use Rattle.numbers.specs.declared.Refusal.{Refusal}
 use Rattle.numbers.specs.Number.{pick}
+use Rattle.numbers.specs.Words.{among}
 use Rattle.numbers.specs.Limits.{maxClock, maxClients, maxBlocks}
 use Rattle.block.specs.declared.Block as row
-use Rattle.decoder.specs.declared.State.{State}
-use Rattle.decoder.specs.declared.Draw.{Draw}
-use Rattle.decoder.specs.declared.Draw.the-variants as draw
-use Rattle.decoder.specs.declared.v2.Opened.{Opened}
-use Rattle.decoder.specs.declared.v2.Opened.the-variants as opened
-use Rattle.decoder.specs.Fields.{bounded, varAt, clockAt}
-use Rattle.decoder.specs.Course.{Course, item, over, stopped, drawn}
-use Rattle.decoder.proofs.Laws.{within-limit}
-use Rattle.update.specs.declared.Blocks.{Blocks}
+use Rattle.grammar.specs.Grammar as grammar
+use Rattle.grammar.specs.Grammar.{Number, Grammar, ask, stop, _>>=_, draw}
+use Rattle.grammar.specs.Course.{Drawn, got, not, Run, item, stopped, onDrawn, run}
+use Rattle.grammar.specs.Blocks.{block, dropped, kept, blocks, sections, allBlocks}
+use Rattle.grammar.proofs.Runs.{andThen, run-bind}
+use Rattle.decoder.specs.Line.{bounded, varAt, upTo, line}
+use Rattle.decoder.specs.States.{State}
+use Rattle.decoder.specs.Columned.{onto, fields}
+use Rattle.decoder.specs.Opening.{openedOf}
+use Rattle.decoder.specs.Update.{placed, inColumns, blocksOf}
+use Rattle.decoder.proofs.Laws.{placed-line, run-columned, fields-up-to}
+use Rattle.cells.specs.declared.Drawn as cells-drawn
+use Rattle.cells.specs.declared.Drawn.the-variants as drawn
+use Rattle.cells.specs.Cells.{cell, atIn, placeIn, whyIn, stateIn, Small, given, openedIn}
+use Rattle.item.specs.Row.{rowIn, Narrow, blockOnto}
+use Rattle.update.specs.declared.Spot.{Spot}
 use Rattle.update.specs.declared.Begun.{Begun}
 use Rattle.update.specs.declared.Begun.the-variants as begun
-use Rattle.update.specs.declared.Step.{Step}
 use Rattle.update.specs.declared.Step.the-variants.{Block, On, Done, Refused}
-use Rattle.update.specs.declared.Decoded.{Decoded}
-use Rattle.update.specs.declared.Decoded.the-variants as decoded
-use Rattle.item.specs.Fields.{clientOf, openedOf}
-use Rattle.numbers.specs.Words.{among}
-use Rattle.update.specs.Update.{dropped, kept, ended, blocks, sections, fromOpened, blockOf, blocksOf}
-use Rattle.update.specs.Steps.{rest, Fine, counted, sectionCount, begunOf, number, headed, passed, sectionStep, overEnd, endedStep, blockStep, nextOf, remembered, memoryAfter}
-use Rattle.update.proofs.Sections.{block-remembers}
+use Rattle.update.specs.Steps.{toCome, comes, after, begins, Fine, left, Steady, Stepped, First, Counted, Starts}
 
--- how many steps there are at most
-unfoldable pub left : Blocks → ℕ
-left s = s .sections * 65536 + s .blocks
+-- ---- a number drawn
 
--- ---- a step's answer, as what is to come, and what it keeps up
+-- what is in line, as the form has it
+pub in-line : (form : ℕ) (u : List ℕ) (most : ℕ) (w v : List ℕ) (r : cells-drawn.Drawn) → given v r ≡ onto (stateIn w) (upTo most u (atIn w))
+    → given v r ≡ fields form u (grammar.number (grammar.upTo most)) (stateIn w)
+unfolding stateIn
+in-line form u most w v r e = e ∙ sym (fields-up-to form u most (stateIn w))
 
-abbrev whole : List ℕ → List ℕ → Step → Course row.Block
-whole u m (Block b p t) = item b p (rest u m t)
-whole u m (On t) = rest u m t
-whole u m (Done t) = over t
-whole u m (Refused why) = stopped why
+-- and is no more than its limit
+pub within : (most : ℕ) (u : List ℕ) (at : ℕ) (s : State) (v : List ℕ) (x : ℕ) → given v (drawn.Number x) ≡ onto s (upTo most u at) → x ≤ most
+unfolding upTo bounded given onto
+within most u at s v x e = go (varAt u at) e
+  where
+    value : Drawn State (ℕ × ℕ) → ℕ
+    value (got a t) = a .0
+    value (not why) = 0
 
-abbrev Steady : List ℕ → Blocks → Step → Type 0
-Steady m s (Block b p t) = Fine m t × (left t < left s)
-Steady m s (On t) = Fine m t × (left t < left s)
-Steady m s (Done t) = Unit {0}
-Steady m s (Refused why) = Unit {0}
+    is-not : Drawn State (ℕ × ℕ) → ℕ
+    is-not (got a t) = 0
+    is-not (not why) = 1
 
-module _ (u m : List ℕ) (s : Blocks) where
-  abbrev Tells : Course row.Block → Step → Type 0
-  Tells c r = (c ≡ whole u (remembered m s r) r) × Steady (remembered m s r) s r
+    by : (b : Bool) (a : ℕ × ℕ) (e : ℕ) → ltb most (a .0) ≡ b → got (x, placeIn v) (stateIn v) ≡ onto s (pick b (not (record { number = 3; place = a .1 })) (got a e)) → x ≤ most
+    by true a e t h = absurd (let z : _≡_ {A = ℕ} 0 1 = ap is-not h in omega (arith, z))
+    by false a e t h = omega (arith, ap value h, ltb-false most (a .0) t)
 
-  by-draw : (d : Draw) (f : ℕ → ℕ → State → Course row.Block) (g : ℕ → ℕ → State → Step) → ((v p : ℕ) (t : State) → d ≡ draw.Number v p t → Tells (f v p t) (g v p t)) → Tells (drawn d f) (number d g)
-  unfolding drawn number
-  by-draw (draw.Number v p t) f g h = h v p t refl
-  by-draw (draw.Refused why) f g h = (refl, tt)
+    go : (d : Drawn ℕ (ℕ × ℕ)) → got (x, placeIn v) (stateIn v) ≡ onto s (bounded most d) → x ≤ most
+    go (got a e) h = by (ltb most (a .0)) a e refl h
+    go (not why) h = absurd (let z : _≡_ {A = ℕ} 0 1 = ap is-not h in omega (arith, z))
 
-  or-refused : (b : Bool) (why : Refusal) (c : Course row.Block) (r : Step) → (b ≡ false → Tells c r) → Tells (pick b (stopped why) c) (pick b (Refused why) r)
-  or-refused true why c r h = (refl, tt)
-  or-refused false why c r h = h refl
+module _ {E A : Type 0} (form : ℕ) (u : List ℕ) (n : Number) (k : ℕ × ℕ → Grammar E A) (w v : List ℕ) where
+  -- what comes of a number: the rest, read from the words that it leaves
+  pub asked : (x : ℕ) → given v (drawn.Number x) ≡ fields form u (grammar.number n) (stateIn w)
+      → run (fields form u) (ask (grammar.number n) k) (stateIn w) ≡ run (fields form u) (k (x, placeIn v)) (stateIn v)
+  unfolding run onDrawn given
+  asked x e = rw (← e) refl
 
-  -- ---- a section's head
-  module _ (fine : Fine m s) (n : ℕ) (en : s .sections ≡ suc n) (none : s .blocks ≡ 0) where
-    room-for : s .seen < length m
-    unfolding Fine
-    room-for = omega (arith, fine .0, en)
+  pub refused : given v drawn.Refused ≡ fields form u (grammar.number n) (stateIn w) → run (fields form u) (ask (grammar.number n) k) (stateIn w) ≡ stopped (whyIn v)
+  unfolding run onDrawn given
+  refused e = rw (← e) refl
 
-    module _ (k at : ℕ) (t : State) (ek : bounded (s .room) (varAt u (s .fields)) ≡ draw.Number k at t) (client clock : ℕ) (w : State) where
-      head-rest : blocks k u client clock w (sections n u (take (s .seen) m ++ (client ∷ [])) (s .room - k)) ≡ rest u (set m (s .seen) client) (headed s k client clock w)
-      unfolding rest
-      head-rest = ap (λ (j : ℕ). blocks k u client clock w (sections j u (take (s .seen) m ++ (client ∷ [])) (s .room - k))) less ∙ ap (λ (cs : List ℕ). blocks k u client clock w (sections (s .sections - 1) u cs (s .room - k))) seen-now
-        where
-          less : n ≡ s .sections - 1
-          less = omega (arith, en)
+-- ---- ways out
 
-          seen-now : take (s .seen) m ++ (client ∷ []) ≡ take (s .seen + 1) (set m (s .seen) client)
-          seen-now = sym (ap (λ (j : ℕ). take j (set m (s .seen) client)) (add-one (s .seen)) ∙ take-suc-set m (s .seen) client room-for)
+-- what the fields have to come, read from the words w on
+abbrev Reads : ℕ → List ℕ → List ℕ → List ℕ → Spot → Run State row.Block (Unit {0})
+Reads form u m w s = run (fields form u) (toCome m s) (stateIn w)
 
-      head-fine : Fine (set m (s .seen) client) (headed s k client clock w)
-      unfolding Fine
-      head-fine = (omega (arith, fine .0, en, length-set m (s .seen) client), omega (arith, fine .1))
+module _ (form : ℕ) (u m w r : List ℕ) (s : Spot) (m₁ w₁ r₁ : List ℕ) (small : Small w₁) (memory : length m₁ ≡ length m) (row-length : length r₁ ≡ length r) where
+  pub refuses : (why : Refusal) → Reads form u m w s ≡ stopped why → Stepped form u m w r s m₁ w₁ r₁ (Refused why)
+  unfolding comes after Steady placed
+  refuses why e = record { told = ap placed e; steady = tt; small = small; memory = memory; row = row-length }
 
-      head-less : left (headed s k client clock w) < left s
-      unfolding left Fine
-      head-less = omega (arith, en, none, fine .1, within-limit (s .room) (varAt u (s .fields)) k at t ek)
+  pub goes-on : (t : Spot) → Reads form u m w s ≡ Reads form u m₁ w₁ t → Fine m₁ t → left t < left s → Stepped form u m w r s m₁ w₁ r₁ (On t)
+  unfolding comes after Steady
+  goes-on t e fine less = record { told = ap placed e; steady = (fine, less); small = small; memory = memory; row = row-length }
 
-      now : remembered m s (On (headed s k client clock w)) ≡ set m (s .seen) client
-      unfolding remembered
-      now = ap (λ (b : Bool). pick b m (set m (s .seen) client)) (ne-eqb (s .seen + 1) (s .seen) (λ q. absurd (omega (arith, q))))
+  pub keeps : (p : ℕ) (t : Spot) → Reads form u m w s ≡ item (rowIn r₁) p (Reads form u m₁ w₁ t) → Fine m₁ t → Narrow r₁ → left t < left s
+      → Stepped form u m w r s m₁ w₁ r₁ (Block p t)
+  unfolding comes after Steady placed
+  keeps p t e fine narrow less = record { told = ap placed e; steady = (fine, narrow, less); small = small; memory = memory; row = row-length }
 
-      first-clock : Tells (blocks k u client clock w (sections n u (take (s .seen) m ++ (client ∷ [])) (s .room - k))) (On (headed s k client clock w))
-      first-clock = (head-rest ∙ ap (λ (m₁ : List ℕ). rest u m₁ (headed s k client clock w)) (sym now), (subst (λ (m₁ : List ℕ). Fine m₁ (headed s k client clock w)) (sym now) head-fine, head-less))
+-- ---- the end
 
-    section-tells : Tells (sections (suc n) u (take (s .seen) m) (s .room) (s .fields)) (sectionStep u m s)
-    unfolding sections sectionStep
-    section-tells = by-draw (bounded (s .room) (varAt u (s .fields))) _ _ (λ k at t ek. by-draw (clientOf u t) _ _ (λ client place v ec. subst (Tells _) (ap (λ (b : Bool). pick b (Refused (record { number = 3; place = place })) (pick (among client (take (s .seen) m)) (Refused (record { number = 4; place = place })) (number (clockAt u v) (λ clock from w. On (headed s k client clock w))))) (sym (lt-leb _ _ room-for))) (or-refused (among client (take (s .seen) m)) _ _ _ (λ h. by-draw (clockAt u v) _ _ (λ clock from w e. first-clock k at t ek client clock w)))))
+pub ends : (form : ℕ) (u m w r : List ℕ) (s : Spot) → s .blocks ≡ 0 → s .sections ≡ 0 → Small w → Stepped form u m w r s m w r (Done (atIn w))
+unfolding comes toCome after Steady placed run blocks sections _>>=_ stateIn
+ends form u m w r s b n small = record { told = rw (b, n) refl; steady = tt; small = small; memory = refl; row = refl }
 
-  -- ---- a block
-  module _ (fine : Fine m s) (k : ℕ) (ek : s .blocks ≡ suc k) where
-    module _ (end : ℕ) (t : State) where
-      less : k ≡ s .blocks - 1
-      less = omega (arith, ek)
+-- ---- a section's head
 
-      pass-rest : blocks k u (s .client) end t (sections (s .sections) u (take (s .seen) m) (s .room)) ≡ rest u m (passed s end t)
-      unfolding rest
-      pass-rest = ap (λ (j : ℕ). blocks j u (s .client) end t (sections (s .sections) u (take (s .seen) m) (s .room))) less
+-- the rest of a section behind its client
+abbrev afterClient : ℕ → List ℕ → ℕ → ℕ → ℕ × ℕ → Grammar row.Block (Unit {0})
+afterClient n seen room k c = pick (among (c .0) seen) (stop 4 (c .1)) (draw (grammar.number (grammar.upTo maxClock)) >>= λ a. blocks k (c .0) (a .0) >>= λ _. sections n (seen ++ (c .0 ∷ [])) (room - k))
 
-      pass-steady : Fine m (passed s end t) × (left (passed s end t) < left s)
-      unfolding Fine left
-      pass-steady = (fine, omega (arith, ek))
+module _ (form : ℕ) (u m w : List ℕ) (s : Spot) (none : s .blocks ≡ 0) (some : 1 ≤ s .sections) where
+  abbrev rest : ℕ → ℕ × ℕ → Grammar row.Block (Unit {0})
+  rest = afterClient (s .sections - 1) (take (s .seen) m) (s .room)
 
-    -- with the memory as it was
-    abbrev Tells₀ : Course row.Block → Step → Type 0
-    Tells₀ c r = (c ≡ whole u m r) × Steady m s r
+  abbrev start : Grammar row.Block (Unit {0})
+  start = ask (grammar.number (grammar.upTo (s .room))) (λ a. ask (grammar.number grammar.client) (rest (a .0)))
 
-    or-refused₀ : (b : Bool) (why : Refusal) (c : Course row.Block) (r : Step) → Tells₀ c r → Tells₀ (pick b (stopped why) c) (pick b (Refused why) r)
-    or-refused₀ true why c r h = (refl, tt)
-    or-refused₀ false why c r h = h
+  at-section : toCome m s ≡ start
+  unfolding toCome blocks sections _>>=_
+  at-section = rw none (ap (λ (j : ℕ). sections j (take (s .seen) m) (s .room)) one-more)
+    where
+      one-more : s .sections ≡ suc (s .sections - 1)
+      one-more = omega (arith, some)
 
-    or-kept : (d : Bool) (b : row.Block) (p : ℕ) (c : Course row.Block) (t : Blocks) → (c ≡ rest u m t) → Fine m t × (left t < left s) → Tells₀ (pick d c (item b p c)) (pick d (On t) (Block b p t))
-    or-kept true b p c t e f = (e, f)
-    or-kept false b p c t e f = (ap (item b p) e, f)
+  from-here : {x : Run State row.Block (Unit {0})} → run (fields form u) start (stateIn w) ≡ x → Reads form u m w s ≡ x
+  from-here e = ap (λ (x : Grammar row.Block (Unit {0})). run (fields form u) x (stateIn w)) at-section ∙ e
 
-    ended-tells : (d : Decoded) → Tells₀ (ended (s .clock) d (λ end t. blocks k u (s .client) end t (sections (s .sections) u (take (s .seen) m) (s .room)))) (endedStep s d)
-    unfolding ended endedStep kept overEnd
-    ended-tells (decoded.Refused why) = (refl, tt)
-    ended-tells (decoded.Block b p t) =
-        or-refused₀ (ltb maxClock (s .clock + b .length .0)) _ _ _
-        (or-kept (dropped b) b p _ _ (pass-rest (s .clock + b .length .0) t) (pass-steady (s .clock + b .length .0) t))
+  pub no-count : (v : List ℕ) → given v drawn.Refused ≡ fields form u (grammar.number (grammar.upTo (s .room))) (stateIn w) → Reads form u m w s ≡ stopped (whyIn v)
+  no-count v e = from-here (refused form u _ _ w v e)
 
-    block-tells : Tells (blocks (suc k) u (s .client) (s .clock) (s .fields) (sections (s .sections) u (take (s .seen) m) (s .room))) (blockStep u s)
-    unfolding blocks blockStep
-    block-tells = subst (λ (m₁ : List ℕ). (ended (s .clock) (blockOf u (s .client) (s .clock) (s .fields)) (λ end t. blocks k u (s .client) end t (sections (s .sections) u (take (s .seen) m) (s .room))) ≡ whole u m₁ (blockStep u s)) × Steady m₁ s (blockStep u s)) (sym (block-remembers u m s)) (ended-tells (blockOf u (s .client) (s .clock) (s .fields)))
+  module _ (w₁ : List ℕ) (k : ℕ) (ek : given w₁ (drawn.Number k) ≡ fields form u (grammar.number (grammar.upTo (s .room))) (stateIn w)) where
+    counted : Reads form u m w s ≡ run (fields form u) (ask (grammar.number grammar.client) (rest k)) (stateIn w₁)
+    counted = from-here (asked form u _ _ w w₁ k ek)
 
-  -- ---- any step
-  carry : {c c₁ : Course row.Block} {r r₁ : Step} → c ≡ c₁ → r ≡ r₁ → Tells c₁ r₁ → Tells c r
-  carry {c} {c₁} {r} {r₁} e q h = subst (λ (x : Step). Tells c x) (sym q) (subst (λ (x : Course row.Block). Tells x r₁) (sym e) h)
+    pub no-client : (v : List ℕ) → given v drawn.Refused ≡ fields form u (grammar.number grammar.client) (stateIn w₁) → Reads form u m w s ≡ stopped (whyIn v)
+    no-client v e = counted ∙ refused form u _ _ w₁ v e
 
-  at-block : (k : ℕ) → s .blocks ≡ suc k → (rest u m s ≡ blocks (suc k) u (s .client) (s .clock) (s .fields) (sections (s .sections) u (take (s .seen) m) (s .room))) × (nextOf u m s ≡ blockStep u s)
-  unfolding rest nextOf
-  at-block k b = (ap (λ (j : ℕ). blocks j u (s .client) (s .clock) (s .fields) (sections (s .sections) u (take (s .seen) m) (s .room))) b, rw (ne-eqb (s .blocks) 0 (λ z. absurd (omega (arith, b, z)))))
+    module _ (w₂ : List ℕ) (c : ℕ) (ec : given w₂ (drawn.Number c) ≡ fields form u (grammar.number grammar.client) (stateIn w₁)) where
+      named : Reads form u m w s ≡ run (fields form u) (rest k (c, placeIn w₂)) (stateIn w₂)
+      named = counted ∙ asked form u _ _ w₁ w₂ c ec
 
-  at-section : (n : ℕ) → s .blocks ≡ 0 → s .sections ≡ suc n → (rest u m s ≡ sections (suc n) u (take (s .seen) m) (s .room) (s .fields)) × (nextOf u m s ≡ sectionStep u m s)
-  unfolding rest blocks nextOf
-  at-section n b e = (rw (b, e), rw (eq-eqb (s .blocks) 0 b, ne-eqb (s .sections) 0 (λ z. absurd (omega (arith, e, z)))))
+      pub again : among c (take (s .seen) m) ≡ true → Reads form u m w s ≡ stopped (record { number = 4; place = placeIn w₂ })
+      unfolding run
+      again h = named ∙ rw h refl
 
-  at-end : s .blocks ≡ 0 → s .sections ≡ 0 → (rest u m s ≡ over (s .fields)) × (nextOf u m s ≡ Done (s .fields))
-  unfolding rest blocks sections nextOf
-  at-end b e = (rw (b, e), rw (eq-eqb (s .blocks) 0 b, eq-eqb (s .sections) 0 e))
+      module _ (new : among c (take (s .seen) m) ≡ false) where
+        clocked : Reads form u m w s ≡ run (fields form u) (ask (grammar.number (grammar.upTo maxClock)) (λ a. blocks k c (a .0) >>= λ _. sections (s .sections - 1) (take (s .seen) m ++ (c ∷ [])) (s .room - k))) (stateIn w₂)
+        unfolding _>>=_
+        clocked = named ∙ rw new refl
 
-  module _ (fine : Fine m s) where
-    by-counts : (k : ℕ) → s .blocks ≡ k → (n : ℕ) → s .sections ≡ n → Tells (rest u m s) (nextOf u m s)
-    by-counts (suc k) b n e = carry (at-block k b .0) (at-block k b .1) (block-tells fine k b)
-    by-counts zero b (suc n) e = carry (at-section n b e .0) (at-section n b e .1) (section-tells fine n e b)
-    by-counts zero b zero e = carry (at-end b e .0) (at-end b e .1) (refl, tt)
+        pub no-clock : (v : List ℕ) → given v drawn.Refused ≡ fields form u (grammar.number (grammar.upTo maxClock)) (stateIn w₂) → Reads form u m w s ≡ stopped (whyIn v)
+        no-clock v e = clocked ∙ refused form u _ _ w₂ v e
 
-    tells : (rest u m s ≡ whole u (memoryAfter u m s) (nextOf u m s)) × Steady (memoryAfter u m s) s (nextOf u m s)
-    unfolding memoryAfter
-    tells = by-counts (s .blocks) refl (s .sections) refl
+        module _ (w₃ : List ℕ) (clock : ℕ) (el : given w₃ (drawn.Number clock) ≡ fields form u (grammar.number (grammar.upTo maxClock)) (stateIn w₂)) (fine : Fine m s) where
+          abbrev head : Spot
+          head = record { sections = s .sections - 1; blocks = k; room = s .room - k; seen = s .seen + 1; client = c; clock = clock }
 
-    told : {r : Step} → nextOf u m s ≡ r → (rest u m s ≡ whole u (memoryAfter u m s) r) × Steady (memoryAfter u m s) s r
-    told e = subst (λ (r : Step). (rest u m s ≡ whole u (memoryAfter u m s) r) × Steady (memoryAfter u m s) s r) e tells
+          pub headed : Reads form u m w s ≡ Reads form u (set m (s .seen) c) w₃ head
+          unfolding toCome
+          headed =
+              clocked ∙ asked form u _ _ w₂ w₃ clock el
+              ∙ ap (λ (cs : List ℕ). run (fields form u) (blocks k c clock >>= λ _. sections (s .sections - 1) cs (s .room - k)) (stateIn w₃)) seen-now
+            where
+              seen-now : take (s .seen) m ++ (c ∷ []) ≡ take (s .seen + 1) (set m (s .seen) c)
+              seen-now = sym (ap (λ (j : ℕ). take j (set m (s .seen) c)) (add-one (s .seen)) ∙ take-suc-set m (s .seen) c (omega (arith, fine .seen, some)))
 
-    -- what each answer says of what is still to come
-    pub on-block : (b : row.Block) (p : ℕ) (t : Blocks) → nextOf u m s ≡ Block b p t → (rest u m s ≡ item b p (rest u (memoryAfter u m s) t)) × Fine (memoryAfter u m s) t × (left t < left s)
-    on-block b p t e = let h = told e in (h .0, h .1 .0, h .1 .1)
+          module _ (few : k ≤ s .room) (low : clock ≤ maxClock) where
+            pub head-fine : Fine (set m (s .seen) c) head
+            head-fine = record {
+              seen = omega (arith, fine .seen, some, length-set m (s .seen) c);
+              room = omega (arith, fine .room);
+              blocks = omega (arith, fine .room, few);
+              clock = low;
+            }
 
-    pub on-on : (t : Blocks) → nextOf u m s ≡ On t → (rest u m s ≡ rest u (memoryAfter u m s) t) × Fine (memoryAfter u m s) t × (left t < left s)
-    on-on t e = let h = told e in (h .0, h .1 .0, h .1 .1)
+            pub head-less : left head < left s
+            unfolding left
+            head-less = omega (arith, some, none, fine .room, few)
 
-    pub on-done : (t : State) → nextOf u m s ≡ Done t → rest u m s ≡ over t
-    on-done t e = told e .0
+-- ---- a block
 
-    pub on-refused : (why : Refusal) → nextOf u m s ≡ Refused why → rest u m s ≡ stopped why
-    on-refused why e = told e .0
+module _ (form : ℕ) (u m w : List ℕ) (s : Spot) (some : 1 ≤ s .blocks) where
+  -- what follows the blocks of the section
+  abbrev behind : Unit {0} → Grammar row.Block (Unit {0})
+  behind x = sections (s .sections) (take (s .seen) m) (s .room)
+
+  abbrev Behind : Unit {0} → State → Run State row.Block (Unit {0})
+  Behind x t = run (fields form u) (behind x) t
+
+  -- what follows a block
+  abbrev next : row.Block × ℕ → Grammar row.Block (Unit {0})
+  next b = pick (ltb maxClock (s .clock + b .0 .length .0)) (stop 3 (b .1)) (kept (b .0) (b .1) (blocks (s .blocks - 1) (s .client) (s .clock + b .0 .length .0)))
+
+  at-block : Reads form u m w s ≡ andThen (andThen (run (fields form u) (block (s .client) (s .clock)) (stateIn w)) (λ b t. run (fields form u) (next b) t)) Behind
+  unfolding toCome blocks
+  at-block =
+      ap (λ (j : ℕ). run (fields form u) (blocks j (s .client) (s .clock) >>= behind) (stateIn w)) one-more
+      ∙ run-bind (fields form u) (blocks (suc (s .blocks - 1)) (s .client) (s .clock)) behind (stateIn w)
+      ∙ ap (λ (x : Run State row.Block (Unit {0})). andThen x Behind) (run-bind (fields form u) (block (s .client) (s .clock)) next (stateIn w))
+    where
+      one-more : s .blocks ≡ suc (s .blocks - 1)
+      one-more = omega (arith, some)
+
+  module _ (v q : List ℕ) where
+    pub no-block : blockOnto v q drawn.Refused ≡ run (fields form u) (block (s .client) (s .clock)) (stateIn w) → Reads form u m w s ≡ stopped (whyIn v)
+    unfolding blockOnto andThen
+    no-block e = at-block ∙ rw (← e) refl
+
+    module _ (p : ℕ) (e : blockOnto v q (drawn.Number p) ≡ run (fields form u) (block (s .client) (s .clock)) (stateIn w)) where
+      had : Reads form u m w s ≡ andThen (run (fields form u) (next (rowIn q, p)) (stateIn v)) Behind
+      unfolding blockOnto andThen
+      had = at-block ∙ rw (← e) refl
+
+      pub too-far : maxClock < s .clock + rowIn q .length .0 → Reads form u m w s ≡ stopped (record { number = 3; place = p })
+      unfolding run andThen
+      too-far h = had ∙ rw (lt-ltb maxClock (s .clock + rowIn q .length .0) h) refl
+
+      module _ (near : s .clock + rowIn q .length .0 ≤ maxClock) where
+        abbrev ended : Spot
+        ended = record { sections = s .sections; blocks = s .blocks - 1; room = s .room; seen = s .seen; client = s .client; clock = s .clock + rowIn q .length .0 }
+
+        then-comes : andThen (run (fields form u) (blocks (s .blocks - 1) (s .client) (s .clock + rowIn q .length .0)) (stateIn v)) Behind ≡ Reads form u m v ended
+        unfolding toCome
+        then-comes = sym (run-bind (fields form u) (blocks (s .blocks - 1) (s .client) (s .clock + rowIn q .length .0)) behind (stateIn v))
+
+        short : Reads form u m w s ≡ andThen (run (fields form u) (kept (rowIn q) p (blocks (s .blocks - 1) (s .client) (s .clock + rowIn q .length .0))) (stateIn v)) Behind
+        short = had ∙ rw (le-ltb maxClock (s .clock + rowIn q .length .0) near) refl
+
+        pub drops : dropped (rowIn q) ≡ true → Reads form u m w s ≡ Reads form u m v ended
+        unfolding kept
+        drops d = short ∙ rw d then-comes
+
+        pub has : dropped (rowIn q) ≡ false → Reads form u m w s ≡ item (rowIn q) p (Reads form u m v ended)
+        unfolding kept run andThen
+        has d = short ∙ rw d (ap (item (rowIn q) p) then-comes)
+
+        pub end-fine : Fine m s → Fine m ended
+        end-fine fine = record { seen = fine .seen; room = fine .room; blocks = omega (arith, fine .blocks); clock = near }
+
+        pub end-less : left ended < left s
+        unfolding left
+        end-less = omega (arith, some)
 
 -- ---- the beginning
 
-abbrev Opens : ℕ → List ℕ → Course row.Block → Begun → Type 0
-Opens form u c (begun.At s) = (c ≡ rest u (replicate 64 0) s) × Fine (replicate 64 0) s
-Opens form u c (begun.Refused why) = c ≡ stopped why
+-- words of which none is stored yet
+pub fresh : Small (replicate 67 0)
+unfolding cell
+fresh = record { size = refl; left = record { last = omega arith; key = omega arith }; right = record { last = omega arith; key = omega arith }; why = omega arith }
 
-after-count : (form : ℕ) (u : List ℕ) (d : Draw) → ((n p : ℕ) (t : State) → d ≡ draw.Number n p t → n ≤ maxClients) → Opens form u (drawn d (λ n at t. sections n u [] maxBlocks t)) (counted d)
-unfolding drawn counted rest blocks Fine
-after-count form u (draw.Number n p t) h = (refl, (omega (arith, h n p t refl), omega arith))
-after-count form u (draw.Refused why) h = refl
+abbrev first : ℕ → Spot
+first n = record { sections = n; blocks = 0; room = maxBlocks; seen = 0; client = 0; clock = 0 }
 
-after-opened : (form : ℕ) (u : List ℕ) (o : Opened) → Opens form u (fromOpened o (λ s. drawn (bounded maxClients (varAt u s)) (λ n at t. sections n u [] maxBlocks t))) (sectionCount u o)
-unfolding fromOpened sectionCount
-after-opened form u (opened.At s) = after-count form u (bounded maxClients (varAt u s)) (λ n p t e. within-limit maxClients (varAt u s) n p t e)
-after-opened form u (opened.Refused why) = refl
+module _ (form : ℕ) (u w v : List ℕ) (small : Small v) where
+  pub uncounted : given v drawn.Refused ≡ fields form u (grammar.number (grammar.upTo maxClients)) (stateIn w) → Counted form u w v (begun.Refused (whyIn v))
+  unfolding begins First placed allBlocks _>>=_
+  uncounted e = record { told = λ m. ap placed (refused form u _ _ w v e); first = λ m l. tt; small = small }
 
-opens : (form : ℕ) (u : List ℕ) → Opens form u (blocksOf form u) (begunOf form u)
-unfolding blocksOf begunOf
-opens form u = after-opened form u (openedOf form u)
+  pub count : (n : ℕ) → n ≤ maxClients → given v (drawn.Number n) ≡ fields form u (grammar.number (grammar.upTo maxClients)) (stateIn w) → Counted form u w v (begun.At (first n))
+  unfolding begins First comes toCome blocks allBlocks _>>=_
+  count n few e = record {
+    told = λ m. ap placed (asked form u _ _ w v n e);
+    first = λ m l. record { seen = omega (arith, few, l); room = omega arith; blocks = omega arith; clock = omega arith };
+    small = small;
+  }
 
-pub begins : (form : ℕ) (u : List ℕ) (s : Blocks) → begunOf form u ≡ begun.At s → (blocksOf form u ≡ rest u (replicate 64 0) s) × Fine (replicate 64 0) s
-begins form u s e = subst (Opens form u (blocksOf form u)) e (opens form u)
+-- form 1 is read from its first byte on
+pub starts-line : (form : ℕ) (u w v : List ℕ) (x : Begun) → form ≡ 1 → atIn w ≡ 0 → Counted form u w v x → Starts form u v x
+unfolding blocksOf stateIn
+starts-line form u w v x f z c = record { told = λ m. first-byte ∙ c .told m; first = c .first; small = c .small }
+  where
+    first-byte : blocksOf form u ≡ placed (run (fields form u) allBlocks (stateIn w))
+    first-byte = rw (f) (sym (placed-line u allBlocks (stateIn w) ∙ ap (λ (at : ℕ). run (line 1 u) allBlocks at) z))
 
-pub begin-refused : (form : ℕ) (u : List ℕ) (why : Refusal) → begunOf form u ≡ begun.Refused why → blocksOf form u ≡ stopped why
-begin-refused form u why e = subst (Opens form u (blocksOf form u)) e (opens form u)
+module _ (form : ℕ) (u v : List ℕ) (other : form ≢ 1) where
+  pub unopened : Small v → openedIn v drawn.Refused ≡ openedOf u → Starts form u v (begun.Refused (whyIn v))
+  unfolding blocksOf inColumns onDrawn placed openedIn begins First
+  unopened small e = record { told = λ m. rw (ne-eqb form 1 other, ← e) refl; first = λ m l. tt; small = small }
+
+  pub starts-columned : (n : ℕ) (w : List ℕ) (x : Begun) → openedIn v (drawn.Number n) ≡ openedOf u → Counted form u v w x → Starts form u w x
+  unfolding blocksOf inColumns onDrawn openedIn
+  starts-columned n w x e c = record { told = λ m. behind-columns ∙ c .told m; first = c .first; small = c .small }
+    where
+      behind-columns : blocksOf form u ≡ placed (run (fields form u) allBlocks (stateIn v))
+      behind-columns = rw (ne-eqb form 1 other, ← e) (ap placed (sym (run-columned form u other allBlocks (stateIn v))))

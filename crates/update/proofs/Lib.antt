@@ -1,4 +1,3 @@
--- Laws of reading blocks.
-pub mod Ends
+-- Laws of reading blocks a step at a time.
+pub mod Answers
 pub mod Laws
-pub mod Sections

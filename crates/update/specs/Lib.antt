@@ -1,3 +1,2 @@
--- What the blocks of an update are.
+-- What a step of reading an update's blocks is.
 pub mod Steps
-pub mod Update

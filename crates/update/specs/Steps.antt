@@ -1,97 +1,83 @@
--- One step of reading an update's blocks: a section's head, or a block. `Laws` in the proofs say that the steps make up the update's blocks.
-use Prim.Native.Nat.{ℕ, _+_, _-_, _≤_}
-use mathlib.Core.Bool.{Bool}
+-- One step of reading an update's blocks: what is to come before it is what it gives, and then what is to come after it.
+use Prim.Native.Nat.{ℕ, _+_, _*_, _≤_, _<_}
+use mathlib.Core.Path.{_≡_}
 use mathlib.Core.List.{List}
-use lib.Dec.{ltb, leb, eqb}
-use lib.ListN.{length, take, set}
-use Rattle.numbers.specs.declared.Refusal.{Refusal}
-use Rattle.numbers.specs.Number.{pick, none}
-use Rattle.numbers.specs.Limits.{maxClock, maxClients, maxBlocks}
+use lib.ListN.{length, take}
+use Rattle.numbers.specs.Limits.{maxClock, maxBlocks}
 use Rattle.block.specs.declared.Block as row
-use Rattle.decoder.specs.declared.State.{State}
-use Rattle.decoder.specs.declared.Draw.{Draw}
-use Rattle.decoder.specs.declared.Draw.the-variants as draw
-use Rattle.decoder.specs.declared.v2.Opened.{Opened}
-use Rattle.decoder.specs.declared.v2.Opened.the-variants as opened
-use Rattle.decoder.specs.Fields.{bounded, varAt, clockAt}
-use Rattle.decoder.specs.Course.{Course}
-use Rattle.update.specs.declared.Blocks.{Blocks}
+use Rattle.grammar.specs.Grammar.{Grammar, _>>=_}
+use Rattle.grammar.specs.Course.{Course, item, over, stopped, run}
+use Rattle.grammar.specs.Blocks.{blocks, sections, allBlocks}
+use Rattle.decoder.specs.Columned.{fields}
+use Rattle.decoder.specs.Update.{placed, blocksOf}
+use Rattle.cells.specs.Cells.{stateIn, Small}
+use Rattle.item.specs.Row.{rowIn, Narrow}
+use Rattle.update.specs.declared.Spot.{Spot}
 use Rattle.update.specs.declared.Begun.{Begun}
 use Rattle.update.specs.declared.Begun.the-variants as begun
 use Rattle.update.specs.declared.Step.{Step}
 use Rattle.update.specs.declared.Step.the-variants.{Block, On, Done, Refused}
-use Rattle.update.specs.declared.Decoded.{Decoded}
-use Rattle.update.specs.declared.Decoded.the-variants as decoded
-use Rattle.item.specs.Fields.{clientOf, openedOf}
-use Rattle.numbers.specs.Words.{among}
-use Rattle.update.specs.Update.{dropped, blocks, sections, blockOf}
 
--- before the first section
-unfoldable pub counted : Draw → Begun
-counted (draw.Number n p s) = begun.At (record { fields = s; sections = n; blocks = 0; room = maxBlocks; seen = 0; client = 0; clock = 0 })
-counted (draw.Refused why) = begun.Refused why
+-- the blocks left of this section, and the sections left; m has the clients seen
+unfoldable pub toCome : List ℕ → Spot → Grammar row.Block (Unit {0})
+toCome m s = blocks (s .blocks) (s .client) (s .clock) >>= λ _. sections (s .sections) (take (s .seen) m) (s .room)
 
-unfoldable pub sectionCount : List ℕ → Opened → Begun
-sectionCount u (opened.At s) = counted (bounded maxClients (varAt u s))
-sectionCount u (opened.Refused why) = begun.Refused why
+-- read from the words w on
+unfoldable pub comes : ℕ → List ℕ → List ℕ → List ℕ → Spot → Course row.Block
+comes form u m w s = placed (run (fields form u) (toCome m s) (stateIn w))
 
-unfoldable pub begunOf : ℕ → List ℕ → Begun
-begunOf form u = sectionCount u (openedOf form u)
+-- ---- what a step gives, with the memory m, the words w and the row r that it leaves
 
-abbrev pub whyOpened : Opened → Refusal
-whyOpened (opened.At s) = none
-whyOpened (opened.Refused why) = why
+unfoldable pub after : ℕ → List ℕ → List ℕ → List ℕ → List ℕ → Step → Course row.Block
+after form u m w r (Block p t) = item (rowIn r) p (comes form u m w t)
+after form u m w r (On t) = comes form u m w t
+after form u m w r (Done at) = over tt at
+after form u m w r (Refused why) = stopped why
 
--- a section's head
-unfoldable pub number : Draw → (ℕ → ℕ → State → Step) → Step
-number (draw.Number v p s) then = then v p s
-number (draw.Refused why) then = Refused why
+unfoldable pub begins : ℕ → List ℕ → List ℕ → List ℕ → Begun → Course row.Block
+begins form u m w (begun.At s) = comes form u m w s
+begins form u m w (begun.Refused why) = stopped why
 
-abbrev pub headed : Blocks → ℕ → ℕ → ℕ → State → Blocks
-headed s k client clock t = record { fields = t; sections = s .sections - 1; blocks = k; room = s .room - k; seen = s .seen + 1; client = client; clock = clock }
+-- ---- what steps keep up
 
-unfoldable pub sectionStep : List ℕ → List ℕ → Blocks → Step
-sectionStep u m s =
-    number (bounded (s .room) (varAt u (s .fields))) (λ k at t.
-    number (clientOf u t) (λ client place v.
-    pick (leb (length m) (s .seen)) (Refused (record { number = 3; place = place }))
-    (pick (among client (take (s .seen) m)) (Refused (record { number = 4; place = place }))
-    (number (clockAt u v) (λ clock from w. On (headed s k client clock w))))))
+-- the memory has room for the clients to come, so many blocks are announced, the clock is one
+pub record Fine (m : List ℕ) (s : Spot) : Type 0 where
+  pub seen : s .seen + s .sections ≤ length m
+  pub room : s .room ≤ maxBlocks
+  pub blocks : s .blocks ≤ maxBlocks
+  pub clock : s .clock ≤ maxClock
 
--- a block
-abbrev pub passed : Blocks → ℕ → State → Blocks
-passed s end t = record { fields = t; sections = s .sections; blocks = s .blocks - 1; room = s .room; seen = s .seen; client = s .client; clock = end }
+-- how many steps there are at most
+unfoldable pub left : Spot → ℕ
+left s = s .sections * 65536 + s .blocks
 
-unfoldable pub overEnd : ℕ → ℕ → Bool
-overEnd clock len = ltb maxClock (clock + len)
+-- and each leaves fewer
+unfoldable pub Steady : List ℕ → List ℕ → Spot → Step → Type 0
+Steady m r s (Block p t) = Fine m t × Narrow r × (left t < left s)
+Steady m r s (On t) = Fine m t × (left t < left s)
+Steady m r s (Done at) = Unit {0}
+Steady m r s (Refused why) = Unit {0}
 
-unfoldable pub endedStep : Blocks → Decoded → Step
-endedStep s (decoded.Block b p t) =
-    pick (overEnd (s .clock) (b .length .0)) (Refused (record { number = 3; place = p }))
-    (pick (dropped b) (On (passed s (s .clock + b .length .0) t)) (Block b p (passed s (s .clock + b .length .0) t)))
-endedStep s (decoded.Refused why) = Refused why
+-- a step from the memory m, the words w and the row r to those with ₁
+pub record Stepped (form : ℕ) (u m w r : List ℕ) (s : Spot) (m₁ w₁ r₁ : List ℕ) (x : Step) : Type 0 where
+  pub told : comes form u m w s ≡ after form u m₁ w₁ r₁ x
+  pub steady : Steady m₁ r₁ s x
+  pub small : Small w₁
+  pub memory : length m₁ ≡ length m
+  pub row : length r₁ ≡ length r
 
-unfoldable pub blockStep : List ℕ → Blocks → Step
-blockStep u s = endedStep s (blockOf u (s .client) (s .clock) (s .fields))
+unfoldable pub First : List ℕ → Begun → Type 0
+First m (begun.At s) = Fine m s
+First m (begun.Refused why) = Unit {0}
 
--- a step, and what is remembered after it: the client of a section's head
-unfoldable pub nextOf : List ℕ → List ℕ → Blocks → Step
-nextOf u m s = pick (eqb (s .blocks) 0) (pick (eqb (s .sections) 0) (Done (s .fields)) (sectionStep u m s)) (blockStep u s)
+-- the section count: all blocks from the words w on, to the words v
+pub record Counted (form : ℕ) (u w v : List ℕ) (x : Begun) : Type 0 where
+  pub told : (m : List ℕ) → placed (run (fields form u) allBlocks (stateIn w)) ≡ begins form u m v x
+  pub first : (m : List ℕ) → 64 ≤ length m → First m x
+  pub small : Small v
 
-unfoldable pub remembered : List ℕ → Blocks → Step → List ℕ
-remembered m s (Block b p t) = m
-remembered m s (On t) = pick (eqb (t .seen) (s .seen)) m (set m (s .seen) (t .client))
-remembered m s (Done t) = m
-remembered m s (Refused why) = m
-
-unfoldable pub memoryAfter : List ℕ → List ℕ → Blocks → List ℕ
-memoryAfter u m s = remembered m s (nextOf u m s)
-
--- ---- what is still to come before a step, and what steps keep up
-
-unfoldable pub rest : List ℕ → List ℕ → Blocks → Course row.Block
-rest u m s = blocks (s .blocks) u (s .client) (s .clock) (s .fields) (sections (s .sections) u (take (s .seen) m) (s .room))
-
--- the memory has room for the clients to come, and so many blocks are announced
-unfoldable pub Fine : List ℕ → Blocks → Type 0
-Fine m s = (s .seen + s .sections ≤ length m) × (s .room ≤ maxBlocks)
+-- the beginning, whatever the memory m of 64 words and the words were, to the words w
+pub record Starts (form : ℕ) (u w : List ℕ) (x : Begun) : Type 0 where
+  pub told : (m : List ℕ) → blocksOf form u ≡ begins form u m w x
+  pub first : (m : List ℕ) → 64 ≤ length m → First m x
+  pub small : Small w

@@ -16,12 +16,11 @@ use denote.Triple.Clauses.{atExit}
 use Rattle.walks.proofs.Rows.{Has, byte, word, unit-kind}
 use Rattle.walks.proofs.Refs.{Seat, val, mut, pass, Card, since}
 use Rattle.block.specs.declared.Block.{Block}
-use Rattle.decoder.specs.declared.State.{State as decoder·State}
 use Rattle.deletes.specs.DeleteSet.{setOf, wordsOf as setWords}
 use Rattle.reader.specs.Reader.{filledOf, rowsOf as filledRows}
-use Rattle.update.specs.Update.{blocksOf}
+use Rattle.decoder.specs.Update.{blocksOf}
 use Rattle.updates.specs.Promises.{answer, early, reading, refused, rowsOf, wordsOf}
-use Rattle.reader.proofs.Sorts.{decoder·state, filled}
+use Rattle.reader.proofs.Sorts.{filled}
 use Rattle.table.proofs.Sorts.{block}
 use Rattle.updates.proofs.Sorts.{deletes·set, update}
 use Rattle.updates.proofs.refused_early as updates·refused-early-fn
@@ -99,8 +98,8 @@ module _ {M : Type 1} (𝓤 : URA M) (H : Heap 𝓤) (A : Atoms 𝓤) (mem : Mem
       said = λ ns r ws. since 𝓤 (λ e. (e .0, (e .1, tt)));
     }
 
-    pub deletes·read-delete-set! : Triple 𝓤 (C #deletes·read-delete-set) Deletes·read-delete-set → (at-update : Seat) (update₀ : List ℕ) (s₀ : decoder·State) (g-s : Has decoder·state s₀) (at-words : Seat) (words₀ : List ℕ) → Card 𝓤 H A C #deletes·read-delete-set (pass byte at-update update₀ ∷ val decoder·state s₀ g-s ∷ mut word at-words words₀ (setWords update₀ s₀ (length words₀)) ∷ []) deletes·set (setOf update₀ s₀ (length words₀))
-    deletes·read-delete-set! known at-update update₀ s₀ g-s at-words words₀ = record {
+    pub deletes·read-delete-set! : Triple 𝓤 (C #deletes·read-delete-set) Deletes·read-delete-set → (form₀ : ℕ) (g-form : Has byte form₀) (at-update : Seat) (update₀ : List ℕ) (at₀ : ℕ) (g-at : Has word at₀) (at-words : Seat) (words₀ : List ℕ) → Card 𝓤 H A C #deletes·read-delete-set (val byte form₀ g-form ∷ pass byte at-update update₀ ∷ val word at₀ g-at ∷ mut word at-words words₀ (setWords form₀ update₀ at₀ (length words₀)) ∷ []) deletes·set (setOf form₀ update₀ at₀ (length words₀))
+    deletes·read-delete-set! known form₀ g-form at-update update₀ at₀ g-at at-words words₀ = record {
       contract = Deletes·read-delete-set;
       known = known;
       ghost = λ x. (x, tt);

@@ -13,16 +13,15 @@ use Rattle.numbers.specs.Output.{padded}
 use Rattle.numbers.proofs.Output.{padded-none}
 use Rattle.block.specs.declared.Block.{Block}
 use Rattle.block.specs.Row.{noBlock}
-use Rattle.table.specs.Rows.{clearedFrom}
-use Rattle.decoder.specs.declared.State.{State}
-use Rattle.decoder.specs.Course.{Course, item, over, stopped, fit, items, ending}
+use Rattle.table.specs.Rows.{clearedFrom, filledFrom}
+use Rattle.grammar.specs.Course.{Course, item, over, stopped, fit, items, ending}
 use Rattle.ranges.specs.Ranges.{Range, normal}
 use Rattle.ranges.specs.Table.{flat}
 use Rattle.deletes.specs.declared.Set.the-variants as set
-use Rattle.deletes.specs.DeleteSet.{deleteSet, taken, setOf, wordsOf as setWords}
+use Rattle.deletes.specs.DeleteSet.{taken, setOf, wordsOf as setWords}
 use Rattle.reader.specs.declared.Filled.the-variants as filled
 use Rattle.reader.specs.Reader.{filledOf, rowsOf as filledRows}
-use Rattle.update.specs.Update.{blocksOf}
+use Rattle.decoder.specs.Update.{blocksOf, deleteSet}
 use Rattle.updates.specs.declared.Update.{Update}
 use Rattle.updates.specs.Promises.{Reading, refused, withRanges, withBlocks, known, early, reading, answer, rowsOf, wordsOf}
 
@@ -52,35 +51,35 @@ module _ (form : ℕ) (u : List ℕ) where
 
 -- ---- how a course ends, told by one answer, tells it of every other
 
-module _ {A X : Type 0} (done : State → X) (not : Refusal → X) (m : ℕ) where
-  filled-at : (c : Course A) (n : ℕ) (t : State) → ending c (λ s. filled.Rows m s) (λ why. filled.Refused why) ≡ filled.Rows n t → (n ≡ m) × (ending c done not ≡ done t)
+module _ {A X : Type 0} (done : ℕ → X) (not : Refusal → X) (m : ℕ) where
+  filled-at : (c : Course A) (n : ℕ) (t : ℕ) → ending c (λ s. filled.Rows m s) (λ why. filled.Refused why) ≡ filled.Rows n t → (n ≡ m) × (ending c done not ≡ done t)
   unfolding ending
   filled-at (item a p c) n t e = filled-at c n t e
-  filled-at (over s) n t e = (cc, ap done (cc))
+  filled-at (over x s) n t e = (cc, ap done (cc))
   filled-at (stopped w) n t e = absurd (let z : _≡_ {A = ℕ} 0 1 = cc in omega arith)
 
   filled-not : (c : Course A) (why : Refusal) → ending c (λ s. filled.Rows m s) (λ why. filled.Refused why) ≡ filled.Refused why → ending c done not ≡ not why
   unfolding ending
   filled-not (item a p c) why e = filled-not c why e
-  filled-not (over s) why e = absurd (let z : _≡_ {A = ℕ} 0 1 = cc in omega arith)
+  filled-not (over x s) why e = absurd (let z : _≡_ {A = ℕ} 0 1 = cc in omega arith)
   filled-not (stopped w) why e = ap not (cc)
 
-  set-at : (c : Course A) (n : ℕ) (t : State) → ending c (λ s. set.Ranges m s) set.Refused ≡ set.Ranges n t → (n ≡ m) × (ending c done not ≡ done t)
+  set-at : (c : Course A) (n : ℕ) (t : ℕ) → ending c (λ s. set.Ranges m s) set.Refused ≡ set.Ranges n t → (n ≡ m) × (ending c done not ≡ done t)
   unfolding ending
   set-at (item a p c) n t e = set-at c n t e
-  set-at (over s) n t e = (cc, ap done (cc))
+  set-at (over x s) n t e = (cc, ap done (cc))
   set-at (stopped w) n t e = absurd (let z : _≡_ {A = ℕ} 0 1 = cc in omega arith)
 
   set-not : (c : Course A) (why : Refusal) → ending c (λ s. set.Ranges m s) set.Refused ≡ set.Refused why → ending c done not ≡ not why
   unfolding ending
   set-not (item a p c) why e = set-not c why e
-  set-not (over s) why e = absurd (let z : _≡_ {A = ℕ} 0 1 = cc in omega arith)
+  set-not (over x s) why e = absurd (let z : _≡_ {A = ℕ} 0 1 = cc in omega arith)
   set-not (stopped w) why e = ap not (cc)
 
 -- ---- a refusal leaves rows without a block, and zeros
 
 pub rows-none : (rows : List Block) (n number : ℕ) → length rows ≡ n → clearedFrom 0 rows ≡ rowsOf n (refused number)
-unfolding clearedFrom rowsOf
+unfolding clearedFrom filledFrom rowsOf
 rows-none rows n number size = ap (λ (k : ℕ). replicate (k - 0) noBlock) size
 
 blocks-none : (n number : ℕ) → replicate n noBlock ≡ rowsOf n (refused number)
@@ -122,9 +121,9 @@ module _ (form : ℕ) (u : List ℕ) (rows : List Block) (words : List ℕ) wher
   abbrev here : Reading
   here = reading form u N (M / 3)
 
-  tested : (b : Bool) → eqb (early form u) 0 ≡ b → here ≡ pick b (withBlocks u (M / 3) c₀) (refused (early form u))
+  tested : (b : Bool) → eqb (early form u) 0 ≡ b → here ≡ pick b (withBlocks form u (M / 3) c₀) (refused (early form u))
   unfolding reading
-  tested b y = ap (λ (x : Bool). pick x (withBlocks u (M / 3) c₀) (refused (early form u))) y
+  tested b y = ap (λ (x : Bool). pick x (withBlocks form u (M / 3) c₀) (refused (early form u))) y
 
   -- before anything is read
   pub on-early : eqb (early form u) 0 ≡ false → Says here N M (answer (refused (early form u))) (clearedFrom 0 rows) (take 0 words ++ replicate (M - 0) 0)
@@ -137,26 +136,26 @@ module _ (form : ℕ) (u : List ℕ) (rows : List Block) (words : List ℕ) wher
     unfolding filledOf filledRows withBlocks
     on-blocks why e =
         says-by (refused (why .number)) here N M _ _ _
-        (tested true y ∙ filled-not (λ s. withRanges bs (fit (M / 3) (deleteSet u s))) (λ why. refused (why .number)) (length bs) c₀ why e) (
+        (tested true y ∙ filled-not (λ s. withRanges bs (fit (M / 3) (deleteSet form u s))) (λ why. refused (why .number)) (length bs) c₀ why e) (
           refl,
           filled-not (λ s. bs ++ replicate (N - length bs) noBlock) (λ why. replicate N noBlock) (length bs) c₀ why e ∙ blocks-none N (why .number),
           words-none words (why .number),
         )
 
     -- they are in the rows, and then comes the delete set
-    module _ (n : ℕ) (s : State) (e : filledOf N (blocksOf form u) ≡ filled.Rows n s) where
-      begun : (n ≡ length bs) × (withBlocks u (M / 3) c₀ ≡ withRanges bs (taken u s M))
+    module _ (n : ℕ) (s : ℕ) (e : filledOf N (blocksOf form u) ≡ filled.Rows n s) where
+      begun : (n ≡ length bs) × (withBlocks form u (M / 3) c₀ ≡ withRanges bs (taken form u s M))
       unfolding filledOf withBlocks taken
-      begun = filled-at (λ s. withRanges bs (fit (M / 3) (deleteSet u s))) (λ why. refused (why .number)) (length bs) c₀ n s e
+      begun = filled-at (λ s. withRanges bs (fit (M / 3) (deleteSet form u s))) (λ why. refused (why .number)) (length bs) c₀ n s e
 
       abbrev c : Course Range
-      c = taken u s M
+      c = taken form u s M
 
       abbrev whole : Reading
       whole = record { number = 0; blocks = bs; ranges = normal (items c) }
 
-      pub on-set : (why : Refusal) → setOf u s M ≡ set.Refused why → length (filledRows N (blocksOf form u)) ≡ N
-          → Says here N M (answer (refused (why .number))) (clearedFrom 0 (filledRows N (blocksOf form u))) (setWords u s M)
+      pub on-set : (why : Refusal) → setOf form u s M ≡ set.Refused why → length (filledRows N (blocksOf form u)) ≡ N
+          → Says here N M (answer (refused (why .number))) (clearedFrom 0 (filledRows N (blocksOf form u))) (setWords form u s M)
       unfolding setOf setWords withRanges
       on-set why q size =
           says-by (refused (why .number)) here N M _ _ _
@@ -166,7 +165,7 @@ module _ (form : ℕ) (u : List ℕ) (rows : List Block) (words : List ℕ) wher
             ap (padded M) (set-not (λ t. flat (normal (items c))) (λ why. []) (length (normal (items c))) c why q) ∙ zeros-none M (why .number),
           )
 
-      pub on-ranges : (k : ℕ) (t : State) → setOf u s M ≡ set.Ranges k t → Says here N M (record { number = 0; blocks = n; ranges = k }) (filledRows N (blocksOf form u)) (setWords u s M)
+      pub on-ranges : (k : ℕ) (t : ℕ) → setOf form u s M ≡ set.Ranges k t → Says here N M (record { number = 0; blocks = n; ranges = k }) (filledRows N (blocksOf form u)) (setWords form u s M)
       unfolding setOf setWords withRanges filledOf filledRows answer rowsOf wordsOf
       on-ranges k t q =
           let z = set-at (λ t. whole) (λ why. refused (why .number)) (length (normal (items c))) c k t q in

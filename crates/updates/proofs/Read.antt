@@ -13,14 +13,12 @@ use Rattle.numbers.specs.Limits.{maxUpdate, maxClients, maxBlocks}
 use Rattle.numbers.specs.Output.{padded}
 use Rattle.block.specs.declared.Block.{Block}
 use Rattle.block.specs.Row.{noBlock}
-use Rattle.decoder.specs.declared.State.{State}
-use Rattle.decoder.specs.Course.{Course, item, over, stopped, fit, items, ending}
+use Rattle.grammar.specs.Course.{Course, item, over, stopped, fit, items, ending}
 use Rattle.ranges.specs.Ranges.{Range, normal}
 use Rattle.ranges.specs.Table.{flat, rowsFrom}
 use Rattle.ranges.proofs.Flat.{length-flat, rows-flat}
 use Rattle.ranges.proofs.Theory.{normal-length}
-use Rattle.deletes.specs.DeleteSet.{deleteSet}
-use Rattle.update.specs.Update.{blocksOf}
+use Rattle.decoder.specs.Update.{blocksOf, deleteSet}
 use Rattle.readings.specs.Sound.{owner, Sound, All, Ordered}
 use Rattle.readings.specs.Groups.{groups}
 use Rattle.readings.proofs.Sounds.{blocks-sound}
@@ -34,11 +32,11 @@ unfolding padded
 length-padded n b h = omega (arith, length-append b (replicate (n - length b) 0), length-replicate {A = ℕ} (n - length b) 0)
 
 -- what follows a course is a refusal, or the course ends well
-pub followed : {A : Type 0} (P : Reading → Type 0) (then : State → Reading) → ((n : ℕ) → P (refused n)) → (c : Course A)
-    → (ending c (λ s. true) (λ why. false) ≡ true → (s : State) → P (then s)) → P (ending c then (λ why. refused (why .number)))
+pub followed : {A : Type 0} (P : Reading → Type 0) (then : ℕ → Reading) → ((n : ℕ) → P (refused n)) → (c : Course A)
+    → (ending c (λ s. true) (λ why. false) ≡ true → (s : ℕ) → P (then s)) → P (ending c then (λ why. refused (why .number)))
 unfolding ending
 followed P then h (item a p c) k = followed P then h c k
-followed P then h (over s) k = k refl s
+followed P then h (over x s) k = k refl s
 followed P then h (stopped why) k = h (why .number)
 
 -- ---- a reading of u with n block rows and m range rows
@@ -60,30 +58,30 @@ module _ (form : ℕ) (u : List ℕ) (n m : ℕ) where
   abbrev c : Course Block
   c = fit n (blocksOf form u)
 
-  abbrev found : State → List Range
-  found s = normal (items (fit m (deleteSet u s)))
+  abbrev found : ℕ → List Range
+  found s = normal (items (fit m (deleteSet form u s)))
 
-  done-good : ending c (λ s. true) (λ why. false) ≡ true → (s : State) → Good u n m (record { number = 0; blocks = items c; ranges = found s })
+  done-good : ending c (λ s. true) (λ why. false) ≡ true → (s : ℕ) → Good u n m (record { number = 0; blocks = items c; ranges = found s })
   done-good e s =
       record {
         fits = fit-count n (blocksOf form u);
-        ranges = omega (arith, normal-length (items (fit m (deleteSet u s))), fit-count m (deleteSet u s));
+        ranges = omega (arith, normal-length (items (fit m (deleteSet form u s))), fit-count m (deleteSet form u s));
         ordered = fit-has Ordered n (blocksOf form u) e (blocks-ordered form u);
         sound = fit-has (All (Sound u)) n (blocksOf form u) e (blocks-sound form u);
         count = fit-has (λ (bs : List Block). length bs ≤ maxBlocks) n (blocksOf form u) e (blocks-count form u);
         clients = fit-has (λ (bs : List Block). length (groups owner bs) ≤ maxClients) n (blocksOf form u) e (blocks-groups form u);
       }
 
-  with-good : Good u n m (withBlocks u m c)
+  with-good : Good u n m (withBlocks form u m c)
   unfolding withBlocks withRanges
   with-good =
-      followed (Good u n m) _ refused-good c (λ e s. followed (Good u n m) _ refused-good (fit m (deleteSet u s)) (λ _ t. done-good e s))
+      followed (Good u n m) _ refused-good c (λ e s. followed (Good u n m) _ refused-good (fit m (deleteSet form u s)) (λ _ t. done-good e s))
 
   pub reading-good : Good u n m (reading form u n m)
   unfolding reading
   reading-good = go (eqb (early form u) 0)
     where
-      go : (x : Bool) → Good u n m (pick x (withBlocks u m c) (refused (early form u)))
+      go : (x : Bool) → Good u n m (pick x (withBlocks form u m c) (refused (early form u)))
       go true = with-good
       go false = refused-good (early form u)
 
@@ -93,7 +91,7 @@ module _ (form : ℕ) (u : List ℕ) (n m : ℕ) where
   unfolding reading
   not-early h = go (eqb (early form u) 0) refl h
     where
-      go : (x : Bool) → eqb (early form u) 0 ≡ x → pick x (withBlocks u m c) (refused (early form u)) .number ≡ 0 → early form u ≡ 0
+      go : (x : Bool) → eqb (early form u) 0 ≡ x → pick x (withBlocks form u m c) (refused (early form u)) .number ≡ 0 → early form u ≡ 0
       go true e h = eqb-true (early form u) 0 e
       go false e h = h
 

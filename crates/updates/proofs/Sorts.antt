@@ -4,12 +4,11 @@ use Prim.Native.Nat.{ℕ}
 use denote.Struct.Laws as LL
 use denote.Enum.Laws as EL
 use Rattle.walks.proofs.Rows.{Kind, Has, byte, word}
-use Rattle.decoder.specs.declared.State.{State as decoder·State}
 use Rattle.deletes.specs.declared.Set.{Set as deletes·Set}
 use Rattle.deletes.specs.declared.Set.the-variants.{Ranges as deletes·Set·Ranges, Refused as deletes·Set·Refused}
 use Rattle.numbers.specs.declared.Refusal.{Refusal}
 use Rattle.updates.specs.declared.Update.{Update}
-use Rattle.reader.proofs.Sorts.{decoder·state, refusal}
+use Rattle.reader.proofs.Sorts.{refusal}
 use Rattle.deletes.proofs.Set as deletes·Set₁
 use Rattle.deletes.proofs.Set.Laws as deletes·Set₂
 use Rattle.updates.proofs.Update as Update₁
@@ -27,13 +26,13 @@ deletes·set = record {
   silent = λ x w. refl;
 }
 
-pub deletes·set·ranges-has : (x0 : ℕ) (g0 : Has word x0) (x1 : decoder·State) (g1 : Has decoder·state x1) → Has deletes·set (deletes·Set·Ranges x0 x1)
+pub deletes·set·ranges-has : (x0 : ℕ) (g0 : Has word x0) (x1 : ℕ) (g1 : Has word x1) → Has deletes·set (deletes·Set·Ranges x0 x1)
 deletes·set·ranges-has x0 g0 x1 g1 = EL.owes deletes·Set₁.the-type deletes·Set₂.the-laws (deletes·Set·Ranges x0 x1) (g0, (g1, tt))
 
-pub deletes·set·ranges-0 : (x0 : ℕ) (x1 : decoder·State) → Has deletes·set (deletes·Set·Ranges x0 x1) → Has word x0
+pub deletes·set·ranges-0 : (x0 : ℕ) (x1 : ℕ) → Has deletes·set (deletes·Set·Ranges x0 x1) → Has word x0
 deletes·set·ranges-0 x0 x1 g = EL.owed deletes·Set₁.the-type deletes·Set₂.the-laws (deletes·Set·Ranges x0 x1) _ g .0
 
-pub deletes·set·ranges-1 : (x0 : ℕ) (x1 : decoder·State) → Has deletes·set (deletes·Set·Ranges x0 x1) → Has decoder·state x1
+pub deletes·set·ranges-1 : (x0 : ℕ) (x1 : ℕ) → Has deletes·set (deletes·Set·Ranges x0 x1) → Has word x1
 deletes·set·ranges-1 x0 x1 g = EL.owed deletes·Set₁.the-type deletes·Set₂.the-laws (deletes·Set·Ranges x0 x1) _ g .1 .0
 
 pub deletes·set·refused-has : (x0 : Refusal) (g0 : Has refusal x0) → Has deletes·set (deletes·Set·Refused x0)
@@ -42,7 +41,7 @@ deletes·set·refused-has x0 g0 = EL.owes deletes·Set₁.the-type deletes·Set�
 pub deletes·set·refused-0 : (x0 : Refusal) → Has deletes·set (deletes·Set·Refused x0) → Has refusal x0
 deletes·set·refused-0 x0 g = EL.owed deletes·Set₁.the-type deletes·Set₂.the-laws (deletes·Set·Refused x0) _ g .0
 
-pub deletes·set-cases {ℓ} : {X : Type ℓ} (r : deletes·Set) → ((x0 : ℕ) → (x1 : decoder·State) → r ≡ deletes·Set·Ranges x0 x1 → X) → ((x0 : Refusal) → r ≡ deletes·Set·Refused x0 → X) → X
+pub deletes·set-cases {ℓ} : {X : Type ℓ} (r : deletes·Set) → ((x0 : ℕ) → (x1 : ℕ) → r ≡ deletes·Set·Ranges x0 x1 → X) → ((x0 : Refusal) → r ≡ deletes·Set·Refused x0 → X) → X
 deletes·set-cases (deletes·Set·Ranges x0 x1) k0 k1 = k0 x0 x1 refl
 deletes·set-cases (deletes·Set·Refused x0) k0 k1 = k1 x0 refl
 

@@ -10,11 +10,10 @@ use Rattle.numbers.specs.Limits.{maxUpdate}
 use Rattle.numbers.specs.Output.{padded}
 use Rattle.block.specs.declared.Block.{Block}
 use Rattle.block.specs.Row.{noBlock}
-use Rattle.decoder.specs.Course.{Course, fit, items, ending}
-use Rattle.update.specs.Update.{blocksOf}
+use Rattle.grammar.specs.Course.{Course, fit, items, ending}
 use Rattle.ranges.specs.Ranges.{Range, normal}
 use Rattle.ranges.specs.Table.{flat}
-use Rattle.deletes.specs.DeleteSet.{deleteSet}
+use Rattle.decoder.specs.Update.{blocksOf, deleteSet}
 use Rattle.updates.specs.declared.Update.{Update}
 
 pub record Reading : Type 0 where
@@ -30,8 +29,8 @@ refused n = record { number = n; blocks = []; ranges = [] }
 unfoldable pub withRanges : List Block → Course Range → Reading
 withRanges bs c = ending c (λ s. record { number = 0; blocks = bs; ranges = normal (items c) }) (λ why. refused (why .number))
 
-unfoldable pub withBlocks : List ℕ → ℕ → Course Block → Reading
-withBlocks u rows c = ending c (λ s. withRanges (items c) (fit rows (deleteSet u s))) (λ why. refused (why .number))
+unfoldable pub withBlocks : ℕ → List ℕ → ℕ → Course Block → Reading
+withBlocks form u rows c = ending c (λ at. withRanges (items c) (fit rows (deleteSet form u at))) (λ why. refused (why .number))
 
 unfoldable pub known : ℕ → Bool
 known form = pick (eqb form 1) true (eqb form 2)
@@ -41,7 +40,7 @@ unfoldable pub early : ℕ → List ℕ → ℕ
 early form u = pick (known form) (pick (ltb maxUpdate (length u)) 3 0) 12
 
 unfoldable pub reading : ℕ → List ℕ → ℕ → ℕ → Reading
-reading form u blockRows rangeRows = pick (eqb (early form u) 0) (withBlocks u rangeRows (fit blockRows (blocksOf form u))) (refused (early form u))
+reading form u blockRows rangeRows = pick (eqb (early form u) 0) (withBlocks form u rangeRows (fit blockRows (blocksOf form u))) (refused (early form u))
 
 -- ---- what `read_update` gives, and what it leaves in n rows and in n words, three a range row
 

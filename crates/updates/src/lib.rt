@@ -51,7 +51,7 @@ pub fn read_update(form: u8, update: &[u8], rows: &mut [Block], ranges: &mut [u6
         return none(early);
     }
     match reader::read_blocks(form, update, rows) {
-        Filled::Rows(blocks, s) => match deletes::read_delete_set(update, s, ranges) {
+        Filled::Rows(blocks, at) => match deletes::read_delete_set(form, update, at, ranges) {
             Set::Ranges(count, _) => Update {
                 number: 0,
                 blocks,

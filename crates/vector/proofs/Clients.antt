@@ -1,4 +1,4 @@
--- The entries of a state vector: at most 64, and no client twice.
+-- The entries of a state vector: at most 64, and no client twice. Of every reader this holds, but for the count that is announced.
 use Prim.Native.Nat.{ℕ, zero, suc, _≤_}
 use mathlib.Core.Path.{_≡_, refl}
 use mathlib.Core.List.{List, [], _∷_, _++_}
@@ -7,45 +7,55 @@ use native.Mathlib.Omega.{arith}
 use lib.Dec.{eqb}
 use lib.ListN.{length}
 use borrow.Author.Tests.{eqb-true, eq-eqb}
+use Rattle.numbers.specs.declared.Refusal.{Refusal}
 use Rattle.numbers.specs.Number.{pick}
 use Rattle.numbers.specs.Words.{among}
-use Rattle.numbers.specs.Limits.{maxClients}
-use Rattle.decoder.specs.declared.State.{State}
-use Rattle.decoder.specs.declared.Draw.{Draw}
-use Rattle.decoder.specs.declared.Draw.the-variants as draw
-use Rattle.decoder.specs.Fields.{startAt, bounded, varAt, client1, clockAt}
-use Rattle.decoder.specs.Course.{Course, item, stopped, drawn, items}
-use Rattle.decoder.proofs.Laws.{within-limit}
-use Rattle.vector.specs.Vector.{Entry, entry, clientsIn, holds, entries, vectorOf}
-use Rattle.vector.proofs.Laws.{oneEntry, entries-one, clients-more}
+use Rattle.numbers.specs.Limits.{maxClock, maxClients}
+use Rattle.grammar.specs.Grammar as grammar
+use Rattle.grammar.specs.Grammar.{number, stop, ask, emit, _>>=_}
+use Rattle.grammar.specs.Course.{Drawn, got, not, Reader, Run, item, over, stopped, onDrawn, run, items}
+use Rattle.decoder.specs.Line.{upTo, line, numberOf}
+use Rattle.vector.specs.Vector.{Entry, entry, clientsIn, holds, entries, aVector, vectorOf}
+use Rattle.vector.proofs.Laws.{bounded-low, clients-more}
+
+-- what holds of every run of entries: after those seen an entry is of a client that has none
+module _ {S : Type 0} (r : Reader S) (P : ℕ → List Entry → Run S Entry (Unit {0}) → Type 0) (at-end : (seen : List Entry) (s : S) → P 0 seen (over tt s))
+    (at-stop : (n : ℕ) (seen : List Entry) (why : Refusal) → P n seen (stopped why))
+    (at-item : (n : ℕ) (seen : List Entry) (e : Entry) (p : ℕ) (x : Run S Entry (Unit {0})) → among (e .client) (clientsIn seen) ≡ false → P n (seen ++ (e ∷ [])) x → P (suc n) seen (item e p x)) where
+  each : (n : ℕ) (seen : List Entry) (s : S) → P n seen (run r (entries n seen) s)
+  unfolding entries holds _>>=_ run onDrawn
+  each zero seen s = at-end seen s
+  each (suc n) seen s = with-client (λ seen s. each n seen s) (r (number grammar.client) s)
+    where
+      with-clock : ((seen : List Entry) (s : S) → P n seen (run r (entries n seen) s)) → (c p : ℕ) → among c (clientsIn seen) ≡ false → (d : Drawn S (ℕ × ℕ))
+          → P (suc n) seen (onDrawn d (λ b u. item (entry c (b .0)) p (run r (entries n (seen ++ (entry c (b .0) ∷ []))) u)))
+      with-clock more c p f (not why) = at-stop (suc n) seen why
+      with-clock more c p f (got b u) = at-item n seen (entry c (b .0)) p _ f (more (seen ++ (entry c (b .0) ∷ [])) u)
+
+      new : ((seen : List Entry) (s : S) → P n seen (run r (entries n seen) s)) → (c p : ℕ) (t : S) (b : Bool) → among c (clientsIn seen) ≡ b
+          → P (suc n) seen (run r (pick b (stop 4 p) (ask (number (grammar.upTo maxClock)) (λ k. emit (entry c (k .0)) p (entries n (seen ++ (entry c (k .0) ∷ [])))))) t)
+      new more c p t true e = at-stop (suc n) seen (record { number = 4; place = p })
+      new more c p t false e = with-clock more c p e (r (number (grammar.upTo maxClock)) t)
+
+      with-client : ((seen : List Entry) (s : S) → P n seen (run r (entries n seen) s)) → (d : Drawn S (ℕ × ℕ))
+          → P (suc n) seen (onDrawn d (λ a t. run r (pick (among (a .0) (clientsIn seen)) (stop 4 (a .1)) (ask (number (grammar.upTo maxClock)) (λ k. emit (entry (a .0) (k .0)) (a .1) (entries n (seen ++ (entry (a .0) (k .0) ∷ [])))))) t))
+      with-client more (not why) = at-stop (suc n) seen why
+      with-client more (got a t) = new more (a .0) (a .1) t (among (a .0) (clientsIn seen)) refl
 
 -- ---- at most 64
 
-one-most : (v : List ℕ) (seen : List Entry) (rest : Entry → State → Course Entry) (n : ℕ) → ((e : Entry) (w : State) → length (items (rest e w)) ≤ n) → (d : Draw) → length (items (oneEntry v seen rest d)) ≤ suc n
-unfolding oneEntry drawn items
-one-most v seen rest n h (draw.Refused why) = omega arith
-one-most v seen rest n h (draw.Number c p t) = go (holds c seen)
-  where
-    last : (d : Draw) → length (items (drawn d (λ k q w. item (entry c k) p (rest (entry c k) w)))) ≤ suc n
-    last (draw.Refused why) = omega arith
-    last (draw.Number k q w) = omega (arith, h (entry c k) w)
-
-    go : (b : Bool) → length (items (pick b (stopped (record { number = 4; place = p })) (drawn (clockAt v t) (λ k q w. item (entry c k) p (rest (entry c k) w))))) ≤ suc n
-    go true = omega arith
-    go false = last (clockAt v t)
-
-entries-most : (n : ℕ) (v : List ℕ) (seen : List Entry) (s : State) → length (items (entries n v seen s)) ≤ n
-unfolding entries items
-entries-most zero v seen s = omega arith
-entries-most (suc n) v seen s = rw (entries-one n v seen s) (one-most v seen (λ e w. entries n v (seen ++ (e ∷ [])) w) n (λ e w. entries-most n v (seen ++ (e ∷ [])) w) (client1 v s))
+few : {S : Type 0} (r : Reader S) (n : ℕ) (seen : List Entry) (s : S) → length (items (run r (entries n seen) s)) ≤ n
+unfolding items
+few r n seen s =
+    each r (λ n seen x. length (items x) ≤ n) (λ seen s. omega arith) (λ n seen why. omega arith) (λ n seen e p x f h. omega arith) n seen s
 
 pub vector-most : (v : List ℕ) → length (items (vectorOf v)) ≤ maxClients
-unfolding vectorOf drawn items
-vector-most v = go (bounded maxClients (varAt v (startAt 1 0))) refl
+unfolding vectorOf aVector _>>=_ run onDrawn line numberOf upTo items
+vector-most v = go (upTo maxClients v 0) refl
   where
-    go : (d : Draw) → bounded maxClients (varAt v (startAt 1 0)) ≡ d → length (items (drawn d (λ n p s. entries n v [] s))) ≤ maxClients
-    go (draw.Refused why) e = omega arith
-    go (draw.Number n p s) e = omega (arith, entries-most n v [] s, within-limit maxClients (varAt v (startAt 1 0)) n p s e)
+    go : (d : Drawn ℕ (ℕ × ℕ)) → upTo maxClients v 0 ≡ d → length (items (onDrawn d (λ a t. run (line 1 v) (entries (a .0) []) t))) ≤ maxClients
+    go (not why) e = omega arith
+    go (got a t) e = omega (arith, few (line 1 v) (a .0) [] t, bounded-low maxClients _ a t e)
 
 -- ---- no client twice
 
@@ -92,31 +102,15 @@ unfolding fresh apart
 fresh-apart seen [] f = refl
 fresh-apart seen (c ∷ cs) f = rw (seen-once c (seen ++ (c ∷ [])) cs (f .1) (among-last c seen)) (fresh-apart (seen ++ (c ∷ [])) cs (f .1))
 
-one-fresh : (v : List ℕ) (seen : List Entry) (rest : Entry → State → Course Entry) → ((e : Entry) (w : State) → fresh (clientsIn seen ++ (e .client ∷ [])) (clientsIn (items (rest e w))))
-    → (d : Draw) → fresh (clientsIn seen) (clientsIn (items (oneEntry v seen rest d)))
-unfolding oneEntry drawn items fresh holds
-one-fresh v seen rest h (draw.Refused why) = tt
-one-fresh v seen rest h (draw.Number c p t) = go (among c (clientsIn seen)) refl
-  where
-    last : among c (clientsIn seen) ≡ false → (d : Draw) → fresh (clientsIn seen) (clientsIn (items (drawn d (λ k q w. item (entry c k) p (rest (entry c k) w)))))
-    last e (draw.Refused why) = tt
-    last e (draw.Number k q w) = (e, h (entry c k) w)
-
-    go : (b : Bool) → among c (clientsIn seen) ≡ b → fresh (clientsIn seen) (clientsIn (items (pick b (stopped (record { number = 4; place = p })) (drawn (clockAt v t) (λ k q w. item (entry c k) p (rest (entry c k) w))))))
-    go true e = tt
-    go false e = last e (clockAt v t)
-
-entries-fresh : (n : ℕ) (v : List ℕ) (seen : List Entry) (s : State) → fresh (clientsIn seen) (clientsIn (items (entries n v seen s)))
-unfolding entries items fresh
-entries-fresh zero v seen s = tt
-entries-fresh (suc n) v seen s =
-    rw (entries-one n v seen s) (one-fresh v seen (λ e w. entries n v (seen ++ (e ∷ [])) w)
-    (λ e w. rw (← clients-more seen e) (entries-fresh n v (seen ++ (e ∷ [])) w)) (client1 v s))
+all-fresh : {S : Type 0} (r : Reader S) (n : ℕ) (seen : List Entry) (s : S) → fresh (clientsIn seen) (clientsIn (items (run r (entries n seen) s)))
+unfolding items fresh
+all-fresh r n seen s =
+    each r (λ n seen x. fresh (clientsIn seen) (clientsIn (items x))) (λ seen s. tt) (λ n seen why. tt) (λ n seen e p x f h. (f, rw clients-more at h)) n seen s
 
 pub vector-apart : (v : List ℕ) → apart (clientsIn (items (vectorOf v))) ≡ true
-unfolding vectorOf drawn items apart
-vector-apart v = go (bounded maxClients (varAt v (startAt 1 0)))
+unfolding vectorOf aVector _>>=_ run onDrawn line numberOf items apart
+vector-apart v = go (upTo maxClients v 0)
   where
-    go : (d : Draw) → apart (clientsIn (items (drawn d (λ n p s. entries n v [] s)))) ≡ true
-    go (draw.Refused why) = refl
-    go (draw.Number n p s) = fresh-apart [] (clientsIn (items (entries n v [] s))) (entries-fresh n v [] s)
+    go : (d : Drawn ℕ (ℕ × ℕ)) → apart (clientsIn (items (onDrawn d (λ a t. run (line 1 v) (entries (a .0) []) t)))) ≡ true
+    go (not why) = refl
+    go (got a t) = fresh-apart [] (clientsIn (items (run (line 1 v) (entries (a .0) []) t))) (all-fresh (line 1 v) (a .0) [] t)

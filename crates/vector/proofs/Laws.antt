@@ -7,90 +7,111 @@ use mathlib.Core.Bool.{Bool, true, false}
 use native.Mathlib.Numerals.{add-one}
 use native.Mathlib.Nat.{sub-zero}
 use native.Mathlib.Omega.{arith}
+use lib.Dec.{ltb}
 use lib.ListN.{length, take, getD, set, replicate, length-append, length-set, length-map}
 use lib.Seq.{take-suc, take-suc-set, length-take-le, take-append-seam}
-use borrow.Author.Tests.{lt-ltb, le-ltb}
+use borrow.Author.Tests.{lt-ltb, le-ltb, ltb-false}
 use Rattle.numbers.specs.declared.Refusal.{Refusal}
-use Rattle.numbers.specs.Number.{pick}
+use Rattle.numbers.specs.declared.Read.{Read as Reading}
+use Rattle.numbers.specs.declared.Read.the-variants as read
+use Rattle.numbers.specs.Number.{pick, whyRead}
 use Rattle.numbers.specs.Words.{among}
-use Rattle.numbers.specs.Limits.{maxClients}
+use Rattle.numbers.specs.Limits.{maxClients, maxValue, maxClock}
 use Rattle.numbers.specs.Output.{padded}
 use Rattle.numbers.proofs.Output.{padded-some}
-use Rattle.decoder.specs.declared.State.{State}
-use Rattle.decoder.specs.declared.Draw.{Draw}
-use Rattle.decoder.specs.declared.Draw.the-variants as draw
-use Rattle.decoder.specs.Fields.{startAt, bounded, varAt, client1, clockAt}
-use Rattle.decoder.specs.Course.{Course, item, over, stopped, drawn, items, ending}
-use Rattle.vector.specs.declared.Next.the-variants as next
+use Rattle.grammar.specs.Grammar.{Grammar, _>>=_}
+use Rattle.grammar.specs.Course.{Drawn, got, not, Course, item, over, stopped, onDrawn, run, items, ending}
+use Rattle.decoder.specs.Line.{numberAt, bounded, upTo, numberOf, line}
 use Rattle.vector.specs.declared.Entries.{Entries}
 use Rattle.vector.specs.declared.Entries.the-variants.{Read, Refused}
-use Rattle.vector.specs.Vector.{Entry, entry, clientsIn, clocksIn, holds, entries, entriesOf, kept, nextEntry, withClient, withClock, vectorOf, wordsIn, joined, vectorAnswer, vectorWords}
+use Rattle.vector.specs.Vector.{Entry, entry, clientsIn, clocksIn, holds, entries, aVector, vectorOf, entriesOf, kept, countIn, Filled, wordsIn, joined, vectorAnswer, vectorWords}
+
+-- ---- a number by its place, and its field
+
+module _ (at : ℕ) (r : Reading) (d : Drawn ℕ (ℕ × ℕ)) (h : d ≡ numberAt at r) where
+  pub drew : (v e : ℕ) → r ≡ read.Number v e → d ≡ got (v, at) e
+  unfolding numberAt
+  drew v e q = h ∙ ap (numberAt at) q
+
+  pub drew-not : (why w : Refusal) → r ≡ read.Refused why → w ≡ whyRead r → d ≡ not w
+  unfolding numberAt
+  drew-not why w q s = h ∙ ap (numberAt at) q ∙ ap not (sym (s ∙ ap whyRead q))
+
+pub bounded-low : (most : ℕ) (d : Drawn ℕ (ℕ × ℕ)) (a : ℕ × ℕ) (s : ℕ) → bounded most d ≡ got a s → a .0 ≤ most
+unfolding bounded
+bounded-low most (not why) a s e = absurd (let z : _≡_ {A = ℕ} 0 1 = cc in omega arith)
+bounded-low most (got b t) a s e = go (ltb most (b .0)) refl e
+  where
+    go : (x : Bool) → ltb most (b .0) ≡ x → pick x (not (record { number = 3; place = b .1 })) (got b t) ≡ got a s → a .0 ≤ most
+    go true l e = absurd (let z : _≡_ {A = ℕ} 0 1 = cc in omega arith)
+    go false l e = let q : b .0 ≡ a .0 = cc in omega (arith, ltb-false most (b .0) l)
 
 -- ---- an entry
 
--- where it is the next, what comes after it is given
-unfoldable pub oneEntry : List ℕ → List Entry → (Entry → State → Course Entry) → Draw → Course Entry
-oneEntry v seen rest d =
-    drawn d (λ c p t. pick (holds c seen) (stopped (record { number = 4; place = p })) (drawn (clockAt v t) (λ k q w. item (entry c k) p (rest (entry c k) w))))
+-- n entries more, after those seen
+abbrev pub more : List ℕ → ℕ → List Entry → ℕ → Course Entry
+more v n seen at = run (line 1 v) (entries n seen) at
 
-module _ (v : List ℕ) (seen : List Entry) (rest : Entry → State → Course Entry) where
-  one-on : (d : Draw) (c k : ℕ) (w : State) → withClient v (clientsIn seen) d ≡ next.Entry c k w → (p : ℕ) × (oneEntry v seen rest d ≡ item (entry c k) p (rest (entry c k) w))
-  unfolding oneEntry withClient withClock drawn holds
-  one-on (draw.Refused why) c k w e = absurd (let z : _≡_ {A = ℕ} 0 1 = cc in omega arith)
-  one-on (draw.Number x p t) c k w e = (p, go (among x (clientsIn seen)) e)
-    where
-      last : (d : Draw) → withClock x d ≡ next.Entry c k w → drawn d (λ k q w. item (entry x k) p (rest (entry x k) w)) ≡ item (entry c k) p (rest (entry c k) w)
-      last (draw.Refused why) e = absurd (let z : _≡_ {A = ℕ} 0 1 = cc in omega arith)
-      last (draw.Number y q u) e = cc
+-- of two ways on, the one that is chosen
+chosen : (v : List ℕ) (x y : Grammar Entry (Unit {0})) (s : ℕ) (b c : Bool) → b ≡ c → run (line 1 v) (pick b x y) s ≡ pick c (run (line 1 v) x s) (run (line 1 v) y s)
+chosen v x y s b true e = ap (λ (b : Bool). run (line 1 v) (pick b x y) s) e
+chosen v x y s b false e = ap (λ (b : Bool). run (line 1 v) (pick b x y) s) e
 
-      go : (b : Bool) → pick b (next.Refused (record { number = 4; place = p })) (withClock x (clockAt v t)) ≡ next.Entry c k w
-          → pick b (stopped (record { number = 4; place = p })) (drawn (clockAt v t) (λ k q w. item (entry x k) p (rest (entry x k) w))) ≡ item (entry c k) p (rest (entry c k) w)
-      go true e = absurd (let z : _≡_ {A = ℕ} 0 1 = cc in omega arith)
-      go false e = last (clockAt v t) e
+module _ (v : List ℕ) (n : ℕ) (seen : List Entry) (at : ℕ) where
+  pub no-client : (why : Refusal) → upTo maxValue v at ≡ not why → more v (suc n) seen at ≡ stopped why
+  unfolding entries _>>=_ run onDrawn line numberOf
+  no-client why h = rw h refl
 
-  one-stop : (d : Draw) (why : Refusal) → withClient v (clientsIn seen) d ≡ next.Refused why → oneEntry v seen rest d ≡ stopped why
-  unfolding oneEntry withClient withClock drawn holds
-  one-stop (draw.Refused w) why e = cc
-  one-stop (draw.Number x p t) why e = go (among x (clientsIn seen)) e
-    where
-      last : (d : Draw) → withClock x d ≡ next.Refused why → drawn d (λ k q w. item (entry x k) p (rest (entry x k) w)) ≡ stopped why
-      last (draw.Refused w) e = cc
-      last (draw.Number y q u) e = absurd (let z : _≡_ {A = ℕ} 0 1 = cc in omega arith)
+  module _ (c t : ℕ) (h : upTo maxValue v at ≡ got (c, at) t) where
+    pub twice : among c (clientsIn seen) ≡ true → more v (suc n) seen at ≡ stopped (record { number = 4; place = at })
+    unfolding entries holds _>>=_ run onDrawn line numberOf
+    twice s = rw h (chosen v _ _ t _ true s)
 
-      go : (b : Bool) → pick b (next.Refused (record { number = 4; place = p })) (withClock x (clockAt v t)) ≡ next.Refused why
-          → pick b (stopped (record { number = 4; place = p })) (drawn (clockAt v t) (λ k q w. item (entry x k) p (rest (entry x k) w))) ≡ stopped why
-      go true e = cc
-      go false e = last (clockAt v t) e
+    pub no-clock : among c (clientsIn seen) ≡ false → (why : Refusal) → upTo maxClock v t ≡ not why → more v (suc n) seen at ≡ stopped why
+    unfolding entries holds _>>=_ run onDrawn line numberOf
+    no-clock s why k = rw h (chosen v _ _ t _ false s ∙ rw k refl)
 
-pub entries-one : (n : ℕ) (v : List ℕ) (seen : List Entry) (s : State) → entries (suc n) v seen s ≡ oneEntry v seen (λ e w. entries n v (seen ++ (e ∷ [])) w) (client1 v s)
-unfolding entries oneEntry
-entries-one n v seen s = refl
+    pub one-more : among c (clientsIn seen) ≡ false → (k e : ℕ) → upTo maxClock v t ≡ got (k, t) e
+        → more v (suc n) seen at ≡ item (entry c k) at (more v n (seen ++ (entry c k ∷ [])) e)
+    unfolding entries holds _>>=_ run onDrawn line numberOf
+    one-more s k e q = rw h (chosen v _ _ t _ false s ∙ rw q refl)
 
--- ---- what is read, where some are seen already
+-- ---- what is read, where some are seen already: how many or why not, and all of them or none
 
-pub outcome : {X : Type 0} → (List Entry → X) → (Refusal → X) → List Entry → Course Entry → X
-outcome done refused seen c = ending c (λ s. done (seen ++ items c)) refused
+pub record Told : Type 0 where
+  pub answer : Entries
+  pub all : List Entry
 
-module _ {X : Type 0} (done : List Entry → X) (refused : Refusal → X) where
-  outcome-item : (seen : List Entry) (e : Entry) (p : ℕ) (c : Course Entry) → outcome done refused seen (item e p c) ≡ outcome done refused (seen ++ (e ∷ [])) c
-  unfolding outcome ending items
-  outcome-item seen e p c = ap (λ (es : List Entry). ending c (λ s. done es) refused) (sym (append-assoc seen (e ∷ []) (items c)))
+abbrev telling : Entries → List Entry → Told
+telling r es = record { answer = r; all = es }
 
-  outcome-on : (n : ℕ) (v : List ℕ) (seen : List Entry) (s : State) (c k : ℕ) (w : State) → nextEntry v (clientsIn seen) s ≡ next.Entry c k w
-      → outcome done refused seen (entries (suc n) v seen s) ≡ outcome done refused (seen ++ (entry c k ∷ [])) (entries n v (seen ++ (entry c k ∷ [])) w)
-  unfolding nextEntry
-  outcome-on n v seen s c k w e =
-      let o = one-on v seen (λ e w. entries n v (seen ++ (e ∷ [])) w) (client1 v s) c k w e in
-      ap (outcome done refused seen) (entries-one n v seen s ∙ o .1) ∙ outcome-item seen (entry c k) (o .0) (entries n v (seen ++ (entry c k ∷ [])) w)
+unfoldable pub told : List Entry → Course Entry → Told
+told seen c = ending c (λ s. telling (Read (length (seen ++ items c))) (seen ++ items c)) (λ why. telling (Refused why) [])
 
-  outcome-stop : (n : ℕ) (v : List ℕ) (seen : List Entry) (s : State) (why : Refusal) → nextEntry v (clientsIn seen) s ≡ next.Refused why
-      → outcome done refused seen (entries (suc n) v seen s) ≡ refused why
-  unfolding nextEntry outcome ending
-  outcome-stop n v seen s why e = ap (outcome done refused seen) (entries-one n v seen s ∙ one-stop v seen (λ e w. entries n v (seen ++ (e ∷ [])) w) (client1 v s) why e)
+told-item : (seen : List Entry) (e : Entry) (p : ℕ) (c : Course Entry) → told seen (item e p c) ≡ told (seen ++ (e ∷ [])) c
+unfolding told ending items
+told-item seen e p c = ap (λ (es : List Entry). ending c (λ s. telling (Read (length es)) es) (λ why. telling (Refused why) [])) (sym (append-assoc seen (e ∷ []) (items c)))
 
-  outcome-over : (v : List ℕ) (seen : List Entry) (s : State) → outcome done refused seen (entries 0 v seen s) ≡ done seen
-  unfolding outcome entries ending items
-  outcome-over v seen s = rw append-nil
+told-over : (v : List ℕ) (seen : List Entry) (at : ℕ) → told seen (more v 0 seen at) ≡ telling (Read (length seen)) seen
+unfolding told entries run ending items
+told-over v seen at = rw append-nil
+
+told-apart : (r : Entries) (es : List Entry) (c : Course Entry)
+    → ending c (λ s. telling r es) (λ why. telling (Refused why) []) ≡ telling (ending c (λ s. r) (λ why. Refused why)) (ending c (λ s. es) (λ why. []))
+unfolding ending
+told-apart r es (item e p c) = told-apart r es c
+told-apart r es (over a s) = refl
+told-apart r es (stopped why) = refl
+
+-- the words that hold what is read
+filled : (v : List ℕ) (r : Entries) (es : List Entry) (xs ys : List ℕ) → told [] (vectorOf v) ≡ telling r es → countIn r ≤ maxClients
+    → take (countIn r) xs ≡ clientsIn es → take (countIn r) ys ≡ clocksIn es → Filled v r xs ys
+unfolding told entriesOf kept
+filled v r es xs ys h few p q =
+    let c = vectorOf v in
+    let a : telling (entriesOf c) (kept c) ≡ telling r es = sym (told-apart (Read (length (items c))) (items c) c) ∙ h in
+    let all : es ≡ kept c = sym (ap (λ (x : Told). x .all) a) in
+    record { answer = sym (ap (λ (x : Told). x .answer) a); few = few; clients = p ∙ ap clientsIn all; clocks = q ∙ ap clocksIn all }
 
 pub clients-more : (seen : List Entry) (e : Entry) → clientsIn (seen ++ (e ∷ [])) ≡ clientsIn seen ++ (e .client ∷ [])
 clients-more [] e = refl
@@ -100,63 +121,56 @@ clocks-more : (seen : List Entry) (e : Entry) → clocksIn (seen ++ (e ∷ [])) 
 clocks-more [] e = refl
 clocks-more (x ∷ seen) e = ap (λ (ks : List ℕ). x .clock ∷ ks) (clocks-more seen e)
 
+-- ---- the announced count
+
+module _ (v : List ℕ) where
+  pub none-read : (why : Refusal) (xs ys : List ℕ) → upTo maxClients v 0 ≡ not why → Filled v (Refused why) xs ys
+  unfolding told vectorOf aVector _>>=_ run onDrawn line numberOf ending
+  none-read why xs ys h = filled v (Refused why) [] xs ys (rw h refl) (omega arith) refl refl
+
+  pub few : (n e : ℕ) → upTo maxClients v 0 ≡ got (n, 0) e → n ≤ maxClients
+  unfolding upTo
+  few n e h = bounded-low maxClients _ (n, 0) e h
+
 -- ---- the loop over the entries: i of n are seen, and stand in xs and ys
 
-pub answer : List Entry → Course Entry → Entries
-answer = outcome (λ es. Read (length es)) (λ why. Refused why)
-
-pub every : List Entry → Course Entry → List Entry
-every = outcome (λ es. es) (λ why. [])
-
-pub record ReadTo (v : List ℕ) (n : ℕ) (s₀ : State) (i : ℕ) (s : State) (xs ys : List ℕ) : Type 0 where
+pub record ReadTo (v : List ℕ) (n i at : ℕ) (xs ys : List ℕ) : Type 0 where
   pub seen : List Entry
   pub here : i ≤ n
   pub size : length seen ≡ i
   pub clients : take i xs ≡ clientsIn seen
   pub clocks : take i ys ≡ clocksIn seen
-  pub same : answer seen (entries (n - i) v seen s) ≡ entriesOf (entries n v [] s₀)
-  pub all : every seen (entries (n - i) v seen s) ≡ kept (entries n v [] s₀)
+  pub same : told [] (vectorOf v) ≡ told seen (more v (n - i) seen at)
 
-pub read-begin : (v : List ℕ) (n : ℕ) (s : State) (xs ys : List ℕ) → ReadTo v n s 0 s xs ys
-unfolding answer every outcome entriesOf kept
-read-begin v n s xs ys = record { seen = []; here = omega arith; size = refl; clients = refl; clocks = refl; same = rw sub-zero; all = rw sub-zero }
+pub read-begin : (v : List ℕ) (n e : ℕ) (xs ys : List ℕ) → upTo maxClients v 0 ≡ got (n, 0) e → ReadTo v n 0 e xs ys
+unfolding vectorOf aVector _>>=_ run onDrawn line numberOf
+read-begin v n e xs ys h = record { seen = []; here = omega arith; size = refl; clients = refl; clocks = refl; same = rw (h, sub-zero) refl }
 
-module _ (v : List ℕ) (n : ℕ) (s₀ : State) (i : ℕ) (s : State) (xs ys : List ℕ) (t : ReadTo v n s₀ i s xs ys) where
-  more : i < n → n - i ≡ suc (n - (i + 1))
-  more h = omega arith
+module _ (v : List ℕ) (n i at : ℕ) (xs ys : List ℕ) (t : ReadTo v n i at xs ys) where
+  left : i < n → told [] (vectorOf v) ≡ told (t .seen) (more v (suc (n - (i + 1))) (t .seen) at)
+  left h = let e : n - i ≡ suc (n - (i + 1)) = omega arith in t .same ∙ ap (λ (j : ℕ). told (t .seen) (more v j (t .seen) at)) e
 
-  next-seen : (r : _) → nextEntry v (take i xs) s ≡ r → nextEntry v (clientsIn (t .seen)) s ≡ r
-  next-seen r e = ap (λ (cs : List ℕ). nextEntry v cs s) (sym (t .clients)) ∙ e
+  pub read-on : (c k p e : ℕ) → i < n → i < length xs → i < length ys
+      → more v (suc (n - (i + 1))) (t .seen) at ≡ item (entry c k) p (more v (n - (i + 1)) (t .seen ++ (entry c k ∷ [])) e)
+      → ReadTo v n (i + 1) e (set xs i c) (set ys i k)
+  read-on c k p e h lx ly q = record {
+    seen = t .seen ++ (entry c k ∷ []);
+    here = omega arith;
+    size = length-append (t .seen) (entry c k ∷ []) ∙ ap (λ (j : ℕ). j + 1) (t .size);
+    clients = rw (add-one, take-suc-set xs i c lx, t .clients) (sym (clients-more (t .seen) (entry c k)));
+    clocks = rw (add-one, take-suc-set ys i k ly, t .clocks) (sym (clocks-more (t .seen) (entry c k)));
+    same = left h ∙ ap (told (t .seen)) q ∙ told-item (t .seen) (entry c k) p _;
+  }
 
-  pub read-on : (c k : ℕ) (w : State) → i < n → i < length xs → i < length ys → nextEntry v (take i xs) s ≡ next.Entry c k w → ReadTo v n s₀ (i + 1) w (set xs i c) (set ys i k)
-  unfolding answer every
-  read-on c k w h lx ly e =
-      let f = next-seen (next.Entry c k w) e in
-      record {
-        seen = t .seen ++ (entry c k ∷ []);
-        here = omega arith;
-        size = length-append (t .seen) (entry c k ∷ []) ∙ ap (λ (j : ℕ). j + 1) (t .size);
-        clients = rw (add-one, take-suc-set xs i c lx, t .clients) (sym (clients-more (t .seen) (entry c k)));
-        clocks = rw (add-one, take-suc-set ys i k ly, t .clocks) (sym (clocks-more (t .seen) (entry c k)));
-        same = sym (outcome-on _ _ (n - (i + 1)) v (t .seen) s c k w f) ∙ ap (λ (j : ℕ). answer (t .seen) (entries j v (t .seen) s)) (sym (more h)) ∙ t .same;
-        all = sym (outcome-on _ _ (n - (i + 1)) v (t .seen) s c k w f) ∙ ap (λ (j : ℕ). every (t .seen) (entries j v (t .seen) s)) (sym (more h)) ∙ t .all;
-      }
+  pub read-stop : (why : Refusal) → i < n → more v (suc (n - (i + 1))) (t .seen) at ≡ stopped why → Filled v (Refused why) xs ys
+  unfolding told ending
+  read-stop why h q = filled v (Refused why) [] xs ys (left h ∙ ap (told (t .seen)) q) (omega arith) refl refl
 
-  pub read-stop : (why : Refusal) → i < n → nextEntry v (take i xs) s ≡ next.Refused why → (Refused why ≡ entriesOf (entries n v [] s₀)) × ([] ≡ kept (entries n v [] s₀))
-  unfolding answer every
-  read-stop why h e =
-      let f = next-seen (next.Refused why) e in (
-        sym (outcome-stop _ _ (n - (i + 1)) v (t .seen) s why f) ∙ ap (λ (j : ℕ). answer (t .seen) (entries j v (t .seen) s)) (sym (more h)) ∙ t .same,
-        sym (outcome-stop _ _ (n - (i + 1)) v (t .seen) s why f) ∙ ap (λ (j : ℕ). every (t .seen) (entries j v (t .seen) s)) (sym (more h)) ∙ t .all,
-      )
-
-  pub read-over : n ≤ i → (Read i ≡ entriesOf (entries n v [] s₀)) × (t .seen ≡ kept (entries n v [] s₀))
-  unfolding answer every
-  read-over h =
-      let none : n - i ≡ 0 = omega arith in (
-        ap Read (sym (t .size)) ∙ sym (outcome-over _ _ v (t .seen) s) ∙ ap (λ (j : ℕ). answer (t .seen) (entries j v (t .seen) s)) (sym none) ∙ t .same,
-        sym (outcome-over _ _ v (t .seen) s) ∙ ap (λ (j : ℕ). every (t .seen) (entries j v (t .seen) s)) (sym none) ∙ t .all,
-      )
+  pub read-over : n ≤ i → n ≤ maxClients → Filled v (Read i) xs ys
+  read-over h l =
+      let z : n - i ≡ 0 = omega arith in
+      let e = t .same ∙ ap (λ (j : ℕ). told (t .seen) (more v j (t .seen) at)) z ∙ told-over v (t .seen) at in
+      filled v (Read i) (t .seen) xs ys (e ∙ ap (λ (j : ℕ). telling (Read j) (t .seen)) (t .size)) (omega (arith, t .here)) (t .clients) (t .clocks)
 
 -- ---- the words
 
@@ -205,30 +219,19 @@ pub cleared : (e mid xs : List ℕ) (n m : ℕ) → n ≡ m → m ≤ length mid
     → take n mid ++ replicate (length mid - n) 0 ≡ padded (length e) xs
 cleared e mid xs n m p h l t = rw p (padded-some mid m h ∙ rw (l, t))
 
--- ---- the announced count
-
-module _ (v : List ℕ) where
-  pub vector-stop : (why : Refusal) → bounded maxClients (varAt v (startAt 1 0)) ≡ draw.Refused why → (Refused why ≡ entriesOf (vectorOf v)) × ([] ≡ kept (vectorOf v))
-  unfolding vectorOf drawn entriesOf kept ending
-  vector-stop why e = (rw e, rw e)
-
-  pub vector-on : (n p : ℕ) (s : State) → bounded maxClients (varAt v (startAt 1 0)) ≡ draw.Number n p s → vectorOf v ≡ entries n v [] s
-  unfolding vectorOf drawn
-  vector-on n p s e = rw e
-
 -- ---- what a course comes to, where the number of its entries is known
 
 module _ {X : Type 0} (x : X) (f : Refusal → X) (n : ℕ) where
   ends-refused : (c : Course Entry) (why : Refusal) → ending c (λ s. Read n) (λ why. Refused why) ≡ Refused why → ending c (λ s. x) f ≡ f why
   unfolding ending
   ends-refused (item e p c) why h = ends-refused c why h
-  ends-refused (over s) why h = absurd (let z : _≡_ {A = ℕ} 0 1 = cc in omega arith)
+  ends-refused (over a s) why h = absurd (let z : _≡_ {A = ℕ} 0 1 = cc in omega arith)
   ends-refused (stopped w) why h = cc
 
   ends-read : (c : Course Entry) (m : ℕ) → ending c (λ s. Read n) (λ why. Refused why) ≡ Read m → (m ≡ n) × (ending c (λ s. x) f ≡ x)
   unfolding ending
   ends-read (item e p c) m h = ends-read c m h
-  ends-read (over s) m h = (cc, refl)
+  ends-read (over a s) m h = (cc, refl)
   ends-read (stopped w) m h = absurd (let z : _≡_ {A = ℕ} 0 1 = cc in omega arith)
 
 module _ (c : Course Entry) where

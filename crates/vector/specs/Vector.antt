@@ -1,21 +1,18 @@
--- A state vector: how many entries, then a client and its clock each. What comes after them is not read.
-use Prim.Native.Nat.{ℕ, zero, suc, _*_}
+-- A state vector: how many entries, then a client and its clock each, all of it in line. What comes after them is not read.
+use Prim.Native.Nat.{ℕ, zero, suc, _*_, _≤_}
+use mathlib.Core.Path.{_≡_}
 use mathlib.Core.List.{List, [], _∷_, _++_, map}
 use mathlib.Core.Bool.{Bool}
 use lib.Dec.{ltb}
-use lib.ListN.{length}
+use lib.ListN.{length, take}
 use Rattle.numbers.specs.declared.Refusal.{Refusal}
 use Rattle.numbers.specs.Number.{pick, none}
 use Rattle.numbers.specs.Words.{among}
-use Rattle.numbers.specs.Limits.{maxClients}
+use Rattle.numbers.specs.Limits.{maxClock, maxClients}
 use Rattle.numbers.specs.Output.{padded}
-use Rattle.decoder.specs.declared.State.{State}
-use Rattle.decoder.specs.declared.Draw.{Draw}
-use Rattle.decoder.specs.declared.Draw.the-variants as draw
-use Rattle.decoder.specs.Fields.{startAt, bounded, varAt, client1, clockAt}
-use Rattle.decoder.specs.Course.{Course, item, over, stopped, drawn, items, ending}
-use Rattle.vector.specs.declared.Next.{Next}
-use Rattle.vector.specs.declared.Next.the-variants as next
+use Rattle.grammar.specs.Grammar.{client, upTo, number, Grammar, emit, stop, done, draw, _>>=_}
+use Rattle.grammar.specs.Course.{Course, run, items, ending}
+use Rattle.decoder.specs.Line.{line}
 use Rattle.vector.specs.declared.Entries.{Entries}
 use Rattle.vector.specs.declared.Entries.the-variants.{Read, Refused}
 use Rattle.vector.specs.declared.Vector.{Vector}
@@ -38,14 +35,19 @@ unfoldable pub holds : ℕ → List Entry → Bool
 holds c es = among c (clientsIn es)
 
 -- n entries more, after those seen: a client twice is refused with 4 before its clock is read
-unfoldable pub entries : ℕ → List ℕ → List Entry → State → Course Entry
-entries zero v seen s = over s
-entries (suc n) v seen s =
-    drawn (client1 v s) (λ c p t. pick (holds c seen) (stopped (record { number = 4; place = p }))
-    (drawn (clockAt v t) (λ k q w. item (entry c k) p (entries n v (seen ++ (entry c k ∷ [])) w))))
+unfoldable pub entries : ℕ → List Entry → Grammar Entry (Unit {0})
+entries zero seen = done tt
+entries (suc n) seen = do
+  (c, at) ← draw (number client)
+  pick (holds c seen) (stop 4 at) (do
+    (k, _) ← draw (number (upTo maxClock))
+    emit (entry c k) at (entries n (seen ++ (entry c k ∷ []))))
+
+unfoldable pub aVector : Grammar Entry (Unit {0})
+aVector = draw (number (upTo maxClients)) >>= λ (n, _). entries n []
 
 unfoldable pub vectorOf : List ℕ → Course Entry
-vectorOf v = drawn (bounded maxClients (varAt v (startAt 1 0))) (λ n p s. entries n v [] s)
+vectorOf v = run (line 1 v) aVector 0
 
 -- ---- what is read of it: all entries or none
 
@@ -55,23 +57,6 @@ entriesOf c = ending c (λ s. Read (length (items c))) (λ why. Refused why)
 unfoldable pub kept : Course Entry → List Entry
 kept c = ending c (λ s. items c) (λ why. [])
 
--- ---- an entry by itself, where these clients are seen
-
-unfoldable pub withClock : ℕ → Draw → Next
-withClock c (draw.Number k q w) = next.Entry c k w
-withClock c (draw.Refused why) = next.Refused why
-
-unfoldable pub withClient : List ℕ → List ℕ → Draw → Next
-withClient v seen (draw.Number c p t) = pick (among c seen) (next.Refused (record { number = 4; place = p })) (withClock c (clockAt v t))
-withClient v seen (draw.Refused why) = next.Refused why
-
-unfoldable pub nextEntry : List ℕ → List ℕ → State → Next
-nextEntry v seen s = withClient v seen (client1 v s)
-
-abbrev pub whyNext : Next → Refusal
-whyNext (next.Entry c k s) = none
-whyNext (next.Refused why) = why
-
 abbrev pub whyEntries : Entries → Refusal
 whyEntries (Read n) = none
 whyEntries (Refused why) = why
@@ -79,6 +64,13 @@ whyEntries (Refused why) = why
 abbrev pub countIn : Entries → ℕ
 countIn (Read n) = n
 countIn (Refused why) = 0
+
+-- read into words for clients and clocks, which are now xs and ys
+pub record Filled (v : List ℕ) (r : Entries) (xs ys : List ℕ) : Type 0 where
+  pub answer : r ≡ entriesOf (vectorOf v)
+  pub few : countIn r ≤ maxClients
+  pub clients : take (countIn r) xs ≡ clientsIn (kept (vectorOf v))
+  pub clocks : take (countIn r) ys ≡ clocksIn (kept (vectorOf v))
 
 -- ---- two words an entry, into so many
 

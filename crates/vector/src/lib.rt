@@ -1,7 +1,6 @@
 // A state vector: how many entries, then a client and its clock each, as in 02 05 03 07 00: client 5 up to 3, client 7 up to 0.
 // What comes after the entries is not read.
-use decoder::Draw;
-use decoder::State;
+use numbers::Read;
 use numbers::Refusal;
 use numbers::words;
 ghost use mathlib.Core.Path.{_≡_};
@@ -10,17 +9,12 @@ ghost use Prim.Native.Nat.{_*_, _≤_};
 ghost use lib.ListN.{length, take};
 ghost use Rattle.numbers.specs.Limits.{maxClients};
 ghost use Rattle.numbers.specs.Output.{padded};
-ghost use Rattle.vector.specs.Vector.{clientsIn, clocksIn, entries, vectorOf, entriesOf, kept, nextEntry, whyNext, whyEntries, countIn, joined, vectorAnswer, vectorWords};
+ghost use Rattle.decoder.specs.Line.{numberAt, upTo};
+ghost use Rattle.vector.specs.Vector.{clientsIn, clocksIn, vectorOf, entriesOf, kept, Filled, whyEntries, countIn, joined, vectorAnswer, vectorWords};
 
 // How many entries were read.
 pub enum Entries {
     Read(usize),
-    Refused(Refusal),
-}
-
-// A client and its clock.
-pub enum Next {
-    Entry(u64, u64, State),
     Refused(Refusal),
 }
 
@@ -31,76 +25,58 @@ pub struct Vector {
     pub count: usize,
 }
 
-// The entry at a place, after those of n clients: 3 of the client, 4, then 3 of the clock.
-fn next_entry(vector: &[u8], clients: &[u64], n: usize, s: State) -> Next
-    requires { ⌜ n ≤ length (now clients) ⌝ }
-    ensures { λ r. ⌜ r ≡ nextEntry (now (vector .entry)) (take n (now (clients .entry))) s ⌝ }
+// A number, and the place after it; over `most` it is refused.
+fn read_up_to(vector: &[u8], at: usize, most: u64) -> Read
+    ensures { λ r. ⌜ upTo most (now (vector .entry)) at ≡ numberAt at r ⌝ }
 {
-    let c = decoder::v1::read_client(vector, s);
-    let Draw::Number(client, place, t) = c else {
-        return Next::Refused(decoder::why(c));
+    let r = numbers::read_unsigned(vector, at);
+    let Read::Number(v, _) = r else {
+        return r;
     };
-    let seen = words::is_among(clients, n, client);
-    if seen {
-        return Next::Refused(Refusal { number: 4, place });
+    if most < v {
+        return Read::Refused(Refusal {
+            number: 3,
+            place: at,
+        });
     }
-    let k = decoder::read_clock(vector, t);
-    let Draw::Number(clock, _, e) = k else {
-        return Next::Refused(decoder::why(k));
-    };
-    Next::Entry(client, clock, e)
+    r
 }
 
-fn why_next(e: Next) -> Refusal
-    ensures { λ w. ⌜ w ≡ whyNext e ⌝ }
+// How many entries are announced, and then each of them: 3 of the client, 4, then 3 of the clock. What a refusal leaves in the words means
+// nothing.
+fn read_announced(vector: &[u8], clients: &mut [u64], clocks: &mut [u64]) -> Entries
+    requires { ⌜ (maxClients ≤ length (now clients)) × (maxClients ≤ length (now clocks)) ⌝ }
+    ensures { λ r. ⌜ Filled (now (vector .entry)) r (now (clients .exit)) (now (clocks .exit)) ⌝ }
 {
-    match e {
-        Next::Entry(_, _, _) => Refusal {
-            number: 0,
-            place: 0,
-        },
-        Next::Refused(w) => w,
-    }
-}
-
-// So many entries, from the first word on; what a refusal leaves there means nothing.
-fn read_each(
-    vector: &[u8],
-    s: State,
-    count: usize,
-    clients: &mut [u64],
-    clocks: &mut [u64],
-) -> Entries
-    requires { ⌜ (count ≤ length (now clients)) × (count ≤ length (now clocks)) ⌝ }
-    ensures { λ r. ⌜ (r ≡ entriesOf (entries count (now (vector .entry)) [] s)) × (countIn r ≤ count) × (take (countIn r) (now (clients .exit)) ≡ clientsIn (kept (entries count (now (vector .entry)) [] s))) × (take (countIn r) (now (clocks .exit)) ≡ clocksIn (kept (entries count (now (vector .entry)) [] s))) ⌝ }
-{
-    let mut s = s;
+    let d = read_up_to(vector, 0, numbers::MAX_CLIENTS);
+    let Read::Number(n, first) = d else {
+        return Entries::Refused(numbers::why_read(d));
+    };
+    let count = n as usize;
+    let mut at = first;
     let mut i = 0;
     while i < count {
-        let e = next_entry(vector, clients, i, s);
-        let Next::Entry(client, clock, t) = e else {
-            return Entries::Refused(why_next(e));
+        let c = read_up_to(vector, at, numbers::MAX_VALUE);
+        let Read::Number(client, t) = c else {
+            return Entries::Refused(numbers::why_read(c));
+        };
+        let seen = words::is_among(clients, i, client);
+        if seen {
+            return Entries::Refused(Refusal {
+                number: 4,
+                place: at,
+            });
+        }
+        let k = read_up_to(vector, t, numbers::MAX_CLOCK);
+        let Read::Number(clock, e) = k else {
+            return Entries::Refused(numbers::why_read(k));
         };
         clients[i] = client;
         clocks[i] = clock;
-        s = t;
+        at = e;
         i += 1;
     }
     Entries::Read(i)
-}
-
-// How many entries are announced, and then each of them.
-fn read_announced(vector: &[u8], clients: &mut [u64], clocks: &mut [u64]) -> Entries
-    requires { ⌜ (maxClients ≤ length (now clients)) × (maxClients ≤ length (now clocks)) ⌝ }
-    ensures { λ r. ⌜ (r ≡ entriesOf (vectorOf (now (vector .entry)))) × (countIn r ≤ maxClients) × (take (countIn r) (now (clients .exit)) ≡ clientsIn (kept (vectorOf (now (vector .entry))))) × (take (countIn r) (now (clocks .exit)) ≡ clocksIn (kept (vectorOf (now (vector .entry))))) ⌝ }
-{
-    let start = decoder::start(1, 0);
-    let d = decoder::within(decoder::read_var(vector, start), numbers::MAX_CLIENTS);
-    let Draw::Number(n, _, s) = d else {
-        return Entries::Refused(decoder::why(d));
-    };
-    let count = n as usize;
-    read_each(vector, s, count, clients, clocks)
 }
 
 fn count_of(r: Entries) -> usize

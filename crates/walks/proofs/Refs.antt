@@ -6,6 +6,7 @@
 --     calls-by         a call, by the card. π: where the references that it takes stand in hs, in the order of its parameters. The rest is kept, and each comes back to its place
 --     calls-by-last    the same, where the call is the last statement of its part
 --     Loose, calls-loosely   a callee of which nothing is known but that it comes back, and a call of it
+--     Told, calls-knowing    a callee of which φ is known, of what it gives and of the lists, and a call of it
 --     knows            how long each list is, learned
 --     enters, leaves   from what a function has on entry to `refs`, and from `refs` to what it has at exit.        leaves-freely   of a function whose contract says nothing
 -- Assumes `Given`.
@@ -407,6 +408,11 @@ pub record Loose {M : Type 1} (𝓤 : URA M) (H : Heap 𝓤) (A : Atoms 𝓤) (C
   pub out : (ns : Names ps) (v : Val) → ent 𝓤 (contract .post (ghost (bound ps ns)) v)
       (H .⇛ (ex 𝓤 (λ (r : kr .row .Denot). sep 𝓤 (sep 𝓤 (sem 𝓤 H A (toks ps ns)) (sem 𝓤 H A (kr .row .own r (v ∷ [])))) (ex 𝓤 (λ (ws : Fins ps). sep 𝓤 (sem 𝓤 H A (lasts ps ns ws)) (ensured (bound ps ns) r ws))))))
 
+-- and φ of what it gives and of the lists
+pub record Told {M : Type 1} (𝓤 : URA M) (H : Heap 𝓤) (A : Atoms 𝓤) (C : Calls 𝓤 H) (f : Name) (ps : List Arg) (kr : Kind) (φ : kr .row .Denot → Fins ps → Type 0) : Type 3 where
+  pub loose : Loose 𝓤 H A C f ps kr
+  pub said : (ns : Names ps) (r : kr .row .Denot) (ws : Fins ps) → ent 𝓤 (loose .ensured (bound ps ns) r ws) (fact 𝓤 (φ r ws))
+
 -- and that it gives r₀ and the lists that the arguments name
 pub record Card {M : Type 1} (𝓤 : URA M) (H : Heap 𝓤) (A : Atoms 𝓤) (C : Calls 𝓤 H) (f : Name) (ps : List Arg) (kr : Kind) (r₀ : kr .row .Denot) : Type 3 where
   pub contract : Contract 𝓤
@@ -493,6 +499,17 @@ module _ {M : Type 1} {𝓤 : URA M} {H : Heap 𝓤} {A : Atoms 𝓤} {K : Type 
   calls-loosely t fm {rest} π hs {ps} {kr} cd same os s = hands t π hs ps kr cd tt same (λ ns.
       calls-from t fm (raw (cd .contract .pre (cd .ghost (bound ps ns))) ⊛ ‵ (Kept π hs ps ns)) (vals ps) (λ v. sep 𝓤 (cd .contract .post (cd .ghost (bound ps ns)) v) (sem 𝓤 H A (Kept π hs ps ns))) (met 𝓤 H A W C f π hs ps kr cd fm ns) (os _)
       (λ v. lands-back t π hs ps kr cd tt (λ (u : Val). lands C Λ E d u rest p) v refl ns (λ r ws g. drop t $ s r ws g)))
+
+  -- a call of which φ is known
+  pub calls-knowing : K → FmC 𝓤 H (W .laws) C → {rest : Body} (π : List ℕ) (hs : List Held) {ps : List Arg} {kr : Kind} {φ : kr .row .Denot → Fins ps → Type 0} → Told 𝓤 H A C f ps kr φ → picks π hs ≡ taken ps
+      → ((P : Item 𝓤) → Opds K W (P ∷ Γ) E xs (vals ps))
+      → ((r : kr .row .Denot) (ws : Fins ps) → Good kr r → φ r ws → Seq K W (‵ (refs (puts π (back-with ps ws) hs)) ∷ Γ) (lands C Λ E d (kr .val r) rest p))
+      → Seq K W (‵ (refs hs) ∷ Γ) (runs C Λ E (seq (call f xs d) rest) p)
+  calls-knowing t fm {rest} π hs {ps} {kr} {φ} td same os s =
+      let cd : Loose 𝓤 H A C f ps kr = td .loose in
+      hands t π hs ps kr cd tt same (λ ns.
+      calls-from t fm (raw (cd .contract .pre (cd .ghost (bound ps ns))) ⊛ ‵ (Kept π hs ps ns)) (vals ps) (λ v. sep 𝓤 (cd .contract .post (cd .ghost (bound ps ns)) v) (sem 𝓤 H A (Kept π hs ps ns))) (met 𝓤 H A W C f π hs ps kr cd fm ns) (os _)
+      (λ v. lands-back t π hs ps kr cd tt (λ (u : Val). lands C Λ E d u rest p) v refl ns (λ r ws g. use1 W (raw (fact 𝓤 (φ r ws))) (td .said ns r ws) $ heard t (φ r ws) (λ e. s r ws g e))))
 
 -- ---- a function's own parameters, as arguments: val, pass, and mut from the list on entry to the list at exit
 abbrev pub held-toks : List Arg → Fml

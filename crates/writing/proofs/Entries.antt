@@ -7,7 +7,7 @@ use Rattle.numbers.specs.declared.Refusal.{Refusal}
 use Rattle.numbers.specs.declared.Written.{Written}
 use Rattle.numbers.specs.Output.{padded, refusal}
 use Rattle.block.specs.declared.Block.{Block}
-use Rattle.decoder.specs.Course.{Course}
+use Rattle.grammar.specs.Course.{Course}
 use Rattle.ranges.specs.Ranges.{Range}
 use Rattle.vector.specs.declared.Entries.the-variants.{Read, Refused}
 use Rattle.vector.specs.Vector.{Entry, clientsIn, clocksIn, kept}

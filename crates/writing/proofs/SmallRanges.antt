@@ -1,6 +1,8 @@
 -- The ranges of a delete set are not more than the bytes of the update: each has drawn at least one of them.
 use Prim.Native.Nat.{ℕ, zero, suc, _+_, _-_, _≤_, _<_}
+use mathlib.Core.Path.{_≡_}
 use mathlib.Core.Logic.{⊎-elim}
+use mathlib.Core.Bool.{Bool, true, false}
 use mathlib.Core.List.{List}
 use native.Mathlib.Omega.{arith}
 use lib.Dec.{ltb, eqb}
@@ -8,120 +10,118 @@ use lib.ListN.{length}
 use Rattle.numbers.specs.declared.Read.{Read}
 use Rattle.numbers.specs.declared.Refusal.{Refusal}
 use Rattle.numbers.specs.declared.Read.the-variants as read
-use Rattle.numbers.specs.Number.{placed, readUnsigned}
+use Rattle.numbers.specs.Number.{pick, placed, readUnsigned}
 use Rattle.numbers.specs.Limits.{maxClock, maxValue, maxClients}
 use Rattle.numbers.proofs.Inside.{Reads, unsigned-inside}
 use Rattle.numbers.proofs.Laws.{at-end, below-or}
-use Rattle.decoder.specs.declared.State.{State}
-use Rattle.decoder.specs.declared.Draw.{Draw}
-use Rattle.decoder.specs.declared.Draw.the-variants.{Number, Refused}
-use Rattle.decoder.specs.Fields.{bounded, restoredBy, varDraw, varAt, clockAt, client1, dsClock, dsLen}
-use Rattle.decoder.specs.Course.{Course, item, over, stopped, drawn, fit, items}
 use Rattle.ranges.specs.Ranges.{Range, normal}
 use Rattle.ranges.specs.Table.{range}
 use Rattle.ranges.proofs.Theory.{normal-length}
-use Rattle.deletes.specs.DeleteSet.{clockIn, lenIn, ranges, clients, deleteSet}
-use Rattle.readings.proofs.Columns.{chosen}
+use Rattle.grammar.specs.Grammar.{Grammar, _>>=_}
+use Rattle.grammar.specs.Course.{Drawn, got, not, Course, item, over, stopped, onDrawn, run, fit, items}
+use Rattle.grammar.specs.Deletes.{ranges, clients, allRanges}
+use Rattle.decoder.specs.Line.{numberAt, varAt, bounded, upTo, restored, deleteAt, numberOf, line}
+use Rattle.decoder.specs.Update.{deleteSet}
+
+chosen : {A : Type 0} (P : A → Type 0) (b : Bool) {x y : A} → P x → P y → P (pick b x y)
+chosen P true p q = p
+chosen P false p q = q
 
 -- ---- a number drawn moves forward and stays inside
 
-module _ (u : List ℕ) (s : State) where
-  abbrev Forward : Draw → Type 0
-  Forward (Number v p t) = (s .at < t .at) × (t .at ≤ length u)
-  Forward (Refused why) = Unit {0}
+module _ (form : ℕ) (u : List ℕ) (at : ℕ) where
+  abbrev Forward : Drawn ℕ (ℕ × ℕ) → Type 0
+  Forward (got a e) = (at < e) × (e ≤ length u)
+  Forward (not why) = Unit {0}
 
-  read-forward : Forward (varDraw s (readUnsigned u (s .at)))
-  unfolding varDraw readUnsigned placed
-  read-forward = ⊎-elim
-      (λ l. go (readUnsigned u (s .at)) (unsigned-inside u (s .at) (omega arith)))
-      (λ g. rw (at-end u 9 (s .at) (omega arith) g) tt)
-      (below-or (s .at) (length u))
+  var-forward : Forward (varAt u at)
+  unfolding varAt numberAt readUnsigned placed
+  var-forward = ⊎-elim
+      (λ l. go (readUnsigned u at) (unsigned-inside u at (omega arith)))
+      (λ g. rw (at-end u 9 at (omega arith) g) tt)
+      (below-or at (length u))
     where
-      go : (r : Read) → Reads u (s .at) r → Forward (varDraw s r)
+      go : (r : Read) → Reads u at r → Forward (numberAt at r)
       go (read.Number x e) h = h
       go (read.Refused why) h = tt
 
-  var-forward : Forward (varAt u s)
-  unfolding varAt
-  var-forward = read-forward
-
-  bounded-forward : (most : ℕ) (d : Draw) → Forward d → Forward (bounded most d)
+  bounded-forward : (most : ℕ) (d : Drawn ℕ (ℕ × ℕ)) → Forward d → Forward (bounded most d)
   unfolding bounded
-  bounded-forward most (Number v p t) h = chosen Forward (ltb most v) (λ _. tt) (λ _. h)
-  bounded-forward most (Refused why) h = tt
+  bounded-forward most (got a e) h = chosen Forward (ltb most (a .0)) tt h
+  bounded-forward most (not why) h = tt
 
-  restored-forward : (by : ℕ) (d : Draw) → Forward d → Forward (restoredBy by d)
-  unfolding restoredBy
-  restored-forward by (Number v p t) h = chosen Forward (ltb maxClock (by + v)) (λ _. tt) (λ _. h)
-  restored-forward by (Refused why) h = tt
+  restored-forward : (by : ℕ) (d : Drawn ℕ (ℕ × ℕ)) → Forward d → Forward (restored by d)
+  unfolding restored
+  restored-forward by (got a e) h = chosen Forward (ltb maxClock (by + a .0)) tt h
+  restored-forward by (not why) h = tt
 
-  clock-forward : (end : ℕ) → Forward (clockIn u s end)
-  unfolding clockIn clockAt dsClock
-  clock-forward end =
-      chosen Forward (eqb (s .form) 1) (λ _. bounded-forward maxClock (varAt u s) var-forward) (λ _. restored-forward end (varAt u s) var-forward)
+  up-to-forward : (most : ℕ) → Forward (upTo most u at)
+  unfolding upTo
+  up-to-forward most = bounded-forward most (varAt u at) var-forward
 
-  len-forward : Forward (lenIn u s)
-  unfolding lenIn clockAt dsLen
-  len-forward = chosen Forward (eqb (s .form) 1) (λ _. bounded-forward maxClock (varAt u s) var-forward) (λ _. restored-forward 1 (varAt u s) var-forward)
-
-  client-forward : Forward (client1 u s)
-  unfolding client1
-  client-forward = bounded-forward maxValue (varAt u s) var-forward
+  delete-forward : (by : ℕ) → Forward (deleteAt form by u at)
+  unfolding deleteAt
+  delete-forward by = chosen Forward (eqb form 1) (up-to-forward maxClock) (restored-forward by (varAt u at) var-forward)
 
 -- ---- what comes after a draw may be one more than the bytes that are left
 
-module _ (u : List ℕ) where
-  abbrev Few : State → Course Range → Type 0
-  Few s c = length (items c) ≤ length u - s .at
+module _ (form : ℕ) (u : List ℕ) where
+  abbrev Few : ℕ → Course Range → Type 0
+  Few at c = length (items c) ≤ length u - at
 
-  abbrev OneMore : State → Course Range → Type 0
-  OneMore s c = length (items c) ≤ suc (length u - s .at)
+  abbrev OneMore : ℕ → Course Range → Type 0
+  OneMore at c = length (items c) ≤ suc (length u - at)
 
-  one-more : (s : State) (c : Course Range) → Few s c → OneMore s c
-  one-more s c h = omega arith
+  one-more : (at : ℕ) (c : Course Range) → Few at c → OneMore at c
+  one-more at c h = omega arith
 
-  none-more : (s : State) (why : Refusal) → OneMore s (stopped why)
+  none-more : (at : ℕ) (why : Refusal) → OneMore at (stopped why)
   unfolding items
-  none-more s why = omega arith
+  none-more at why = omega arith
 
-  over-few : (s : State) → Few s (over s)
+  over-few : (at : ℕ) → Few at (over tt at)
   unfolding items
-  over-few s = omega arith
+  over-few at = omega arith
 
-  item-more : (s : State) (r : Range) (p : ℕ) (c : Course Range) → Few s c → OneMore s (item r p c)
+  item-more : (at : ℕ) (r : Range) (p : ℕ) (c : Course Range) → Few at c → OneMore at (item r p c)
   unfolding items
-  item-more s r p c h = omega arith
+  item-more at r p c h = omega arith
 
-  drawn-few : (s : State) (d : Draw) (then : ℕ → ℕ → State → Course Range) → Forward u s d → ((v p : ℕ) (t : State) → OneMore t (then v p t)) → Few s (drawn d then)
-  unfolding drawn items
-  drawn-few s (Number v p t) then f h = omega (arith, f .0, f .1, h v p t)
-  drawn-few s (Refused why) then f h = omega arith
+  drawn-few : (at : ℕ) (d : Drawn ℕ (ℕ × ℕ)) (then : ℕ × ℕ → ℕ → Course Range) → Forward form u at d → ((a : ℕ × ℕ) (t : ℕ) → OneMore t (then a t)) → Few at (onDrawn d then)
+  unfolding onDrawn items
+  drawn-few at (got a e) then f h = omega (arith, f .0, f .1, h a e)
+  drawn-few at (not why) then f h = omega arith
 
-  module _ (client : ℕ) (then : State → Course Range) (rest : (t : State) → Few t (then t)) where
-    ranges-left : (k end : ℕ) (s : State) → Few s (ranges k u client end s then)
-    unfolding ranges
-    ranges-left zero end s = rest s
-    ranges-left (suc k) end s =
-        drawn-few s (clockIn u s end) _ (clock-forward u s end) (λ clock p t.
-        one-more t _ (drawn-few t (lenIn u t) _ (len-forward u t) (λ len q v.
-        chosen (OneMore v) (ltb maxClock (clock + len)) (λ _. none-more v _)
-        (λ _. chosen (OneMore v) (eqb len 0) (λ _. one-more v _ (ranges-left k (clock + len) v))
-        (λ _. item-more v (range client clock len) p _ (ranges-left k (clock + len) v))))))
+  -- a choice of grammars, and what follows either
+  picked : (b : Bool) (x y : Grammar Range (Unit {0})) (g : Unit {0} → Grammar Range (Unit {0})) (at : ℕ)
+      → OneMore at (run (line form u) (x >>= g) at) → OneMore at (run (line form u) (y >>= g) at) → OneMore at (run (line form u) (pick b x y >>= g) at)
+  picked true x y g at p q = p
+  picked false x y g at p q = q
 
-  clients-left : (n : ℕ) (s : State) → Few s (clients n u s)
-  unfolding clients
-  clients-left zero s = over-few s
-  clients-left (suc n) s =
-      drawn-few s (client1 u s) _ (client-forward u s) (λ client p t.
-      one-more t _ (drawn-few t (varAt u t) _ (var-forward u t) (λ k q v. one-more v _ (ranges-left client (clients n u) (clients-left n) k 0 v))))
+  module _ (client : ℕ) (g : Unit {0} → Grammar Range (Unit {0})) (rest : (t : ℕ) → Few t (run (line form u) (g tt) t)) where
+    ranges-left : (k end at : ℕ) → Few at (run (line form u) (ranges k client end >>= g) at)
+    unfolding ranges run line numberOf _>>=_
+    ranges-left zero end at = rest at
+    ranges-left (suc k) end at =
+        drawn-few at (deleteAt form end u at) _ (delete-forward form u at end) (λ c t.
+        one-more t _ (drawn-few t (deleteAt form 1 u t) _ (delete-forward form u t 1) (λ l v.
+        picked (ltb maxClock (c .0 + l .0)) _ _ g v (none-more v _)
+        (picked (eqb (l .0) 0) _ _ g v (one-more v _ (ranges-left k (c .0 + l .0) v))
+        (item-more v (range client (c .0) (l .0)) (c .1) _ (ranges-left k (c .0 + l .0) v))))))
 
-  set-left : (s : State) → Few s (deleteSet u s)
-  unfolding deleteSet
-  set-left s =
-      drawn-few s (bounded maxClients (varAt u s)) _ (bounded-forward u s maxClients (varAt u s) (var-forward u s)) (λ n p t. one-more t _ (clients-left n t))
+  clients-left : (n at : ℕ) → Few at (run (line form u) (clients n) at)
+  unfolding clients run line numberOf _>>=_
+  clients-left zero at = over-few at
+  clients-left (suc n) at =
+      drawn-few at (upTo maxValue u at) _ (up-to-forward form u at maxValue) (λ c t.
+      one-more t _ (drawn-few t (varAt u t) _ (var-forward form u t) (λ k v. one-more v _ (ranges-left (c .0) (λ _. clients n) (λ w. clients-left n w) (k .0) 0 v))))
 
-  pub ranges-few : (s : State) → length (items (deleteSet u s)) ≤ length u
-  ranges-few s = omega (arith, set-left s)
+  set-left : (at : ℕ) → Few at (deleteSet form u at)
+  unfolding deleteSet allRanges run line numberOf _>>=_
+  set-left at = drawn-few at (upTo maxClients u at) _ (up-to-forward form u at maxClients) (λ n t. one-more t _ (clients-left (n .0) t))
+
+  pub ranges-few : (at : ℕ) → length (items (deleteSet form u at)) ≤ length u
+  ranges-few at = omega (arith, set-left at)
 
 -- ---- rows, and the normal form
 
@@ -129,14 +129,14 @@ fit-less : {A : Type 0} (c : Course A) (n : ℕ) → length (items (fit n c)) �
 unfolding fit items
 fit-less (item a p c) zero = omega arith
 fit-less (item a p c) (suc n) = omega (arith, fit-less c n)
-fit-less (over s) zero = omega arith
-fit-less (over s) (suc n) = omega arith
+fit-less (over x s) zero = omega arith
+fit-less (over x s) (suc n) = omega arith
 fit-less (stopped why) zero = omega arith
 fit-less (stopped why) (suc n) = omega arith
 
-module _ (u : List ℕ) (s : State) (n : ℕ) where
-  pub fit-few : length (items (fit n (deleteSet u s))) ≤ length u
-  fit-few = omega (arith, fit-less (deleteSet u s) n, ranges-few u s)
+module _ (form : ℕ) (u : List ℕ) (at : ℕ) (n : ℕ) where
+  pub fit-few : length (items (fit n (deleteSet form u at))) ≤ length u
+  fit-few = omega (arith, fit-less (deleteSet form u at) n, ranges-few form u at)
 
-  pub found-few : length (normal (items (fit n (deleteSet u s)))) ≤ length u
-  found-few = omega (arith, normal-length (items (fit n (deleteSet u s))), fit-few)
+  pub found-few : length (normal (items (fit n (deleteSet form u at)))) ≤ length u
+  found-few = omega (arith, normal-length (items (fit n (deleteSet form u at))), fit-few)

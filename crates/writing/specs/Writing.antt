@@ -9,7 +9,7 @@ use Rattle.numbers.specs.declared.Written.{Written}
 use Rattle.numbers.specs.Number.{pick}
 use Rattle.numbers.specs.Output.{padded, refusal, done}
 use Rattle.block.specs.declared.Block.{Block}
-use Rattle.decoder.specs.Course.{Course, items, ending}
+use Rattle.grammar.specs.Course.{Course, items, ending}
 use Rattle.ranges.specs.Ranges.{Range}
 use Rattle.vector.specs.Vector.{Entry}
 use Rattle.encoder.specs.Passes.{outcomeFor, wordsFor}

@@ -9,7 +9,6 @@ use lib.Dec.{ltb, eqb}
 use lib.ListN.{length}
 use borrow.Author.Tests.{ltb-true, ltb-false, lt-ltb, le-ltb, eq-eqb, ne-eqb, eqb-true, eqb-false}
 use Rattle.numbers.specs.Number.{pick}
-use Rattle.text.specs.declared.Taken.the-variants as units
 use Rattle.text.specs.Utf8.{wellFormed, after, settled}
 use Rattle.block.specs.declared.Block.{Block}
 use Rattle.block.specs.Row.{noId, noPart}

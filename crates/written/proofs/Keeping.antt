@@ -6,16 +6,13 @@ use mathlib.Core.Bool.{Bool, true, false}
 use mathlib.Core.List.{List, [], _∷_}
 use native.Mathlib.Omega.{arith}
 use lib.Dec.{eqb}
-use lib.ListN.{length}
 use borrow.Author.Tests.{eqb-true, eqb-false}
 use Rattle.block.specs.declared.Block.{Block}
-use Rattle.decoder.specs.declared.State.{State}
-use Rattle.decoder.specs.Course.{fit, items}
+use Rattle.grammar.specs.Course.{fit, items}
+use Rattle.decoder.specs.Update.{blocksOf, deleteSet}
 use Rattle.vector.specs.Vector.{Entry}
 use Rattle.ranges.specs.Ranges.{normal}
 use Rattle.ranges.proofs.Theory.{normal-is}
-use Rattle.deletes.specs.DeleteSet.{deleteSet}
-use Rattle.update.specs.Update.{blocksOf}
 use Rattle.readings.specs.Sound.{Sound, All}
 use Rattle.readings.proofs.Groups.{all-map}
 use Rattle.readings.proofs.Sounds.{blocks-sound}
@@ -83,11 +80,11 @@ kept-sections form u v clean =
       pieces = omega (arith, sections-count v bs, blocks-count form u);
     }
 
--- and its delete ranges, with so many rows
-pub kept-ranges : (u : List ℕ) (s : State) (n : ℕ) → KeptRanges (normal (items (fit n (deleteSet u s))))
-kept-ranges u s n =
+-- and its delete ranges, from a place on, with so many rows
+pub kept-ranges : (form : ℕ) (u : List ℕ) (at n : ℕ) → KeptRanges (normal (items (fit n (deleteSet form u at))))
+kept-ranges form u at n =
     record {
-      normal = normal-is (items (fit n (deleteSet u s))) .0;
-      fine = normal-fine (items (fit n (deleteSet u s))) (fit-fine u s n);
-      clients = range-clients u s n;
+      normal = normal-is (items (fit n (deleteSet form u at))) .0;
+      fine = normal-fine (items (fit n (deleteSet form u at))) (fit-fine form u at n);
+      clients = range-clients form u at n;
     }

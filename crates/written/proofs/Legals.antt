@@ -1,6 +1,6 @@
 -- The tokens of a writable record can be written and read again.
 use Prim.Native.Nat.{ℕ, _+_, _≤_, _<_}
-use mathlib.Core.Path.{_≡_, refl, sym, ap}
+use mathlib.Core.Path.{_≡_, refl}
 use mathlib.Core.Bool.{Bool, true, false}
 use mathlib.Core.List.{List, [], _∷_, _++_}
 use native.Mathlib.Omega.{arith}
@@ -10,12 +10,10 @@ use borrow.Author.Tests.{eqb-false}
 use Rattle.numbers.specs.Number.{pick}
 use Rattle.numbers.specs.Limits.{maxClock, maxUpdate}
 use Rattle.text.specs.declared.Part.{Part}
-use Rattle.text.specs.declared.Units.{Units}
-use Rattle.text.specs.Utf8.{wellFormed, unitsOf}
+use Rattle.text.specs.Utf8.{wellFormed, unitsOf, countedIn}
 use Rattle.text.proofs.Laws.{units-le-bytes}
 use Rattle.block.specs.declared.Id.{Id}
 use Rattle.block.specs.declared.Block.{Block}
-use Rattle.decoder.proofs.Laws.{whole-units}
 use Rattle.readings.specs.Sound.{bytesIn, SoundId, linked, Sound}
 use Rattle.readings.proofs.Columns.{chosen}
 use Rattle.tokens.specs.Tokens.{Token, client, left, right, info, parentInfo, text, len, var, buf}
@@ -41,7 +39,8 @@ module _ (u : List ℕ) (few : length u ≤ maxUpdate) where
   text-legal p n w e = (w, e, omega (arith, part-length p, units-le-bytes (bytesIn u p)))
 
   name-legal : (p : Part) → wellFormed (bytesIn u p) ≡ true → Legal (name u p)
-  name-legal p w = text-legal p _ w (sym (ap (λ (n : Units). n .0) (whole-units (bytesIn u p) w)))
+  unfolding countedIn
+  name-legal p w = text-legal p (countedIn (bytesIn u p) .units .0) w (rw w)
 
   buf-legal : (p : Part) → Legal (buf (bytesIn u p))
   unfolding Legal

@@ -1,7 +1,7 @@
 -- A diff that is written is read again: a block (Blocks), the sections (Sections), the delete set (Deletes), all of it (Whole). What is cut out of a
 -- sound row can be written (Cuts), so its tokens are legal (LegalUpdate), and what a diff keeps of any update is as these laws ask (Keeping).
-pub mod Opens
 pub mod Infos
+pub mod Courses
 pub mod Ids
 pub mod Roots
 pub mod Contents
@@ -9,7 +9,6 @@ pub mod Places
 pub mod Blocks
 pub mod Texts
 pub mod Cuts
-pub mod Courses
 pub mod Pieces
 pub mod Sections
 pub mod Deletes

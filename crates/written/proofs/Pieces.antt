@@ -11,30 +11,29 @@ use Rattle.numbers.specs.Number.{pick}
 use Rattle.numbers.specs.Limits.{maxClock}
 use Rattle.text.specs.declared.Units.{Units}
 use Rattle.block.specs.declared.Block.{Block}
-use Rattle.decoder.specs.declared.State.{State}
-use Rattle.decoder.specs.Course.{Course, item}
-use Rattle.update.specs.declared.Decoded.the-variants as decoded
-use Rattle.update.specs.Update.{blockOf, dropped, kept, ended, blocks}
+use Rattle.grammar.specs.Course.{Reader, item, over, run}
+use Rattle.grammar.specs.Blocks.{block, dropped, kept, blocks}
 use Rattle.readings.specs.Sound.{linked, Sound, All, Adjoins, Chain}
 use Rattle.readings.proofs.Columns.{chosen}
-use Rattle.draws.specs.Draws.{Draws}
+use Rattle.draws.specs.Draws.{Draws, Lined}
 use Rattle.draws.proofs.Splits.{split}
 use Rattle.kept.specs.Kept.{Piece}
 use Rattle.kept.specs.Cut.{cutRow}
 use Rattle.records.specs.Records.{blockTokens, piecesTokens, startOf}
 use Rattle.written.specs.Written.{reread, Writable, piecesRead, Goes, AlikeIn}
 use Rattle.written.specs.Kept.{KeptPiece, Later, rowOf}
+use Rattle.written.proofs.Courses.{then-on}
 use Rattle.written.proofs.Blocks.{block-read}
 use Rattle.written.proofs.Cuts.{cut-out}
 
 -- ---- reread, a block keeps its place, its length and its kind
 
-pub record Stays (b c : Block) : Type 0 where
-  pub clock : c .clock ≡ b .clock
-  pub length : c .length ≡ b .length
-  pub kind : c .kind ≡ b .kind
+record Stays (b c : Block) : Type 0 where
+  clock : c .clock ≡ b .clock
+  length : c .length ≡ b .length
+  kind : c .kind ≡ b .kind
 
-pub reread-stays : (b : Block) → Stays b (reread b)
+reread-stays : (b : Block) → Stays b (reread b)
 unfolding reread
 reread-stays b =
     chosen (Stays b) (linked b) (λ _. record { clock = refl; length = refl; kind = refl }) (λ _. record { clock = refl; length = refl; kind = refl })
@@ -69,42 +68,43 @@ unfolding Runs startOf
 runs [] c l = tt
 runs (p ∷ ps) c l = (refl, later-runs p ps c l)
 
-module _ (d u : List ℕ) (client : ℕ) (then : State → Course Block) where
+module _ {S : Type 0} {form : ℕ} {r : Reader S} {place : S → ℕ} {d : List ℕ} (lined : Lined form d r place) (u : List ℕ) (client : ℕ) where
   -- one block more
-  step : (c : Block) (clock : ℕ) (s t : State) → Writable u c → c .client ≡ client → c .clock ≡ clock → (k : ℕ) → Draws d s (blockTokens u c) t
-      → (b : Block) × (p : ℕ) × (blocks (suc k) d client clock s then ≡ item b p (blocks k d client (clock + c .length .0) t then)) × AlikeIn d u b (reread c)
-  unfolding blocks ended kept
+  step : (c : Block) (clock : ℕ) (s t : S) → Writable u c → c .client ≡ client → c .clock ≡ clock → (k : ℕ) → Draws r d s (blockTokens u c) t
+      → (b : Block) × (p : ℕ) × (run r (blocks (suc k) client clock) s ≡ item b p (run r (blocks k client (clock + c .length .0)) t)) × AlikeIn d u b (reread c)
+  unfolding blocks kept run
   step c clock s t w e f k h =
-      let r = block-read d u c s t w h in
+      let x = block-read lined u c s t w h in
       let stays = reread-stays c in
-      let size : r .block .length .0 ≡ c .length .0 = ap (λ (n : Units). n .0) (r .alike .length ∙ stays .length) in
-      let is : blockOf d client clock s ≡ decoded.Block (r .block) (r .place) t = rw (← e, ← f) (r .is) in
-      let end : ℕ = clock + r .block .length .0 in
+      let size : x .block .length .0 ≡ c .length .0 = ap (λ (n : Units). n .0) (x .alike .length ∙ stays .length) in
+      let is : run {E = Block} r (block client clock) s ≡ over (x .block, x .place) t = rw (← e, ← f) (x .is) in
+      let end : ℕ = clock + x .block .length .0 in
       let fits : ltb maxClock end ≡ false = le-ltb maxClock end (omega (arith, w .end, stays .clock, f, ap (λ (n : Units). n .0) (stays .length))) in (
-        r .block,
-        r .place,
-        rw (is, fits, not-dropped u (reread c) w (r .block) (r .alike .length) (r .alike .kind), size),
-        r .alike,
+        x .block,
+        x .place,
+        then-on r (block client clock) (x .block, x .place) s t _ is
+            ∙ rw (fits, not-dropped u (reread c) w (x .block) (x .alike .length) (x .alike .kind), size),
+        x .alike,
       )
 
-  none-left : (clock : ℕ) (s : State) → blocks 0 d client clock s then ≡ then s
-  unfolding blocks
-  none-left clock s = refl
+  none-left : (clock : ℕ) (s m : S) → s ≡ m → run r (blocks 0 client clock) s ≡ over tt m
+  unfolding blocks run
+  none-left clock s m e = ap (over tt) e
 
-  pub pieces-read : (ps : List Piece) (clock : ℕ) (s m : State) → All (KeptPiece u) ps → All (λ (p : Piece). p .row .client ≡ client) ps → Runs clock ps
-      → Draws d s (piecesTokens u ps) m → Goes (AlikeIn d u) (piecesRead u ps) (blocks (length ps) d client clock s then) (then m)
+  pub pieces-read : (ps : List Piece) (clock : ℕ) (s m : S) → All (KeptPiece u) ps → All (λ (p : Piece). p .row .client ≡ client) ps → Runs clock ps
+      → Draws r d s (piecesTokens u ps) m → Goes (AlikeIn d u) (piecesRead u ps) (run r (blocks (length ps) client clock) s) (over tt m)
   unfolding Runs piecesTokens Draws piecesRead Goes
-  pieces-read [] clock s m k c r h = none-left clock s ∙ ap then h
-  pieces-read (p ∷ ps) clock s m k c r h =
-      let two = split d (blockTokens u (cutRow u p)) (piecesTokens u ps) s m h in
+  pieces-read [] clock s m k c x h = none-left clock s m h
+  pieces-read (p ∷ ps) clock s m k c x h =
+      let two = split r d (blockTokens u (cutRow u p)) (piecesTokens u ps) s m h in
       let out = cut-out u p (k .0) in
-      let one = step (cutRow u p) clock s (two .between) (out .writable) (out .client ∙ c .0) (out .clock ∙ r .0) (length ps) (two .first) in
-      let end : clock + cutRow u p .length .0 ≡ p .row .clock + p .row .length .0 = ap (λ (n : ℕ). n + cutRow u p .length .0) (sym (r .0)) ∙ out .end in
-      let more = pieces-read ps (p .row .clock + p .row .length .0) (two .between) m (k .1) (c .1) (r .1) (two .then) in (
+      let one = step (cutRow u p) clock s (two .between) (out .writable) (out .client ∙ c .0) (out .clock ∙ x .0) (length ps) (two .first) in
+      let end : clock + cutRow u p .length .0 ≡ p .row .clock + p .row .length .0 = ap (λ (n : ℕ). n + cutRow u p .length .0) (sym (x .0)) ∙ out .end in
+      let more = pieces-read ps (p .row .clock + p .row .length .0) (two .between) m (k .1) (c .1) (x .1) (two .then) in (
         one .0,
         one .1,
-        blocks (length ps) d client (p .row .clock + p .row .length .0) (two .between) then,
-        one .2 ∙ ap (λ (n : ℕ). item (one .0) (one .1) (blocks (length ps) d client n (two .between) then)) end,
+        run r (blocks (length ps) client (p .row .clock + p .row .length .0)) (two .between),
+        one .2 ∙ ap (λ (n : ℕ). item (one .0) (one .1) (run r (blocks (length ps) client n) (two .between))) end,
         one .3,
         more,
       )

@@ -8,23 +8,19 @@ use lib.Dec.{ltb}
 use Rattle.numbers.specs.Number.{pick}
 use Rattle.text.specs.declared.Part.{Part}
 use Rattle.block.specs.declared.Block.{Block}
-use Rattle.decoder.specs.declared.State.{State}
-use Rattle.item.specs.declared.Item.{Item}
-use Rattle.item.specs.declared.Item.the-variants.{At}
-use Rattle.item.specs.Rows.{plain, withContent}
-use Rattle.item.specs.Block.{andThen, placeOf}
+use Rattle.block.specs.Row.{noPart}
+use Rattle.block.specs.Rows.{plain, withContent}
+use Rattle.grammar.specs.Course.{Reader}
+use Rattle.grammar.specs.Blocks.{place}
 use Rattle.readings.specs.Sound.{bytesIn, linked, Sound}
 use Rattle.draws.specs.Draws.{Draws}
 use Rattle.draws.proofs.Splits.{split}
 use Rattle.records.specs.Records.{infoByte, leftTokens, rightTokens, parentTokens, keyTokens, placeTokens}
 use Rattle.written.specs.Written.{Alike, keyless}
 use Rattle.written.proofs.Infos.{info-says}
-use Rattle.written.proofs.Ids.{beside, left-read, right-read}
+use Rattle.written.proofs.Courses.{then-on}
+use Rattle.written.proofs.Ids.{beside, Finds, left-read, right-read}
 use Rattle.written.proofs.Roots.{rooted, nothing-in, parent-read, key-read}
-
-pub then-on : (x : Item) (b : Block) (t : State) (f : Block → State → Item) → x ≡ At b t → andThen x f ≡ f b t
-unfolding andThen
-then-on x b t f e = rw e
 
 -- an item is made up of its place and its content
 abbrev pub filled : Block → Part → Block → Block
@@ -40,25 +36,19 @@ withIds b = beside (b .client) (b .clock) (b .«has_left») (b .left) (b .«has_
 abbrev pub withRoot : Block → Part → Part → Block
 withRoot b p q = rooted (b .client) (b .clock) (b .«has_parent») (b .parent) (b .«has_name») p (b .«has_key») q
 
-module _ (d u : List ℕ) (b : Block) where
+module _ {S : Type 0} (r : Reader S) (d u : List ℕ) (b : Block) where
+  -- from s to m a block's place is read, and with content of the same bytes the block is like c
+  pub record Placed (c : Block) (s m : S) : Type 0 where
+    pub block : Block
+    pub is : Finds r (place (infoByte b) (bare b)) s block m
+    pub alike : (p : Part) → bytesIn d p ≡ bytesIn u (b .part) → Alike d (filled b p block) u c
+
   -- ---- ids beside it
 
-  module _ (some : linked b ≡ true) (sound : Sound u (keyless b)) (s m : State) where
-    pub linked-place : Draws d s (placeTokens u b) m → placeOf d (infoByte b) (bare b) s ≡ At (withIds b) m
-    unfolding placeTokens leftTokens rightTokens placeOf linked
-    linked-place h =
-        let k = subst (λ (x : Bool). Draws d s (pick x (leftTokens b ++ rightTokens b) (parentTokens u b ++ keyTokens u b)) m) some h in
-        let two = split d (leftTokens b) (rightTokens b) s m k in
-        let says = info-says b in
-        let ids : ltb (infoByte b) 64 ≡ false = says .ids ∙ ap (λ (x : Bool). pick x false true) some in
-        let v = infoByte b in
-        let l = left-read d (b .client) (b .clock) v (b .«has_left») (b .left) (sound .left .absent) (says .left) s (two .between) (two .first) in
-        let r = right-read d (b .client) (b .clock) v (b .«has_left») (b .left) (b .«has_right») (b .right) (sound .right .absent) (says .right) in
-        rw ids (then-on _ _ (two .between) _ l ∙ r (two .between) m (two .then))
-
-    pub linked-alike : 2 < b .kind → (p : Part) → bytesIn d p ≡ bytesIn u (b .part) → Alike d (filled b p (withIds b)) u (keyless b)
+  module _ (some : linked b ≡ true) (sound : Sound u (keyless b)) (l : 2 < b .kind) where
+    linked-alike : (p : Part) → bytesIn d p ≡ bytesIn u (b .part) → Alike d (filled b p (withIds b)) u (keyless b)
     unfolding linked
-    linked-alike l p e =
+    linked-alike p e =
         let none = sound .shape .rootless l some in
         record {
           client = refl;
@@ -78,63 +68,65 @@ module _ (d u : List ℕ) (b : Block) where
           part = e;
         }
 
+    pub linked-place : (s m : S) → Draws r d s (placeTokens u b) m → Placed (keyless b) s m
+    unfolding placeTokens leftTokens rightTokens place linked
+    linked-place s m h =
+        let k : Draws r d s (leftTokens b ++ rightTokens b) m = rw some at h in
+        let two = split r d (leftTokens b) (rightTokens b) s m k in
+        let says = info-says b in
+        let ids : ltb (infoByte b) 64 ≡ false = says .ids ∙ ap (λ (x : Bool). pick x false true) some in
+        let v = infoByte b in
+        let left = left-read r d (b .client) (b .clock) v (b .«has_left») (b .left) (sound .left .absent) (says .left) s (two .between) (two .first) in
+        let right = right-read r d (b .client) (b .clock) v (b .«has_left») (b .left) (b .«has_right») (b .right) (sound .right .absent) (says .right) in
+        record { block = withIds b; is = rw ids (then-on r _ _ s (two .between) _ left ∙ right (two .between) m (two .then)); alike = linked-alike }
+
   -- ---- a parent, and perhaps a key
 
-  pub record Rooted (s m : State) : Type 0 where
-    pub name : Part
-    pub key : Part
-    pub is : placeOf d (infoByte b) (bare b) s ≡ At (withRoot b name key) m
-    pub named : bytesIn d name ≡ bytesIn u (b .name)
-    pub keyed : bytesIn d key ≡ bytesIn u (b .key)
-
   module _ (none : linked b ≡ false) (sound : Sound u b) where
-    pub rooted-place : (s m : State) → 2 < b .kind → Draws d s (placeTokens u b) m → Rooted s m
-    unfolding placeTokens parentTokens keyTokens placeOf linked
-    rooted-place s m l h =
-        let k = subst (λ (x : Bool). Draws d s (pick x (leftTokens b ++ rightTokens b) (parentTokens u b ++ keyTokens u b)) m) none h in
-        let two = split d (parentTokens u b) (keyTokens u b) s m k in
-        let says = info-says b in
-        let ids : ltb (infoByte b) 64 ≡ true = says .ids ∙ ap (λ (x : Bool). pick x false true) none in
-        let parent = parent-read d u (b .client) (b .clock) (b .«has_parent») (b .parent) (b .«has_name») (b .name) in
-        let root = parent (sound .shape .rooted l none) (sound .parent .absent) (sound .name .absent) s (two .between) (two .first) in
-        let text = key-read d u (b .client) (b .clock) (infoByte b) (b .«has_parent») (b .parent) (b .«has_name») (root .0) (b .«has_key») (b .key) in
-        let key = text (sound .key .absent) (says .key none) (two .between) m (two .then) in
-        record { name = root .0; key = key .0; is = rw ids (then-on _ _ (two .between) _ (root .1) ∙ key .1); named = root .2; keyed = key .2 }
-
-    no-left : b .«has_left» ≡ false
+    no-ids : (b .«has_left» ≡ false) × (b .«has_right» ≡ false)
     unfolding linked
-    no-left = go (b .«has_left») none
+    no-ids = go (b .«has_left») none
       where
-        go : (x : Bool) → pick x true (b .«has_right») ≡ false → x ≡ false
-        go true e = e
-        go false e = refl
-
-    no-right : b .«has_right» ≡ false
-    unfolding linked
-    no-right = go (b .«has_left») none
-      where
-        go : (x : Bool) → pick x true (b .«has_right») ≡ false → b .«has_right» ≡ false
+        go : (x : Bool) → pick x true (b .«has_right») ≡ false → (x ≡ false) × (b .«has_right» ≡ false)
         go true e = absurd (let z : _≡_ {A = ℕ} 0 1 = cc in omega arith)
-        go false e = e
+        go false e = (refl, e)
 
-    pub rooted-alike : (s m : State) (r : Rooted s m) (p : Part) → bytesIn d p ≡ bytesIn u (b .part) → Alike d (filled b p (withRoot b (r .name) (r .key))) u b
-    rooted-alike s m r p e =
+    rooted-alike : (n k p : Part) → bytesIn d n ≡ bytesIn u (b .name) → bytesIn d k ≡ bytesIn u (b .key) → bytesIn d p ≡ bytesIn u (b .part)
+        → Alike d (filled b p (withRoot b n k)) u b
+    rooted-alike n k p named keyed e =
         record {
           client = refl;
           clock = refl;
           length = refl;
           kind = refl;
-          «has_left» = sym no-left;
-          left = sym (sound .left .absent no-left);
-          «has_right» = sym no-right;
-          right = sym (sound .right .absent no-right);
+          «has_left» = sym (no-ids .0);
+          left = sym (sound .left .absent (no-ids .0));
+          «has_right» = sym (no-ids .1);
+          right = sym (sound .right .absent (no-ids .1));
           «has_parent» = refl;
           parent = refl;
           «has_name» = refl;
-          name = r .named;
+          name = named;
           «has_key» = refl;
-          key = r .keyed;
+          key = keyed;
           part = e;
+        }
+
+    pub rooted-place : 2 < b .kind → (s m : S) → Draws r d s (placeTokens u b) m → Placed b s m
+    unfolding placeTokens parentTokens keyTokens place linked
+    rooted-place l s m h =
+        let k : Draws r d s (parentTokens u b ++ keyTokens u b) m = rw none at h in
+        let two = split r d (parentTokens u b) (keyTokens u b) s m k in
+        let says = info-says b in
+        let ids : ltb (infoByte b) 64 ≡ true = says .ids ∙ ap (λ (x : Bool). pick x false true) none in
+        let parent = parent-read r d u (b .client) (b .clock) (b .«has_parent») (b .parent) (b .«has_name») (b .name) in
+        let root = parent (sound .shape .rooted l none) (sound .parent .absent) (sound .name .absent) s (two .between) (two .first) in
+        let text = key-read r d u (b .client) (b .clock) (infoByte b) (b .«has_parent») (b .parent) (b .«has_name») (root .0) (b .«has_key») (b .key) in
+        let key = text (sound .key .absent) (says .key none) (two .between) m (two .then) in
+        record {
+          block = withRoot b (root .0) (key .0);
+          is = rw ids (then-on r _ _ s (two .between) _ (root .1) ∙ key .1);
+          alike = λ p e. rooted-alike (root .0) (key .0) p (root .2) (key .2) e;
         }
 
     -- ---- GC and Skip have only a length
@@ -142,20 +134,9 @@ module _ (d u : List ℕ) (b : Block) where
     pub bare-alike : b .kind ≤ 2 → Alike d (plain (b .client) (b .clock) (b .length .0) (b .kind)) u b
     bare-alike l =
         let none = sound .shape .bare l in
-        record {
-          client = refl;
-          clock = refl;
-          length = refl;
-          kind = refl;
-          «has_left» = sym no-left;
-          left = sym (sound .left .absent no-left);
-          «has_right» = sym no-right;
-          right = sym (sound .right .absent no-right);
-          «has_parent» = sym (none .1);
-          parent = sym (sound .parent .absent (none .1));
-          «has_name» = sym (none .2);
-          name = nothing-in d u ∙ ap (bytesIn u) (sym (sound .name .absent (none .2)));
-          «has_key» = sym (none .3);
-          key = nothing-in d u ∙ ap (bytesIn u) (sym (sound .key .absent (none .3)));
-          part = nothing-in d u ∙ ap (bytesIn u) (sym (sound .stored .nothing (omega arith)));
-        }
+        let absent : (p : Part) → p ≡ noPart → bytesIn d noPart ≡ bytesIn u p = λ p e. rw e (nothing-in d u) in
+        let same : filled b noPart (withRoot b noPart noPart) ≡ plain (b .client) (b .clock) (b .length .0) (b .kind) =
+        rw (none .1, none .2, none .3, sound .parent .absent (none .1)) in
+        subst (λ (x : Block). Alike d x u b) same
+        (rooted-alike noPart noPart noPart (absent (b .name) (sound .name .absent (none .2))) (absent (b .key) (sound .key .absent (none .3)))
+        (absent (b .part) (sound .stored .nothing (omega arith))))

@@ -10,22 +10,21 @@ use lib.ListN.{length}
 use borrow.Author.Tests.{ne-eqb}
 use Rattle.numbers.specs.Number.{pick}
 use Rattle.numbers.specs.Limits.{maxClock}
-use Rattle.block.specs.declared.Block.{Block}
-use Rattle.decoder.specs.declared.State.{State}
-use Rattle.decoder.specs.Fields.{varAt, clockAt}
-use Rattle.decoder.specs.Course.{Course, over, drawn}
 use Rattle.numbers.specs.Words.{among}
-use Rattle.update.specs.Update.{blocks, sections}
+use Rattle.grammar.specs.Grammar as grammar
+use Rattle.grammar.specs.Grammar.{_>>=_}
+use Rattle.grammar.specs.Course.{Reader, over, run}
+use Rattle.grammar.specs.Blocks.{blocks, sections}
+use Rattle.grammar.proofs.Runs.{run-bind}
 use Rattle.readings.specs.Sound.{All}
 use Rattle.readings.specs.Groups.{Distinct}
-use Rattle.draws.specs.Draws.{fieldOf, Draws}
+use Rattle.draws.specs.Draws.{laneField, Draws, Lined}
 use Rattle.draws.proofs.Splits.{split}
 use Rattle.kept.specs.Kept.{Piece, Section, pieceCount}
 use Rattle.records.specs.Records.{piecesTokens, startOf, sectionTokens, sectionsTokens}
 use Rattle.written.specs.Written.{piecesRead, sectionsRead, Goes, AlikeIn}
 use Rattle.written.specs.Kept.{KeptPiece, KeptSection, clientIn}
-use Rattle.written.proofs.Ids.{bounded-on}
-use Rattle.written.proofs.Courses.{drawn-on, goes-from, goes-append}
+use Rattle.written.proofs.Courses.{draw-on, within-on, goes-from, goes-then}
 use Rattle.written.proofs.Pieces.{runs, pieces-read}
 
 -- ---- clients not seen
@@ -64,46 +63,48 @@ start-fits u (p ∷ ps) k = go (k .0 .from)
     go (inl e) = omega (arith, k .0 .sound .end)
     go (inr l) = omega (arith, k .0 .sound .end)
 
-module _ (d u : List ℕ) where
+module _ {S : Type 0} {form : ℕ} {r : Reader S} {place : S → ℕ} {d : List ℕ} (lined : Lined form d r place) (u : List ℕ) where
   -- up to its first block
-  record Head (n : ℕ) (seen : List ℕ) (room : ℕ) (x : Section) (s m : State) : Type 0 where
-    from : State
-    is : sections (suc n) d seen room s
-        ≡ blocks (length (x .pieces)) d (x .client) (startOf (x .pieces)) from (sections n d (seen ++ (x .client ∷ [])) (room - length (x .pieces)))
-    drawn : Draws d from (piecesTokens u (x .pieces)) m
+  record Head (n : ℕ) (seen : List ℕ) (room : ℕ) (x : Section) (s m : S) : Type 0 where
+    from : S
+    is : run r (sections (suc n) seen room) s
+        ≡ run r (blocks (length (x .pieces)) (x .client) (startOf (x .pieces)) >>= λ _. sections n (seen ++ (x .client ∷ [])) (room - length (x .pieces))) from
+    drawn : Draws r d from (piecesTokens u (x .pieces)) m
 
-  head-read : (n : ℕ) (seen : List ℕ) (room : ℕ) (x : Section) (s m : State) → KeptSection u x → length (x .pieces) ≤ room → among (x .client) seen ≡ false
-      → Draws d s (sectionTokens u x) m → Head n seen room x s m
-  unfolding sectionTokens sections clockAt fieldOf Draws
+  head-read : (n : ℕ) (seen : List ℕ) (room : ℕ) (x : Section) (s m : S) → KeptSection u x → length (x .pieces) ≤ room → among (x .client) seen ≡ false
+      → Draws r d s (sectionTokens u x) m → Head n seen room x s m
+  unfolding sectionTokens sections laneField Draws
   head-read n seen room x s m k l new h =
       let a = h .3 in
       let b = a .3 in
-      let clock = bounded-on maxClock (varAt d (a .1)) (startOf (x .pieces)) (b .0) (b .1) (b .2) (start-fits u (x .pieces) (k .each)) in
+      let count = within-on r lined room (length (x .pieces)) (h .0) s (h .1) (h .2) l in
+      let clock = within-on r lined maxClock (startOf (x .pieces)) (b .0) (a .1) (b .1) (b .2) (start-fits u (x .pieces) (k .each)) in
       record {
         from = b .1;
-        is = drawn-on _ (length (x .pieces)) (h .0) (h .1) _ (bounded-on room (varAt d s) _ _ _ (h .2) l)
-            ∙ drawn-on _ (x .client) (a .0) (a .1) _ (a .2)
-            ∙ rw new (drawn-on _ (startOf (x .pieces)) (b .0) (b .1) _ clock);
+        is = draw-on r (grammar.number (grammar.upTo room)) (length (x .pieces), h .0) s (h .1) _ count
+            ∙ draw-on r (grammar.number grammar.client) (x .client, a .0) (h .1) (a .1) _ (a .2)
+            ∙ rw new (draw-on r (grammar.number (grammar.upTo maxClock)) (startOf (x .pieces), b .0) (a .1) (b .1) _ clock);
         drawn = b .3;
       }
 
-  ended : (seen : List ℕ) (room : ℕ) (s m : State) → Draws d s [] m → Goes (AlikeIn d u) [] (sections 0 d seen room s) (over m)
-  unfolding sections Draws Goes
-  ended seen room s m h = ap over h
+  ended : (seen : List ℕ) (room : ℕ) (s m : S) → Draws r d s [] m → Goes (AlikeIn d u) [] (run r (sections 0 seen room) s) (over tt m)
+  unfolding sections run Draws Goes
+  ended seen room s m h = ap (over tt) h
 
-  pub sections-read : (ss : List Section) (seen : List ℕ) (room : ℕ) (s m : State) → All (KeptSection u) ss → Distinct (map clientIn ss)
-      → New seen (map clientIn ss) → pieceCount ss ≤ room → Draws d s (sectionsTokens u ss) m
-      → Goes (AlikeIn d u) (sectionsRead u ss) (sections (length ss) d seen room s) (over m)
+  pub sections-read : (ss : List Section) (seen : List ℕ) (room : ℕ) (s m : S) → All (KeptSection u) ss → Distinct (map clientIn ss)
+      → New seen (map clientIn ss) → pieceCount ss ≤ room → Draws r d s (sectionsTokens u ss) m
+      → Goes (AlikeIn d u) (sectionsRead u ss) (run r (sections (length ss) seen room) s) (over tt m)
   unfolding sectionsTokens sectionsRead pieceCount Distinct
   sections-read [] seen room s m k e new l h = ended seen room s m h
   sections-read (x ∷ ss) seen room s m k e new l h =
-      let two = split d (sectionTokens u x) (sectionsTokens u ss) s m h in
+      let two = split r d (sectionTokens u x) (sectionsTokens u ss) s m h in
       let n : ℕ = length (x .pieces) in
       let t = two .between in
       let head = head-read (length ss) seen room x s t (k .0) (omega arith) (new .0) (two .first) in
-      let on : State → Course Block = sections (length ss) d (seen ++ (x .client ∷ [])) (room - n) in
-      let here = pieces-read d u (x .client) on (x .pieces) (startOf (x .pieces)) (head .from) t (k .0 .each) (k .0 .client)
+      let on = sections (length ss) (seen ++ (x .client ∷ [])) (room - n) in
+      let here = pieces-read lined u (x .client) (x .pieces) (startOf (x .pieces)) (head .from) t (k .0 .each) (k .0 .client)
       (runs (x .pieces) (k .0 .chain) (k .0 .later)) (head .drawn) in
       let later = still-new (x .client) seen (map clientIn ss) (new .1) (e .0) in
       let there = sections-read ss (seen ++ (x .client ∷ [])) (room - n) t m (k .1) (e .1) later (omega arith) (two .then) in
-      goes-from (AlikeIn d u) _ _ _ _ (head .is) (goes-append (AlikeIn d u) (piecesRead u (x .pieces)) (sectionsRead u ss) _ (on t) (over m) here there)
+      goes-from (AlikeIn d u) _ _ _ _ (head .is ∙ run-bind r _ _ (head .from))
+      (goes-then (AlikeIn d u) (piecesRead u (x .pieces)) (sectionsRead u ss) _ (over tt m) t (λ _ y. run r on y) here there)

@@ -7,11 +7,9 @@ use mathlib.Core.List.{List, [], _∷_, _++_}
 use Rattle.numbers.specs.Number.{pick}
 use Rattle.block.specs.declared.Block.{Block}
 use Rattle.block.specs.Row.{noPart}
-use Rattle.decoder.specs.declared.State.{State}
-use Rattle.decoder.specs.Course.{Course, item, over}
-use Rattle.update.specs.Update.{blocksOf}
 use Rattle.ranges.specs.Ranges.{Range}
-use Rattle.deletes.specs.DeleteSet.{deleteSet}
+use Rattle.grammar.specs.Course.{Run, item, over}
+use Rattle.decoder.specs.Update.{blocksOf, deleteSet}
 use Rattle.readings.specs.Sound.{bytesIn, linked, Sound}
 use Rattle.kept.specs.Kept.{Piece, Section}
 use Rattle.kept.specs.Cut.{cutRow}
@@ -66,16 +64,16 @@ sectionsRead u (s ∷ ss) = piecesRead u (s .pieces) ++ sectionsRead u ss
 
 -- ---- a reading
 
--- the course c gives something for each of these, each as R says, and goes on with `rest`
-unfoldable pub Goes : {A B : Type 0} → (A → B → Type 0) → List B → Course A → Course A → Type 0
+-- the run c gives something for each of these, each as R says, and goes on with `rest`
+unfoldable pub Goes : {S A B : Type 0} → (A → B → Type 0) → List B → Run S A (Unit {0}) → Run S A (Unit {0}) → Type 0
 Goes R [] c rest = c ≡ rest
-Goes {A} R (b ∷ bs) c rest = (a : A) × (p : ℕ) × (on : Course A) × (c ≡ item a p on) × R a b × Goes R bs on rest
+Goes {S} {A} R (b ∷ bs) c rest = (a : A) × (p : ℕ) × (on : Run S A (Unit {0})) × (c ≡ item a p on) × R a b × Goes R bs on rest
 
 abbrev pub AlikeIn : List ℕ → List ℕ → Block → Block → Type 0
 AlikeIn d u b c = Alike d b u c
 
--- the update d of a form is read: its blocks are the records of the sections, up to a state from where its delete set is the ranges, up to the state t
-pub record WrittenReads (form : ℕ) (d u : List ℕ) (ss : List Section) (rs : List Range) (t : State) : Type 0 where
-  pub between : State
-  pub blocks : Goes (AlikeIn d u) (sectionsRead u ss) (blocksOf form d) (over between)
-  pub ranges : Goes (λ (a b : Range). a ≡ b) rs (deleteSet d between) (over t)
+-- the update d of a form is read: its blocks are the records of the sections, up to a place from where its delete set is the ranges, up to the place t
+pub record WrittenReads (form : ℕ) (d u : List ℕ) (ss : List Section) (rs : List Range) (t : ℕ) : Type 0 where
+  pub between : ℕ
+  pub blocks : Goes (AlikeIn d u) (sectionsRead u ss) (blocksOf form d) (over tt between)
+  pub ranges : Goes (λ (a b : Range). a ≡ b) rs (deleteSet form d between) (over tt t)

@@ -1,69 +1,127 @@
--- `cells::draw_byte` meets its contract, by the cases of the column's answer.
-use mathlib.Core.Path.{ap, _∙_}
-use Rattle.columns.specs.Byte.{whyByte}
-use Rattle.cells.proofs.Laws.{byte-read, byte-bad, byte-good}
+-- `cells::draw_byte` meets its contract: each return is an arm of `nextByte`, by what is left of the run.
+use Rattle.cells.specs.Cells.{cell}
+use Rattle.cells.proofs.Bytes.{byte-endless, byte-on, byte-goes-endless, byte-goes-on}
 use borrow.Author.Needs.{needs}
 use Rattle.cells.proofs.draw_byte.Statement.{statement}
 use Rattle.cells.proofs.draw_byte.Tie as tie
 
-bytes-at-requires : tie.Need-bytes-at-requires
-bytes-at-requires c κs = search needs
+mul-b : tie.Need-mul-b
+mul-b c = search needs
 
-upto-requires : tie.Need-upto-requires
-upto-requires c κs = search needs
+add-from : tie.Need-add-from
+add-from c = search needs
 
-next-requires : tie.Need-next-requires
-next-requires c κs = search needs
+mul-from : tie.Need-mul-from
+mul-from c = search needs
 
-enum-known-r : tie.Need-enum-known-r
-enum-known-r c = search needs
+slice-read-from : tie.Need-slice-read-from
+slice-read-from c = search needs
 
-enum-told : tie.Need-enum-told
-enum-told c = search needs
+add-last : tie.Need-add-last
+add-last c = search needs
 
-why-requires : tie.Need-why-requires
-why-requires c κs = search needs
+mul-last : tie.Need-mul-last
+mul-last c = search needs
+
+slice-read-last : tie.Need-slice-read-last
+slice-read-last c = search needs
+
+add-if1 : tie.Need-add-if1
+add-if1 c = search needs
+
+mul-if1 : tie.Need-mul-if1
+mul-if1 c = search needs
+
+slice-read-if1 : tie.Need-slice-read-if1
+slice-read-if1 c = search needs
+
+slice-write-w : tie.Need-slice-write-w
+slice-write-w c = search needs
 
 same-length : tie.Need-same-length
 same-length c = search needs
 
 returns : tie.Need-returns
+unfolding cell
 returns c =
-    let b = c .before .before .before .before .before .before .before .before .before in
+    let b = c .before .before .before .before .before .before in
     let a = b .args in
-    let told = c .before .enum-told .given .1 in
-    let r = byte-read (a .update .now) (a .w .now) (a .k) _ _ _ (c .before .before .before .before .before .bytes-at .ensures) (c .before .before .before .before .upto .ensures) (c .before .before .before .next .ensures) in
-    byte-bad (a .update .now) (a .w .now) (a .k) _ _ (r ∙ told) (c .why .ensures ∙ ap whyByte told) (b .pre)
+    byte-goes-endless (a .update .now) (a .w .now) (a .k) _ (c .if1 .taken) (byte-endless (a .k) (a .w .now) (b .pre .0) (b .pre .1))
 
-put-bytes-requires : tie.Need-put-bytes-requires
-put-bytes-requires c κs = search needs
+add-count : tie.Need-add-count
+add-count c = search needs
 
-cast-t17 : tie.Need-cast-t17
-cast-t17 c = search needs
+mul-count : tie.Need-mul-count
+mul-count c = search needs
+
+slice-read-count : tie.Need-slice-read-count
+slice-read-count c = search needs
+
+begin-bytes-requires : tie.Need-begin-bytes-requires
+unfolding cell
+begin-bytes-requires c κs =
+    let b = c .before .before .before .before .before .before .before .before .before in
+    (b .pre .0, b .pre .1, c .before .if2 .taken, c .before .before .before .if1 .left)
 
 same-length-2 : tie.Need-same-length-2
 same-length-2 c = search needs
 
 returns-2 : tie.Need-returns-2
-returns-2 c =
-    let a = c .before .before .before .before .before .before .before .before .before .before .before .before .before .args in
-    let n = c .before .before .before .before .before .before .before .before .before .bytes-at .ensures in
-    let r = byte-read (a .update .now) (a .w .now) (a .k) _ _ _ n (c .before .before .before .before .before .before .before .before .upto .ensures) (c .before .before .before .before .before .before .before .next .ensures) in
-    byte-good (a .update .now) (a .w .now) (a .k) _ _ _ _ (r ∙ c .before .before .before .before .before .r .given .1) n (c .before .before .put-bytes .ensures)
+returns-2 c = search needs
+
+sub-w : tie.Need-sub-w
+sub-w c = search needs
+
+add-w : tie.Need-add-w
+add-w c = search needs
+
+mul-w : tie.Need-mul-w
+mul-w c = search needs
+
+slice-write-w-2 : tie.Need-slice-write-w-2
+slice-write-w-2 c = search needs
+
+slice-write-w-3 : tie.Need-slice-write-w-3
+slice-write-w-3 c = search needs
+
+same-length-3 : tie.Need-same-length-3
+same-length-3 c = search needs
+
+returns-3 : tie.Need-returns-3
+unfolding cell
+returns-3 c =
+    let b = c .before .before .before .before .before .before .before .before in
+    let a = b .args in
+    let h = c .before .before .if1 .left in
+    byte-goes-on (a .update .now) (a .w .now) (a .k) _ h (c .if2 .left) (byte-on (a .k) (a .w .now) (b .pre .0) (b .pre .1) h)
 
 pub draw-byte-spec : {M : Type 1} → statement M
 draw-byte-spec =
     tie.close
     (tie.spec
-    bytes-at-requires
-    upto-requires
-    next-requires
-    enum-known-r
-    enum-told
-    why-requires
+    mul-b
+    add-from
+    mul-from
+    slice-read-from
+    add-last
+    mul-last
+    slice-read-last
+    add-if1
+    mul-if1
+    slice-read-if1
+    slice-write-w
     same-length
     returns
-    put-bytes-requires
-    cast-t17
+    add-count
+    mul-count
+    slice-read-count
+    begin-bytes-requires
     same-length-2
-    returns-2)
+    returns-2
+    sub-w
+    add-w
+    mul-w
+    slice-write-w-2
+    slice-write-w-3
+    same-length-3
+    returns-3)

@@ -1,6 +1,9 @@
 -- `content::find` meets its contract: the form opened, the blocks scanned, the delete set checked, then the part.
+use native.Mathlib.Omega.{arith}
 use mathlib.Core.Path.{sym, ap, _∙_}
-use Rattle.update.proofs.Laws.{begins}
+use lib.ListN.{replicate}
+use Rattle.update.proofs.Answers.{begun-at, begun-refused}
+use Rattle.update.proofs.Laws.{fresh}
 use Rattle.content.specs.declared.Found.the-variants.{Refused}
 use Rattle.content.specs.Content.{whyBegun, whyScanned, whyChecked}
 use Rattle.content.proofs.Finds.{not-begun, not-scanned, not-checked, found}
@@ -8,8 +11,11 @@ use borrow.Author.Needs.{needs}
 use Rattle.content.proofs.find.Statement.{statement}
 use Rattle.content.proofs.find.Tie as tie
 
+slice-aggregate-begin : tie.Need-slice-aggregate-begin
+slice-aggregate-begin c = search needs
+
 begin-requires : tie.Need-begin-requires
-begin-requires c κs = search needs
+begin-requires c κs = fresh
 
 enum-known-b : tie.Need-enum-known-b
 enum-known-b c = search needs
@@ -22,11 +28,20 @@ why-begun-requires c κs = search needs
 
 returns : tie.Need-returns
 returns c =
+    let a = c .before .before .before .before .before .before .before .args in
+    let b = c .before .before .before .before .begin in
     let told = c .before .enum-told .given .1 in
-    ap Refused (c .why-begun .ensures ∙ ap whyBegun told) ∙ not-begun (c .before .before .before .before .before .args .form) (c .before .before .before .before .before .args .update .now) (c .before .before .before .before .before .args .n) _ (sym (c .before .before .before .begin .ensures) ∙ told)
+    ap Refused (c .why-begun .ensures ∙ ap whyBegun told) ∙ not-begun (a .form) (a .update .now) (a .n) _ (begun-refused (a .form) (a .update .now) _ (b .result) (b .ensures) (replicate 64 0) _ told)
+
+slice-aggregate-scan : tie.Need-slice-aggregate-scan
+slice-aggregate-scan c = search needs
 
 scan-requires : tie.Need-scan-requires
-scan-requires c κs = begins (c .before .before .before .before .before .args .form) (c .before .before .before .before .before .args .update .now) _ (sym (c .before .before .before .begin .ensures) ∙ c .before .b .given .1) .1
+scan-requires c κs =
+    let a = c .before .before .before .before .before .before .before .before .args in
+    let b = c .before .before .before .before .before .begin in
+    let h = begun-at (a .form) (a .update .now) _ (b .result) (b .ensures) (replicate 64 0) (omega arith) _ (c .before .before .b .given .1) in
+    (b .ensures .small, h .1)
 
 enum-known-r : tie.Need-enum-known-r
 enum-known-r c = search needs
@@ -39,9 +54,11 @@ why-scanned-requires c κs = search needs
 
 returns-2 : tie.Need-returns-2
 returns-2 c =
-    let a = c .before .before .before .before .before .before .before .before .before .args in
+    let a = c .before .before .before .before .before .before .before .before .before .before .before .before .before .args in
+    let b = c .before .before .before .before .before .before .before .before .before .before .begin in
+    let h = begun-at (a .form) (a .update .now) _ (b .result) (b .ensures) (replicate 64 0) (omega arith) _ (c .before .before .before .before .before .before .before .b .given .1) in
     let told = c .before .enum-told2 .given .1 in
-    ap Refused (c .why-scanned .ensures ∙ ap whyScanned told) ∙ not-scanned (a .form) (a .update .now) (a .n) _ (sym (c .before .before .before .before .before .before .before .begin .ensures) ∙ c .before .before .before .before .before .b .given .1) _ (sym (c .before .before .before .scan .ensures) ∙ told)
+    ap Refused (c .why-scanned .ensures ∙ ap whyScanned told) ∙ not-scanned (a .form) (a .update .now) (a .n) _ (h .0) _ (sym (c .before .before .before .before .scan .ensures) ∙ told)
 
 check-delete-set-requires : tie.Need-check-delete-set-requires
 check-delete-set-requires c κs = search needs
@@ -57,27 +74,33 @@ why-checked-requires c κs = search needs
 
 returns-3 : tie.Need-returns-3
 returns-3 c =
-    let a = c .before .before .before .before .before .before .before .before .before .before .before .before .before .args in
+    let a = c .before .before .before .before .before .before .before .before .before .before .before .before .before .before .before .before .before .args in
+    let b = c .before .before .before .before .before .before .before .before .before .before .before .before .before .before .begin in
+    let h = begun-at (a .form) (a .update .now) _ (b .result) (b .ensures) (replicate 64 0) (omega arith) _ (c .before .before .before .before .before .before .before .before .before .before .before .b .given .1) in
     let told = c .before .enum-told4 .given .1 in
-    ap Refused (c .why-checked .ensures ∙ ap whyChecked told) ∙ not-checked (a .form) (a .update .now) (a .n) _ (sym (c .before .before .before .before .before .before .before .before .before .before .before .begin .ensures) ∙ c .before .before .before .before .before .before .before .before .before .b .given .1) _ _ (sym (c .before .before .before .before .before .before .before .scan .ensures) ∙ c .before .before .before .before .before .r .given .1) _ (sym (c .before .before .before .check-delete-set .ensures) ∙ told)
+    ap Refused (c .why-checked .ensures ∙ ap whyChecked told) ∙ not-checked (a .form) (a .update .now) (a .n) _ (h .0) _ _ (sym (c .before .before .before .before .before .before .before .before .scan .ensures) ∙ c .before .before .before .before .before .r .given .1) _ (sym (c .before .before .before .check-delete-set .ensures) ∙ told)
 
 stored-part-requires : tie.Need-stored-part-requires
 stored-part-requires c κs = search needs
 
 returns-4 : tie.Need-returns-4
 returns-4 c =
-    let a = c .before .before .before .before .before .before .before .before .before .before .before .before .before .args in
-    c .stored-part .ensures ∙ found (a .form) (a .update .now) (a .n) _ (sym (c .before .before .before .before .before .before .before .before .before .before .before .begin .ensures) ∙ c .before .before .before .before .before .before .before .before .before .b .given .1) _ _ (sym (c .before .before .before .before .before .before .before .scan .ensures) ∙ c .before .before .before .before .before .r .given .1) _ (sym (c .before .before .before .check-delete-set .ensures) ∙ c .before .enum-told3 .given .1)
+    let a = c .before .before .before .before .before .before .before .before .before .before .before .before .before .before .before .before .before .args in
+    let b = c .before .before .before .before .before .before .before .before .before .before .before .before .before .before .begin in
+    let h = begun-at (a .form) (a .update .now) _ (b .result) (b .ensures) (replicate 64 0) (omega arith) _ (c .before .before .before .before .before .before .before .before .before .before .before .b .given .1) in
+    c .stored-part .ensures ∙ found (a .form) (a .update .now) (a .n) _ (h .0) _ _ (sym (c .before .before .before .before .before .before .before .before .scan .ensures) ∙ c .before .before .before .before .before .r .given .1) _ (sym (c .before .before .before .check-delete-set .ensures) ∙ c .before .enum-told3 .given .1)
 
 pub find-spec : {M : Type 1} → statement M
 find-spec =
     tie.close
     (tie.spec
+    slice-aggregate-begin
     begin-requires
     enum-known-b
     enum-told
     why-begun-requires
     returns
+    slice-aggregate-scan
     scan-requires
     enum-known-r
     enum-told-2

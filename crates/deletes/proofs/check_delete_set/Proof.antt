@@ -1,48 +1,116 @@
--- `deletes::check_delete_set` meets its contract: the client count, then the ranges.
-use mathlib.Core.Path.{sym, ap, _∙_}
-use Rattle.decoder.specs.Course.{ending}
+-- `deletes::check_delete_set` meets its contract: what follows the last range, from here, is what follows it from the start.
+use mathlib.Core.Path.{_≡_, sym, ap, subst, _∙_}
+use Rattle.numbers.specs.Limits.{maxClients}
+use Rattle.ranges.specs.Ranges.{Range}
+use Rattle.grammar.specs.Course.{Course, ending}
+use Rattle.decoder.specs.Update.{deleteSet}
+use Rattle.deletes.specs.declared.Checked.{Checked}
 use Rattle.deletes.specs.declared.Checked.the-variants as checked
-use Rattle.deletes.specs.Steps.{whyBegun}
-use Rattle.deletes.proofs.Laws.{begun-rest, refused-set}
+use Rattle.deletes.specs.Steps.{comes, after, left, Keeps}
+use Rattle.deletes.proofs.Steps.{reads-up-to, drew, drew-not, set-begins, set-not}
 use borrow.Author.Needs.{needs}
 use Rattle.deletes.proofs.check_delete_set.Statement.{statement}
 use Rattle.deletes.proofs.check_delete_set.Tie as tie
 
-begin-requires : tie.Need-begin-requires
-begin-requires c κs = search needs
+abbrev ends : Course Range → Checked
+ends c = ending c checked.Done checked.Refused
 
-enum-known-b : tie.Need-enum-known-b
-enum-known-b c = search needs
+abbrev Inv-loop : tie.InvT-loop
+Inv-loop form update at clients e p₀ p = ends (comes form update p) ≡ ends (deleteSet form update at)
 
-enum-told : tie.Need-enum-told
+abbrev μ-loop : tie.MeasureT-loop
+μ-loop form update at clients e p₀ p = left p
+
+read-at-requires : tie.Need-read-at-requires Inv-loop μ-loop
+read-at-requires c κs = search needs
+
+enum-known-r : tie.Need-enum-known-r Inv-loop μ-loop
+enum-known-r c = search needs
+
+enum-told : tie.Need-enum-told Inv-loop μ-loop
 enum-told c = search needs
 
-why-begun-requires : tie.Need-why-begun-requires
-why-begun-requires c κs = search needs
+why-read-requires : tie.Need-why-read-requires Inv-loop μ-loop
+why-read-requires c κs = search needs
 
-returns : tie.Need-returns
+returns : tie.Need-returns Inv-loop μ-loop
 unfolding ending
 returns c =
-    let a = c .before .before .before .before .before .args in
-    let told = c .before .enum-told .given .1 in
-    rw (refused-set (a .update .now) (a .s) _ (sym (c .before .before .before .begin .ensures) ∙ told)) (ap checked.Refused (c .why-begun .ensures ∙ ap whyBegun told))
+    let a = c .before .before .before .before .before .args in let u = a .update .now in
+    sym (ap ends (set-not (a .form) u (a .at) _ (drew-not _ _ _ (reads-up-to u _ _ maxClients (c .before .before .before .read-at .ensures)) _ _ (c .before .enum-told .given .1) (c .why-read .ensures))))
 
-check-ranges-requires : tie.Need-check-ranges-requires
-check-ranges-requires c κs = search needs
+first-requires : tie.Need-first-requires Inv-loop μ-loop
+first-requires c κs = search needs
 
-returns-2 : tie.Need-returns-2
+loop-holds : tie.Need-loop-holds Inv-loop μ-loop
+loop-holds c =
+    let a = c .before .before .before .before .before .before .args in let u = a .update .now in
+    ap ends (ap (comes (a .form) u) (c .first .ensures) ∙ sym (set-begins (a .form) u (a .at) _ _ (drew _ _ _ (reads-up-to u _ _ maxClients (c .before .before .before .before .read-at .ensures)) _ _ (c .before .before .r .given .1))))
+
+move-on-requires : tie.Need-move-on-requires Inv-loop μ-loop
+move-on-requires c κs = search needs
+
+enum-known-x : tie.Need-enum-known-x Inv-loop μ-loop
+enum-known-x c = search needs
+
+loop-less : tie.Need-loop-less Inv-loop μ-loop
+unfolding Keeps
+loop-less c = subst (Keeps (c .before .before .before .before .loop .p)) (c .before .x .given .1) (c .before .before .before .move-on .ensures .1) .0
+
+loop-again : tie.Need-loop-again Inv-loop μ-loop
+unfolding after ending
+loop-again c =
+    let a = c .before .before .before .before .before .before .before .before .before .before .before .args in sym (ap ends (c .before .before .before .move-on .ensures .0 ∙ ap (after (a .form) (a .update .now)) (c .before .x .given .1))) ∙ c .before .before .before .before .loop .inv
+
+enum-known-x-2 : tie.Need-enum-known-x-2 Inv-loop μ-loop
+enum-known-x-2 c = search needs
+
+loop-less-2 : tie.Need-loop-less-2 Inv-loop μ-loop
+unfolding Keeps
+loop-less-2 c = subst (Keeps (c .before .before .before .before .loop .p)) (c .before .x2 .given .1) (c .before .before .before .move-on .ensures .1) .0
+
+loop-again-2 : tie.Need-loop-again-2 Inv-loop μ-loop
+unfolding after
+loop-again-2 c =
+    let a = c .before .before .before .before .before .before .before .before .before .before .before .args in sym (ap ends (c .before .before .before .move-on .ensures .0 ∙ ap (after (a .form) (a .update .now)) (c .before .x2 .given .1))) ∙ c .before .before .before .before .loop .inv
+
+enum-known-x-3 : tie.Need-enum-known-x-3 Inv-loop μ-loop
+enum-known-x-3 c = search needs
+
+returns-2 : tie.Need-returns-2 Inv-loop μ-loop
+unfolding after ending
 returns-2 c =
-    let a = c .before .before .before .before .before .before .args in
-    rw (begun-rest (a .update .now) (a .s) _ (sym (c .before .before .before .before .begin .ensures) ∙ c .before .before .b .given .1) .0) (c .check-ranges .ensures)
+    let a = c .before .before .before .before .before .before .before .before .before .before .before .args in sym (ap ends (c .before .before .before .move-on .ensures .0 ∙ ap (after (a .form) (a .update .now)) (c .before .x3 .given .1))) ∙ c .before .before .before .before .loop .inv
+
+enum-known-x-4 : tie.Need-enum-known-x-4 Inv-loop μ-loop
+enum-known-x-4 c = search needs
+
+returns-3 : tie.Need-returns-3 Inv-loop μ-loop
+unfolding after ending
+returns-3 c =
+    let a = c .before .before .before .before .before .before .before .before .before .before .before .args in sym (ap ends (c .before .before .before .move-on .ensures .0 ∙ ap (after (a .form) (a .update .now)) (c .before .x4 .given .1))) ∙ c .before .before .before .before .loop .inv
 
 pub check-delete-set-spec : {M : Type 1} → statement M
 check-delete-set-spec =
     tie.close
     (tie.spec
-    begin-requires
-    enum-known-b
+    Inv-loop
+    μ-loop
+    read-at-requires
+    enum-known-r
     enum-told
-    why-begun-requires
+    why-read-requires
     returns
-    check-ranges-requires
-    returns-2)
+    first-requires
+    loop-holds
+    move-on-requires
+    enum-known-x
+    loop-less
+    loop-again
+    enum-known-x-2
+    loop-less-2
+    loop-again-2
+    enum-known-x-3
+    returns-2
+    enum-known-x-4
+    returns-3)

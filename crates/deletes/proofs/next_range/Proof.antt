@@ -1,12 +1,13 @@
 -- `deletes::next_range` meets its contract: clock, length and end within the limit, and a range less is left.
-use mathlib.Core.Path.{sym, ap, _∙_}
 use native.Mathlib.Omega.{arith}
-use Rattle.numbers.specs.Number.{whyRead}
-use Rattle.numbers.specs.declared.Read.the-variants as read
-use Rattle.deletes.proofs.Spots.{read-low, range-no-clock, range-no-len, range-over, range-empty, range-some}
+use Rattle.numbers.specs.Limits.{maxClock}
+use Rattle.deletes.proofs.Steps.{reads-delete, reads-low, drew, drew-not, range-no-clock, range-no-len, range-over, range-empty, range-some}
 use borrow.Author.Needs.{needs}
 use Rattle.deletes.proofs.next_range.Statement.{statement}
 use Rattle.deletes.proofs.next_range.Tie as tie
+
+base-requires : tie.Need-base-requires
+base-requires c κs = search needs
 
 read-at-requires : tie.Need-read-at-requires
 read-at-requires c κs = search needs
@@ -22,8 +23,11 @@ why-read-requires c κs = search needs
 
 returns : tie.Need-returns
 returns c =
-    let S = c .before .before .before .before .before in let u = S .args .update .now in let form = S .args .form in let p = S .args .p in let told = c .before .enum-told .given .1 in
-    λ f q. range-no-clock u form p f q _ (sym (c .before .before .before .read-at .ensures) ∙ told ∙ ap read.Refused (sym (c .why-read .ensures ∙ ap whyRead told)))
+    let a = c .before .before .before .before .before .before .args in let u = a .update .now in
+    range-no-clock (a .form) u (a .p) (c .before .before .before .before .before .before .pre) _ (drew-not _ _ _ (reads-delete u _ _ (a .form) _ _ (c .before .before .before .before .base .ensures) (c .before .before .before .read-at .ensures)) _ _ (c .before .enum-told .given .1) (c .why-read .ensures))
+
+base-requires-2 : tie.Need-base-requires-2
+base-requires-2 c κs = search needs
 
 read-at-requires-2 : tie.Need-read-at-requires-2
 read-at-requires-2 c κs = search needs
@@ -39,43 +43,47 @@ why-read-requires-2 c κs = search needs
 
 returns-2 : tie.Need-returns-2
 returns-2 c =
-    let S = c .before .before .before .before .before .before .before .before .before in let u = S .args .update .now in let form = S .args .form in let p = S .args .p in let told = c .before .enum-told2 .given .1 in
-    λ f q. range-no-len u form p f q _ _ (sym (c .before .before .before .before .before .before .before .read-at .ensures) ∙ c .before .before .before .before .before .d .given .1) _ (sym (c .before .before .before .read-at2 .ensures) ∙ told ∙ ap read.Refused (sym (c .why-read2 .ensures ∙ ap whyRead told)))
+    let a = c .before .before .before .before .before .before .before .before .before .before .before .args in let u = a .update .now in
+    range-no-len (a .form) u (a .p) (c .before .before .before .before .before .before .before .before .before .before .before .pre) _ _ (drew _ _ _ (reads-delete u _ _ (a .form) _ _ (c .before .before .before .before .before .before .before .before .before .base .ensures) (c .before .before .before .before .before .before .before .before .read-at .ensures)) _ _ (c .before .before .before .before .before .before .d .given .1))
+    _ (drew-not _ _ _ (reads-delete u _ _ (a .form) _ _ (c .before .before .before .before .base2 .ensures) (c .before .before .before .read-at2 .ensures)) _ _ (c .before .enum-told2 .given .1) (c .why-read2 .ensures))
 
 add-end : tie.Need-add-end
 add-end c =
-    let S = c .before .before .before .before .before .before .before .before .before in let u = S .args .update .now in let form = S .args .form in let p = S .args .p in
-    let clock = read-low u form _ _ _ _ (sym (c .before .before .before .before .before .before .before .read-at .ensures) ∙ c .before .before .before .before .before .d .given .1) in
-    let len = read-low u form _ _ _ _ (sym (c .before .before .before .read-at2 .ensures) ∙ c .before .e .given .1) in
-    omega (arith, clock, len)
+    let u = c .before .before .before .before .before .before .before .before .before .before .before .args .update .now in
+    omega (arith, reads-low u _ _ maxClock _ _ _ (c .before .before .before .before .before .before .before .before .read-at .ensures) (c .before .before .before .before .before .before .d .given .1), reads-low u _ _ maxClock _ _ _ (c .before .before .before .read-at2 .ensures) (c .before .e .given .1))
 
 returns-3 : tie.Need-returns-3
 returns-3 c =
-    let S = c .before .before .before .before .before .before .before .before .before .before in let u = S .args .update .now in let form = S .args .form in let p = S .args .p in
-    λ f q. range-over u form p f q _ _ (sym (c .before .before .before .before .before .before .before .before .read-at .ensures) ∙ c .before .before .before .before .before .before .d .given .1) _ _ (sym (c .before .before .before .before .read-at2 .ensures) ∙ c .before .before .e .given .1) (c .if1 .taken)
+    let a = c .before .before .before .before .before .before .before .before .before .before .before .before .args in let u = a .update .now in
+    range-over (a .form) u (a .p) (c .before .before .before .before .before .before .before .before .before .before .before .before .pre) _ _ (drew _ _ _ (reads-delete u _ _ (a .form) _ _ (c .before .before .before .before .before .before .before .before .before .before .base .ensures) (c .before .before .before .before .before .before .before .before .before .read-at .ensures)) _ _ (c .before .before .before .before .before .before .before .d .given .1))
+    _ _ (drew _ _ _ (reads-delete u _ _ (a .form) _ _ (c .before .before .before .before .before .base2 .ensures) (c .before .before .before .before .read-at2 .ensures)) _ _ (c .before .before .e .given .1)) (c .if1 .taken)
 
 sub-left : tie.Need-sub-left
 sub-left c = search needs
 
 returns-4 : tie.Need-returns-4
 returns-4 c =
-    let S = c .before .before .before .before .before .before .before .before .before .before .before .before in let u = S .args .update .now in let form = S .args .form in let p = S .args .p in
-    λ f q. range-empty u form p f q _ _ (sym (c .before .before .before .before .before .before .before .before .before .before .read-at .ensures) ∙ c .before .before .before .before .before .before .before .before .d .given .1) _ _ (sym (c .before .before .before .before .before .before .read-at2 .ensures) ∙ c .before .before .before .before .e .given .1) (c .before .before .if1 .left) (S .pre) (c .if2 .taken)
+    let a = c .before .before .before .before .before .before .before .before .before .before .before .before .before .before .args in let u = a .update .now in
+    range-empty (a .form) u (a .p) (c .before .before .before .before .before .before .before .before .before .before .before .before .before .before .pre) _ _ (drew _ _ _ (reads-delete u _ _ (a .form) _ _ (c .before .before .before .before .before .before .before .before .before .before .before .before .base .ensures) (c .before .before .before .before .before .before .before .before .before .before .before .read-at .ensures)) _ _ (c .before .before .before .before .before .before .before .before .before .d .given .1))
+    _ _ (drew _ _ _ (reads-delete u _ _ (a .form) _ _ (c .before .before .before .before .before .before .before .base2 .ensures) (c .before .before .before .before .before .before .read-at2 .ensures)) _ _ (c .before .before .before .before .e .given .1)) (c .before .before .if1 .left) (c .if2 .taken)
 
 returns-5 : tie.Need-returns-5
 returns-5 c =
-    let S = c .before .before .before .before .before .before .before .before .before .before .before .before in let u = S .args .update .now in let form = S .args .form in let p = S .args .p in
-    λ f q. range-some u form p f q _ _ (sym (c .before .before .before .before .before .before .before .before .before .before .read-at .ensures) ∙ c .before .before .before .before .before .before .before .before .d .given .1) _ _ (sym (c .before .before .before .before .before .before .read-at2 .ensures) ∙ c .before .before .before .before .e .given .1) (c .before .before .if1 .left) (S .pre) (c .if2 .left)
+    let a = c .before .before .before .before .before .before .before .before .before .before .before .before .before .before .args in let u = a .update .now in
+    range-some (a .form) u (a .p) (c .before .before .before .before .before .before .before .before .before .before .before .before .before .before .pre) _ _ (drew _ _ _ (reads-delete u _ _ (a .form) _ _ (c .before .before .before .before .before .before .before .before .before .before .before .before .base .ensures) (c .before .before .before .before .before .before .before .before .before .before .before .read-at .ensures)) _ _ (c .before .before .before .before .before .before .before .before .before .d .given .1))
+    _ _ (drew _ _ _ (reads-delete u _ _ (a .form) _ _ (c .before .before .before .before .before .before .before .base2 .ensures) (c .before .before .before .before .before .before .read-at2 .ensures)) _ _ (c .before .before .before .before .e .given .1)) (c .before .before .if1 .left) (c .if2 .left)
 
 pub next-range-spec : {M : Type 1} → statement M
 next-range-spec =
     tie.close
     (tie.spec
+    base-requires
     read-at-requires
     enum-known-d
     enum-told
     why-read-requires
     returns
+    base-requires-2
     read-at-requires-2
     enum-known-e
     enum-told-2

@@ -3,8 +3,7 @@ use Prim.Native.Nat.{_+_}
 use mathlib.Core.Path.{refl}
 use native.Mathlib.Omega.{arith}
 use borrow.Author.Tests.{lt-ltb, le-ltb}
-use Rattle.numbers.specs.Limits.{maxClock}
-use Rattle.deletes.specs.Spots.{restoredRead, restoredAt}
+use Rattle.deletes.specs.Steps.{restoredTo}
 use borrow.Author.Needs.{needs}
 use Rattle.deletes.proofs.read_at.Statement.{statement}
 use Rattle.deletes.proofs.read_at.Tie as tie
@@ -19,32 +18,29 @@ enum-told : tie.Need-enum-told
 enum-told c = search needs
 
 returns : tie.Need-returns
-unfolding restoredAt restoredRead
+unfolding restoredTo
 returns c = rw (← c .before .before .read-unsigned .ensures, c .enum-told .given .1) refl
 
-base-requires : tie.Need-base-requires
-base-requires c κs = search needs
-
 returns-2 : tie.Need-returns-2
-unfolding restoredAt restoredRead
+unfolding restoredTo
 returns-2 c =
-    let low = c .before .base .result in let v = c .before .before .before .r .given .0 .0 in
-    rw (← c .before .base .ensures, ← c .before .before .before .before .before .read-unsigned .ensures, c .before .before .before .r .given .1, lt-ltb maxClock (low + v) (omega (arith, c .if1 .taken))) refl
+    let a = c .before .before .before .before .before .before .args in
+    rw (← c .before .before .before .before .read-unsigned .ensures, c .before .before .r .given .1, lt-ltb (a .most) (a .low + c .before .before .r .given .0 .0) (omega (arith, c .if1 .taken))) refl
 
 returns-3 : tie.Need-returns-3
-unfolding restoredAt restoredRead
+unfolding restoredTo
 returns-3 c =
-    let low = c .before .before .base .result in let v = c .before .before .before .before .r .given .0 .0 in
-    rw (← c .before .before .base .ensures, ← c .before .before .before .before .before .before .read-unsigned .ensures, c .before .before .before .before .r .given .1, lt-ltb maxClock (low + v) (omega (arith, c .before .if1 .left, c .if2 .taken))) refl
+    let a = c .before .before .before .before .before .before .before .args in
+    rw (← c .before .before .before .before .before .read-unsigned .ensures, c .before .before .before .r .given .1, lt-ltb (a .most) (a .low + c .before .before .before .r .given .0 .0) (omega (arith, c .before .if1 .left, c .if2 .taken))) refl
 
 add-whole : tie.Need-add-whole
 add-whole c = search needs
 
 returns-4 : tie.Need-returns-4
-unfolding restoredAt restoredRead
+unfolding restoredTo
 returns-4 c =
-    let low = c .before .before .base .result in let v = c .before .before .before .before .r .given .0 .0 in
-    rw (← c .before .before .base .ensures, ← c .before .before .before .before .before .before .read-unsigned .ensures, c .before .before .before .before .r .given .1, le-ltb maxClock (low + v) (omega (arith, c .before .if1 .left, c .if2 .left))) refl
+    let a = c .before .before .before .before .before .before .before .args in
+    rw (← c .before .before .before .before .before .read-unsigned .ensures, c .before .before .before .r .given .1, le-ltb (a .most) (a .low + c .before .before .before .r .given .0 .0) (omega (arith, c .before .if1 .left, c .if2 .left))) refl
 
 pub read-at-spec : {M : Type 1} → statement M
 read-at-spec =
@@ -54,7 +50,6 @@ read-at-spec =
     enum-known-r
     enum-told
     returns
-    base-requires
     returns-2
     returns-3
     add-whole

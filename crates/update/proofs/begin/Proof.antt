@@ -1,38 +1,32 @@
--- `update::begin` meets its contract: the form opened, then the section count.
-use mathlib.Core.Path.{ap, _∙_}
-use Rattle.decoder.specs.Fields.{whyDraw}
-use Rattle.update.specs.declared.Begun.the-variants.{Refused}
-use Rattle.update.specs.Steps.{counted, sectionCount, begunOf, whyOpened}
+-- `update::begin` meets its contract: form 1 stands at its first byte, any other is opened; then the section count.
+use mathlib.Core.Path.{sym, ap, _∙_}
+use Rattle.cells.specs.Cells.{openedIn}
+use Rattle.cells.proofs.States.{at-moved, small-at}
+use Rattle.update.proofs.Laws.{starts-line, unopened, starts-columned}
 use borrow.Author.Needs.{needs}
 use Rattle.update.proofs.begin.Statement.{statement}
 use Rattle.update.proofs.begin.Tie as tie
 
+slice-write-w : tie.Need-slice-write-w
+slice-write-w c = search needs
+
+read-count-requires : tie.Need-read-count-requires
+read-count-requires c κs =
+    small-at (c .before .before .before .before .args .w .now) (c .before .before .before .before .pre) 0
+
+same-length : tie.Need-same-length
+same-length c = search needs
+
+returns : tie.Need-returns
+returns c =
+    let a = c .before .before .before .before .before .before .before .args in
+    starts-line (a .form) (a .update .now) _ _ _ (c .before .before .before .before .if1 .taken) (at-moved (a .w .now) (c .before .before .before .before .before .before .before .pre) 0) (c .before .before .read-count .ensures)
+
 open-requires : tie.Need-open-requires
 open-requires c κs = search needs
 
-enum-known-o : tie.Need-enum-known-o
-enum-known-o c = search needs
-
 enum-told : tie.Need-enum-told
 enum-told c = search needs
-
-why-opened-requires : tie.Need-why-opened-requires
-why-opened-requires c κs = search needs
-
-returns : tie.Need-returns
-unfolding begunOf sectionCount
-returns c =
-    let told = c .before .enum-told .given .1 in
-    rw (← c .before .before .before .«open» .ensures, told) (ap Refused (c .why-opened .ensures ∙ ap whyOpened told))
-
-read-var-requires : tie.Need-read-var-requires
-read-var-requires c κs = search needs
-
-within-requires : tie.Need-within-requires
-within-requires c κs = search needs
-
-enum-known-n : tie.Need-enum-known-n
-enum-known-n c = search needs
 
 enum-told-2 : tie.Need-enum-told-2
 enum-told-2 c = search needs
@@ -40,29 +34,41 @@ enum-told-2 c = search needs
 why-requires : tie.Need-why-requires
 why-requires c κs = search needs
 
+same-length-2 : tie.Need-same-length-2
+same-length-2 c = search needs
+
 returns-2 : tie.Need-returns-2
-unfolding begunOf sectionCount counted
 returns-2 c =
-    let told = c .before .enum-told2 .given .1 in
-    rw (← c .before .before .before .before .before .before .before .before .«open» .ensures, c .before .before .before .before .before .before .o .given .1, ← c .before .before .before .before .read-var .ensures, ← c .before .before .before .within .ensures, told) (ap Refused (c .why .ensures ∙ ap whyDraw told))
+    let a = c .before .before .before .before .before .before .before .before .before .before .before .args in
+    let v = c .before .before .before .before .before .before .«open» .last .1 .0 in
+    rw (c .why .ensures) (unopened (a .form) (a .update .now) v (c .before .before .before .before .before .before .before .before .if1 .left) (c .before .before .before .before .before .before .«open» .ensures .0) (ap (openedIn v) (sym (c .before .before .enum-told2 .given .1)) ∙ c .before .before .before .before .before .before .«open» .ensures .1))
+
+read-count-requires-2 : tie.Need-read-count-requires-2
+read-count-requires-2 c κs = search needs
+
+same-length-3 : tie.Need-same-length-3
+same-length-3 c = search needs
 
 returns-3 : tie.Need-returns-3
-unfolding begunOf sectionCount counted
-returns-3 c = rw (← c .before .before .before .before .before .before .before .before .«open» .ensures, c .before .before .before .before .before .before .o .given .1, ← c .before .before .before .before .read-var .ensures, ← c .before .before .before .within .ensures, c .before .n .given .1)
+returns-3 c =
+    let a = c .before .before .before .before .before .before .before .before .before .before .before .before .before .args in
+    let v = c .before .before .before .before .before .before .before .before .«open» .last .1 .0 in
+    starts-columned (a .form) (a .update .now) v (c .before .before .before .before .before .before .before .before .before .before .if1 .left) _ _ _ (ap (openedIn v) (sym (c .before .before .before .before .enum-told .given .1)) ∙ c .before .before .before .before .before .before .before .before .«open» .ensures .1) (c .before .before .read-count2 .ensures)
 
 pub begin-spec : {M : Type 1} → statement M
 begin-spec =
     tie.close
     (tie.spec
-    open-requires
-    enum-known-o
-    enum-told
-    why-opened-requires
+    slice-write-w
+    read-count-requires
+    same-length
     returns
-    read-var-requires
-    within-requires
-    enum-known-n
+    open-requires
+    enum-told
     enum-told-2
     why-requires
+    same-length-2
     returns-2
+    read-count-requires-2
+    same-length-3
     returns-3)

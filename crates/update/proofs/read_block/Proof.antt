@@ -1,19 +1,19 @@
--- `update::read_block` meets its contract: the block decoded, its end tested, an item of length 0 dropped.
+-- `update::read_block` meets its contract: the block read, its end tested, an item of length 0 dropped.
+use Prim.Native.Nat.{_+_, _≤_}
 use native.Mathlib.Omega.{arith}
-use mathlib.Core.Path.{sym, ap, _∙_}
-use Rattle.update.specs.declared.Step.the-variants.{Refused}
-use Rattle.update.specs.Update.{whyBlock}
-use Rattle.update.specs.Steps.{endedStep, blockStep}
-use Rattle.update.proofs.Ends.{end-fits}
+use mathlib.Core.Path.{refl, sym, ap, _∙_}
+use Rattle.numbers.specs.Limits.{maxClock}
+use Rattle.item.specs.Row.{rowIn, blockOnto}
+use Rattle.update.proofs.Laws.{refuses, goes-on, keeps, no-block, too-far, drops, has, end-fine, end-less}
 use borrow.Author.Needs.{needs}
 use Rattle.update.proofs.read_block.Statement.{statement}
 use Rattle.update.proofs.read_block.Tie as tie
 
-decode-block-requires : tie.Need-decode-block-requires
-decode-block-requires c κs = search needs
+read-block-requires : tie.Need-read-block-requires
+read-block-requires c κs = search needs
 
-enum-known-d : tie.Need-enum-known-d
-enum-known-d c = search needs
+enum-known-at : tie.Need-enum-known-at
+enum-known-at c = search needs
 
 enum-told : tie.Need-enum-told
 enum-told c = search needs
@@ -21,31 +21,68 @@ enum-told c = search needs
 why-requires : tie.Need-why-requires
 why-requires c κs = search needs
 
-returns : tie.Need-returns
-unfolding blockStep endedStep
-returns c =
-    let told = c .before .enum-told .given .1 in
-    rw (← c .before .before .before .decode-block .ensures, told) (ap Refused (c .why .ensures ∙ ap whyBlock told))
+same-length : tie.Need-same-length
+same-length c = search needs
 
-ends-over-requires : tie.Need-ends-over-requires
-ends-over-requires c κs = search needs
+same-length-2 : tie.Need-same-length-2
+same-length-2 c = search needs
+
+returns : tie.Need-returns
+returns c =
+    let a = c .before .before .before .before .before .before .before .before .before .before .before .before .before .before .before .args in
+    let p = c .before .before .before .before .before .before .before .before .before .before .before .before .before .before .before .pre in
+    let u = a .update .now in
+    let m = a .memory .now in
+    let s = a .s in
+    let v = c .before .before .before .before .before .before .before .before .read-block .last .1 .1 .0 in
+    let q = c .before .before .before .before .before .before .before .before .read-block .last .1 .1 .1 .0 in
+    let law = no-block (a .form) u m (a .w .now) s (p .3) v q (ap (blockOnto v q) (sym (c .before .before .enum-told .given .1)) ∙ c .before .before .before .before .before .before .before .before .read-block .ensures .2) in
+    rw (c .why .ensures) (refuses (a .form) u m (a .w .now) (a .r .now) s m v q (c .before .before .before .before .before .before .before .before .read-block .ensures .0) refl (c .before .before .before .before .before .before .before .before .read-block .ensures .1 .size ∙ sym (p .1)) _ law)
+
+length-in-requires : tie.Need-length-in-requires
+length-in-requires c κs = search needs
+
+same-length-3 : tie.Need-same-length-3
+same-length-3 c = search needs
+
+same-length-4 : tie.Need-same-length-4
+same-length-4 c = search needs
 
 returns-2 : tie.Need-returns-2
-unfolding blockStep endedStep
-returns-2 c = rw (← c .before .before .before .before .before .decode-block .ensures, c .before .before .before .d .given .1, ← c .before .ends-over .ensures, c .if1 .taken)
-
-cast-end : tie.Need-cast-end
-cast-end c = search needs
+returns-2 c =
+    let a = c .before .before .before .before .before .before .before .before .before .before .before .before .before .before .before .before .before .args in
+    let p = c .before .before .before .before .before .before .before .before .before .before .before .before .before .before .before .before .before .pre in
+    let u = a .update .now in
+    let m = a .memory .now in
+    let s = a .s in
+    let v = c .before .before .before .before .before .before .before .before .before .before .read-block .last .1 .1 .0 in
+    let q = c .before .before .before .before .before .before .before .before .before .before .read-block .last .1 .1 .1 .0 in
+    let b = ap (blockOnto v q) (sym (c .before .before .before .before .at .given .1)) ∙ c .before .before .before .before .before .before .before .before .before .before .read-block .ensures .2 in
+    let law = too-far (a .form) u m (a .w .now) s (p .3) v q _ b (omega (arith, c .if1 .taken, c .before .length-in .ensures)) in
+    refuses (a .form) u m (a .w .now) (a .r .now) s m v q (c .before .before .before .before .before .before .before .before .before .before .read-block .ensures .0) refl (c .before .before .before .before .before .before .before .before .before .before .read-block .ensures .1 .size ∙ sym (p .1)) _ law
 
 add-end : tie.Need-add-end
 add-end c =
-    let e = end-fits (c .before .before .before .before .before .before .before .before .args .s .clock) (c .before .before .before .before .d .given .0 .0 .length .0) (sym (c .before .before .ends-over .ensures) ∙ c .before .if1 .left) in
-    omega (arith, e)
+    omega (arith, c .before .before .before .before .before .before .before .before .before .before .before .before .before .before .before .before .before .before .pre .2 .clock, c .before .if1 .left)
 
-cast-clock : tie.Need-cast-clock
-cast-clock c =
-    let e = end-fits (c .before .before .before .before .before .before .before .before .args .s .clock) (c .before .before .before .before .d .given .0 .0 .length .0) (sym (c .before .before .ends-over .ensures) ∙ c .before .if1 .left) in
-    omega (arith, e)
+same-length-5 : tie.Need-same-length-5
+same-length-5 c = search needs
+
+same-length-6 : tie.Need-same-length-6
+same-length-6 c = search needs
+
+returns-3 : tie.Need-returns-3
+returns-3 c =
+    let a = c .before .before .before .before .before .before .before .before .before .before .before .before .before .before .before .before .before .before .before .args in
+    let p = c .before .before .before .before .before .before .before .before .before .before .before .before .before .before .before .before .before .before .before .pre in
+    let u = a .update .now in
+    let m = a .memory .now in
+    let s = a .s in
+    let v = c .before .before .before .before .before .before .before .before .before .before .before .before .read-block .last .1 .1 .0 in
+    let q = c .before .before .before .before .before .before .before .before .before .before .before .before .read-block .last .1 .1 .1 .0 in
+    let b = ap (blockOnto v q) (sym (c .before .before .before .before .before .before .at .given .1)) ∙ c .before .before .before .before .before .before .before .before .before .before .before .before .read-block .ensures .2 in
+    let law = too-far (a .form) u m (a .w .now) s (p .3) v q _ b (omega (arith, c .if2 .taken, c .before .before .before .length-in .ensures)) in
+    refuses (a .form) u m (a .w .now) (a .r .now) s m v q (c .before .before .before .before .before .before .before .before .before .before .before .before .read-block .ensures .0) refl (c .before .before .before .before .before .before .before .before .before .before .before .before .read-block .ensures .1 .size ∙ sym (p .1)) _ law
 
 sub-t : tie.Need-sub-t
 sub-t c = search needs
@@ -53,29 +90,74 @@ sub-t c = search needs
 is-dropped-requires : tie.Need-is-dropped-requires
 is-dropped-requires c κs = search needs
 
-returns-3 : tie.Need-returns-3
-unfolding blockStep endedStep
-returns-3 c = rw (← c .before .before .before .before .before .before .before .before .before .decode-block .ensures, c .before .before .before .before .before .before .before .d .given .1, ← c .before .before .before .before .before .ends-over .ensures, c .before .before .before .before .if1 .left, ← c .before .is-dropped .ensures, c .if2 .taken)
+same-length-7 : tie.Need-same-length-7
+same-length-7 c = search needs
+
+same-length-8 : tie.Need-same-length-8
+same-length-8 c = search needs
 
 returns-4 : tie.Need-returns-4
-unfolding blockStep endedStep
-returns-4 c = rw (← c .before .before .before .before .before .before .before .before .before .decode-block .ensures, c .before .before .before .before .before .before .before .d .given .1, ← c .before .before .before .before .before .ends-over .ensures, c .before .before .before .before .if1 .left, ← c .before .is-dropped .ensures, c .if2 .left)
+returns-4 c =
+    let a = c .before .before .before .before .before .before .before .before .before .before .before .before .before .before .before .before .before .before .before .before .before .before .before .args in
+    let p = c .before .before .before .before .before .before .before .before .before .before .before .before .before .before .before .before .before .before .before .before .before .before .before .pre in
+    let u = a .update .now in
+    let m = a .memory .now in
+    let s = a .s in
+    let v = c .before .before .before .before .before .before .before .before .before .before .before .before .before .before .before .before .read-block .last .1 .1 .0 in
+    let q = c .before .before .before .before .before .before .before .before .before .before .before .before .before .before .before .before .read-block .last .1 .1 .1 .0 in
+    let b = ap (blockOnto v q) (sym (c .before .before .before .before .before .before .before .before .before .before .at .given .1)) ∙ c .before .before .before .before .before .before .before .before .before .before .before .before .before .before .before .before .read-block .ensures .2 in
+    let near : s .clock + rowIn q .length .0 ≤ maxClock = omega (arith, c .before .before .before .before .if2 .left, c .before .before .before .before .before .before .before .length-in .ensures) in
+    rw (c .before .before .before .before .before .before .before .length-in .ensures)
+    (goes-on (a .form) u m (a .w .now) (a .r .now) s m v q (c .before .before .before .before .before .before .before .before .before .before .before .before .before .before .before .before .read-block .ensures .0) refl (c .before .before .before .before .before .before .before .before .before .before .before .before .before .before .before .before .read-block .ensures .1 .size ∙ sym (p .1)) _
+    (drops (a .form) u m (a .w .now) s (p .3) v q _ b near (sym (c .before .is-dropped .ensures) ∙ c .if3 .taken))
+    (end-fine (a .form) u m (a .w .now) s (p .3) v q _ b near (p .2)) (end-less (a .form) u m (a .w .now) s (p .3) v q _ b near))
+
+same-length-9 : tie.Need-same-length-9
+same-length-9 c = search needs
+
+same-length-10 : tie.Need-same-length-10
+same-length-10 c = search needs
+
+returns-5 : tie.Need-returns-5
+returns-5 c =
+    let a = c .before .before .before .before .before .before .before .before .before .before .before .before .before .before .before .before .before .before .before .before .before .before .before .args in
+    let p = c .before .before .before .before .before .before .before .before .before .before .before .before .before .before .before .before .before .before .before .before .before .before .before .pre in
+    let u = a .update .now in
+    let m = a .memory .now in
+    let s = a .s in
+    let v = c .before .before .before .before .before .before .before .before .before .before .before .before .before .before .before .before .read-block .last .1 .1 .0 in
+    let q = c .before .before .before .before .before .before .before .before .before .before .before .before .before .before .before .before .read-block .last .1 .1 .1 .0 in
+    let b = ap (blockOnto v q) (sym (c .before .before .before .before .before .before .before .before .before .before .at .given .1)) ∙ c .before .before .before .before .before .before .before .before .before .before .before .before .before .before .before .before .read-block .ensures .2 in
+    let near : s .clock + rowIn q .length .0 ≤ maxClock = omega (arith, c .before .before .before .before .if2 .left, c .before .before .before .before .before .before .before .length-in .ensures) in
+    rw (c .before .before .before .before .before .before .before .length-in .ensures)
+    (keeps (a .form) u m (a .w .now) (a .r .now) s m v q (c .before .before .before .before .before .before .before .before .before .before .before .before .before .before .before .before .read-block .ensures .0) refl (c .before .before .before .before .before .before .before .before .before .before .before .before .before .before .before .before .read-block .ensures .1 .size ∙ sym (p .1)) _ _
+    (has (a .form) u m (a .w .now) s (p .3) v q _ b near (sym (c .before .is-dropped .ensures) ∙ c .if3 .left))
+    (end-fine (a .form) u m (a .w .now) s (p .3) v q _ b near (p .2)) (c .before .before .before .before .before .before .before .before .before .before .before .before .before .before .before .before .read-block .ensures .1) (end-less (a .form) u m (a .w .now) s (p .3) v q _ b near))
 
 pub read-block-spec : {M : Type 1} → statement M
 read-block-spec =
     tie.close
     (tie.spec
-    decode-block-requires
-    enum-known-d
+    read-block-requires
+    enum-known-at
     enum-told
     why-requires
+    same-length
+    same-length-2
     returns
-    ends-over-requires
+    length-in-requires
+    same-length-3
+    same-length-4
     returns-2
-    cast-end
     add-end
-    cast-clock
+    same-length-5
+    same-length-6
+    returns-3
     sub-t
     is-dropped-requires
-    returns-3
-    returns-4)
+    same-length-7
+    same-length-8
+    returns-4
+    same-length-9
+    same-length-10
+    returns-5)

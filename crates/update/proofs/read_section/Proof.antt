@@ -1,10 +1,12 @@
--- `update::read_section` meets its contract: each way out is a law of the section's head.
+-- `update::read_section` meets its contract: each way out is a law of a section's head.
 use native.Mathlib.Omega.{arith}
-use mathlib.Core.Path.{sym, ap, _∙_}
-use Rattle.decoder.specs.Fields.{whyDraw, bounded}
-use Rattle.update.specs.declared.Step.the-variants.{Refused}
-use Rattle.decoder.proofs.Laws.{within-limit, clock-fits}
-use Rattle.update.proofs.Sections.{no-count, no-client, full, again, no-clock, head}
+use mathlib.Core.Path.{_≡_, refl, sym, ap, _∙_}
+use lib.ListN.{length-set}
+use Rattle.numbers.specs.Limits.{maxClock}
+use Rattle.grammar.specs.Grammar as grammar
+use Rattle.decoder.specs.Columned.{fields}
+use Rattle.cells.specs.Cells.{placeIn, stateIn, given}
+use Rattle.update.proofs.Laws.{in-line, within, refuses, goes-on, no-count, no-client, again, no-clock, headed, head-fine, head-less}
 use borrow.Author.Needs.{needs}
 use Rattle.update.proofs.read_section.Statement.{statement}
 use Rattle.update.proofs.read_section.Tie as tie
@@ -12,11 +14,8 @@ use Rattle.update.proofs.read_section.Tie as tie
 read-var-requires : tie.Need-read-var-requires
 read-var-requires c κs = search needs
 
-within-requires : tie.Need-within-requires
-within-requires c κs = search needs
-
-enum-known-n : tie.Need-enum-known-n
-enum-known-n c = search needs
+enum-known-count : tie.Need-enum-known-count
+enum-known-count c = search needs
 
 enum-told : tie.Need-enum-told
 enum-told c = search needs
@@ -24,18 +23,26 @@ enum-told c = search needs
 why-requires : tie.Need-why-requires
 why-requires c κs = search needs
 
+same-length : tie.Need-same-length
+same-length c = search needs
+
 returns : tie.Need-returns
 returns c =
-    let a = c .before .before .before .before .before .before .before .args in
-    let told = c .before .enum-told .given .1 in
-    let law = no-count (a .update .now) (a .memory .now) (a .s) _ (ap (bounded (a .s .room)) (sym (c .before .before .before .before .read-var .ensures)) ∙ sym (c .before .before .before .within .ensures) ∙ told) in
-    (ap Refused (c .why .ensures ∙ ap whyDraw told) ∙ law .0, law .1)
+    let a = c .before .before .before .before .before .before .before .before .before .before .before .before .args in
+    let p = c .before .before .before .before .before .before .before .before .before .before .before .before .pre in
+    let u = a .update .now in
+    let m = a .memory .now in
+    let s = a .s in
+    let w₁ = c .before .before .before .before .before .before .read-var .last .1 .0 in
+    let k : given w₁ (c .before .before .before .before .before .before .read-var .result) ≡ fields (a .form) u (grammar.number (grammar.upTo (s .room))) (stateIn (a .w .now)) = in-line (a .form) u (s .room) (a .w .now) w₁ (c .before .before .before .before .before .before .read-var .result) (c .before .before .before .before .before .before .read-var .ensures .1) in
+    let law = no-count (a .form) u m (a .w .now) s (p .3) (p .2) w₁ (ap (given w₁) (sym (c .before .before .enum-told .given .1)) ∙ k) in
+    rw (c .why .ensures) (refuses (a .form) u m (a .w .now) (a .r .now) s m w₁ (a .r .now) (c .before .before .before .before .before .before .read-var .ensures .0) refl refl _ law)
 
 read-client-requires : tie.Need-read-client-requires
 read-client-requires c κs = search needs
 
-enum-known-c : tie.Need-enum-known-c
-enum-known-c c = search needs
+enum-known-client : tie.Need-enum-known-client
+enum-known-client c = search needs
 
 enum-told-2 : tie.Need-enum-told-2
 enum-told-2 c = search needs
@@ -43,34 +50,56 @@ enum-told-2 c = search needs
 why-requires-2 : tie.Need-why-requires-2
 why-requires-2 c κs = search needs
 
+same-length-2 : tie.Need-same-length-2
+same-length-2 c = search needs
+
 returns-2 : tie.Need-returns-2
 returns-2 c =
-    let a = c .before .before .before .before .before .before .before .before .before .before .before .args in
-    let told = c .before .enum-told2 .given .1 in
-    let law = no-client (a .update .now) (a .memory .now) (a .s) _ _ _ (ap (bounded (a .s .room)) (sym (c .before .before .before .before .before .before .before .before .read-var .ensures)) ∙ sym (c .before .before .before .before .before .before .before .within .ensures) ∙ c .before .before .before .before .before .n .given .1) _ (sym (c .before .before .before .read-client .ensures) ∙ told) in
-    (ap Refused (c .why2 .ensures ∙ ap whyDraw told) ∙ law .0, law .1)
+    let a = c .before .before .before .before .before .before .before .before .before .before .before .before .before .before .before .before .before .before .before .args in
+    let p = c .before .before .before .before .before .before .before .before .before .before .before .before .before .before .before .before .before .before .before .pre in
+    let u = a .update .now in
+    let m = a .memory .now in
+    let s = a .s in
+    let w₁ = c .before .before .before .before .before .before .before .before .before .before .before .before .before .read-var .last .1 .0 in
+    let k : given w₁ (c .before .before .before .before .before .before .before .before .before .before .before .before .before .read-var .result) ≡ fields (a .form) u (grammar.number (grammar.upTo (s .room))) (stateIn (a .w .now)) = in-line (a .form) u (s .room) (a .w .now) w₁ (c .before .before .before .before .before .before .before .before .before .before .before .before .before .read-var .result) (c .before .before .before .before .before .before .before .before .before .before .before .before .before .read-var .ensures .1) in
+    let k₁ = ap (given w₁) (sym (c .before .before .before .before .before .before .before .before .before .count .given .1)) ∙ k in
+    let w₂ = c .before .before .before .before .before .before .read-client .last .1 .1 .0 in
+    let law = no-client (a .form) u m (a .w .now) s (p .3) (p .2) w₁ _ k₁ w₂ (ap (given w₂) (sym (c .before .before .enum-told2 .given .1)) ∙ c .before .before .before .before .before .before .read-client .ensures .1) in
+    rw (c .why2 .ensures) (refuses (a .form) u m (a .w .now) (a .r .now) s m w₂ (a .r .now) (c .before .before .before .before .before .before .read-client .ensures .0) refl refl _ law)
 
-returns-3 : tie.Need-returns-3
-returns-3 c =
-    let a = c .before .before .before .before .before .before .before .before .before .before .before .before .args in
-    full (a .update .now) (a .memory .now) (a .s) _ _ _ (ap (bounded (a .s .room)) (sym (c .before .before .before .before .before .before .before .before .before .read-var .ensures)) ∙ sym (c .before .before .before .before .before .before .before .before .within .ensures) ∙ c .before .before .before .before .before .before .n .given .1) _ _ _ (sym (c .before .before .before .before .read-client .ensures) ∙ c .before .before .c .given .1) (c .if1 .taken)
+slice-read-place : tie.Need-slice-read-place
+slice-read-place c = search needs
 
 is-among-requires : tie.Need-is-among-requires
 is-among-requires c κs = search needs
 
-same-length : tie.Need-same-length
-same-length c = search needs
+same-length-3 : tie.Need-same-length-3
+same-length-3 c = search needs
 
-returns-4 : tie.Need-returns-4
-returns-4 c =
-    let a = c .before .before .before .before .before .before .before .before .before .before .before .before .before .before .before .args in
-    again (a .update .now) (a .memory .now) (a .s) _ _ _ (ap (bounded (a .s .room)) (sym (c .before .before .before .before .before .before .before .before .before .before .before .before .read-var .ensures)) ∙ sym (c .before .before .before .before .before .before .before .before .before .before .before .within .ensures) ∙ c .before .before .before .before .before .before .before .before .before .n .given .1) _ _ _ (sym (c .before .before .before .before .before .before .before .read-client .ensures) ∙ c .before .before .before .before .before .c .given .1) (c .before .before .before .if1 .left) (sym (c .before .is-among .ensures) ∙ c .if2 .taken)
+same-length-4 : tie.Need-same-length-4
+same-length-4 c = search needs
 
-read-clock-requires : tie.Need-read-clock-requires
-read-clock-requires c κs = search needs
+returns-3 : tie.Need-returns-3
+unfolding placeIn
+returns-3 c =
+    let a = c .before .before .before .before .before .before .before .before .before .before .before .before .before .before .before .before .before .before .before .before .before .before .args in
+    let p = c .before .before .before .before .before .before .before .before .before .before .before .before .before .before .before .before .before .before .before .before .before .before .pre in
+    let u = a .update .now in
+    let m = a .memory .now in
+    let s = a .s in
+    let w₁ = c .before .before .before .before .before .before .before .before .before .before .before .before .before .before .before .before .read-var .last .1 .0 in
+    let k : given w₁ (c .before .before .before .before .before .before .before .before .before .before .before .before .before .before .before .before .read-var .result) ≡ fields (a .form) u (grammar.number (grammar.upTo (s .room))) (stateIn (a .w .now)) = in-line (a .form) u (s .room) (a .w .now) w₁ (c .before .before .before .before .before .before .before .before .before .before .before .before .before .before .before .before .read-var .result) (c .before .before .before .before .before .before .before .before .before .before .before .before .before .before .before .before .read-var .ensures .1) in
+    let k₁ = ap (given w₁) (sym (c .before .before .before .before .before .before .before .before .before .before .before .before .count .given .1)) ∙ k in
+    let w₂ = c .before .before .before .before .before .before .before .before .before .read-client .last .1 .1 .0 in
+    let c₁ = ap (given w₂) (sym (c .before .before .before .before .before .client .given .1)) ∙ c .before .before .before .before .before .before .before .before .before .read-client .ensures .1 in
+    let law = again (a .form) u m (a .w .now) s (p .3) (p .2) w₁ _ k₁ w₂ _ c₁ (sym (c .before .is-among .ensures) ∙ c .if1 .taken) in
+    refuses (a .form) u m (a .w .now) (a .r .now) s m w₂ (a .r .now) (c .before .before .before .before .before .before .before .before .before .read-client .ensures .0) refl refl _ law
 
-enum-known-k : tie.Need-enum-known-k
-enum-known-k c = search needs
+read-var-requires-2 : tie.Need-read-var-requires-2
+read-var-requires-2 c κs = search needs
+
+enum-known-clock : tie.Need-enum-known-clock
+enum-known-clock c = search needs
 
 enum-told-3 : tie.Need-enum-told-3
 enum-told-3 c = search needs
@@ -78,78 +107,111 @@ enum-told-3 c = search needs
 why-requires-3 : tie.Need-why-requires-3
 why-requires-3 c κs = search needs
 
-same-length-2 : tie.Need-same-length-2
-same-length-2 c = search needs
+same-length-5 : tie.Need-same-length-5
+same-length-5 c = search needs
+
+same-length-6 : tie.Need-same-length-6
+same-length-6 c = search needs
+
+returns-4 : tie.Need-returns-4
+returns-4 c =
+    let a = c .before .before .before .before .before .before .before .before .before .before .before .before .before .before .before .before .before .before .before .before .before .before .before .before .before .before .before .before .before .before .args in
+    let p = c .before .before .before .before .before .before .before .before .before .before .before .before .before .before .before .before .before .before .before .before .before .before .before .before .before .before .before .before .before .before .pre in
+    let u = a .update .now in
+    let m = a .memory .now in
+    let s = a .s in
+    let w₁ = c .before .before .before .before .before .before .before .before .before .before .before .before .before .before .before .before .before .before .before .before .before .before .before .before .read-var .last .1 .0 in
+    let k : given w₁ (c .before .before .before .before .before .before .before .before .before .before .before .before .before .before .before .before .before .before .before .before .before .before .before .before .read-var .result) ≡ fields (a .form) u (grammar.number (grammar.upTo (s .room))) (stateIn (a .w .now)) = in-line (a .form) u (s .room) (a .w .now) w₁ (c .before .before .before .before .before .before .before .before .before .before .before .before .before .before .before .before .before .before .before .before .before .before .before .before .read-var .result) (c .before .before .before .before .before .before .before .before .before .before .before .before .before .before .before .before .before .before .before .before .before .before .before .before .read-var .ensures .1) in
+    let k₁ = ap (given w₁) (sym (c .before .before .before .before .before .before .before .before .before .before .before .before .before .before .before .before .before .before .before .before .count .given .1)) ∙ k in
+    let w₂ = c .before .before .before .before .before .before .before .before .before .before .before .before .before .before .before .before .before .read-client .last .1 .1 .0 in
+    let c₁ = ap (given w₂) (sym (c .before .before .before .before .before .before .before .before .before .before .before .before .before .client .given .1)) ∙ c .before .before .before .before .before .before .before .before .before .before .before .before .before .before .before .before .before .read-client .ensures .1 in
+    let new = sym (c .before .before .before .before .before .before .before .before .before .is-among .ensures) ∙ c .before .before .before .before .before .before .before .before .if1 .left in
+    let w₃ = c .before .before .before .before .before .before .read-var2 .last .1 .0 in
+    let l : given w₃ (c .before .before .before .before .before .before .read-var2 .result) ≡ fields (a .form) u (grammar.number (grammar.upTo maxClock)) (stateIn w₂) = in-line (a .form) u maxClock w₂ w₃ (c .before .before .before .before .before .before .read-var2 .result) (c .before .before .before .before .before .before .read-var2 .ensures .1) in
+    let law = no-clock (a .form) u m (a .w .now) s (p .3) (p .2) w₁ _ k₁ w₂ _ c₁ new w₃ (ap (given w₃) (sym (c .before .before .enum-told3 .given .1)) ∙ l) in
+    rw (c .why3 .ensures) (refuses (a .form) u m (a .w .now) (a .r .now) s m w₃ (a .r .now) (c .before .before .before .before .before .before .read-var2 .ensures .0) refl refl _ law)
+
+mul-memory : tie.Need-mul-memory
+mul-memory c = omega (arith, c .before .before .before .before .before .before .before .before .before .before .before .before .before .before .before .before .before .before .before .before .before .before .before .before .before .before .before .before .before .pre .1 .seen, c .before .before .before .before .before .before .before .before .before .before .before .before .before .before .before .before .before .before .before .before .before .before .before .before .before .before .before .before .before .pre .2, c .before .before .before .before .before .before .before .before .before .before .before .before .before .before .before .before .before .before .before .before .before .before .before .before .before .before .before .before .before .good .1 .1 .1 .1 .0)
+
+slice-write-memory : tie.Need-slice-write-memory
+slice-write-memory c = omega (arith, c .before .before .before .before .before .before .before .before .before .before .before .before .before .before .before .before .before .before .before .before .before .before .before .before .before .before .before .before .before .pre .1 .seen, c .before .before .before .before .before .before .before .before .before .before .before .before .before .before .before .before .before .before .before .before .before .before .before .before .before .before .before .before .before .pre .2)
+
+sub-t26 : tie.Need-sub-t26
+sub-t26 c =
+    omega (arith, c .before .before .before .before .before .before .before .before .before .before .before .before .before .before .before .before .before .before .before .before .before .before .before .before .before .before .before .before .before .before .pre .2)
+
+sub-t39 : tie.Need-sub-t39
+sub-t39 c =
+    let a = c .before .before .before .before .before .before .before .before .before .before .before .before .before .before .before .before .before .before .before .before .before .before .before .before .before .before .before .before .before .before .before .args in
+    let e = within (a .s .room) (a .update .now) _ _ _ _ (ap (given (c .before .before .before .before .before .before .before .before .before .before .before .before .before .before .before .before .before .before .before .before .before .before .before .before .before .read-var .last .1 .0)) (sym (c .before .before .before .before .before .before .before .before .before .before .before .before .before .before .before .before .before .before .before .before .before .count .given .1)) ∙ c .before .before .before .before .before .before .before .before .before .before .before .before .before .before .before .before .before .before .before .before .before .before .before .before .before .read-var .ensures .1) in
+    omega (arith, e)
+
+add-t37 : tie.Need-add-t37
+add-t37 c = omega (arith, c .before .before .before .before .before .before .before .before .before .before .before .before .before .before .before .before .before .before .before .before .before .before .before .before .before .before .before .before .before .before .before .pre .1 .seen, c .before .before .before .before .before .before .before .before .before .before .before .before .before .before .before .before .before .before .before .before .before .before .before .before .before .before .before .before .before .before .before .pre .2, c .before .before .before .before .before .before .before .before .before .before .before .before .before .before .before .before .before .before .before .before .before .before .before .before .before .before .before .before .before .before .before .good .1 .1 .1 .1 .0 .0)
+
+same-length-7 : tie.Need-same-length-7
+same-length-7 c = search needs
+
+same-length-8 : tie.Need-same-length-8
+same-length-8 c = search needs
 
 returns-5 : tie.Need-returns-5
 returns-5 c =
-    let a = c .before .before .before .before .before .before .before .before .before .before .before .before .before .before .before .before .before .before .before .args in
-    let told = c .before .enum-told3 .given .1 in
-    let law = no-clock (a .update .now) (a .memory .now) (a .s) _ _ _ (ap (bounded (a .s .room)) (sym (c .before .before .before .before .before .before .before .before .before .before .before .before .before .before .before .before .read-var .ensures)) ∙ sym (c .before .before .before .before .before .before .before .before .before .before .before .before .before .before .before .within .ensures) ∙ c .before .before .before .before .before .before .before .before .before .before .before .before .before .n .given .1) _ _ _ (sym (c .before .before .before .before .before .before .before .before .before .before .before .read-client .ensures) ∙ c .before .before .before .before .before .before .before .before .before .c .given .1) (c .before .before .before .before .before .before .before .if1 .left) (sym (c .before .before .before .before .before .is-among .ensures) ∙ c .before .before .before .before .if2 .left) _ (sym (c .before .before .before .read-clock .ensures) ∙ told) in
-    (ap Refused (c .why3 .ensures ∙ ap whyDraw told) ∙ law .0, law .1)
-
-mul-memory : tie.Need-mul-memory
-mul-memory c = omega (arith, c .before .before .before .before .before .before .before .if1 .left, c .before .before .before .before .before .before .before .before .before .before .before .before .before .before .before .before .before .before .before .good .1 .0)
-
-slice-write-memory : tie.Need-slice-write-memory
-slice-write-memory c = search needs
-
-cast-clock : tie.Need-cast-clock
-cast-clock c =
-    let a = c .before .before .before .before .before .before .before .before .before .before .before .before .before .before .before .before .before .before .before .args in
-    let l = clock-fits (a .update .now) _ _ _ _ (sym (c .before .before .before .read-clock .ensures) ∙ c .before .k .given .1) in
-    omega (arith, l)
-
-sub-t29 : tie.Need-sub-t29
-sub-t29 c = omega (arith, c .before .before .before .before .before .before .before .before .before .before .before .before .before .before .before .before .before .before .before .before .pre)
-
-sub-t30 : tie.Need-sub-t30
-sub-t30 c =
-    let a = c .before .before .before .before .before .before .before .before .before .before .before .before .before .before .before .before .before .before .before .before .before .args in
-    let l = within-limit (a .s .room) _ _ _ _ (sym (c .before .before .before .before .before .before .before .before .before .before .before .before .before .before .before .before .before .within .ensures) ∙ c .before .before .before .before .before .before .before .before .before .before .before .before .before .before .before .n .given .1) in
-    omega (arith, l)
-
-add-t20 : tie.Need-add-t20
-add-t20 c = omega (arith, c .before .before .before .before .before .before .before .before .before .if1 .left, c .before .before .before .before .before .before .before .before .before .before .before .before .before .before .before .before .before .before .before .before .before .good .1 .0 .0)
-
-same-length-3 : tie.Need-same-length-3
-same-length-3 c = search needs
-
-returns-6 : tie.Need-returns-6
-returns-6 c =
-    let a = c .before .before .before .before .before .before .before .before .before .before .before .before .before .before .before .before .before .before .before .before .before .args in
-    head (a .update .now) (a .memory .now) (a .s) _ _ _ (ap (bounded (a .s .room)) (sym (c .before .before .before .before .before .before .before .before .before .before .before .before .before .before .before .before .before .before .read-var .ensures)) ∙ sym (c .before .before .before .before .before .before .before .before .before .before .before .before .before .before .before .before .before .within .ensures) ∙ c .before .before .before .before .before .before .before .before .before .before .before .before .before .before .before .n .given .1) _ _ _ (sym (c .before .before .before .before .before .before .before .before .before .before .before .before .before .read-client .ensures) ∙ c .before .before .before .before .before .before .before .before .before .before .before .c .given .1) (c .before .before .before .before .before .before .before .before .before .if1 .left) (sym (c .before .before .before .before .before .before .before .is-among .ensures) ∙ c .before .before .before .before .before .before .if2 .left) _ _ _ (sym (c .before .before .before .before .before .read-clock .ensures) ∙ c .before .before .before .k .given .1)
+    let a = c .before .before .before .before .before .before .before .before .before .before .before .before .before .before .before .before .before .before .before .before .before .before .before .before .before .before .before .before .before .before .before .args in
+    let p = c .before .before .before .before .before .before .before .before .before .before .before .before .before .before .before .before .before .before .before .before .before .before .before .before .before .before .before .before .before .before .before .pre in
+    let u = a .update .now in
+    let m = a .memory .now in
+    let s = a .s in
+    let w₁ = c .before .before .before .before .before .before .before .before .before .before .before .before .before .before .before .before .before .before .before .before .before .before .before .before .before .read-var .last .1 .0 in
+    let k : given w₁ (c .before .before .before .before .before .before .before .before .before .before .before .before .before .before .before .before .before .before .before .before .before .before .before .before .before .read-var .result) ≡ fields (a .form) u (grammar.number (grammar.upTo (s .room))) (stateIn (a .w .now)) = in-line (a .form) u (s .room) (a .w .now) w₁ (c .before .before .before .before .before .before .before .before .before .before .before .before .before .before .before .before .before .before .before .before .before .before .before .before .before .read-var .result) (c .before .before .before .before .before .before .before .before .before .before .before .before .before .before .before .before .before .before .before .before .before .before .before .before .before .read-var .ensures .1) in
+    let k₁ = ap (given w₁) (sym (c .before .before .before .before .before .before .before .before .before .before .before .before .before .before .before .before .before .before .before .before .before .count .given .1)) ∙ k in
+    let w₂ = c .before .before .before .before .before .before .before .before .before .before .before .before .before .before .before .before .before .before .read-client .last .1 .1 .0 in
+    let c₁ = ap (given w₂) (sym (c .before .before .before .before .before .before .before .before .before .before .before .before .before .before .client .given .1)) ∙ c .before .before .before .before .before .before .before .before .before .before .before .before .before .before .before .before .before .before .read-client .ensures .1 in
+    let new = sym (c .before .before .before .before .before .before .before .before .before .before .is-among .ensures) ∙ c .before .before .before .before .before .before .before .before .before .if1 .left in
+    let w₃ = c .before .before .before .before .before .before .before .read-var2 .last .1 .0 in
+    let l : given w₃ (c .before .before .before .before .before .before .before .read-var2 .result) ≡ fields (a .form) u (grammar.number (grammar.upTo maxClock)) (stateIn w₂) = in-line (a .form) u maxClock w₂ w₃ (c .before .before .before .before .before .before .before .read-var2 .result) (c .before .before .before .before .before .before .before .read-var2 .ensures .1) in
+    let l₁ = ap (given w₃) (sym (c .before .before .before .clock .given .1)) ∙ l in
+    let few = within (s .room) u _ _ w₁ _ (ap (given w₁) (sym (c .before .before .before .before .before .before .before .before .before .before .before .before .before .before .before .before .before .before .before .before .before .count .given .1)) ∙ c .before .before .before .before .before .before .before .before .before .before .before .before .before .before .before .before .before .before .before .before .before .before .before .before .before .read-var .ensures .1) in
+    let low = within maxClock u _ _ w₃ _ (ap (given w₃) (sym (c .before .before .before .clock .given .1)) ∙ c .before .before .before .before .before .before .before .read-var2 .ensures .1) in
+    goes-on (a .form) u m (a .w .now) (a .r .now) s _ w₃ (a .r .now) (c .before .before .before .before .before .before .before .read-var2 .ensures .0) (length-set m (s .seen) (c .before .before .before .before .before .before .before .before .before .before .before .before .before .before .client .given .0 .0)) refl _
+    (headed (a .form) u m (a .w .now) s (p .3) (p .2) w₁ _ k₁ w₂ _ c₁ new w₃ _ l₁ (p .1))
+    (head-fine (a .form) u m (a .w .now) s (p .3) (p .2) w₁ _ k₁ w₂ _ c₁ new w₃ _ l₁ (p .1) few low)
+    (head-less (a .form) u m (a .w .now) s (p .3) (p .2) w₁ _ k₁ w₂ _ c₁ new w₃ _ l₁ (p .1) few low)
 
 pub read-section-spec : {M : Type 1} → statement M
 read-section-spec =
     tie.close
     (tie.spec
     read-var-requires
-    within-requires
-    enum-known-n
+    enum-known-count
     enum-told
     why-requires
+    same-length
     returns
     read-client-requires
-    enum-known-c
+    enum-known-client
     enum-told-2
     why-requires-2
+    same-length-2
     returns-2
-    returns-3
+    slice-read-place
     is-among-requires
-    same-length
-    returns-4
-    read-clock-requires
-    enum-known-k
+    same-length-3
+    same-length-4
+    returns-3
+    read-var-requires-2
+    enum-known-clock
     enum-told-3
     why-requires-3
-    same-length-2
-    returns-5
+    same-length-5
+    same-length-6
+    returns-4
     mul-memory
     slice-write-memory
-    cast-clock
-    sub-t29
-    sub-t30
-    add-t20
-    same-length-3
-    returns-6)
+    sub-t26
+    sub-t39
+    add-t37
+    same-length-7
+    same-length-8
+    returns-5)

@@ -43,9 +43,9 @@ use Rattle.updates.specs.declared.Update.{Update}
 use Rattle.deletes.specs.DeleteSet.{setOf, wordsOf as setWords}
 use Rattle.reader.specs.Reader.{filledOf, rowsOf as filledRows}
 use Rattle.table.specs.Rows.{clearedFrom}
-use Rattle.update.specs.Update.{blocksOf}
+use Rattle.decoder.specs.Update.{blocksOf}
 use Rattle.updates.specs.Promises.{answer, early, refused, ReadUpdate}
-use Rattle.reader.proofs.Sorts.{decoder·state, refusal, refusal-number, filled, filled·rows-0, filled·rows-1, filled·refused-0, filled-cases}
+use Rattle.reader.proofs.Sorts.{refusal, refusal-number, filled, filled·rows-0, filled·rows-1, filled·refused-0, filled-cases}
 use Rattle.table.proofs.Sorts.{block}
 use Rattle.updates.proofs.Sorts.{deletes·set, deletes·set·ranges-0, deletes·set·refused-0, deletes·set-cases, update, update-has}
 use Rattle.updates.proofs.Laws.{on-early, on-blocks, on-set, on-ranges}
@@ -79,7 +79,7 @@ fs = by-value byte ∷ by-ref 0 tt byte ∷ by-mut 1 tt block ∷ by-mut 2 tt wo
 
 -- the function, its large types in their shape of quick computing
 abbrev fn : Fn
-fn = retyped (some (lone (update .row .mir)) ∷ none ∷ none ∷ none ∷ none ∷ none ∷ none ∷ some (lone (decoder·state .row .mir)) ∷ none ∷ some (lone (refusal .row .mir)) ∷ some (lone (refusal .row .mir)) ∷ none ∷ none ∷ none ∷ none ∷ none ∷ none ∷ some (lone (filled .row .mir)) ∷ none ∷ none ∷ some (lone (update .row .mir)) ∷ some (lone (deletes·set .row .mir)) ∷ none ∷ none ∷ some (lone (update .row .mir)) ∷ []) code.function
+fn = retyped (some (lone (update .row .mir)) ∷ none ∷ none ∷ none ∷ none ∷ none ∷ none ∷ none ∷ none ∷ some (lone (refusal .row .mir)) ∷ some (lone (refusal .row .mir)) ∷ none ∷ none ∷ none ∷ none ∷ none ∷ none ∷ some (lone (filled .row .mir)) ∷ none ∷ none ∷ some (lone (update .row .mir)) ∷ some (lone (deletes·set .row .mir)) ∷ none ∷ none ∷ some (lone (update .row .mir)) ∷ []) code.function
 
 module _ {M : Type 1} (𝓤 : URA M) (H : Heap 𝓤) (A : Atoms 𝓤) (W : Given 𝓤 H A) (mem : Memory → SProp 𝓤) (run : Routine → Fun 𝓤) (κs : Lfts 3) (qs : Shares 3) (bounds : AllOutlive 3 (f.signature .outlives) κs) (a : Args f.signature κs)
     (are : Are (typesAt (f.signature .params) κs) (Ises (typesAt (f.signature .params) κs)) a (valss (typesAt (f.signature .params) κs) (spells fs κs) a)) where
@@ -167,16 +167,16 @@ module _ {M : Type 1} (𝓤 : URA M) (H : Heap 𝓤) (A : Atoms 𝓤) (W : Given
         flat ! $
         assigns ! (of-opd ! (load ! (from ! (vrt ! refl (fld ! refl (stop !)))) (look-in ! 27 (in-variant ! 0 0 refl refl (whole !))))) (from ! (stop !)) (init ! 49 refl (tt, record { fits = (filled·rows-0 x₇a x₇b (subst (Has filled) e₇ (g₆ .0))) .1 })) $
         flat ! $
-        assigns ! (of-opd ! (load ! (from ! (vrt ! refl (fld ! refl (stop !)))) (look-in ! 27 (in-variant ! 0 1 refl refl (whole !))))) (from ! (stop !)) (init ! 47 refl (decoder·state .lawful M 𝓤 H A W .typed x₇b _ (filled·rows-1 x₇a x₇b (subst (Has filled) e₇ (g₆ .0))) .0)) $
+        assigns ! (of-opd ! (load ! (from ! (vrt ! refl (fld ! refl (stop !)))) (look-in ! 27 (in-variant ! 0 1 refl refl (whole !))))) (from ! (stop !)) (init ! 47 refl (tt, record { fits = (filled·rows-1 x₇a x₇b (subst (Has filled) e₇ (g₆ .0))) .1 })) $
         flat ! $
         assigns ! (addr ! (from ! (fld ! refl (hop ! (look-in ! 53 (sub ! 0 refl (whole !))) (stop !))))) (from ! (stop !)) (init ! 17 refl (tt, tt)) $
         flat ! $
         assigns ! (agg ! (and-then ! (load ! (from ! (stop !)) (look ! 17 refl)) (and-then ! (load ! (from ! (fld ! refl (stop !))) (look-in ! 53 (sub ! 1 refl (whole !)))) (no-more !)))) (from ! (stop !)) (init ! 15 refl (tt, (tt, (record { fits = are .1 .1 .1 .0 .0 .1 .0 }, tt)))) $
         flat ! $
-        calls-by ! (fmOf 𝓤 H (W .laws) 𝓣) (0 ∷ 2 ∷ []) (hs (filledRows (length rows₀) (blocksOf form₀ update₀)) ranges₀) (deletes·read-delete-set! 𝓤 H A mem run (𝓣 .C) known-deletes·read-delete-set at-update update₀ x₇b (filled·rows-1 x₇a x₇b (subst (Has filled) e₇ (g₆ .0))) at-ranges ranges₀) refl (λ P. and-then ! (load ! (from ! (stop !)) (look ! 57 refl)) (and-then ! (load ! (from ! (stop !)) (look ! 47 refl)) (and-then ! (load ! (from ! (stop !)) (look ! 15 refl)) (no-more !)))) (λ g₈.
+        calls-by ! (fmOf 𝓤 H (W .laws) 𝓣) (0 ∷ 2 ∷ []) (hs (filledRows (length rows₀) (blocksOf form₀ update₀)) ranges₀) (deletes·read-delete-set! 𝓤 H A mem run (𝓣 .C) known-deletes·read-delete-set form₀ (are .0) at-update update₀ x₇b (filled·rows-1 x₇a x₇b (subst (Has filled) e₇ (g₆ .0))) at-ranges ranges₀) refl (λ P. and-then ! (load ! (from ! (stop !)) (look ! 59 refl)) (and-then ! (load ! (from ! (stop !)) (look ! 57 refl)) (and-then ! (load ! (from ! (stop !)) (look ! 47 refl)) (and-then ! (load ! (from ! (stop !)) (look ! 15 refl)) (no-more !))))) (λ g₈.
         land ! (from ! (stop !)) (init ! 19 refl (g₈ .1 .0)) $
         flat ! $
-        deletes·set-cases (setOf update₀ x₇b (length ranges₀))
+        deletes·set-cases (setOf form₀ update₀ x₇b (length ranges₀))
         (λ x₉a x₉b e₉.  -- Ranges
         revalue ! 19 (deletes·set .val) e₉ refl $ switches-to ! (load ! (from ! (vrt ! refl (fld ! refl (stop !)))) (look-tag ! 19 (whole !))) refl $
         flat ! $
@@ -185,9 +185,9 @@ module _ {M : Type 1} (𝓤 : URA M) (H : Heap 𝓤) (A : Atoms 𝓤) (W : Given
         assigns ! (of-opd ! (load ! (from ! (stop !)) (look ! 13 refl))) (from ! (stop !)) (init ! 21 refl (update .lawful M 𝓤 H A W .typed (record { number = 0; blocks = x₇a; ranges = x₉a }) _ (update-has 0 (refl, lit< tt) x₇a (filled·rows-0 x₇a x₇b (subst (Has filled) e₇ (g₆ .0))) x₉a (deletes·set·ranges-0 x₉a x₉b (subst (Has deletes·set) e₉ (g₈ .0)))) .0)) $
         assigns ! (of-opd ! (load ! (from ! (stop !)) (look ! 21 refl))) (from ! (stop !)) (init ! 61 refl (update .lawful M 𝓤 H A W .typed (record { number = 0; blocks = x₇a; ranges = x₉a }) _ (update-has 0 (refl, lit< tt) x₇a (filled·rows-0 x₇a x₇b (subst (Has filled) e₇ (g₆ .0))) x₉a (deletes·set·ranges-0 x₉a x₉b (subst (Has deletes·set) e₉ (g₈ .0)))) .0)) $
         returns-within ! Post refl (look ! 61 refl) $
-        free-all ! (_ ∷ []) En (has _ ∷ has _ ∷ has _ ∷ has _ ∷ has _ ∷ has _ ∷ has _ ∷ has _ ∷ has _ ∷ bare ∷ bare ∷ has _ ∷ bare ∷ bare ∷ bare ∷ bare ∷ bare ∷ has _ ∷ has _ ∷ has _ ∷ has _ ∷ has _ ∷ has _ ∷ has _ ∷ has _ ∷ []) [] $ by ! (exits (record { number = 0; blocks = x₇a; ranges = x₉a }) (filledRows (length rows₀) (blocksOf form₀ update₀)) (setWords update₀ x₇b (length ranges₀)) (update-has 0 (refl, lit< tt) x₇a (filled·rows-0 x₇a x₇b (subst (Has filled) e₇ (g₆ .0))) x₉a (deletes·set·ranges-0 x₉a x₉b (subst (Has deletes·set) e₉ (g₈ .0)))) (on-ranges form₀ update₀ rows₀ ranges₀ (not-false (eqb (early form₀ update₀) 0) y₂) x₇a x₇b e₇ x₉a x₉b e₉)))
+        free-all ! (_ ∷ []) En (has _ ∷ has _ ∷ has _ ∷ has _ ∷ has _ ∷ has _ ∷ has _ ∷ has _ ∷ has _ ∷ bare ∷ bare ∷ has _ ∷ bare ∷ bare ∷ bare ∷ bare ∷ bare ∷ has _ ∷ has _ ∷ has _ ∷ has _ ∷ has _ ∷ has _ ∷ has _ ∷ has _ ∷ []) [] $ by ! (exits (record { number = 0; blocks = x₇a; ranges = x₉a }) (filledRows (length rows₀) (blocksOf form₀ update₀)) (setWords form₀ update₀ x₇b (length ranges₀)) (update-has 0 (refl, lit< tt) x₇a (filled·rows-0 x₇a x₇b (subst (Has filled) e₇ (g₆ .0))) x₉a (deletes·set·ranges-0 x₉a x₉b (subst (Has deletes·set) e₉ (g₈ .0)))) (on-ranges form₀ update₀ rows₀ ranges₀ (not-false (eqb (early form₀ update₀) 0) y₂) x₇a x₇b e₇ x₉a x₉b e₉)))
         (λ x₉ e₉.  -- Refused
-        knows ! (hs (filledRows (length rows₀) (blocksOf form₀ update₀)) (setWords update₀ x₇b (length ranges₀))) (λ sz.
+        knows ! (hs (filledRows (length rows₀) (blocksOf form₀ update₀)) (setWords form₀ update₀ x₇b (length ranges₀))) (λ sz.
         revalue ! 19 (deletes·set .val) e₉ refl $ switches-to ! (load ! (from ! (vrt ! refl (fld ! refl (stop !)))) (look-tag ! 19 (whole !))) refl $
         flat ! $
         assigns ! (of-opd ! (load ! (from ! (vrt ! refl (fld ! refl (stop !)))) (look-in ! 19 (in-variant ! 1 0 refl refl (whole !))))) (from ! (stop !)) (init ! 43 refl (refusal .lawful M 𝓤 H A W .typed x₉ _ (deletes·set·refused-0 x₉ (subst (Has deletes·set) e₉ (g₈ .0))) .0)) $
@@ -196,14 +196,14 @@ module _ {M : Type 1} (𝓤 : URA M) (H : Heap 𝓤) (A : Atoms 𝓤) (W : Given
         flat ! $
         assigns ! (agg ! (and-then ! (load ! (from ! (stop !)) (look ! 9 refl)) (and-then ! (load ! (from ! (fld ! refl (stop !))) (look-in ! 55 (sub ! 1 refl (whole !)))) (no-more !)))) (from ! (stop !)) (init ! 7 refl (tt, (tt, (record { fits = are .1 .1 .0 .0 .1 .0 }, tt)))) $
         flat ! $
-        calls-by ! (fmOf 𝓤 H (W .laws) 𝓣) (1 ∷ []) (hs (filledRows (length rows₀) (blocksOf form₀ update₀)) (setWords update₀ x₇b (length ranges₀))) (table·clear! 𝓤 H A mem run (𝓣 .C) known-table·clear at-rows (filledRows (length rows₀) (blocksOf form₀ update₀)) 0 (refl, lit< tt)) refl (λ P. and-then ! (load ! (from ! (stop !)) (look ! 7 refl)) (and-then ! (lit ! tt) (no-more !))) (λ g₁₀.
+        calls-by ! (fmOf 𝓤 H (W .laws) 𝓣) (1 ∷ []) (hs (filledRows (length rows₀) (blocksOf form₀ update₀)) (setWords form₀ update₀ x₇b (length ranges₀))) (table·clear! 𝓤 H A mem run (𝓣 .C) known-table·clear at-rows (filledRows (length rows₀) (blocksOf form₀ update₀)) 0 (refl, lit< tt)) refl (λ P. and-then ! (load ! (from ! (stop !)) (look ! 7 refl)) (and-then ! (lit ! tt) (no-more !))) (λ g₁₀.
         land ! (from ! (stop !)) (init ! 11 refl (g₁₀ .1 .0)) $
-        calls-by ! (fmOf 𝓤 H (W .laws) 𝓣) ([]) (hs (clearedFrom 0 (filledRows (length rows₀) (blocksOf form₀ update₀))) (setWords update₀ x₇b (length ranges₀))) (updates·none! 𝓤 H A mem run (𝓣 .C) known-updates·none (x₉ .number) (refusal-number x₉ (deletes·set·refused-0 x₉ (subst (Has deletes·set) e₉ (g₈ .0))))) refl (λ P. and-then ! (load ! (from ! (fld ! refl (stop !))) (look-in ! 43 (sub ! 0 refl (whole !)))) (no-more !)) (λ g₁₁.
+        calls-by ! (fmOf 𝓤 H (W .laws) 𝓣) ([]) (hs (clearedFrom 0 (filledRows (length rows₀) (blocksOf form₀ update₀))) (setWords form₀ update₀ x₇b (length ranges₀))) (updates·none! 𝓤 H A mem run (𝓣 .C) known-updates·none (x₉ .number) (refusal-number x₉ (deletes·set·refused-0 x₉ (subst (Has deletes·set) e₉ (g₈ .0))))) refl (λ P. and-then ! (load ! (from ! (fld ! refl (stop !))) (look-in ! 43 (sub ! 0 refl (whole !)))) (no-more !)) (λ g₁₁.
         land ! (from ! (stop !)) (init ! 13 refl (g₁₁ .1 .0)) $
         assigns ! (of-opd ! (load ! (from ! (stop !)) (look ! 13 refl))) (from ! (stop !)) (init ! 21 refl (g₁₁ .1 .0)) $
         assigns ! (of-opd ! (load ! (from ! (stop !)) (look ! 21 refl))) (from ! (stop !)) (init ! 61 refl (g₁₁ .1 .0)) $
         returns-within ! Post refl (look ! 61 refl) $
-        free-all ! (_ ∷ []) En (has _ ∷ has _ ∷ has _ ∷ has _ ∷ has _ ∷ has _ ∷ has _ ∷ has _ ∷ bare ∷ has _ ∷ bare ∷ has _ ∷ bare ∷ bare ∷ bare ∷ bare ∷ bare ∷ has _ ∷ has _ ∷ has _ ∷ has _ ∷ has _ ∷ has _ ∷ has _ ∷ has _ ∷ has _ ∷ has _ ∷ has _ ∷ []) [] $ by ! (exits (answer (refused (x₉ .number))) (clearedFrom 0 (filledRows (length rows₀) (blocksOf form₀ update₀))) (setWords update₀ x₇b (length ranges₀)) (g₁₁ .0) (on-set form₀ update₀ rows₀ ranges₀ (not-false (eqb (early form₀ update₀) 0) y₂) x₇a x₇b e₇ x₉ e₉ (sz .0)))))))))
+        free-all ! (_ ∷ []) En (has _ ∷ has _ ∷ has _ ∷ has _ ∷ has _ ∷ has _ ∷ has _ ∷ has _ ∷ bare ∷ has _ ∷ bare ∷ has _ ∷ bare ∷ bare ∷ bare ∷ bare ∷ bare ∷ has _ ∷ has _ ∷ has _ ∷ has _ ∷ has _ ∷ has _ ∷ has _ ∷ has _ ∷ has _ ∷ has _ ∷ has _ ∷ []) [] $ by ! (exits (answer (refused (x₉ .number))) (clearedFrom 0 (filledRows (length rows₀) (blocksOf form₀ update₀))) (setWords form₀ update₀ x₇b (length ranges₀)) (g₁₁ .0) (on-set form₀ update₀ rows₀ ranges₀ (not-false (eqb (early form₀ update₀) 0) y₂) x₇a x₇b e₇ x₉ e₉ (sz .0)))))))))
         (λ x₇ e₇.  -- Refused
         revalue ! 27 (filled .val) e₇ refl $ switches-to ! (load ! (from ! (vrt ! refl (fld ! refl (stop !)))) (look-tag ! 27 (whole !))) refl $
         flat ! $

@@ -30,9 +30,9 @@ returns c =
     let r = c .before .before .before .before .before .before .before .before .before .before .before .before .before .read-announced in
     let n = c .before .before .before .before .before .before .before .before .count-of .ensures in
     let p = c .before .before .before .before .before .before .before .before .before .before .before .before .before .before .before .before .before .before .before .pre in (
-      r .ensures .0,
-      c .before .before .before .before .before .before .clear .ensures ∙ cleared (a .clients .now) _ _ _ _ n (omega (arith, r .ensures .1, r .kept .1 .0, p .0)) (r .kept .1 .0) (r .ensures .2),
-      c .before .before .clear2 .ensures ∙ cleared (a .clocks .now) _ _ _ _ n (omega (arith, r .ensures .1, r .kept .1 .1 .0, p .1)) (r .kept .1 .1 .0) (r .ensures .3),
+      r .ensures .answer,
+      c .before .before .before .before .before .before .clear .ensures ∙ cleared (a .clients .now) _ _ _ _ n (omega (arith, r .ensures .few, r .kept .1 .0, p .0)) (r .kept .1 .0) (r .ensures .clients),
+      c .before .before .clear2 .ensures ∙ cleared (a .clocks .now) _ _ _ _ n (omega (arith, r .ensures .few, r .kept .1 .1 .0, p .1)) (r .kept .1 .1 .0) (r .ensures .clocks),
     )
 
 pub read-entries-spec : {M : Type 1} → statement M

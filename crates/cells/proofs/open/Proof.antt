@@ -1,0 +1,169 @@
+-- `cells::open` meets its contract. The loop's invariant: so many columns are cut, and from here on the opening comes to what it comes to.
+use Prim.Native.Nat.{_-_, _≤_}
+use mathlib.Core.Path.{_≡_, sym, ap, _∙_, subst}
+use native.Mathlib.Omega.{arith}
+use denote.Ref.{now}
+use lib.ListN.{length}
+use Rattle.numbers.specs.declared.Read.the-variants.{Refused}
+use Rattle.numbers.specs.Number.{whyRead}
+use Rattle.string.proofs.Texts.{read-ends}
+use Rattle.cells.specs.Cells.{Small}
+use Rattle.cells.proofs.States.{small-at}
+use Rattle.cells.proofs.Opening.{Cutting, cutting-empty, cutting-none, cutting-stops, cutting-goes, cutting-over, open-refused, column-refused, column-short, column-there}
+use borrow.Author.Needs.{needs}
+use Rattle.cells.proofs.open.Statement.{statement}
+use Rattle.cells.proofs.open.Tie as tie
+
+abbrev Inv : tie.InvT-loop
+Inv u w₀ at₀ k₀ w at k = Small w × (k ≤ 9) × Cutting u w k at
+
+abbrev μ : tie.MeasureT-loop
+μ u w₀ at₀ k₀ w at k = 9 - k
+
+refuse-requires : tie.Need-refuse-requires Inv μ
+refuse-requires c κs = search needs
+
+same-length : tie.Need-same-length Inv μ
+same-length c = search needs
+
+returns : tie.Need-returns Inv μ
+returns c =
+    let b = c .before .before .before .before .before .before .before in
+    let a = b .args in
+    open-refused (a .update .now) (a .w .now) _ _ _ (cutting-empty (a .update .now) (c .before .before .before .before .if1 .taken)) (c .before .before .refuse .ensures)
+
+loop-holds : tie.Need-loop-holds Inv μ
+loop-holds c =
+    let b = c .before .before .before in
+    (b .pre, omega arith, cutting-none (b .args .update .now) (b .args .w .now) (c .if1 .left))
+
+read-unsigned-requires : tie.Need-read-unsigned-requires Inv μ
+read-unsigned-requires c κs = search needs
+
+enum-known-n : tie.Need-enum-known-n Inv μ
+enum-known-n c = search needs
+
+enum-told : tie.Need-enum-told Inv μ
+enum-told c = search needs
+
+why-read-requires : tie.Need-why-read-requires Inv μ
+why-read-requires c κs = search needs
+
+refuse-requires-2 : tie.Need-refuse-requires-2 Inv μ
+refuse-requires-2 c κs = search needs
+
+same-length-2 : tie.Need-same-length-2 Inv μ
+same-length-2 c = search needs
+
+returns-2 : tie.Need-returns-2 Inv μ
+returns-2 c =
+    let a = c .before .before .before .before .before .before .before .before .before .before .before .before .before .args in
+    let l = c .before .before .before .before .before .before .before .before .before .loop in
+    let told = c .before .before .before .before .before .enum-told .given .1 in
+    open-refused (a .update .now) (l .w) _ _ _
+    (cutting-stops (a .update .now) (l .w) (l .k) (l .at) (l .inv .2) (c .before .before .before .before .before .before .before .before .loop-test .taken) _
+    (column-refused (a .update .now) (l .at) _ (sym (c .before .before .before .before .before .before .before .read-unsigned .ensures) ∙ told ∙ ap Refused (sym (c .before .before .before .before .why-read .ensures ∙ ap whyRead told)))))
+    (c .before .before .refuse2 .ensures)
+
+-- a length that was read ends within the update
+ends : (d : tie.After-known-told Inv μ) → d .before .n .given .0 .1 .0 ≤ length (now (d .before .before .before .before .before .before .before .before .before .args .update))
+ends d =
+    let a = d .before .before .before .before .before .before .before .before .before .args in
+    let g = d .before .n .given in
+    read-ends (now (a .update)) (d .before .before .before .before .before .loop .at) (g .0 .0) (g .0 .1 .0) (sym (d .before .before .before .read-unsigned .ensures) ∙ g .1)
+
+sub-left : tie.Need-sub-left Inv μ
+sub-left c =
+    omega (arith, ends c)
+
+refuse-requires-3 : tie.Need-refuse-requires-3 Inv μ
+refuse-requires-3 c κs = search needs
+
+same-length-3 : tie.Need-same-length-3 Inv μ
+same-length-3 c = search needs
+
+returns-3 : tie.Need-returns-3 Inv μ
+returns-3 c =
+    let a = c .before .before .before .before .before .before .before .before .before .before .before .before .before .before .args in
+    let l = c .before .before .before .before .before .before .before .before .before .before .loop in
+    let g = c .before .before .before .before .before .before .n .given in
+    open-refused (a .update .now) (l .w) _ _ _
+    (cutting-stops (a .update .now) (l .w) (l .k) (l .at) (l .inv .2) (c .before .before .before .before .before .before .before .before .before .loop-test .taken) _
+    (column-short (a .update .now) (l .at) (g .0 .0) (g .0 .1 .0) (sym (c .before .before .before .before .before .before .before .before .read-unsigned .ensures) ∙ g .1) (c .before .before .before .before .if2 .taken)))
+    (c .before .before .refuse3 .ensures)
+
+add-to : tie.Need-add-to Inv μ
+add-to c =
+    omega (arith, ends (c .before))
+
+put-column-requires : tie.Need-put-column-requires Inv μ
+put-column-requires c κs = search needs
+
+add-k : tie.Need-add-k Inv μ
+add-k c = search needs
+
+loop-less : tie.Need-loop-less Inv μ
+loop-less c =
+    omega arith
+
+loop-again : tie.Need-loop-again Inv μ
+loop-again c =
+    let a = c .before .before .before .before .before .before .before .before .before .before .before .before .before .before .args in
+    let l = c .before .before .before .before .before .before .before .before .before .before .loop in
+    let g = c .before .before .before .before .before .before .n .given in
+    let p = c .before .before .put-column .ensures in (
+      p .small,
+      omega arith,
+      cutting-goes (a .update .now) (l .w) (l .k) (l .at) (l .inv .2) (c .before .before .before .before .before .before .before .before .before .loop-test .taken) _ (record { place = g .0 .1 .0; bytes = record { 0 = g .0 .0 } }) _
+          (column-there (a .update .now) (l .at) (g .0 .0) (g .0 .1 .0) (sym (c .before .before .before .before .before .before .before .before .read-unsigned .ensures) ∙ g .1) (c .before .before .before .before .if2 .left)) p,
+    )
+
+slice-write-w : tie.Need-slice-write-w Inv μ
+slice-write-w c = search needs
+
+open-text-requires : tie.Need-open-text-requires Inv μ
+open-text-requires c κs =
+    let l = c .before .before .loop in
+    small-at (l .w) (l .inv .0) (l .at)
+
+same-length-4 : tie.Need-same-length-4 Inv μ
+same-length-4 c = search needs
+
+returns-4 : tie.Need-returns-4 Inv μ
+returns-4 c =
+    let a = c .before .before .before .before .before .before .before .before .before .args in
+    let l = c .before .before .before .before .before .loop in
+    let nine : l .k ≡ 9 = omega (arith, c .before .before .before .before .loop-test .left, l .inv .1) in
+    let o = c .before .before .open-text .ensures in
+    (o .0, o .1 ∙ cutting-over (a .update .now) (l .w) (l .at) (subst (λ k. Cutting (a .update .now) (l .w) k (l .at)) nine (l .inv .2)) (l .inv .0))
+
+pub open-spec : {M : Type 1} → statement M
+open-spec =
+    tie.close
+    (tie.spec
+    Inv
+    μ
+    refuse-requires
+    same-length
+    returns
+    loop-holds
+    read-unsigned-requires
+    enum-known-n
+    enum-told
+    why-read-requires
+    refuse-requires-2
+    same-length-2
+    returns-2
+    sub-left
+    refuse-requires-3
+    same-length-3
+    returns-3
+    add-to
+    put-column-requires
+    add-k
+    loop-less
+    loop-again
+    slice-write-w
+    open-text-requires
+    same-length-4
+    returns-4)

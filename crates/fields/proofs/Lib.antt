@@ -1,0 +1,2 @@
+-- What holds of the fields over words.
+pub mod Laws

@@ -1,0 +1,48 @@
+-- `fields::read_parent_info` meets its contract: in line, or from its column.
+use mathlib.Core.Path.{_∙_}
+use Rattle.grammar.specs.Grammar as grammar
+use Rattle.decoder.specs.Line.{line, numberOf}
+use Rattle.fields.proofs.Laws.{in-line, parent-drawn}
+use borrow.Author.Needs.{needs}
+use Rattle.fields.proofs.read_parent_info.Statement.{statement}
+use Rattle.fields.proofs.read_parent_info.Tie as tie
+
+read-var-requires : tie.Need-read-var-requires
+read-var-requires c κs = search needs
+
+same-length : tie.Need-same-length
+same-length c = search needs
+
+returns : tie.Need-returns
+unfolding line numberOf
+returns c =
+    let b = c .before .before .before .before .before .before .before in
+    let u = b .args .update .now in
+    let w = b .args .w .now in
+    let k = c .before .before .read-var .ensures in
+    (k .0, k .1 ∙ in-line (b .args .form) u w (c .before .before .before .before .if1 .taken) (grammar.number grammar.parentInfo))
+
+draw-byte-requires : tie.Need-draw-byte-requires
+draw-byte-requires c κs = search needs
+
+same-length-2 : tie.Need-same-length-2
+same-length-2 c = search needs
+
+returns-2 : tie.Need-returns-2
+returns-2 c =
+    let b = c .before .before .before .before .before .before .before in
+    let u = b .args .update .now in
+    let w = b .args .w .now in
+    let k = c .before .before .draw-byte .ensures in
+    (k .0, parent-drawn (b .args .form) u w (c .before .before .draw-byte .last .1 .0) (c .before .before .before .before .if1 .left) (c .before .before .draw-byte .result) k)
+
+pub read-parent-info-spec : {M : Type 1} → statement M
+read-parent-info-spec =
+    tie.close
+    (tie.spec
+    read-var-requires
+    same-length
+    returns
+    draw-byte-requires
+    same-length-2
+    returns-2)

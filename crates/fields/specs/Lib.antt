@@ -1,0 +1,2 @@
+-- What a field of either form leaves in the words.
+pub mod Fields

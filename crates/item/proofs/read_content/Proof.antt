@@ -1,0 +1,93 @@
+-- `item::read_content` meets its contract: the content number decides.
+use mathlib.Core.Path.{sym, ap, _∙_}
+use borrow.Author.Tests.{ne-eqb}
+use Rattle.grammar.specs.Course.{stopped}
+use Rattle.grammar.specs.Blocks.{content}
+use Rattle.decoder.specs.Columned.{fields}
+use Rattle.cells.specs.Cells.{stateIn}
+use Rattle.item.specs.Row.{onto}
+use Rattle.item.proofs.Laws.{stop-is}
+use borrow.Author.Needs.{needs}
+use Rattle.item.proofs.read_content.Statement.{statement}
+use Rattle.item.proofs.read_content.Tie as tie
+
+read-deleted-requires : tie.Need-read-deleted-requires
+read-deleted-requires c κs = search needs
+
+read-binary-requires : tie.Need-read-binary-requires
+read-binary-requires c κs = search needs
+
+read-string-requires : tie.Need-read-string-requires
+read-string-requires c κs = search needs
+
+refuse-requires : tie.Need-refuse-requires
+refuse-requires c κs = search needs
+
+same-length : tie.Need-same-length
+same-length c = search needs
+
+same-length-2 : tie.Need-same-length-2
+same-length-2 c = search needs
+
+returns : tie.Need-returns
+unfolding content
+returns c =
+    let k = c .before .before .before .before .read-deleted .ensures in
+    (k .0, k .1, rw (c .before .before .before .before .before .before .before .match .keys1) (k .2))
+
+same-length-3 : tie.Need-same-length-3
+same-length-3 c = search needs
+
+same-length-4 : tie.Need-same-length-4
+same-length-4 c = search needs
+
+returns-2 : tie.Need-returns-2
+unfolding content
+returns-2 c =
+    let k = c .before .before .before .before .read-binary .ensures in
+    (k .0, k .1, rw (c .before .before .before .before .before .before .before .match .keys2) (k .2))
+
+same-length-5 : tie.Need-same-length-5
+same-length-5 c = search needs
+
+same-length-6 : tie.Need-same-length-6
+same-length-6 c = search needs
+
+returns-3 : tie.Need-returns-3
+unfolding content
+returns-3 c =
+    let k = c .before .before .before .before .read-string .ensures in
+    (k .0, k .1, rw (c .before .before .before .before .before .before .before .match .keys3) (k .2))
+
+same-length-7 : tie.Need-same-length-7
+same-length-7 c = search needs
+
+returns-4 : tie.Need-returns-4
+unfolding content onto
+returns-4 c =
+    let b = c .before .before .before .before .before .before .before .before in
+    let form = b .args .form in
+    let u = b .args .update .now in
+    let w = b .args .w .now in
+    let k = c .before .before .refuse .ensures in
+    (k .1, b .pre .1, rw (ne-eqb _ 1 (c .before .before .before .before .match .rest .0 .0 .1), ne-eqb _ 3 (c .before .before .before .before .match .rest .0 .1), ne-eqb _ 4 (c .before .before .before .before .match .rest .1)) (ap stopped (k .3) ∙ sym (stop-is (fields form u) 5 (b .args .place) (stateIn w))))
+
+pub read-content-spec : {M : Type 1} → statement M
+read-content-spec =
+    tie.close
+    (tie.spec
+    read-deleted-requires
+    read-binary-requires
+    read-string-requires
+    refuse-requires
+    same-length
+    same-length-2
+    returns
+    same-length-3
+    same-length-4
+    returns-2
+    same-length-5
+    same-length-6
+    returns-3
+    same-length-7
+    returns-4)

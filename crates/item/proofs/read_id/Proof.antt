@@ -1,0 +1,139 @@
+-- `item::read_id` meets its contract: client, then clock.
+use mathlib.Core.Path.{sym, ap, _∙_}
+use native.Mathlib.Omega.{arith}
+use Rattle.grammar.specs.Grammar.{client, number, draw, done, _>>=_}
+use Rattle.grammar.specs.Blocks.{anId}
+use Rattle.cells.specs.Cells.{given, placeIn, stateIn}
+use Rattle.cells.proofs.States.{beside-none, beside-put, row-second}
+use Rattle.fields.specs.Fields.{clockAt}
+use Rattle.item.specs.Row.{idOnto}
+use Rattle.item.proofs.Clocks.{clock-fits}
+use Rattle.item.proofs.Laws.{id-done, number-then, number-stopped}
+use borrow.Author.Needs.{needs}
+use Rattle.item.proofs.read_id.Statement.{statement}
+use Rattle.item.proofs.read_id.Tie as tie
+
+read-client-requires : tie.Need-read-client-requires
+read-client-requires c κs = search needs
+
+enum-known-client : tie.Need-enum-known-client
+enum-known-client c = search needs
+
+enum-told : tie.Need-enum-told
+enum-told c = search needs
+
+same-length : tie.Need-same-length
+same-length c = search needs
+
+returns : tie.Need-returns
+unfolding anId idOnto
+returns c =
+    let b = c .before .before .before .before .before .before .before .before .before in
+    let form = b .args .form in
+    let u = b .args .update .now in
+    let w = b .args .w .now in
+    let r = b .args .r .now in
+    let v = c .before .before .before .before .read-client .last .1 .1 .0 in
+    let k = c .before .before .before .before .read-client .ensures in
+    (k .0, beside-none (b .args .k) r, b .pre .4, number-stopped form u w v client _ (ap (given v) (sym (c .enum-told .given .1)) ∙ k .1))
+
+read-clock-requires : tie.Need-read-clock-requires
+read-clock-requires c κs = search needs
+
+enum-known-clock : tie.Need-enum-known-clock
+enum-known-clock c = search needs
+
+enum-told-2 : tie.Need-enum-told-2
+enum-told-2 c = search needs
+
+same-length-2 : tie.Need-same-length-2
+same-length-2 c = search needs
+
+returns-2 : tie.Need-returns-2
+unfolding anId idOnto
+returns-2 c =
+    let b = c .before .before .before .before .before .before .before .before .before .before .before .before .before .before .before .before in
+    let form = b .args .form in
+    let u = b .args .update .now in
+    let w = b .args .w .now in
+    let r = b .args .r .now in
+    let v = c .before .before .before .before .before .before .before .before .before .before .before .read-client .last .1 .1 .0 in
+    let k = c .before .before .before .before .before .before .before .before .before .before .before .read-client .ensures in
+    let z = c .before .before .before .before .read-clock .last .1 .1 .0 in
+    let l = c .before .before .before .before .read-clock .ensures in
+    let x = c .before .before .before .before .before .before .before .client .given .0 .0 in (
+      l .0,
+      beside-none (b .args .k) r,
+      b .pre .4,
+      number-stopped form u v z (clockAt (b .args .c)) (λ a. done (record { client = x; clock = a .0 })) (ap (given z) (sym (c .enum-told2 .given .1)) ∙ l .1)
+          ∙ number-then form u w v client (λ a. draw (number (clockAt (b .args .c))) >>= λ y. done (record { client = a .0; clock = y .0 })) x (ap (given v) (sym (c .before .before .before .before .before .before .before .client .given .1)) ∙ k .1),
+    )
+
+mul-r : tie.Need-mul-r
+mul-r c = search needs
+
+slice-write-r : tie.Need-slice-write-r
+slice-write-r c = search needs
+
+add-r : tie.Need-add-r
+add-r c = search needs
+
+mul-r-2 : tie.Need-mul-r-2
+mul-r-2 c = search needs
+
+slice-write-r-2 : tie.Need-slice-write-r-2
+slice-write-r-2 c = search needs
+
+same-length-3 : tie.Need-same-length-3
+same-length-3 c = search needs
+
+same-length-4 : tie.Need-same-length-4
+same-length-4 c = search needs
+
+returns-3 : tie.Need-returns-3
+unfolding anId given
+returns-3 c =
+    let b = c .before .before .before .before .before .before .before .before .before .before .before .before .before .before .before .before .before in
+    let form = b .args .form in
+    let u = b .args .update .now in
+    let w = b .args .w .now in
+    let r = b .args .r .now in
+    let v = c .before .before .before .before .before .before .before .before .before .before .before .before .read-client .last .1 .1 .0 in
+    let k = c .before .before .before .before .before .before .before .before .before .before .before .before .read-client .ensures in
+    let z = c .before .before .before .before .before .read-clock .last .1 .1 .0 in
+    let l = c .before .before .before .before .before .read-clock .ensures in
+    let x = c .before .before .before .before .before .before .before .before .client .given .0 .0 in
+    let y = c .before .clock .given .0 .0 in
+    let n = b .args .k in
+    let e = ap (given z) (sym (c .before .clock .given .1)) ∙ l .1 in
+    let fits = clock-fits form u (stateIn v) (b .args .c) y (placeIn z) (stateIn z) e in (
+      l .0,
+      beside-put n x y r (b .pre .3),
+      rw (row-second n x y r (b .pre .3)) (omega (arith, fits)),
+      id-done form u z n x y r (b .pre .3)
+          ∙ number-then form u v z (clockAt (b .args .c)) (λ a. done (record { client = x; clock = a .0 })) y e
+          ∙ number-then form u w v client (λ a. draw (number (clockAt (b .args .c))) >>= λ y. done (record { client = a .0; clock = y .0 })) x (ap (given v) (sym (c .before .before .before .before .before .before .before .before .client .given .1)) ∙ k .1),
+    )
+
+pub read-id-spec : {M : Type 1} → statement M
+read-id-spec =
+    tie.close
+    (tie.spec
+    read-client-requires
+    enum-known-client
+    enum-told
+    same-length
+    returns
+    read-clock-requires
+    enum-known-clock
+    enum-told-2
+    same-length-2
+    returns-2
+    mul-r
+    slice-write-r
+    add-r
+    mul-r-2
+    slice-write-r-2
+    same-length-3
+    same-length-4
+    returns-3)
