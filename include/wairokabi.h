@@ -73,7 +73,7 @@ typedef struct wairokabi_id {
 } wairokabi_id;
 
 // A row of the block table: one block. `has_left` says whether `left` is there, and so on; what is not there is zero. `part` is the stored part of a
-// binary or a text, zero for the others. A row that has no block is zero.
+// binary or a text, zero for the others. A row that has no block is zero. A row takes 128 bytes.
 typedef struct wairokabi_block {
     uint64_t client;
     wairokabi_units length;

@@ -40,7 +40,7 @@ static void fill(void) {
     const wairokabi_part part = {3, {4}};
     const wairokabi_id id = {5, 6};
     for (size_t i = 0; i < ROWS; i++)
-        rows[i] = (wairokabi_block){1, 2, {7}, WAIROKABI_TEXT, true, id, true, id, true, id, true, part, true, part, part};
+        rows[i] = (wairokabi_block){1, {7}, id, id, id, part, part, part, 2, WAIROKABI_TEXT, true, true, true, true, true};
     memset(words, 0xa5, sizeof words);
     memset(out, 0xa5, sizeof out);
 }
@@ -109,6 +109,7 @@ static bool wrote(size_t bytes, const uint8_t *expected, size_t count) {
 
 static void reads(void) {
     wairokabi_update u = read_update(1, C, sizeof C, ROWS);
+    EXPECT(sizeof(wairokabi_block) == 128);
     EXPECT(u.number == 0 && u.blocks == 1 && u.ranges == 0);
     EXPECT(is_hi(&rows[0], 7, 9) && zero_rows(1) && zero_words(0));
     u = read_update(2, D, sizeof D, ROWS);

@@ -2,7 +2,5 @@
 pub mod Words
 pub mod States
 pub mod Numbers
-pub mod Texts
-pub mod Opening
 pub mod Differences
 pub mod Bytes

@@ -9,7 +9,7 @@ use lib.Dec.{eqb}
 use lib.ListN.{length, getD, set, length-set}
 use lib.Seq.{getD-set-other, getD-set-same}
 use borrow.Author.Tests.{eqb-true, eqb-false}
-use Rattle.cells.specs.Cells.{cell, numbersIn, differencesIn, bytesIn, textsIn, atIn, placeIn, whyIn, Short, Small, Wide, Elsewhere, Cut}
+use Rattle.cells.specs.Cells.{cell, numbersIn, differencesIn, bytesIn, textsIn, atIn, placeIn, whyIn, Short, Small, Wide, Elsewhere}
 
 -- ---- elsewhere
 
@@ -165,26 +165,6 @@ module _ (k : ℕ) (w c v : List ℕ) (h : Held k w c v) where
   pub held-short : Small w → getD c 2 0 ≤ 4294967295 → getD c 5 0 ≤ 4294967295 → Small v
   held-short s last key =
       small-any k w v s (h .elsewhere) (h .size) (h .why) (record { last = rw (h .words 2 (omega arith)) last; key = rw (h .words 5 (omega arith)) key })
-
--- ---- a column that is cut
-
-module _ (k : ℕ) (w : List ℕ) (s : Small w) (few : k ≤ 8) (from to : ℕ) where
-  pub column-put : Cut k from to w (set (set (set (run k w s few from from 0 0) (7 * k + 4) to) (7 * k + 5) 2147483648) (7 * k + 6) 0)
-  column-put =
-      let w3 = run k w s few from from 0 0 in
-      let w4 = set w3 (7 * k + 4) to in
-      let w5 = set w4 (7 * k + 5) 2147483648 in
-      let w6 = set w5 (7 * k + 6) 0 in
-      let h4 = put-at k w _ w3 few (put-run k w s few from from 0 0) (7 * k + 4) 4 to refl (omega arith) in
-      let h5 = put-at k w _ w4 few h4 (7 * k + 5) 5 2147483648 refl (omega arith) in
-      let h6 = put-at k w _ w5 few h5 (7 * k + 6) 6 0 refl (omega arith) in
-      record {
-        small = held-short k w _ w6 h6 s (omega arith) (omega arith);
-        elsewhere = h6 .elsewhere;
-        begins = (h6 .words 0 (omega arith), h6 .words 1 (omega arith));
-        ends = h6 .words 4 (omega arith);
-        rest = (h6 .words 2 (omega arith), h6 .words 3 (omega arith), h6 .words 5 (omega arith), h6 .words 6 (omega arith));
-      }
 
 -- ---- why a field was refused
 

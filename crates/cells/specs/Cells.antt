@@ -9,14 +9,12 @@ use lib.Dec.{eqb}
 use lib.ListN.{length, getD, set}
 use Rattle.numbers.specs.declared.Refusal.{Refusal}
 use Rattle.text.specs.declared.Part.{Part}
-use Rattle.text.specs.declared.Units.{Units}
 use Rattle.columns.specs.declared.number.Answer as number-answer
 use Rattle.columns.specs.declared.difference.Answer as difference-answer
 use Rattle.columns.specs.declared.byte.Place as byte-place
 use Rattle.grammar.specs.Course as course
 use Rattle.decoder.specs.States.{Numbers, Differences, Bytes, Texts, State}
-use Rattle.decoder.specs.Columned.{numberDrawn, differenceDrawn, fromNumbers, fromDifferences, fromBytes, fromTexts}
-use Rattle.decoder.specs.Opening.{openedOf}
+use Rattle.decoder.specs.Columned.{numberDrawn, differenceDrawn, fromNumbers, fromDifferences, fromBytes}
 use Rattle.cells.specs.declared.Drawn.{Drawn}
 use Rattle.cells.specs.declared.Drawn.the-variants.{Number, Refused}
 
@@ -90,14 +88,6 @@ Beside k r q = q ≡ set (set r k (getD q k 0)) (k + 1) (getD q (k + 1) 0)
 unfoldable pub partIn : List ℕ → ℕ → Part
 partIn r k = record { place = getD r k 0; bytes = record { 0 = getD r (k + 1) 0 } }
 
--- column k is cut: it stands from a place to its end
-pub record Cut (k from to : ℕ) (w v : List ℕ) : Type 0 where
-  pub small : Small v
-  pub elsewhere : Elsewhere k w v
-  pub begins : (cell v k 0 ≡ from) × (cell v k 1 ≡ from)
-  pub ends : cell v k 4 ≡ to
-  pub rest : (cell v k 2 ≡ 0) × (cell v k 3 ≡ 0) × (cell v k 5 ≡ 2147483648) × (cell v k 6 ≡ 0)
-
 -- ---- an answer, with the words v that it leaves
 
 -- of a whole state
@@ -117,16 +107,6 @@ differencesGiven v k Refused = course.not (whyIn v)
 unfoldable pub bytesGiven : List ℕ → ℕ → Drawn → course.Drawn Bytes (ℕ × ℕ)
 bytesGiven v k (Number x) = course.got (x, placeIn v) (bytesIn v k)
 bytesGiven v k Refused = course.not (whyIn v)
-
--- of the text column: the part in words k and k + 1 of the row q, the units given
-unfoldable pub textsGiven : List ℕ → List ℕ → ℕ → Drawn → course.Drawn Texts (Part × Units)
-textsGiven v q k (Number n) = course.got (partIn q k, record { 0 = n }) (textsIn v 5)
-textsGiven v q k Refused = course.not (whyIn v)
-
--- form 2 opened
-unfoldable pub openedIn : List ℕ → Drawn → course.Drawn State (Unit {0})
-openedIn v (Number n) = course.got tt (stateIn v)
-openedIn v Refused = course.not (whyIn v)
 
 -- ---- what a draw from column k does, from words w to words v
 
@@ -149,10 +129,3 @@ DifferenceDrawn u k w v r = Small v × Elsewhere k w v × (differencesGiven v k 
 
 abbrev pub ByteDrawn : List ℕ → ℕ → List ℕ → List ℕ → Drawn → Type 0
 ByteDrawn u k w v r = Small v × Elsewhere k w v × (bytesGiven v k r ≡ fromBytes u (bytesIn w k) (λ c. c))
-
--- the part goes to words k and k + 1 of the row, which was r and is q
-abbrev pub TextDrawn : List ℕ → ℕ → List ℕ → List ℕ → List ℕ → List ℕ → Drawn → Type 0
-TextDrawn u k w v r q d = Small v × Elsewhere 5 w v × Beside k r q × (textsGiven v q k d ≡ fromTexts u (textsIn w 5) (λ c. c))
-
-abbrev pub Opened : List ℕ → List ℕ → Drawn → Type 0
-Opened u v r = Small v × (openedIn v r ≡ openedOf u)

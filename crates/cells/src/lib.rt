@@ -3,18 +3,16 @@
 use numbers::Read;
 use numbers::Refusal;
 use numbers::Signed;
-use text::Taken;
 ghost use mathlib.Core.Path.{_≡_};
 ghost use mathlib.Core.Logic.{_≢_};
-ghost use Prim.Native.Nat.{_+_, _≤_, _<_};
-ghost use lib.ListN.{length, take};
+ghost use Prim.Native.Nat.{_+_, _≤_};
+ghost use lib.ListN.{take};
 ghost use lib.Dec.{eqb};
 ghost use Rattle.columns.specs.Number as numbers;
 ghost use Rattle.columns.specs.Difference as differences;
 ghost use Rattle.columns.specs.Difference.{outside, keyRead};
 ghost use Rattle.cells.specs.declared.Drawn.the-variants as drawn;
-ghost use Rattle.decoder.specs.Opening.{textOpened};
-ghost use Rattle.cells.specs.Cells.{cell, atIn, placeIn, whyIn, stateIn, Small, Wide, Narrow, Elsewhere, Cut, openedIn, NumberPut, DifferencePut, BytePut, NumberDrawn, DifferenceDrawn, ByteDrawn, TextDrawn, Opened};
+ghost use Rattle.cells.specs.Cells.{cell, whyIn, Small, Wide, Narrow, Elsewhere, NumberPut, DifferencePut, BytePut, NumberDrawn, DifferenceDrawn, ByteDrawn};
 
 // How many words there are, and which of them are no column's.
 pub const WORDS: usize = 67;
@@ -42,7 +40,8 @@ pub enum Field {
 // The words say why.
 pub fn refuse(w: &mut [u64], number: u8, place: usize) -> Drawn
     requires { ⌜ Small (now w) ⌝ }
-    ensures { λ r. ⌜ (r ≡ drawn.Refused) × Small (now (w .exit)) × Elsewhere 9 (now (w .entry)) (now (w .exit)) × (whyIn (now (w .exit)) ≡ record { number = number; place = place }) ⌝ }
+    ensures { λ r. ⌜ (r ≡ drawn.Refused) × Small (now (w .exit)) × Elsewhere 9 (now (w .entry)) (now (w .exit))
+        × (whyIn (now (w .exit)) ≡ record { number = number; place = place }) ⌝ }
 {
     w[NUMBER] = number as u64;
     w[BLAMED] = place as u64;
@@ -59,7 +58,7 @@ pub fn why(w: &[u64]) -> Refusal
 }
 
 // The column up to its end; one that ends past the update is the whole of it.
-fn upto(update: &[u8], to: usize) -> &[u8]
+pub fn upto(update: &[u8], to: usize) -> &[u8]
     ensures { λ r. ⌜ now r ≡ take to (now (update .entry)) ⌝ }
 {
     if update.len() <= to {
@@ -90,8 +89,9 @@ pub fn draw_number(update: &[u8], w: &mut [u64], k: usize) -> Drawn
     Drawn::Number(last)
 }
 
-// The run that begins at the column's place, and its first value.
-fn begin_numbers(update: &[u8], w: &mut [u64], k: usize) -> Drawn
+// The run that begins at the column's place, and its first value. Called from two places: a function with one caller becomes part of it, and `draw_number`
+// should stay small enough to become part of its own.
+pub fn begin_numbers(update: &[u8], w: &mut [u64], k: usize) -> Drawn
     requires { ⌜ Small (now w) × Wide k × (cell (now w) k 3 ≡ 0) ⌝ }
     ensures { λ r. ⌜ NumberDrawn (now (update .entry)) k (now (w .entry)) (now (w .exit)) r ⌝ }
 {
@@ -213,7 +213,8 @@ fn begin_differences(update: &[u8], w: &mut [u64], k: usize) -> Drawn
 // The run of a difference that begins at `from`, its first value drawn onto the value before: it applies `left` times more.
 fn put_difference(w: &mut [u64], k: usize, past: usize, from: usize, key: u64, left: u64) -> Drawn
     requires { ⌜ Small (now w) × Narrow k × (key ≤ 4294967295) ⌝ }
-    ensures { λ r. ⌜ DifferencePut k (now (w .entry)) (now (w .exit)) r (differences.drawn (differences.placeAt past from (cell (now (w .entry)) k 2) key (left + 1))) ⌝ }
+    ensures { λ r. ⌜ DifferencePut k (now (w .entry)) (now (w .exit)) r
+        (differences.drawn (differences.placeAt past from (cell (now (w .entry)) k 2) key (left + 1))) ⌝ }
 {
     let b = 7 * k;
     let sum = w[b + 2] + key;
@@ -294,96 +295,4 @@ fn put_byte(w: &mut [u64], k: usize, past: usize, from: usize, v: u64, left: u64
     w[b + 3] = left;
     w[b + 5] = endless;
     w[PLACE] = from as u64;
-}
-
-// The text's place and bytes go to words k and k + 1 of the row; its units, which are the number drawn, are given back.
-pub fn draw_text(update: &[u8], w: &mut [u64], r: &mut [u64], k: usize) -> Drawn
-    requires { ⌜ Small (now w) × (k + 1 < length (now r)) ⌝ }
-    ensures { λ d. ⌜ TextDrawn (now (update .entry)) k (now (w .entry)) (now (w .exit)) (now (r .entry)) (now (r .exit)) d ⌝ }
-{
-    let d = draw_number(update, w, 5);
-    let Drawn::Number(units) = d else {
-        return d;
-    };
-    let to = w[39] as usize;
-    let at = w[40] as usize;
-    let end = w[41] as usize;
-    match string::take_text(upto(update, to), at, end, units) {
-        Taken::Took(bytes) => {
-            let size = bytes.0;
-            let next = at + size;
-            w[40] = next as u64;
-            r[k] = at as u64;
-            r[k + 1] = size as u64;
-            Drawn::Number(units)
-        }
-        Taken::Refused(number) => refuse(w, number, at),
-    }
-}
-
-// ---- opening: the flag, the nine columns, the text
-
-fn open_text(update: &[u8], w: &mut [u64]) -> Drawn
-    requires { ⌜ Small (now w) ⌝ }
-    ensures { λ r. ⌜ Small (now (w .exit)) × (openedIn (now (w .exit)) r ≡ textOpened (now (update .entry)) (stateIn (now (w .entry)))) ⌝ }
-{
-    let at = w[35] as usize;
-    let to = w[39] as usize;
-    match string::open(upto(update, to), at) {
-        string::Opened::Not(why) => refuse(w, why.number, why.place),
-        string::Opened::At(place) => {
-            let units = place.units;
-            w[35] = units.at as u64;
-            w[36] = units.from as u64;
-            w[37] = units.last;
-            w[38] = units.count as u64;
-            w[40] = place.at as u64;
-            w[41] = place.end as u64;
-            Drawn::Number(0)
-        }
-    }
-}
-
-// Column k from a place to its end, nothing drawn from it yet: a difference of 0, and no byte without end.
-fn put_column(w: &mut [u64], k: usize, from: usize, to: usize)
-    requires { ⌜ Small (now w) × (k ≤ 8) ⌝ }
-    ensures { λ _. ⌜ Cut k from to (now (w .entry)) (now (w .exit)) ⌝ }
-{
-    let b = 7 * k;
-    w[b] = from as u64;
-    w[b + 1] = from as u64;
-    w[b + 2] = 0;
-    w[b + 3] = 0;
-    w[b + 4] = to as u64;
-    w[b + 5] = 2147483648;
-    w[b + 6] = 0;
-}
-
-// The state before form 2's first number: a flag byte of any value, nine columns, and the text among them opened.
-pub fn open(update: &[u8], w: &mut [u64]) -> Drawn
-    requires { ⌜ Small (now w) ⌝ }
-    ensures { λ r. ⌜ Opened (now (update .entry)) (now (w .exit)) r ⌝ }
-{
-    if update.len() == 0 {
-        return refuse(w, 1, 0);
-    }
-    let mut at: usize = 1;
-    let mut k: usize = 0;
-    while k < 9 {
-        let n = numbers::read_unsigned(update, at);
-        let Read::Number(size, from) = n else {
-            let why = numbers::why_read(n);
-            return refuse(w, why.number, why.place);
-        };
-        let left = (update.len() - from) as u64;
-        if left < size {
-            return refuse(w, 1, update.len());
-        }
-        let to = from + size as usize;
-        put_column(w, k, from, to);
-        at = to;
-        k += 1;
-    }
-    w[AT] = at as u64;
-    open_text(update, w)
 }

@@ -234,7 +234,8 @@ pub enum Set {
 
 // The delete set in normal form, three words a range, and zeros after it; on a refusal all words are zero.
 pub fn read_delete_set(form: u8, update: &[u8], at: usize, words: &mut [u64]) -> Set
-    ensures { λ r. ⌜ (r ≡ setOf form (now (update .entry)) at (length (now (words .entry)))) × (now (words .exit) ≡ wordsOf form (now (update .entry)) at (length (now (words .entry)))) ⌝ }
+    ensures { λ r. ⌜ (r ≡ setOf form (now (update .entry)) at (length (now (words .entry))))
+        × (now (words .exit) ≡ wordsOf form (now (update .entry)) at (length (now (words .entry)))) ⌝ }
 {
     let c = collect(form, update, at, words);
     match c {

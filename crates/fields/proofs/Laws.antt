@@ -29,11 +29,11 @@ use Rattle.decoder.specs.Columned.{onto, numberIn, columned, fields}
 use Rattle.decoder.proofs.Laws.{fields-columned}
 use Rattle.cells.specs.declared.Drawn.{Drawn}
 use Rattle.cells.specs.declared.Drawn.the-variants.{Number, Refused}
-use Rattle.cells.specs.Cells.{textsIn, atIn, whyIn, stateIn, Small, partIn, given, textsGiven, NumberDrawn, DifferenceDrawn, ByteDrawn, TextDrawn}
+use Rattle.cells.specs.Cells.{textsIn, atIn, whyIn, stateIn, Small, partIn, given, NumberDrawn, DifferenceDrawn, ByteDrawn}
 use Rattle.cells.proofs.Words.{held, put-place, held-wide, elsewhere-behind}
 use Rattle.cells.proofs.States.{state-client, state-left, state-right, state-info, state-text, state-parent, state-len, state-same, state-at, small-at, place-moved, row-first, row-second, mapped, text-mapped, number-onto, difference-onto, byte-onto}
 use Rattle.cells.specs.declared.Field.the-variants as field
-use Rattle.fields.specs.Fields.{clockAt, Narrow, partGiven, textGiven}
+use Rattle.fields.specs.Fields.{clockAt, Narrow, partGiven, textGiven, textsGiven, TextDrawn}
 
 -- ---- in line
 

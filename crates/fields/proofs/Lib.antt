@@ -1,2 +1,3 @@
 -- What holds of the fields over words.
+pub mod Texts
 pub mod Laws

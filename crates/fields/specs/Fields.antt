@@ -9,13 +9,13 @@ use Rattle.text.specs.declared.Units.{Units}
 use Rattle.grammar.specs.Grammar.{Number, leftClock, rightClock}
 use Rattle.grammar.specs.Course as course
 use Rattle.decoder.specs.Line.{bytesAt}
-use Rattle.decoder.specs.States.{State}
-use Rattle.decoder.specs.Columned.{onto}
+use Rattle.decoder.specs.States.{Texts, State}
+use Rattle.decoder.specs.Columned.{onto, fromTexts}
 use Rattle.cells.specs.declared.Drawn as cells-drawn
 use Rattle.cells.specs.declared.Drawn.the-variants as drawn
 use Rattle.cells.specs.declared.Field as cells-field
 use Rattle.cells.specs.declared.Field.the-variants as field
-use Rattle.cells.specs.Cells.{atIn, stateIn, whyIn, Small, Beside, partIn, given}
+use Rattle.cells.specs.Cells.{atIn, textsIn, stateIn, whyIn, Small, Elsewhere, Beside, partIn, given}
 
 -- the clock whose column is k: 2 of a left id, 3 of a right one
 unfoldable pub clockAt : ℕ → Number
@@ -43,3 +43,14 @@ textGiven k v q drawn.Refused = course.not (whyIn v)
 -- a text d
 abbrev pub TextGiven : ℕ → List ℕ → List ℕ → List ℕ → List ℕ → cells-drawn.Drawn → course.Drawn State (Part × Units) → Type 0
 TextGiven k w v r q a d = Small v × Beside k r q × (textGiven k v q a ≡ d)
+
+-- ---- a draw from the text column
+
+-- its answer: the part in words k and k + 1 of the row q, the units given
+unfoldable pub textsGiven : List ℕ → List ℕ → ℕ → cells-drawn.Drawn → course.Drawn Texts (Part × Units)
+textsGiven v q k (drawn.Number n) = course.got (partIn q k, record { 0 = n }) (textsIn v 5)
+textsGiven v q k drawn.Refused = course.not (whyIn v)
+
+-- the part goes to words k and k + 1 of the row, which was r and is q
+abbrev pub TextDrawn : List ℕ → ℕ → List ℕ → List ℕ → List ℕ → List ℕ → cells-drawn.Drawn → Type 0
+TextDrawn u k w v r q d = Small v × Elsewhere 5 w v × Beside k r q × (textsGiven v q k d ≡ fromTexts u (textsIn w 5) (λ c. c))

@@ -5,14 +5,15 @@ use cells::Drawn;
 use cells::Field;
 use cells::PLACE;
 use numbers::Read;
+use text::Taken;
 ghost use mathlib.Core.Path.{_≡_};
 ghost use Prim.Native.Nat.{_+_, _≤_, _<_};
 ghost use lib.ListN.{length};
 ghost use Rattle.grammar.specs.Grammar as grammar;
 ghost use Rattle.decoder.specs.Line.{upTo, byteAt, bytesAt, checked};
 ghost use Rattle.decoder.specs.Columned.{onto, fields};
-ghost use Rattle.cells.specs.Cells.{atIn, stateIn, Small, Beside, given};
-ghost use Rattle.fields.specs.Fields.{clockAt, Narrow, partGiven, textGiven, Given, PartGiven, TextGiven};
+ghost use Rattle.cells.specs.Cells.{NumberDrawn, atIn, stateIn, Small, Beside, given};
+ghost use Rattle.fields.specs.Fields.{clockAt, Narrow, partGiven, textGiven, Given, PartGiven, TextGiven, TextDrawn};
 
 // ---- in line
 
@@ -128,7 +129,8 @@ pub fn read_info(form: u8, update: &[u8], w: &mut [u64]) -> Drawn
 
 pub fn read_parent_info(form: u8, update: &[u8], w: &mut [u64]) -> Drawn
     requires { ⌜ Small (now w) ⌝ }
-    ensures { λ r. ⌜ Given (now (w .entry)) (now (w .exit)) r (fields form (now (update .entry)) (grammar.number grammar.parentInfo) (stateIn (now (w .entry)))) ⌝ }
+    ensures { λ r. ⌜ Given (now (w .entry)) (now (w .exit)) r
+        (fields form (now (update .entry)) (grammar.number grammar.parentInfo) (stateIn (now (w .entry)))) ⌝ }
 {
     if form == 1 {
         return read_var(update, w, numbers::MAX_CLOCK);
@@ -154,13 +156,50 @@ pub fn read_len(form: u8, update: &[u8], w: &mut [u64]) -> Drawn
     Drawn::Number(v)
 }
 
+// The units of the next text.
+fn draw_units(update: &[u8], w: &mut [u64]) -> Drawn
+    requires { ⌜ Small (now w) ⌝ }
+    ensures { λ r. ⌜ NumberDrawn (now (update .entry)) 5 (now (w .entry)) (now (w .exit)) r ⌝ }
+{
+    if w[38] == 0 {
+        return cells::begin_numbers(update, w, 5);
+    }
+    cells::draw_number(update, w, 5)
+}
+
+// The text's place and bytes go to words k and k + 1 of the row; its units, which are the number drawn, are given back.
+fn draw_text(update: &[u8], w: &mut [u64], r: &mut [u64], k: usize) -> Drawn
+    requires { ⌜ Small (now w) × (k + 1 < length (now r)) ⌝ }
+    ensures { λ d. ⌜ TextDrawn (now (update .entry)) k (now (w .entry)) (now (w .exit)) (now (r .entry)) (now (r .exit)) d ⌝ }
+{
+    let d = draw_units(update, w);
+    let Drawn::Number(units) = d else {
+        return d;
+    };
+    let to = w[39] as usize;
+    let at = w[40] as usize;
+    let end = w[41] as usize;
+    match string::take_text(cells::upto(update, to), at, end, units) {
+        Taken::Took(bytes) => {
+            let size = bytes.0;
+            let next = at + size;
+            w[40] = next as u64;
+            r[k] = at as u64;
+            r[k + 1] = size as u64;
+            Drawn::Number(units)
+        }
+        Taken::Refused(number) => cells::refuse(w, number, at),
+    }
+}
+
 // A text: its place and bytes go to words k and k + 1 of the row, its units are given back.
 pub fn read_text(form: u8, update: &[u8], w: &mut [u64], r: &mut [u64], k: usize) -> Drawn
     requires { ⌜ Small (now w) × (k + 1 < length (now r)) ⌝ }
-    ensures { λ d. ⌜ TextGiven k (now (w .entry)) (now (w .exit)) (now (r .entry)) (now (r .exit)) d (fields form (now (update .entry)) grammar.text (stateIn (now (w .entry)))) ⌝ }
+    ensures { λ d. ⌜ TextGiven k (now (w .entry)) (now (w .exit)) (now (r .entry)) (now (r .exit)) d
+        (fields form (now (update .entry)) grammar.text (stateIn (now (w .entry)))) ⌝ }
 {
     if form == 1 {
         return read_string(update, w, r, k);
     }
-    cells::draw_text(update, w, r, k)
+    draw_text(update, w, r, k)
 }

@@ -28,7 +28,8 @@ use Rattle.decoder.specs.Update.{placed, inColumns, blocksOf}
 use Rattle.decoder.proofs.Laws.{placed-line, run-columned, fields-up-to}
 use Rattle.cells.specs.declared.Drawn as cells-drawn
 use Rattle.cells.specs.declared.Drawn.the-variants as drawn
-use Rattle.cells.specs.Cells.{cell, atIn, placeIn, whyIn, stateIn, Small, given, openedIn}
+use Rattle.cells.specs.Cells.{cell, atIn, placeIn, whyIn, stateIn, Small, given}
+use Rattle.opening.specs.Opening.{openedIn}
 use Rattle.item.specs.Row.{rowIn, Narrow, blockOnto}
 use Rattle.update.specs.declared.Spot.{Spot}
 use Rattle.update.specs.declared.Begun.{Begun}

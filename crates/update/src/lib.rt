@@ -40,7 +40,8 @@ fn read_section(
     s: Spot,
 ) -> Step
     requires { ⌜ Small (now w) × Fine (now memory) s × (1 ≤ s .sections) × (s .blocks ≡ 0) ⌝ }
-    ensures { λ x. ⌜ Stepped form (now (update .entry)) (now (memory .entry)) (now (w .entry)) (now (r .entry)) s (now (memory .exit)) (now (w .exit)) (now (r .exit)) x ⌝ }
+    ensures { λ x. ⌜ Stepped form (now (update .entry)) (now (memory .entry)) (now (w .entry)) (now (r .entry)) s
+        (now (memory .exit)) (now (w .exit)) (now (r .exit)) x ⌝ }
 {
     let Drawn::Number(count) = fields::read_var(update, w, s.room) else {
         return Step::Refused(cells::why(w));
@@ -77,7 +78,8 @@ fn read_block(
     s: Spot,
 ) -> Step
     requires { ⌜ Small (now w) × (length (now r) ≡ 21) × Fine (now memory) s × (1 ≤ s .blocks) ⌝ }
-    ensures { λ x. ⌜ Stepped form (now (update .entry)) (now (memory .entry)) (now (w .entry)) (now (r .entry)) s (now (memory .exit)) (now (w .exit)) (now (r .exit)) x ⌝ }
+    ensures { λ x. ⌜ Stepped form (now (update .entry)) (now (memory .entry)) (now (w .entry)) (now (r .entry)) s
+        (now (memory .exit)) (now (w .exit)) (now (r .exit)) x ⌝ }
 {
     let Drawn::Number(at) = item::read_block(form, update, w, r, s.client, s.clock) else {
         return Step::Refused(cells::why(w));
@@ -110,7 +112,8 @@ pub fn next(
     s: Spot,
 ) -> Step
     requires { ⌜ Small (now w) × (length (now r) ≡ 21) × Fine (now memory) s ⌝ }
-    ensures { λ x. ⌜ Stepped form (now (update .entry)) (now (memory .entry)) (now (w .entry)) (now (r .entry)) s (now (memory .exit)) (now (w .exit)) (now (r .exit)) x ⌝ }
+    ensures { λ x. ⌜ Stepped form (now (update .entry)) (now (memory .entry)) (now (w .entry)) (now (r .entry)) s
+        (now (memory .exit)) (now (w .exit)) (now (r .exit)) x ⌝ }
 {
     if s.blocks == 0 {
         if s.sections == 0 {
@@ -155,7 +158,7 @@ pub fn begin(form: u8, update: &[u8], w: &mut [u64]) -> Begun
         w[AT] = 0;
         return read_count(form, update, w);
     }
-    let Drawn::Number(_) = cells::open(update, w) else {
+    let Drawn::Number(_) = opening::open(update, w) else {
         return Begun::Refused(cells::why(w));
     };
     read_count(form, update, w)

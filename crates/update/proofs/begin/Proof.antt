@@ -1,6 +1,6 @@
 -- `update::begin` meets its contract: form 1 stands at its first byte, any other is opened; then the section count.
 use mathlib.Core.Path.{sym, ap, _∙_}
-use Rattle.cells.specs.Cells.{openedIn}
+use Rattle.opening.specs.Opening.{openedIn}
 use Rattle.cells.proofs.States.{at-moved, small-at}
 use Rattle.update.proofs.Laws.{starts-line, unopened, starts-columned}
 use borrow.Author.Needs.{needs}

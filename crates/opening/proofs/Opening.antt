@@ -1,5 +1,5 @@
 -- Form 2 opened: what is cut so far is in the words, what is still to come is the rest of the grammar; then the text is opened.
-use Prim.Native.Nat.{ℕ, suc, _+_, _-_, _≤_, _<_}
+use Prim.Native.Nat.{ℕ, suc, _+_, _*_, _-_, _≤_, _<_}
 use mathlib.Core.Path.{_≡_, refl, sym, ap, _∙_}
 use mathlib.Core.Logic.{_≢_}
 use mathlib.Core.List.{List, [], _∷_, _++_}
@@ -23,11 +23,12 @@ use Rattle.grammar.specs.Course as course
 use Rattle.decoder.specs.Line.{line, numberOf, byteAt, soMany, bytesAt}
 use Rattle.decoder.specs.States.{State, Texts, withText, movedTo}
 use Rattle.decoder.specs.Opening.{cut, heads, endOf, numbersFrom, differencesFrom, bytesFrom, standing, withOpened, textOpened, onHeads, openedOf}
 use Rattle.cells.specs.declared.Drawn.{Drawn}
 use Rattle.cells.specs.declared.Drawn.the-variants.{Number, Refused}
-use Rattle.cells.specs.Cells.{cell, numbersIn, differencesIn, bytesIn, textsIn, stateIn, whyIn, Small, Elsewhere, Cut, openedIn, Opened}
-use Rattle.cells.proofs.Words.{Held, put-at, run, put-run, texts-held, held-wide}
+use Rattle.cells.specs.Cells.{cell, numbersIn, differencesIn, bytesIn, textsIn, stateIn, whyIn, Small, Elsewhere}
+use Rattle.opening.specs.Opening.{Cut, openedIn, Opened}
+use Rattle.cells.proofs.Words.{Held, put-at, run, put-run, texts-held, held-wide, held-short}
 use Rattle.cells.proofs.States.{state-text, state-at}
 
 -- ---- the text
 
@@ -66,6 +67,24 @@ module _ (u w : List ℕ) (s : Small w) where
     text-not v r why told p = (p .1, rw (p .0, text-opened, told) (ap course.not (p .3)))
 
 -- ---- the columns
+
+module _ (k : ℕ) (w : List ℕ) (s : Small w) (few : k ≤ 8) (from to : ℕ) where
+  pub column-put : Cut k from to w (set (set (set (run k w s few from from 0 0) (7 * k + 4) to) (7 * k + 5) 2147483648) (7 * k + 6) 0)
+  column-put =
+      let w3 = run k w s few from from 0 0 in
+      let w4 = set w3 (7 * k + 4) to in
+      let w5 = set w4 (7 * k + 5) 2147483648 in
+      let w6 = set w5 (7 * k + 6) 0 in
+      let h4 = put-at k w _ w3 few (put-run k w s few from from 0 0) (7 * k + 4) 4 to refl (omega arith) in
+      let h5 = put-at k w _ w4 few h4 (7 * k + 5) 5 2147483648 refl (omega arith) in
+      let h6 = put-at k w _ w5 few h5 (7 * k + 6) 6 0 refl (omega arith) in
+      record {
+        small = held-short k w _ w6 h6 s (omega arith) (omega arith);
+        elsewhere = h6 .elsewhere;
+        begins = (h6 .words 0 (omega arith), h6 .words 1 (omega arith));
+        ends = h6 .words 4 (omega arith);
+        rest = (h6 .words 2 (omega arith), h6 .words 3 (omega arith), h6 .words 5 (omega arith), h6 .words 6 (omega arith));
+      }
 
 -- column j stands at the part p, nothing drawn from it
 pub record Fresh (w : List ℕ) (j : ℕ) (p : Part) : Type 0 where

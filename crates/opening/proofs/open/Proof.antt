@@ -1,4 +1,4 @@
--- `cells::open` meets its contract. The loop's invariant: so many columns are cut, and from here on the opening comes to what it comes to.
+-- `opening::open` meets its contract. The loop's invariant: so many columns are cut, and from here on the opening comes to what it comes to.
 use Prim.Native.Nat.{_-_, _≤_}
 use mathlib.Core.Path.{_≡_, sym, ap, _∙_, subst}
 use native.Mathlib.Omega.{arith}
@@ -7,12 +7,12 @@ use lib.ListN.{length}
 use Rattle.numbers.specs.declared.Read.the-variants.{Refused}
 use Rattle.numbers.specs.Number.{whyRead}
 use Rattle.string.proofs.Texts.{read-ends}
 use Rattle.cells.specs.Cells.{Small}
 use Rattle.cells.proofs.States.{small-at}
-use Rattle.cells.proofs.Opening.{Cutting, cutting-empty, cutting-none, cutting-stops, cutting-goes, cutting-over, open-refused, column-refused, column-short, column-there}
+use Rattle.opening.proofs.Opening.{Cutting, cutting-empty, cutting-none, cutting-stops, cutting-goes, cutting-over, open-refused, column-refused, column-short, column-there}
 use borrow.Author.Needs.{needs}
-use Rattle.cells.proofs.open.Statement.{statement}
-use Rattle.cells.proofs.open.Tie as tie
+use Rattle.opening.proofs.open.Statement.{statement}
+use Rattle.opening.proofs.open.Tie as tie
 
 abbrev Inv : tie.InvT-loop
 Inv u w₀ at₀ k₀ w at k = Small w × (k ≤ 9) × Cutting u w k at

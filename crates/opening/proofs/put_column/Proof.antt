@@ -1,10 +1,10 @@
--- `cells::put_column` meets its contract: seven words of a column.
+-- `opening::put_column` meets its contract: seven words of a column.
 use native.Mathlib.Omega.{arith}
 use lib.ListN.{length-set}
-use Rattle.cells.proofs.Words.{column-put}
+use Rattle.opening.proofs.Opening.{column-put}
 use borrow.Author.Needs.{needs}
-use Rattle.cells.proofs.put_column.Statement.{statement}
-use Rattle.cells.proofs.put_column.Tie as tie
+use Rattle.opening.proofs.put_column.Statement.{statement}
+use Rattle.opening.proofs.put_column.Tie as tie
 
 mul-b : tie.Need-mul-b
 mul-b c = search needs

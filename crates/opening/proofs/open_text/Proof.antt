@@ -1,12 +1,12 @@
--- `cells::open_text` meets its contract: the text's place is put, or why there is none.
+-- `opening::open_text` meets its contract: the text's place is put, or why there is none.
 use mathlib.Core.Path.{refl}
 use Rattle.cells.specs.Cells.{cell}
-use Rattle.cells.proofs.Opening.{text-open, text-not}
+use Rattle.opening.proofs.Opening.{text-open, text-not}
 use native.Mathlib.Omega.{arith}
 use lib.ListN.{length-set}
 use borrow.Author.Needs.{needs}
-use Rattle.cells.proofs.open_text.Statement.{statement}
-use Rattle.cells.proofs.open_text.Tie as tie
+use Rattle.opening.proofs.open_text.Statement.{statement}
+use Rattle.opening.proofs.open_text.Tie as tie
 
 slice-read-at : tie.Need-slice-read-at
 slice-read-at c = search needs

@@ -26,11 +26,12 @@ use Rattle.string.specs.String as strings
 use Rattle.grammar.specs.Course as course
 use Rattle.decoder.specs.States.{Numbers}
 use Rattle.decoder.specs.Columned.{numberDrawn, textDrawn, fromTexts}
 use Rattle.cells.specs.declared.Drawn.{Drawn}
 use Rattle.cells.specs.declared.Drawn.the-variants.{Number, Refused}
-use Rattle.cells.specs.Cells.{cell, numbersIn, textsIn, whyIn, Small, Elsewhere, partIn, numbersGiven, textsGiven, NumberDrawn, TextDrawn}
+use Rattle.cells.specs.Cells.{cell, numbersIn, textsIn, whyIn, Small, Elsewhere, partIn, numbersGiven, NumberDrawn}
 use Rattle.cells.proofs.Words.{Held, column, held, put-at, texts-held, held-wide, elsewhere-any, elsewhere-on}
 use Rattle.cells.proofs.States.{beside-none, beside-put, row-first, row-second}
+use Rattle.fields.specs.Fields.{textsGiven, TextDrawn}
 
 -- ---- the value drawn is the last of the place after it
 

@@ -1,16 +1,16 @@
--- `cells::draw_text` meets its contract: no number, no text; else its bytes are taken, or why not is in the words.
+-- `fields::draw_text` meets its contract: no number, no text; else its bytes are taken, or why not is in the words.
 use native.Mathlib.Omega.{arith}
-use Rattle.cells.proofs.Texts.{text-none, text-took, text-refused}
+use Rattle.fields.proofs.Texts.{text-none, text-took, text-refused}
 use Rattle.cells.specs.Cells.{cell, NumberDrawn}
 use Rattle.string.specs.String.{TookWithin}
 use mathlib.Core.Logic.{⊎-elim}
 use mathlib.Core.Path.{refl, subst}
 use borrow.Author.Needs.{needs}
-use Rattle.cells.proofs.draw_text.Statement.{statement}
-use Rattle.cells.proofs.draw_text.Tie as tie
+use Rattle.fields.proofs.draw_text.Statement.{statement}
+use Rattle.fields.proofs.draw_text.Tie as tie
 
-draw-number-requires : tie.Need-draw-number-requires
-draw-number-requires c κs = search needs
+draw-units-requires : tie.Need-draw-units-requires
+draw-units-requires c κs = search needs
 
 enum-known-d : tie.Need-enum-known-d
 enum-known-d c = search needs
@@ -25,7 +25,7 @@ returns : tie.Need-returns
 returns c =
     let b = c .before .before .before .before .before .before .before .before .before in
     let a = b .args in
-    text-none (a .update .now) (a .w .now) _ (a .k) (a .r .now) _ (c .enum-told .given .1) (c .before .before .before .before .draw-number .ensures)
+    text-none (a .update .now) (a .w .now) _ (a .k) (a .r .now) _ (c .enum-told .given .1) (c .before .before .before .before .draw-units .ensures)
 
 slice-read-to : tie.Need-slice-read-to
 slice-read-to c = search needs
@@ -88,7 +88,7 @@ returns-2 c =
     let a = b .args in
     let d = c .before .before .before .before .before .before .before .before .before .d .given in
     let t = c .before .before .before .take-text in
-    text-took (a .update .now) (a .w .now) _ (d .0 .0) (subst (NumberDrawn (a .update .now) 5 (a .w .now) _) (d .1) (c .before .before .before .before .before .before .before .before .before .before .before .before .before .draw-number .ensures))
+    text-took (a .update .now) (a .w .now) _ (d .0 .0) (subst (NumberDrawn (a .update .now) 5 (a .w .now) _) (d .1) (c .before .before .before .before .before .before .before .before .before .before .before .before .before .draw-units .ensures))
     (a .r .now) _ (a .k) _ _ _ (b .pre .1) refl (c .before .bytes .given .1) (c .before .before .before .before .upto .ensures) (t .ensures .0)
 
 same-length-4 : tie.Need-same-length-4
@@ -101,14 +101,14 @@ returns-3 c =
     let a = b .args in
     let d = c .before .before .before .before .before .before .before .before .before .before .before .before .before .d .given in
     let t = c .before .before .before .before .before .before .before .take-text in
-    text-refused (a .update .now) (a .w .now) _ (d .0 .0) (subst (NumberDrawn (a .update .now) 5 (a .w .now) _) (d .1) (c .before .before .before .before .before .before .before .before .before .before .before .before .before .before .before .before .before .draw-number .ensures))
+    text-refused (a .update .now) (a .w .now) _ (d .0 .0) (subst (NumberDrawn (a .update .now) 5 (a .w .now) _) (d .1) (c .before .before .before .before .before .before .before .before .before .before .before .before .before .before .before .before .before .draw-units .ensures))
     _ (a .r .now) _ _ (a .k) _ _ _ refl (c .before .before .before .before .before .number .given .1) (c .before .before .before .before .before .before .before .before .upto .ensures) (t .ensures .0) (c .before .before .refuse .ensures)
 
 pub draw-text-spec : {M : Type 1} → statement M
 draw-text-spec =
     tie.close
     (tie.spec
-    draw-number-requires
+    draw-units-requires
     enum-known-d
     enum-told
     same-length

@@ -1,0 +1,2 @@
+-- What holds of opening form 2.
+pub mod Opening

@@ -1,0 +1,2 @@
+-- What opening form 2 leaves in the words.
+pub mod Opening
