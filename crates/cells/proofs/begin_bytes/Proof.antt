@@ -12,33 +12,6 @@ use borrow.Author.Needs.{needs}
 use Rattle.cells.proofs.begin_bytes.Statement.{statement}
 use Rattle.cells.proofs.begin_bytes.Tie as tie
 
-mul-b : tie.Need-mul-b
-mul-b c = search needs
-
-mul-at : tie.Need-mul-at
-mul-at c = search needs
-
-slice-read-at : tie.Need-slice-read-at
-slice-read-at c = search needs
-
-add-end : tie.Need-add-end
-add-end c = search needs
-
-mul-end : tie.Need-mul-end
-mul-end c = search needs
-
-slice-read-end : tie.Need-slice-read-end
-slice-read-end c = search needs
-
-upto-requires : tie.Need-upto-requires
-upto-requires c κs = search needs
-
-refuse-requires : tie.Need-refuse-requires
-refuse-requires c κs = search needs
-
-same-length : tie.Need-same-length
-same-length c = search needs
-
 -- where the column is at hand: the function's entry, and the place in the column
 abbrev start : tie.After-upto → tie.Start
 start c = c .before .before .before .before .before
@@ -58,20 +31,8 @@ returns c =
     (begun-past (o .upto .result .now) (at o) (t .if1 .taken))
     (r .refuse .ensures)
 
-shared-slice-read-v : tie.Need-shared-slice-read-v
-shared-slice-read-v c = search needs
-
 cast-v : tie.Need-cast-v
 cast-v c = omega (arith, c .shared-slice-known2 .given (at (c .before .before)))
-
-add-e : tie.Need-add-e
-add-e c = search needs
-
-put-byte-requires : tie.Need-put-byte-requires
-put-byte-requires c κs = search needs
-
-same-length-2 : tie.Need-same-length-2
-same-length-2 c = search needs
 
 returns-2 : tie.Need-returns-2
 unfolding cell
@@ -91,24 +52,6 @@ here : (c : tie.Else2)
     begun t (at o) ≡ counted (at o) (getD t (at o) 0) (at o + 1) (readUnsigned t (at o + 1))
 here c = let o = c .before .before .before in begun-counted (o .upto .result .now) (at o) (c .before .before .if1 .left) (c .if2 .left)
 
-read-unsigned-requires : tie.Need-read-unsigned-requires
-read-unsigned-requires c κs = search needs
-
-enum-known-n : tie.Need-enum-known-n
-enum-known-n c = search needs
-
-enum-told : tie.Need-enum-told
-enum-told c = search needs
-
-why-read-requires : tie.Need-why-read-requires
-why-read-requires c κs = search needs
-
-refuse-requires-2 : tie.Need-refuse-requires-2
-refuse-requires-2 c κs = search needs
-
-same-length-3 : tie.Need-same-length-3
-same-length-3 c = search needs
-
 returns-3 : tie.Need-returns-3
 unfolding cell
 returns-3 c =
@@ -121,12 +64,6 @@ returns-3 c =
     bytes-refused (a .update .now) (a .w .now) (a .k) _ (o .upto .result .now) (at o) (b .pre .3) (b .pre .2) (o .upto .ensures) (first-cell (a .w .now) (a .k)) _ _
     (here (n .before) ∙ counted-wrong (o .upto .result .now) (at o) _ (at o + 1) _ _ _ (n .read-unsigned .ensures) (y .before .enum-told .given .1) (y .why-read .ensures))
     (r .refuse2 .ensures)
-
-refuse-requires-3 : tie.Need-refuse-requires-3
-refuse-requires-3 c κs = search needs
-
-same-length-4 : tie.Need-same-length-4
-same-length-4 c = search needs
 
 returns-4 : tie.Need-returns-4
 unfolding cell
@@ -141,12 +78,6 @@ returns-4 c =
     bytes-refused (a .update .now) (a .w .now) (a .k) _ (o .upto .result .now) (at o) (b .pre .3) (b .pre .2) (o .upto .ensures) (first-cell (a .w .now) (a .k)) _ _
     (here (n .before) ∙ counted-many (o .upto .result .now) (at o) _ (at o + 1) _ _ (sym (n .read-unsigned .ensures) ∙ v .n .given .1) (t .if3 .taken))
     (r .refuse3 .ensures)
-
-put-byte-requires-2 : tie.Need-put-byte-requires-2
-put-byte-requires-2 c κs = search needs
-
-same-length-5 : tie.Need-same-length-5
-same-length-5 c = search needs
 
 returns-5 : tie.Need-returns-5
 unfolding cell
@@ -166,32 +97,7 @@ pub begin-bytes-spec : {M : Type 1} → statement M
 begin-bytes-spec =
     tie.close
     (tie.spec
-    mul-b
-    mul-at
-    slice-read-at
-    add-end
-    mul-end
-    slice-read-end
-    upto-requires
-    refuse-requires
-    same-length
-    returns
-    shared-slice-read-v
-    cast-v
-    add-e
-    put-byte-requires
-    same-length-2
-    returns-2
-    read-unsigned-requires
-    enum-known-n
-    enum-told
-    why-read-requires
-    refuse-requires-2
-    same-length-3
-    returns-3
-    refuse-requires-3
-    same-length-4
-    returns-4
-    put-byte-requires-2
-    same-length-5
-    returns-5)
+    (λ c. search needs) (λ c. search needs) (λ c. search needs) (λ c. search needs) (λ c. search needs) (λ c. search needs) (λ c κs. search needs)
+    (λ c κs. search needs) (λ c. search needs) returns (λ c. search needs) cast-v (λ c. search needs) (λ c κs. search needs) (λ c. search needs)
+    returns-2 (λ c κs. search needs) (λ c. search needs) (λ c. search needs) (λ c κs. search needs) (λ c κs. search needs) (λ c. search needs)
+    returns-3 (λ c κs. search needs) (λ c. search needs) returns-4 (λ c κs. search needs) (λ c. search needs) returns-5)

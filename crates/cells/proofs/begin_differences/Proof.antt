@@ -15,45 +15,6 @@ use borrow.Author.Needs.{needs}
 use Rattle.cells.proofs.begin_differences.Statement.{statement}
 use Rattle.cells.proofs.begin_differences.Tie as tie
 
-mul-b : tie.Need-mul-b
-mul-b c = search needs
-
-mul-at : tie.Need-mul-at
-mul-at c = search needs
-
-slice-read-at : tie.Need-slice-read-at
-slice-read-at c = search needs
-
-add-end : tie.Need-add-end
-add-end c = search needs
-
-mul-end : tie.Need-mul-end
-mul-end c = search needs
-
-slice-read-end : tie.Need-slice-read-end
-slice-read-end c = search needs
-
-upto-requires : tie.Need-upto-requires
-upto-requires c κs = search needs
-
-read-signed-requires : tie.Need-read-signed-requires
-read-signed-requires c κs = search needs
-
-enum-known-s : tie.Need-enum-known-s
-enum-known-s c = search needs
-
-enum-told : tie.Need-enum-told
-enum-told c = search needs
-
-why-signed-requires : tie.Need-why-signed-requires
-why-signed-requires c κs = search needs
-
-refuse-requires : tie.Need-refuse-requires
-refuse-requires c κs = search needs
-
-same-length : tie.Need-same-length
-same-length c = search needs
-
 -- where the column is at hand: the function's entry, the column and the place in it
 abbrev start : tie.After-upto → tie.Start
 start c = c .before .before .before .before .before
@@ -88,15 +49,6 @@ returns c =
 value : (s : tie.After-s) → let o = s .before .before .before in readSigned (text o) (at o) ≡ Value (s .s .given .0 .0) (s .s .given .0 .1 .0) (s .s .given .0 .1 .1 .0)
 value s = sym (s .before .before .read-signed .ensures) ∙ s .s .given .1
 
-is-outside-requires : tie.Need-is-outside-requires
-is-outside-requires c κs = search needs
-
-refuse-requires-2 : tie.Need-refuse-requires-2
-refuse-requires-2 c κs = search needs
-
-same-length-2 : tie.Need-same-length-2
-same-length-2 c = search needs
-
 returns-2 : tie.Need-returns-2
 returns-2 c =
     let r = c .before .before in
@@ -122,24 +74,6 @@ odd c =
     let a = start o .args in
     begun-odd (text o) (at o) (cell (a .w .now) (a .k) 2) _ _ _ (value s) _ (sym (k .before .before .is-outside .ensures) ∙ k .before .if1 .left) (k .key-read .ensures .0) (c .if2 .taken)
 
-read-unsigned-requires : tie.Need-read-unsigned-requires
-read-unsigned-requires c κs = search needs
-
-enum-known-n : tie.Need-enum-known-n
-enum-known-n c = search needs
-
-enum-told-2 : tie.Need-enum-told-2
-enum-told-2 c = search needs
-
-why-read-requires : tie.Need-why-read-requires
-why-read-requires c κs = search needs
-
-refuse-requires-3 : tie.Need-refuse-requires-3
-refuse-requires-3 c κs = search needs
-
-same-length-3 : tie.Need-same-length-3
-same-length-3 c = search needs
-
 returns-3 : tie.Need-returns-3
 returns-3 c =
     let r = c .before .before in
@@ -150,12 +84,6 @@ returns-3 c =
     begins o _ _ _
     (odd (n .before) ∙ counted-wrong (text o) (at o) (cell (a .w .now) (a .k) 2) _ _ _ _ _ (n .read-unsigned .ensures) (y .before .enum-told2 .given .1) (y .why-read .ensures))
     (difference-refused (a .k) (a .w .now) _ _ _ _ refl (r .refuse3 .ensures))
-
-refuse-requires-4 : tie.Need-refuse-requires-4
-refuse-requires-4 c κs = search needs
-
-same-length-4 : tie.Need-same-length-4
-same-length-4 c = search needs
 
 returns-4 : tie.Need-returns-4
 returns-4 c =
@@ -169,15 +97,6 @@ returns-4 c =
     (odd (n .before) ∙ counted-many (text o) (at o) (cell (a .w .now) (a .k) 2) _ _ _ _ (sym (n .read-unsigned .ensures) ∙ v .n .given .1) (t .if3 .taken))
     (difference-refused (a .k) (a .w .now) _ _ _ _ refl (r .refuse4 .ensures))
 
-add-put-difference : tie.Need-add-put-difference
-add-put-difference c = search needs
-
-put-difference-requires : tie.Need-put-difference-requires
-put-difference-requires c κs = search needs
-
-same-length-5 : tie.Need-same-length-5
-same-length-5 c = search needs
-
 returns-5 : tie.Need-returns-5
 returns-5 c =
     let r = c .before .before in
@@ -189,12 +108,6 @@ returns-5 c =
     begins o _ _ _
     (odd (n .before) ∙ counted-run (text o) (at o) (cell (a .w .now) (a .k) 2) _ _ _ _ (sym (n .read-unsigned .ensures) ∙ v .n .given .1) (t .if3 .left))
     (r .put-difference .ensures)
-
-put-difference-requires-2 : tie.Need-put-difference-requires-2
-put-difference-requires-2 c κs = search needs
-
-same-length-6 : tie.Need-same-length-6
-same-length-6 c = search needs
 
 returns-6 : tie.Need-returns-6
 returns-6 c =
@@ -212,39 +125,8 @@ pub begin-differences-spec : {M : Type 1} → statement M
 begin-differences-spec =
     tie.close
     (tie.spec
-    mul-b
-    mul-at
-    slice-read-at
-    add-end
-    mul-end
-    slice-read-end
-    upto-requires
-    read-signed-requires
-    enum-known-s
-    enum-told
-    why-signed-requires
-    refuse-requires
-    same-length
-    returns
-    is-outside-requires
-    refuse-requires-2
-    same-length-2
-    returns-2
-    key-read-requires
-    read-unsigned-requires
-    enum-known-n
-    enum-told-2
-    why-read-requires
-    refuse-requires-3
-    same-length-3
-    returns-3
-    refuse-requires-4
-    same-length-4
-    returns-4
-    add-put-difference
-    put-difference-requires
-    same-length-5
-    returns-5
-    put-difference-requires-2
-    same-length-6
-    returns-6)
+    (λ c. search needs) (λ c. search needs) (λ c. search needs) (λ c. search needs) (λ c. search needs) (λ c. search needs) (λ c κs. search needs)
+    (λ c κs. search needs) (λ c. search needs) (λ c. search needs) (λ c κs. search needs) (λ c κs. search needs) (λ c. search needs) returns
+    (λ c κs. search needs) (λ c κs. search needs) (λ c. search needs) returns-2 key-read-requires (λ c κs. search needs) (λ c. search needs)
+    (λ c. search needs) (λ c κs. search needs) (λ c κs. search needs) (λ c. search needs) returns-3 (λ c κs. search needs) (λ c. search needs)
+    returns-4 (λ c. search needs) (λ c κs. search needs) (λ c. search needs) returns-5 (λ c κs. search needs) (λ c. search needs) returns-6)

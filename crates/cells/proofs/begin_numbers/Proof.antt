@@ -14,45 +14,6 @@ use borrow.Author.Needs.{needs}
 use Rattle.cells.proofs.begin_numbers.Statement.{statement}
 use Rattle.cells.proofs.begin_numbers.Tie as tie
 
-mul-b : tie.Need-mul-b
-mul-b c = search needs
-
-mul-at : tie.Need-mul-at
-mul-at c = search needs
-
-slice-read-at : tie.Need-slice-read-at
-slice-read-at c = search needs
-
-add-end : tie.Need-add-end
-add-end c = search needs
-
-mul-end : tie.Need-mul-end
-mul-end c = search needs
-
-slice-read-end : tie.Need-slice-read-end
-slice-read-end c = search needs
-
-upto-requires : tie.Need-upto-requires
-upto-requires c κs = search needs
-
-read-signed-requires : tie.Need-read-signed-requires
-read-signed-requires c κs = search needs
-
-enum-known-s : tie.Need-enum-known-s
-enum-known-s c = search needs
-
-enum-told : tie.Need-enum-told
-enum-told c = search needs
-
-why-signed-requires : tie.Need-why-signed-requires
-why-signed-requires c κs = search needs
-
-refuse-requires : tie.Need-refuse-requires
-refuse-requires c κs = search needs
-
-same-length : tie.Need-same-length
-same-length c = search needs
-
 -- the next value is that of the run that begins with what was read
 begun-here : (d : tie.After-read-signed)
     → let a = d .before .before .before .before .before .before .args in
@@ -74,24 +35,6 @@ returns c =
     number-drawn (a .update .now) (a .w .now) (a .k) _ _ _ (begun-here d)
     (number-refused (a .k) (a .w .now) _ _ _ _ (b .pre .1 .0) (rw told (ap Bad (sym (c .before .before .before .before .why-signed .ensures ∙ ap whySigned told)))) (c .before .before .refuse .ensures))
 
-read-unsigned-requires : tie.Need-read-unsigned-requires
-read-unsigned-requires c κs = search needs
-
-enum-known-n : tie.Need-enum-known-n
-enum-known-n c = search needs
-
-enum-told-2 : tie.Need-enum-told-2
-enum-told-2 c = search needs
-
-why-read-requires : tie.Need-why-read-requires
-why-read-requires c κs = search needs
-
-refuse-requires-2 : tie.Need-refuse-requires-2
-refuse-requires-2 c κs = search needs
-
-same-length-2 : tie.Need-same-length-2
-same-length-2 c = search needs
-
 -- the run has a count: what was read where it stands
 counted-here : (q : tie.After-read-unsigned)
     → let d = q .before .before .before .before .before in
@@ -112,12 +55,6 @@ returns-2 c =
     number-drawn (a .update .now) (a .w .now) (a .k) _ _ _ (counted-here q)
     (number-refused (a .k) (a .w .now) _ _ _ _ (b .pre .1 .0) (rw told (ap Bad (sym (c .before .before .before .before .why-read .ensures ∙ ap whyRead told)))) (c .before .before .refuse2 .ensures))
 
-refuse-requires-3 : tie.Need-refuse-requires-3
-refuse-requires-3 c κs = search needs
-
-same-length-3 : tie.Need-same-length-3
-same-length-3 c = search needs
-
 returns-3 : tie.Need-returns-3
 unfolding counted
 returns-3 c =
@@ -126,15 +63,6 @@ returns-3 c =
     let a = b .args in
     number-drawn (a .update .now) (a .w .now) (a .k) _ _ _ (counted-here q)
     (number-refused (a .k) (a .w .now) _ _ _ _ (b .pre .1 .0) (rw (c .before .before .before .before .before .before .n .given .1, lt-ltb _ _ (c .before .before .before .before .if2 .taken)) refl) (c .before .before .refuse3 .ensures))
-
-add-put-number : tie.Need-add-put-number
-add-put-number c = search needs
-
-put-number-requires : tie.Need-put-number-requires
-put-number-requires c κs = search needs
-
-same-length-4 : tie.Need-same-length-4
-same-length-4 c = search needs
 
 returns-4 : tie.Need-returns-4
 unfolding counted
@@ -145,12 +73,6 @@ returns-4 c =
     let n = c .before .before .before .before .before .before .n .given in
     let two : n .0 .0 + 1 + 1 ≡ n .0 .0 + 2 = omega arith in
     number-drawn (a .update .now) (a .w .now) (a .k) _ _ _ (counted-here q ∙ rw (n .1, le-ltb _ _ (c .before .before .before .before .if2 .left), ← two) refl) (c .before .before .put-number .ensures)
-
-put-number-requires-2 : tie.Need-put-number-requires-2
-put-number-requires-2 c κs = search needs
-
-same-length-5 : tie.Need-same-length-5
-same-length-5 c = search needs
 
 returns-5 : tie.Need-returns-5
 unfolding begun
@@ -164,34 +86,8 @@ pub begin-numbers-spec : {M : Type 1} → statement M
 begin-numbers-spec =
     tie.close
     (tie.spec
-    mul-b
-    mul-at
-    slice-read-at
-    add-end
-    mul-end
-    slice-read-end
-    upto-requires
-    read-signed-requires
-    enum-known-s
-    enum-told
-    why-signed-requires
-    refuse-requires
-    same-length
-    returns
-    read-unsigned-requires
-    enum-known-n
-    enum-told-2
-    why-read-requires
-    refuse-requires-2
-    same-length-2
-    returns-2
-    refuse-requires-3
-    same-length-3
-    returns-3
-    add-put-number
-    put-number-requires
-    same-length-4
-    returns-4
-    put-number-requires-2
-    same-length-5
-    returns-5)
+    (λ c. search needs) (λ c. search needs) (λ c. search needs) (λ c. search needs) (λ c. search needs) (λ c. search needs) (λ c κs. search needs)
+    (λ c κs. search needs) (λ c. search needs) (λ c. search needs) (λ c κs. search needs) (λ c κs. search needs) (λ c. search needs) returns
+    (λ c κs. search needs) (λ c. search needs) (λ c. search needs) (λ c κs. search needs) (λ c κs. search needs) (λ c. search needs) returns-2
+    (λ c κs. search needs) (λ c. search needs) returns-3 (λ c. search needs) (λ c κs. search needs) (λ c. search needs) returns-4
+    (λ c κs. search needs) (λ c. search needs) returns-5)

@@ -4,24 +4,13 @@ use borrow.Author.Needs.{needs}
 use Rattle.cells.proofs.key_read.Statement.{statement}
 use Rattle.cells.proofs.key_read.Tie as tie
 
-add-result : tie.Need-add-result
-add-result c = search needs
-
-sub-result : tie.Need-sub-result
-sub-result c = search needs
-
 returns : tie.Need-returns
 unfolding keyRead
 returns c = rw (c .if1 .taken) (search needs)
-
-add-result-2 : tie.Need-add-result-2
-add-result-2 c = search needs
 
 returns-2 : tie.Need-returns-2
 unfolding keyRead
 returns-2 c = rw (c .if1 .left) (search needs)
 
 pub key-read-spec : {M : Type 1} → statement M
-key-read-spec =
-    tie.close
-    (tie.spec add-result sub-result returns add-result-2 returns-2)
+key-read-spec = tie.close (tie.spec (λ c. search needs) (λ c. search needs) returns (λ c. search needs) returns-2)

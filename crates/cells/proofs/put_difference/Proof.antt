@@ -8,29 +8,11 @@ use borrow.Author.Needs.{needs}
 use Rattle.cells.proofs.put_difference.Statement.{statement}
 use Rattle.cells.proofs.put_difference.Tie as tie
 
-mul-b : tie.Need-mul-b
-mul-b c = search needs
-
-add-sum : tie.Need-add-sum
-add-sum c = search needs
-
-mul-sum : tie.Need-mul-sum
-mul-sum c = search needs
-
-slice-read-sum : tie.Need-slice-read-sum
-slice-read-sum c = search needs
-
 add-sum-2 : tie.Need-add-sum-2
 unfolding cell
 add-sum-2 c =
     let b = c .before .before in
     omega (arith, short-here (b .args .k) (b .args .w .now) (b .pre .0) (b .pre .1))
-
-refuse-requires : tie.Need-refuse-requires
-refuse-requires c κs = search needs
-
-same-length : tie.Need-same-length
-same-length c = search needs
 
 returns : tie.Need-returns
 unfolding cell
@@ -38,12 +20,6 @@ returns c =
     let r = c .before .before in
     let a = r .before .before .before .before .before .args in
     difference-refused (a .k) (a .w .now) _ _ _ _ (drawn-low (placeAt (a .past) (a .from) (cell (a .w .now) (a .k) 2) (a .key) _) (r .before .before .if1 .taken)) (r .refuse .ensures)
-
-refuse-requires-2 : tie.Need-refuse-requires-2
-refuse-requires-2 c κs = search needs
-
-same-length-2 : tie.Need-same-length-2
-same-length-2 c = search needs
 
 returns-2 : tie.Need-returns-2
 unfolding cell
@@ -53,44 +29,14 @@ returns-2 c =
     let a = t .before .before .before .before .args in
     difference-refused (a .k) (a .w .now) _ _ _ _ (drawn-high (placeAt (a .past) (a .from) (cell (a .w .now) (a .k) 2) (a .key) _) (t .before .if1 .left) (t .if2 .taken)) (r .refuse2 .ensures)
 
-mul-w : tie.Need-mul-w
-mul-w c = search needs
-
-slice-write-w : tie.Need-slice-write-w
-slice-write-w c = search needs
-
-add-w : tie.Need-add-w
-add-w c = search needs
-
-mul-w-2 : tie.Need-mul-w-2
-mul-w-2 c = search needs
-
 slice-write-w-2 : tie.Need-slice-write-w-2
 slice-write-w-2 c = simp length-set (omega arith)
-
-add-w-2 : tie.Need-add-w-2
-add-w-2 c = search needs
-
-mul-w-3 : tie.Need-mul-w-3
-mul-w-3 c = search needs
 
 slice-write-w-3 : tie.Need-slice-write-w-3
 slice-write-w-3 c = simp length-set (omega arith)
 
-add-w-3 : tie.Need-add-w-3
-add-w-3 c = search needs
-
-mul-w-4 : tie.Need-mul-w-4
-mul-w-4 c = search needs
-
 slice-write-w-4 : tie.Need-slice-write-w-4
 slice-write-w-4 c = simp length-set (omega arith)
-
-add-w-4 : tie.Need-add-w-4
-add-w-4 c = search needs
-
-mul-w-5 : tie.Need-mul-w-5
-mul-w-5 c = search needs
 
 slice-write-w-5 : tie.Need-slice-write-w-5
 slice-write-w-5 c = simp length-set (omega arith)
@@ -112,31 +58,7 @@ pub put-difference-spec : {M : Type 1} → statement M
 put-difference-spec =
     tie.close
     (tie.spec
-    mul-b
-    add-sum
-    mul-sum
-    slice-read-sum
-    add-sum-2
-    refuse-requires
-    same-length
-    returns
-    refuse-requires-2
-    same-length-2
-    returns-2
-    mul-w
-    slice-write-w
-    add-w
-    mul-w-2
-    slice-write-w-2
-    add-w-2
-    mul-w-3
-    slice-write-w-3
-    add-w-3
-    mul-w-4
-    slice-write-w-4
-    add-w-4
-    mul-w-5
-    slice-write-w-5
-    slice-write-w-6
-    same-length-3
-    returns-3)
+    (λ c. search needs) (λ c. search needs) (λ c. search needs) (λ c. search needs) add-sum-2 (λ c κs. search needs) (λ c. search needs) returns
+    (λ c κs. search needs) (λ c. search needs) returns-2 (λ c. search needs) (λ c. search needs) (λ c. search needs) (λ c. search needs)
+    slice-write-w-2 (λ c. search needs) (λ c. search needs) slice-write-w-3 (λ c. search needs) (λ c. search needs) slice-write-w-4
+    (λ c. search needs) (λ c. search needs) slice-write-w-5 slice-write-w-6 same-length-3 returns-3)

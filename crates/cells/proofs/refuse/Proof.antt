@@ -7,14 +7,8 @@ use borrow.Author.Needs.{needs}
 use Rattle.cells.proofs.refuse.Statement.{statement}
 use Rattle.cells.proofs.refuse.Tie as tie
 
-slice-write-w : tie.Need-slice-write-w
-slice-write-w c = search needs
-
 slice-write-w-2 : tie.Need-slice-write-w-2
 slice-write-w-2 c = simp length-set (omega arith)
-
-same-length : tie.Need-same-length
-same-length c = search needs
 
 returns : tie.Need-returns
 returns c =
@@ -22,10 +16,4 @@ returns c =
     (refl, small-refused w (c .pre) (c .args .number) (c .args .place) (omega arith), elsewhere-refused w (c .pre) (c .args .number) (c .args .place), why-refused w (c .pre) (c .args .number) (c .args .place))
 
 pub refuse-spec : {M : Type 1} → statement M
-refuse-spec =
-    tie.close
-    (tie.spec
-    slice-write-w
-    slice-write-w-2
-    same-length
-    returns)
+refuse-spec = tie.close (tie.spec (λ c. search needs) slice-write-w-2 (λ c. search needs) returns)

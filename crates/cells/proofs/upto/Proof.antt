@@ -12,13 +12,5 @@ returns c = sym (take-all (c .before .args .to) (c .before .args .update .now) (
 slice-aggregate-result : tie.Need-slice-aggregate-result
 slice-aggregate-result c = sym (length-take-le _ _ (omega arith))
 
-returns-2 : tie.Need-returns-2
-returns-2 c = search needs
-
 pub upto-spec : {M : Type 1} → statement M
-upto-spec =
-    tie.close
-    (tie.spec
-    returns
-    slice-aggregate-result
-    returns-2)
+upto-spec = tie.close (tie.spec returns slice-aggregate-result (λ c. search needs))

@@ -11,20 +11,8 @@ use borrow.Author.Needs.{needs}
 use Rattle.content.proofs.find.Statement.{statement}
 use Rattle.content.proofs.find.Tie as tie
 
-slice-aggregate-begin : tie.Need-slice-aggregate-begin
-slice-aggregate-begin c = search needs
-
 begin-requires : tie.Need-begin-requires
 begin-requires c κs = fresh
-
-enum-known-b : tie.Need-enum-known-b
-enum-known-b c = search needs
-
-enum-told : tie.Need-enum-told
-enum-told c = search needs
-
-why-begun-requires : tie.Need-why-begun-requires
-why-begun-requires c κs = search needs
 
 returns : tie.Need-returns
 returns c =
@@ -33,24 +21,12 @@ returns c =
     let told = c .before .enum-told .given .1 in
     ap Refused (c .why-begun .ensures ∙ ap whyBegun told) ∙ not-begun (a .form) (a .update .now) (a .n) _ (begun-refused (a .form) (a .update .now) _ (b .result) (b .ensures) (replicate 64 0) _ told)
 
-slice-aggregate-scan : tie.Need-slice-aggregate-scan
-slice-aggregate-scan c = search needs
-
 scan-requires : tie.Need-scan-requires
 scan-requires c κs =
     let a = c .before .before .before .before .before .before .before .before .args in
     let b = c .before .before .before .before .before .begin in
     let h = begun-at (a .form) (a .update .now) _ (b .result) (b .ensures) (replicate 64 0) (omega arith) _ (c .before .before .b .given .1) in
     (b .ensures .small, h .1)
-
-enum-known-r : tie.Need-enum-known-r
-enum-known-r c = search needs
-
-enum-told-2 : tie.Need-enum-told-2
-enum-told-2 c = search needs
-
-why-scanned-requires : tie.Need-why-scanned-requires
-why-scanned-requires c κs = search needs
 
 returns-2 : tie.Need-returns-2
 returns-2 c =
@@ -60,18 +36,6 @@ returns-2 c =
     let told = c .before .enum-told2 .given .1 in
     ap Refused (c .why-scanned .ensures ∙ ap whyScanned told) ∙ not-scanned (a .form) (a .update .now) (a .n) _ (h .0) _ (sym (c .before .before .before .before .scan .ensures) ∙ told)
 
-check-delete-set-requires : tie.Need-check-delete-set-requires
-check-delete-set-requires c κs = search needs
-
-enum-told-3 : tie.Need-enum-told-3
-enum-told-3 c = search needs
-
-enum-told-4 : tie.Need-enum-told-4
-enum-told-4 c = search needs
-
-why-checked-requires : tie.Need-why-checked-requires
-why-checked-requires c κs = search needs
-
 returns-3 : tie.Need-returns-3
 returns-3 c =
     let a = c .before .before .before .before .before .before .before .before .before .before .before .before .before .before .before .before .before .args in
@@ -79,9 +43,6 @@ returns-3 c =
     let h = begun-at (a .form) (a .update .now) _ (b .result) (b .ensures) (replicate 64 0) (omega arith) _ (c .before .before .before .before .before .before .before .before .before .before .before .b .given .1) in
     let told = c .before .enum-told4 .given .1 in
     ap Refused (c .why-checked .ensures ∙ ap whyChecked told) ∙ not-checked (a .form) (a .update .now) (a .n) _ (h .0) _ _ (sym (c .before .before .before .before .before .before .before .before .scan .ensures) ∙ c .before .before .before .before .before .r .given .1) _ (sym (c .before .before .before .check-delete-set .ensures) ∙ told)
-
-stored-part-requires : tie.Need-stored-part-requires
-stored-part-requires c κs = search needs
 
 returns-4 : tie.Need-returns-4
 returns-4 c =
@@ -94,22 +55,6 @@ pub find-spec : {M : Type 1} → statement M
 find-spec =
     tie.close
     (tie.spec
-    slice-aggregate-begin
-    begin-requires
-    enum-known-b
-    enum-told
-    why-begun-requires
-    returns
-    slice-aggregate-scan
-    scan-requires
-    enum-known-r
-    enum-told-2
-    why-scanned-requires
-    returns-2
-    check-delete-set-requires
-    enum-told-3
-    enum-told-4
-    why-checked-requires
-    returns-3
-    stored-part-requires
-    returns-4)
+    (λ c. search needs) begin-requires (λ c. search needs) (λ c. search needs) (λ c κs. search needs) returns (λ c. search needs) scan-requires
+    (λ c. search needs) (λ c. search needs) (λ c κs. search needs) returns-2 (λ c κs. search needs) (λ c. search needs) (λ c. search needs)
+    (λ c κs. search needs) returns-3 (λ c κs. search needs) returns-4)

@@ -15,26 +15,8 @@ Inv-loop form update w₀ n fields₀ memory₀ s₀ ahead₀ found₀ row₀ w 
 abbrev μ-loop : tie.MeasureT-loop
 μ-loop form update w₀ n fields₀ memory₀ s₀ ahead₀ found₀ row₀ w fields memory s ahead found row = left s
 
-none-requires : tie.Need-none-requires Inv-loop μ-loop
-none-requires c κs = search needs
-
 loop-holds : tie.Need-loop-holds Inv-loop μ-loop
 loop-holds c = record { same = rw (c .none .ensures) refl; fine = c .before .before .before .pre .1; small = c .before .before .before .pre .0; memory = refl; fields = refl }
-
-slice-aggregate-next : tie.Need-slice-aggregate-next Inv-loop μ-loop
-slice-aggregate-next c = search needs
-
-slice-aggregate-next-2 : tie.Need-slice-aggregate-next-2 Inv-loop μ-loop
-slice-aggregate-next-2 c = search needs
-
-next-requires : tie.Need-next-requires Inv-loop μ-loop
-next-requires c κs = search needs
-
-enum-known-t : tie.Need-enum-known-t Inv-loop μ-loop
-enum-known-t c = search needs
-
-slice-aggregate-row-in : tie.Need-slice-aggregate-row-in Inv-loop μ-loop
-slice-aggregate-row-in c = search needs
 
 row-in-requires : tie.Need-row-in-requires Inv-loop μ-loop
 row-in-requires c κs =
@@ -56,9 +38,6 @@ loop-again c =
     let l = c .before .before .before .before .before .before .before .before .before .before .before .before .before .before .before .loop in
     let x = c .before .before .before .before .before .before .before .before .before .before .before .next in
     rw (c .row-in .ensures) (take-this (a .form) (a .update .now) (a .n) _ (l .w) (l .fields) (l .memory) (l .s) (l .ahead) (l .found) (l .row) (l .inv) _ _ _ (x .result) (x .ensures) _ _ (c .before .before .before .before .before .t .given .1) (not-true (l .found) (c .before .before .before .if1 .taken)) (c .before .before .if2 .taken))
-
-sub-ahead : tie.Need-sub-ahead Inv-loop μ-loop
-sub-ahead c = search needs
 
 loop-less-2 : tie.Need-loop-less-2 Inv-loop μ-loop
 loop-less-2 c =
@@ -88,9 +67,6 @@ loop-again-3 c =
     let x = c .before .before .before .before .before .before .before .before .next in
     have-it (a .form) (a .update .now) (a .n) _ (l .w) (l .fields) (l .memory) (l .s) (l .ahead) (l .found) (l .row) (l .inv) _ _ _ (x .result) (x .ensures) _ _ (c .before .before .t .given .1) (not-false (l .found) (c .if1 .left))
 
-enum-known-t-2 : tie.Need-enum-known-t-2 Inv-loop μ-loop
-enum-known-t-2 c = search needs
-
 loop-less-4 : tie.Need-loop-less-4 Inv-loop μ-loop
 loop-less-4 c =
     let a = c .before .before .before .before .before .before .before .before .before .before .before .before .before .before .before .args in
@@ -105,24 +81,12 @@ loop-again-4 c =
     let x = c .before .before .before .before .before .before .before .next in
     goes-on (a .form) (a .update .now) (a .n) _ (l .w) (l .fields) (l .memory) (l .s) (l .ahead) (l .found) (l .row) (l .inv) _ _ _ (x .result) (x .ensures) _ (c .before .t2 .given .1)
 
-enum-known-at : tie.Need-enum-known-at Inv-loop μ-loop
-enum-known-at c = search needs
-
-same-length : tie.Need-same-length Inv-loop μ-loop
-same-length c = search needs
-
 returns : tie.Need-returns Inv-loop μ-loop
 returns c =
     let a = c .before .before .before .before .before .before .before .before .before .before .before .before .before .before .before .args in
     let l = c .before .before .before .before .before .before .before .before .before .before .before .loop in
     let x = c .before .before .before .before .before .before .before .next in
     at-done (a .form) (a .update .now) (a .n) _ (l .w) (l .fields) (l .memory) (l .s) (l .ahead) (l .found) (l .row) (l .inv) _ _ _ (x .result) (x .ensures) _ (c .before .at .given .1)
-
-enum-known-why : tie.Need-enum-known-why Inv-loop μ-loop
-enum-known-why c = search needs
-
-same-length-2 : tie.Need-same-length-2 Inv-loop μ-loop
-same-length-2 c = search needs
 
 returns-2 : tie.Need-returns-2 Inv-loop μ-loop
 returns-2 c =
@@ -135,29 +99,6 @@ pub scan-spec : {M : Type 1} → statement M
 scan-spec =
     tie.close
     (tie.spec
-    Inv-loop
-    μ-loop
-    none-requires
-    loop-holds
-    slice-aggregate-next
-    slice-aggregate-next-2
-    next-requires
-    enum-known-t
-    slice-aggregate-row-in
-    row-in-requires
-    loop-less
-    loop-again
-    sub-ahead
-    loop-less-2
-    loop-again-2
-    loop-less-3
-    loop-again-3
-    enum-known-t-2
-    loop-less-4
-    loop-again-4
-    enum-known-at
-    same-length
-    returns
-    enum-known-why
-    same-length-2
-    returns-2)
+    Inv-loop μ-loop (λ c κs. search needs) loop-holds (λ c. search needs) (λ c. search needs) (λ c κs. search needs) (λ c. search needs)
+    (λ c. search needs) row-in-requires loop-less loop-again (λ c. search needs) loop-less-2 loop-again-2 loop-less-3 loop-again-3 (λ c. search needs)
+    loop-less-4 loop-again-4 (λ c. search needs) (λ c. search needs) returns (λ c. search needs) (λ c. search needs) returns-2)

@@ -5,12 +5,6 @@ use borrow.Author.Needs.{needs}
 use Rattle.content.proofs.why_begun.Statement.{statement}
 use Rattle.content.proofs.why_begun.Tie as tie
 
-enum-told : tie.Need-enum-told
-enum-told c = search needs
-
-enum-known-b : tie.Need-enum-known-b
-enum-known-b c = search needs
-
 returns : tie.Need-returns
 returns c = ap whyBegun (sym (c .enum-told .given .1))
 
@@ -18,4 +12,4 @@ returns-2 : tie.Need-returns-2
 returns-2 c = sym (ap whyBegun (c .before .b .given .1))
 
 pub why-begun-spec : {M : Type 1} → statement M
-why-begun-spec = tie.close (tie.spec enum-told enum-known-b returns returns-2)
+why-begun-spec = tie.close (tie.spec (λ c. search needs) (λ c. search needs) returns returns-2)

@@ -5,12 +5,6 @@ use borrow.Author.Needs.{needs}
 use Rattle.content.proofs.why_checked.Statement.{statement}
 use Rattle.content.proofs.why_checked.Tie as tie
 
-enum-told : tie.Need-enum-told
-enum-told c = search needs
-
-enum-known-c : tie.Need-enum-known-c
-enum-known-c c = search needs
-
 returns : tie.Need-returns
 returns c = ap whyChecked (sym (c .enum-told .given .1))
 
@@ -18,4 +12,4 @@ returns-2 : tie.Need-returns-2
 returns-2 c = sym (ap whyChecked (c .before .c .given .1))
 
 pub why-checked-spec : {M : Type 1} → statement M
-why-checked-spec = tie.close (tie.spec enum-told enum-known-c returns returns-2)
+why-checked-spec = tie.close (tie.spec (λ c. search needs) (λ c. search needs) returns returns-2)

@@ -7,18 +7,6 @@ use borrow.Author.Needs.{needs}
 use Rattle.contents.proofs.cut.Statement.{statement}
 use Rattle.contents.proofs.cut.Tie as tie
 
-add-end : tie.Need-add-end
-add-end c = search needs
-
-sub-result : tie.Need-sub-result
-sub-result c = search needs
-
-part-result-start : tie.Need-part-result-start
-part-result-start c = search needs
-
-part-result-end : tie.Need-part-result-end
-part-result-end c = search needs
-
 returns : tie.Need-returns
 returns c =
     let u = c .before .before .before .args .update .now in
@@ -27,4 +15,4 @@ returns c =
     (ap (λ (k : ℕ). take k (drop (p .place) u)) count, refl)
 
 pub cut-spec : {M : Type 1} → statement M
-cut-spec = tie.close (tie.spec add-end sub-result part-result-start part-result-end returns)
+cut-spec = tie.close (tie.spec (λ c. search needs) (λ c. search needs) (λ c. search needs) (λ c. search needs) returns)

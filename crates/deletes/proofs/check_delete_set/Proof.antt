@@ -21,37 +21,16 @@ Inv-loop form update at clients e p₀ p = ends (comes form update p) ≡ ends (
 abbrev μ-loop : tie.MeasureT-loop
 μ-loop form update at clients e p₀ p = left p
 
-read-at-requires : tie.Need-read-at-requires Inv-loop μ-loop
-read-at-requires c κs = search needs
-
-enum-known-r : tie.Need-enum-known-r Inv-loop μ-loop
-enum-known-r c = search needs
-
-enum-told : tie.Need-enum-told Inv-loop μ-loop
-enum-told c = search needs
-
-why-read-requires : tie.Need-why-read-requires Inv-loop μ-loop
-why-read-requires c κs = search needs
-
 returns : tie.Need-returns Inv-loop μ-loop
 unfolding ending
 returns c =
     let a = c .before .before .before .before .before .args in let u = a .update .now in
     sym (ap ends (set-not (a .form) u (a .at) _ (drew-not _ _ _ (reads-up-to u _ _ maxClients (c .before .before .before .read-at .ensures)) _ _ (c .before .enum-told .given .1) (c .why-read .ensures))))
 
-first-requires : tie.Need-first-requires Inv-loop μ-loop
-first-requires c κs = search needs
-
 loop-holds : tie.Need-loop-holds Inv-loop μ-loop
 loop-holds c =
     let a = c .before .before .before .before .before .before .args in let u = a .update .now in
     ap ends (ap (comes (a .form) u) (c .first .ensures) ∙ sym (set-begins (a .form) u (a .at) _ _ (drew _ _ _ (reads-up-to u _ _ maxClients (c .before .before .before .before .read-at .ensures)) _ _ (c .before .before .r .given .1))))
-
-move-on-requires : tie.Need-move-on-requires Inv-loop μ-loop
-move-on-requires c κs = search needs
-
-enum-known-x : tie.Need-enum-known-x Inv-loop μ-loop
-enum-known-x c = search needs
 
 loop-less : tie.Need-loop-less Inv-loop μ-loop
 unfolding Keeps
@@ -62,9 +41,6 @@ unfolding after ending
 loop-again c =
     let a = c .before .before .before .before .before .before .before .before .before .before .before .args in sym (ap ends (c .before .before .before .move-on .ensures .0 ∙ ap (after (a .form) (a .update .now)) (c .before .x .given .1))) ∙ c .before .before .before .before .loop .inv
 
-enum-known-x-2 : tie.Need-enum-known-x-2 Inv-loop μ-loop
-enum-known-x-2 c = search needs
-
 loop-less-2 : tie.Need-loop-less-2 Inv-loop μ-loop
 unfolding Keeps
 loop-less-2 c = subst (Keeps (c .before .before .before .before .loop .p)) (c .before .x2 .given .1) (c .before .before .before .move-on .ensures .1) .0
@@ -74,16 +50,10 @@ unfolding after
 loop-again-2 c =
     let a = c .before .before .before .before .before .before .before .before .before .before .before .args in sym (ap ends (c .before .before .before .move-on .ensures .0 ∙ ap (after (a .form) (a .update .now)) (c .before .x2 .given .1))) ∙ c .before .before .before .before .loop .inv
 
-enum-known-x-3 : tie.Need-enum-known-x-3 Inv-loop μ-loop
-enum-known-x-3 c = search needs
-
 returns-2 : tie.Need-returns-2 Inv-loop μ-loop
 unfolding after ending
 returns-2 c =
     let a = c .before .before .before .before .before .before .before .before .before .before .before .args in sym (ap ends (c .before .before .before .move-on .ensures .0 ∙ ap (after (a .form) (a .update .now)) (c .before .x3 .given .1))) ∙ c .before .before .before .before .loop .inv
-
-enum-known-x-4 : tie.Need-enum-known-x-4 Inv-loop μ-loop
-enum-known-x-4 c = search needs
 
 returns-3 : tie.Need-returns-3 Inv-loop μ-loop
 unfolding after ending
@@ -94,23 +64,6 @@ pub check-delete-set-spec : {M : Type 1} → statement M
 check-delete-set-spec =
     tie.close
     (tie.spec
-    Inv-loop
-    μ-loop
-    read-at-requires
-    enum-known-r
-    enum-told
-    why-read-requires
-    returns
-    first-requires
-    loop-holds
-    move-on-requires
-    enum-known-x
-    loop-less
-    loop-again
-    enum-known-x-2
-    loop-less-2
-    loop-again-2
-    enum-known-x-3
-    returns-2
-    enum-known-x-4
-    returns-3)
+    Inv-loop μ-loop (λ c κs. search needs) (λ c. search needs) (λ c. search needs) (λ c κs. search needs) returns (λ c κs. search needs) loop-holds
+    (λ c κs. search needs) (λ c. search needs) loop-less loop-again (λ c. search needs) loop-less-2 loop-again-2 (λ c. search needs) returns-2
+    (λ c. search needs) returns-3)

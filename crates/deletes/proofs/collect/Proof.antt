@@ -20,38 +20,17 @@ Inv-loop form update at words₀ most clients e p₀ n₀ words p n =
 abbrev μ-loop : tie.MeasureT-loop
 μ-loop form update at words₀ most clients e p₀ n₀ words p n = left p
 
-read-at-requires : tie.Need-read-at-requires Inv-loop μ-loop
-read-at-requires c κs = search needs
-
-enum-known-r : tie.Need-enum-known-r Inv-loop μ-loop
-enum-known-r c = search needs
-
-enum-told : tie.Need-enum-told Inv-loop μ-loop
-enum-told c = search needs
-
-why-read-requires : tie.Need-why-read-requires Inv-loop μ-loop
-why-read-requires c κs = search needs
-
 returns : tie.Need-returns Inv-loop μ-loop
 returns c =
     let a = c .before .before .before .before .before .before .args in let u = a .update .now in let d = deleteSet (a .form) u (a .at) in
     held-refused (a .words .now) d _ d 0 (held-begin (a .words .now) d) _
     (set-not (a .form) u (a .at) _ (drew-not _ _ _ (reads-up-to u _ _ maxClients (c .before .before .before .read-at .ensures)) _ _ (c .before .enum-told .given .1) (c .why-read .ensures)))
 
-first-requires : tie.Need-first-requires Inv-loop μ-loop
-first-requires c κs = search needs
-
 loop-holds : tie.Need-loop-holds Inv-loop μ-loop
 loop-holds c =
     let a = c .before .before .before .before .before .before .before .args in let u = a .update .now in let d = deleteSet (a .form) u (a .at) in
     let b = set-begins (a .form) u (a .at) _ _ (drew _ _ _ (reads-up-to u _ _ maxClients (c .before .before .before .before .read-at .ensures)) _ _ (c .before .before .r .given .1)) in
     (held-on (a .words .now) d _ d 0 (held-begin (a .words .now) d) _ (b ∙ ap (comes (a .form) u) (sym (c .first .ensures))), subst (λ (q : Spot). q .client ≤ maxValue) (sym (c .first .ensures)) (omega arith), refl)
-
-move-on-requires : tie.Need-move-on-requires Inv-loop μ-loop
-move-on-requires c κs = search needs
-
-enum-known-x : tie.Need-enum-known-x Inv-loop μ-loop
-enum-known-x c = search needs
 
 same-length : tie.Need-same-length Inv-loop μ-loop
 same-length c = c .before .before .before .before .before .loop .inv .0 .size
@@ -82,9 +61,6 @@ loop-again c =
     let more = held-more (a .words .now) _ (l .words) _ (l .n) (l .inv .0) _ _ _ (c .before .before .before .before .before .before .before .before .move-on .ensures .0 ∙ ap (after (a .form) u) (c .before .before .before .before .before .before .x .given .1)) (k .0) (omega (arith, c .before .before .before .before .if1 .left, l .inv .2)) in
     (rw (c .before .before .store .ensures) more, k .1, l .inv .2)
 
-enum-known-x-2 : tie.Need-enum-known-x-2 Inv-loop μ-loop
-enum-known-x-2 c = search needs
-
 loop-less-2 : tie.Need-loop-less-2 Inv-loop μ-loop
 unfolding Keeps
 loop-less-2 c = subst (Keeps (c .before .before .before .before .loop .p)) (c .before .x2 .given .1) (c .before .before .before .move-on .ensures .1) .0
@@ -95,9 +71,6 @@ loop-again-2 c =
     let a = c .before .before .before .before .before .before .before .before .before .before .before .before .args in let l = c .before .before .before .before .loop in
     (held-on (a .words .now) _ (l .words) _ (l .n) (l .inv .0) _ (c .before .before .before .move-on .ensures .0 ∙ ap (after (a .form) (a .update .now)) (c .before .x2 .given .1)), subst (Keeps (l .p)) (c .before .x2 .given .1) (c .before .before .before .move-on .ensures .1) .1 (l .inv .1), l .inv .2)
 
-enum-known-x-3 : tie.Need-enum-known-x-3 Inv-loop μ-loop
-enum-known-x-3 c = search needs
-
 same-length-2 : tie.Need-same-length-2 Inv-loop μ-loop
 same-length-2 c = c .before .before .before .before .loop .inv .0 .size
 
@@ -105,9 +78,6 @@ returns-3 : tie.Need-returns-3 Inv-loop μ-loop
 unfolding after
 returns-3 c =
     let a = c .before .before .before .before .before .before .before .before .before .before .before .before .args in let l = c .before .before .before .before .loop in held-done (a .words .now) _ (l .words) _ (l .n) (l .inv .0) _ (c .before .before .before .move-on .ensures .0 ∙ ap (after (a .form) (a .update .now)) (c .before .x3 .given .1))
-
-enum-known-x-4 : tie.Need-enum-known-x-4 Inv-loop μ-loop
-enum-known-x-4 c = search needs
 
 same-length-3 : tie.Need-same-length-3 Inv-loop μ-loop
 same-length-3 c = c .before .before .before .before .loop .inv .0 .size
@@ -121,29 +91,6 @@ pub collect-spec : {M : Type 1} → statement M
 collect-spec =
     tie.close
     (tie.spec
-    Inv-loop
-    μ-loop
-    read-at-requires
-    enum-known-r
-    enum-told
-    why-read-requires
-    returns
-    first-requires
-    loop-holds
-    move-on-requires
-    enum-known-x
-    same-length
-    returns-2
-    store-requires
-    add-n
-    loop-less
-    loop-again
-    enum-known-x-2
-    loop-less-2
-    loop-again-2
-    enum-known-x-3
-    same-length-2
-    returns-3
-    enum-known-x-4
-    same-length-3
-    returns-4)
+    Inv-loop μ-loop (λ c κs. search needs) (λ c. search needs) (λ c. search needs) (λ c κs. search needs) returns (λ c κs. search needs) loop-holds
+    (λ c κs. search needs) (λ c. search needs) same-length returns-2 store-requires add-n loop-less loop-again (λ c. search needs) loop-less-2
+    loop-again-2 (λ c. search needs) same-length-2 returns-3 (λ c. search needs) same-length-3 returns-4)

@@ -5,14 +5,8 @@ use borrow.Author.Needs.{needs}
 use Rattle.deletes.proofs.move_on.Statement.{statement}
 use Rattle.deletes.proofs.move_on.Tie as tie
 
-next-range-requires : tie.Need-next-range-requires
-next-range-requires c κs = search needs
-
 returns : tie.Need-returns
 returns c = c .next-range .ensures
-
-next-client-requires : tie.Need-next-client-requires
-next-client-requires c κs = search needs
 
 returns-2 : tie.Need-returns-2
 returns-2 c = c .next-client .ensures
@@ -22,4 +16,4 @@ returns-3 c =
     let a = c .before .before .before .before .before .args in no-more (a .form) (a .update .now) (a .p) (omega (arith, c .before .before .if1 .left)) (omega (arith, c .if2 .left))
 
 pub move-on-spec : {M : Type 1} → statement M
-move-on-spec = tie.close (tie.spec next-range-requires returns next-client-requires returns-2 returns-3)
+move-on-spec = tie.close (tie.spec (λ c κs. search needs) returns (λ c κs. search needs) returns-2 returns-3)

@@ -6,40 +6,10 @@ use borrow.Author.Needs.{needs}
 use Rattle.deletes.proofs.next_range.Statement.{statement}
 use Rattle.deletes.proofs.next_range.Tie as tie
 
-base-requires : tie.Need-base-requires
-base-requires c κs = search needs
-
-read-at-requires : tie.Need-read-at-requires
-read-at-requires c κs = search needs
-
-enum-known-d : tie.Need-enum-known-d
-enum-known-d c = search needs
-
-enum-told : tie.Need-enum-told
-enum-told c = search needs
-
-why-read-requires : tie.Need-why-read-requires
-why-read-requires c κs = search needs
-
 returns : tie.Need-returns
 returns c =
     let a = c .before .before .before .before .before .before .args in let u = a .update .now in
     range-no-clock (a .form) u (a .p) (c .before .before .before .before .before .before .pre) _ (drew-not _ _ _ (reads-delete u _ _ (a .form) _ _ (c .before .before .before .before .base .ensures) (c .before .before .before .read-at .ensures)) _ _ (c .before .enum-told .given .1) (c .why-read .ensures))
-
-base-requires-2 : tie.Need-base-requires-2
-base-requires-2 c κs = search needs
-
-read-at-requires-2 : tie.Need-read-at-requires-2
-read-at-requires-2 c κs = search needs
-
-enum-known-e : tie.Need-enum-known-e
-enum-known-e c = search needs
-
-enum-told-2 : tie.Need-enum-told-2
-enum-told-2 c = search needs
-
-why-read-requires-2 : tie.Need-why-read-requires-2
-why-read-requires-2 c κs = search needs
 
 returns-2 : tie.Need-returns-2
 returns-2 c =
@@ -58,9 +28,6 @@ returns-3 c =
     range-over (a .form) u (a .p) (c .before .before .before .before .before .before .before .before .before .before .before .before .pre) _ _ (drew _ _ _ (reads-delete u _ _ (a .form) _ _ (c .before .before .before .before .before .before .before .before .before .before .base .ensures) (c .before .before .before .before .before .before .before .before .before .read-at .ensures)) _ _ (c .before .before .before .before .before .before .before .d .given .1))
     _ _ (drew _ _ _ (reads-delete u _ _ (a .form) _ _ (c .before .before .before .before .before .base2 .ensures) (c .before .before .before .before .read-at2 .ensures)) _ _ (c .before .before .e .given .1)) (c .if1 .taken)
 
-sub-left : tie.Need-sub-left
-sub-left c = search needs
-
 returns-4 : tie.Need-returns-4
 returns-4 c =
     let a = c .before .before .before .before .before .before .before .before .before .before .before .before .before .before .args in let u = a .update .now in
@@ -77,20 +44,6 @@ pub next-range-spec : {M : Type 1} → statement M
 next-range-spec =
     tie.close
     (tie.spec
-    base-requires
-    read-at-requires
-    enum-known-d
-    enum-told
-    why-read-requires
-    returns
-    base-requires-2
-    read-at-requires-2
-    enum-known-e
-    enum-told-2
-    why-read-requires-2
-    returns-2
-    add-end
-    returns-3
-    sub-left
-    returns-4
+    (λ c κs. search needs) (λ c κs. search needs) (λ c. search needs) (λ c. search needs) (λ c κs. search needs) returns (λ c κs. search needs)
+    (λ c κs. search needs) (λ c. search needs) (λ c. search needs) (λ c κs. search needs) returns-2 add-end returns-3 (λ c. search needs) returns-4
     returns-5)

@@ -8,15 +8,6 @@ use borrow.Author.Needs.{needs}
 use Rattle.deletes.proofs.read_at.Statement.{statement}
 use Rattle.deletes.proofs.read_at.Tie as tie
 
-read-unsigned-requires : tie.Need-read-unsigned-requires
-read-unsigned-requires c κs = search needs
-
-enum-known-r : tie.Need-enum-known-r
-enum-known-r c = search needs
-
-enum-told : tie.Need-enum-told
-enum-told c = search needs
-
 returns : tie.Need-returns
 unfolding restoredTo
 returns c = rw (← c .before .before .read-unsigned .ensures, c .enum-told .given .1) refl
@@ -33,9 +24,6 @@ returns-3 c =
     let a = c .before .before .before .before .before .before .before .args in
     rw (← c .before .before .before .before .before .read-unsigned .ensures, c .before .before .before .r .given .1, lt-ltb (a .most) (a .low + c .before .before .before .r .given .0 .0) (omega (arith, c .before .if1 .left, c .if2 .taken))) refl
 
-add-whole : tie.Need-add-whole
-add-whole c = search needs
-
 returns-4 : tie.Need-returns-4
 unfolding restoredTo
 returns-4 c =
@@ -46,11 +34,4 @@ pub read-at-spec : {M : Type 1} → statement M
 read-at-spec =
     tie.close
     (tie.spec
-    read-unsigned-requires
-    enum-known-r
-    enum-told
-    returns
-    returns-2
-    returns-3
-    add-whole
-    returns-4)
+    (λ c κs. search needs) (λ c. search needs) (λ c. search needs) returns returns-2 returns-3 (λ c. search needs) returns-4)

@@ -6,19 +6,10 @@ use borrow.Author.Needs.{needs}
 use Rattle.deletes.proofs.read_delete_set.Statement.{statement}
 use Rattle.deletes.proofs.read_delete_set.Tie as tie
 
-collect-requires : tie.Need-collect-requires
-collect-requires c κs = search needs
-
-enum-known-c : tie.Need-enum-known-c
-enum-known-c c = search needs
-
 normalize-requires : tie.Need-normalize-requires
 unfolding taken
 normalize-requires c κs =
     let a = c .before .before .before .before .before .before .before .before .before .before .args in let k = c .before .before .before .before .before .before .collect in rows-ready (a .form) (a .update .now) (a .at) (a .words .now) _ _ (k .ensures) _ _ (c .before .before .c .given .1)
-
-same-length : tie.Need-same-length
-same-length c = search needs
 
 returns : tie.Need-returns
 unfolding taken
@@ -26,15 +17,6 @@ returns c =
     let a = c .before .before .before .before .before .before .before .before .before .before .before .before .before .args in let k = c .before .before .before .before .before .before .before .before .before .collect in
     let o = set-rows (a .form) (a .update .now) (a .at) (a .words .now) _ _ (k .ensures) _ _ (c .before .before .before .before .before .c .given .1) in
     (rw (c .before .before .normalize .ensures .0) (o .0), c .before .before .normalize .ensures .1 ∙ o .1)
-
-enum-known-c-2 : tie.Need-enum-known-c-2
-enum-known-c-2 c = search needs
-
-clear-requires : tie.Need-clear-requires
-clear-requires c κs = search needs
-
-same-length-2 : tie.Need-same-length-2
-same-length-2 c = search needs
 
 returns-2 : tie.Need-returns-2
 unfolding taken
@@ -47,12 +29,5 @@ pub read-delete-set-spec : {M : Type 1} → statement M
 read-delete-set-spec =
     tie.close
     (tie.spec
-    collect-requires
-    enum-known-c
-    normalize-requires
-    same-length
-    returns
-    enum-known-c-2
-    clear-requires
-    same-length-2
-    returns-2)
+    (λ c κs. search needs) (λ c. search needs) normalize-requires (λ c. search needs) returns (λ c. search needs) (λ c κs. search needs)
+    (λ c. search needs) returns-2)

@@ -12,27 +12,6 @@ use borrow.Author.Needs.{needs}
 use Rattle.fields.proofs.read_buf.Statement.{statement}
 use Rattle.fields.proofs.read_buf.Tie as tie
 
-slice-read-at : tie.Need-slice-read-at
-slice-read-at c = search needs
-
-read-unsigned-requires : tie.Need-read-unsigned-requires
-read-unsigned-requires c κs = search needs
-
-enum-known-n : tie.Need-enum-known-n
-enum-known-n c = search needs
-
-enum-told : tie.Need-enum-told
-enum-told c = search needs
-
-why-read-requires : tie.Need-why-read-requires
-why-read-requires c κs = search needs
-
-refuse-requires : tie.Need-refuse-requires
-refuse-requires c κs = search needs
-
-same-length : tie.Need-same-length
-same-length c = search needs
-
 returns : tie.Need-returns
 unfolding atIn partGiven
 returns c =
@@ -51,12 +30,6 @@ sub-left c =
     let b = c .before .before .before .before .before .before .before .before in
     read-ends (b .args .update .now) _ _ _ (sym (c .before .before .before .read-unsigned .ensures) ∙ c .before .n .given .1)
 
-refuse-requires-2 : tie.Need-refuse-requires-2
-refuse-requires-2 c κs = search needs
-
-same-length-2 : tie.Need-same-length-2
-same-length-2 c = search needs
-
 returns-2 : tie.Need-returns-2
 unfolding atIn partGiven
 returns-2 c =
@@ -68,33 +41,6 @@ returns-2 c =
       beside-none (b .args .k) (b .args .r .now),
       ap not (k .3) ∙ buf-short u (stateIn w) (atIn w) _ _ (sym (c .before .before .before .before .before .before .before .before .read-unsigned .ensures) ∙ c .before .before .before .before .before .before .n .given .1) (c .before .before .before .before .if1 .taken),
     )
-
-add-end : tie.Need-add-end
-add-end c = search needs
-
-mul-r : tie.Need-mul-r
-mul-r c = search needs
-
-slice-write-r : tie.Need-slice-write-r
-slice-write-r c = search needs
-
-add-r : tie.Need-add-r
-add-r c = search needs
-
-mul-r-2 : tie.Need-mul-r-2
-mul-r-2 c = search needs
-
-slice-write-r-2 : tie.Need-slice-write-r-2
-slice-write-r-2 c = search needs
-
-slice-write-w : tie.Need-slice-write-w
-slice-write-w c = search needs
-
-same-length-3 : tie.Need-same-length-3
-same-length-3 c = search needs
-
-same-length-4 : tie.Need-same-length-4
-same-length-4 c = search needs
 
 returns-3 : tie.Need-returns-3
 unfolding atIn
@@ -116,25 +62,7 @@ pub read-buf-spec : {M : Type 1} → statement M
 read-buf-spec =
     tie.close
     (tie.spec
-    slice-read-at
-    read-unsigned-requires
-    enum-known-n
-    enum-told
-    why-read-requires
-    refuse-requires
-    same-length
-    returns
-    sub-left
-    refuse-requires-2
-    same-length-2
-    returns-2
-    add-end
-    mul-r
-    slice-write-r
-    add-r
-    mul-r-2
-    slice-write-r-2
-    slice-write-w
-    same-length-3
-    same-length-4
+    (λ c. search needs) (λ c κs. search needs) (λ c. search needs) (λ c. search needs) (λ c κs. search needs) (λ c κs. search needs)
+    (λ c. search needs) returns sub-left (λ c κs. search needs) (λ c. search needs) returns-2 (λ c. search needs) (λ c. search needs)
+    (λ c. search needs) (λ c. search needs) (λ c. search needs) (λ c. search needs) (λ c. search needs) (λ c. search needs) (λ c. search needs)
     returns-3)

@@ -7,12 +7,6 @@ use borrow.Author.Needs.{needs}
 use Rattle.fields.proofs.read_client.Statement.{statement}
 use Rattle.fields.proofs.read_client.Tie as tie
 
-read-var-requires : tie.Need-read-var-requires
-read-var-requires c κs = search needs
-
-same-length : tie.Need-same-length
-same-length c = search needs
-
 returns : tie.Need-returns
 unfolding line numberOf
 returns c =
@@ -21,12 +15,6 @@ returns c =
     let w = b .args .w .now in
     let k = c .before .before .read-var .ensures in
     (k .0, k .1 ∙ in-line (b .args .form) u w (c .before .before .before .before .if1 .taken) (grammar.number grammar.client))
-
-draw-number-requires : tie.Need-draw-number-requires
-draw-number-requires c κs = search needs
-
-same-length-2 : tie.Need-same-length-2
-same-length-2 c = search needs
 
 returns-2 : tie.Need-returns-2
 returns-2 c =
@@ -37,12 +25,4 @@ returns-2 c =
     (k .0, client-drawn (b .args .form) u w (c .before .before .draw-number .last .1 .0) (c .before .before .before .before .if1 .left) (c .before .before .draw-number .result) k)
 
 pub read-client-spec : {M : Type 1} → statement M
-read-client-spec =
-    tie.close
-    (tie.spec
-    read-var-requires
-    same-length
-    returns
-    draw-number-requires
-    same-length-2
-    returns-2)
+read-client-spec = tie.close (tie.spec (λ c κs. search needs) (λ c. search needs) returns (λ c κs. search needs) (λ c. search needs) returns-2)

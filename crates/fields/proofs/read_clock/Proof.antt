@@ -9,12 +9,6 @@ use borrow.Author.Needs.{needs}
 use Rattle.fields.proofs.read_clock.Statement.{statement}
 use Rattle.fields.proofs.read_clock.Tie as tie
 
-read-var-requires : tie.Need-read-var-requires
-read-var-requires c κs = search needs
-
-same-length : tie.Need-same-length
-same-length c = search needs
-
 returns : tie.Need-returns
 returns c =
     let b = c .before .before .before .before .before .before .before in
@@ -22,12 +16,6 @@ returns c =
     let w = b .args .w .now in
     let k = c .before .before .read-var .ensures in
     (k .0, k .1 ∙ ap (onto (stateIn w)) (clock-line u (atIn w) (b .args .k)) ∙ in-line (b .args .form) u w (c .before .before .before .before .if1 .taken) (grammar.number (clockAt (b .args .k))))
-
-draw-difference-requires : tie.Need-draw-difference-requires
-draw-difference-requires c κs = search needs
-
-same-length-2 : tie.Need-same-length-2
-same-length-2 c = search needs
 
 returns-2 : tie.Need-returns-2
 returns-2 c =
@@ -38,12 +26,4 @@ returns-2 c =
     (k .0, clock-drawn (b .args .form) u w (c .before .before .draw-difference .last .1 .0) (c .before .before .before .before .if1 .left) (c .before .before .draw-difference .result) (b .args .k) (b .pre .1) k)
 
 pub read-clock-spec : {M : Type 1} → statement M
-read-clock-spec =
-    tie.close
-    (tie.spec
-    read-var-requires
-    same-length
-    returns
-    draw-difference-requires
-    same-length-2
-    returns-2)
+read-clock-spec = tie.close (tie.spec (λ c κs. search needs) (λ c. search needs) returns (λ c κs. search needs) (λ c. search needs) returns-2)

@@ -12,12 +12,6 @@ use borrow.Author.Needs.{needs}
 use Rattle.fields.proofs.read_len.Statement.{statement}
 use Rattle.fields.proofs.read_len.Tie as tie
 
-read-var-requires : tie.Need-read-var-requires
-read-var-requires c κs = search needs
-
-same-length : tie.Need-same-length
-same-length c = search needs
-
 returns : tie.Need-returns
 unfolding line numberOf
 returns c =
@@ -26,18 +20,6 @@ returns c =
     let w = b .args .w .now in
     let k = c .before .before .read-var .ensures in
     (k .0, k .1 ∙ in-line (b .args .form) u w (c .before .before .before .before .if1 .taken) (grammar.number grammar.len))
-
-draw-number-requires : tie.Need-draw-number-requires
-draw-number-requires c κs = search needs
-
-enum-known-v : tie.Need-enum-known-v
-enum-known-v c = search needs
-
-enum-told : tie.Need-enum-told
-enum-told c = search needs
-
-same-length-2 : tie.Need-same-length-2
-same-length-2 c = search needs
 
 returns-2 : tie.Need-returns-2
 unfolding given bounded
@@ -51,15 +33,6 @@ returns-2 c =
     let e : given v Refused ≡ bounded maxClock (given v r) = rw (c .enum-told .given .1) refl in
     (k .0, e ∙ len-drawn (b .args .form) u w v (c .before .before .before .before .before .before .if1 .left) r k)
 
-slice-read-place : tie.Need-slice-read-place
-slice-read-place c = search needs
-
-refuse-requires : tie.Need-refuse-requires
-refuse-requires c κs = search needs
-
-same-length-3 : tie.Need-same-length-3
-same-length-3 c = search needs
-
 returns-3 : tie.Need-returns-3
 unfolding given bounded placeIn
 returns-3 c =
@@ -71,9 +44,6 @@ returns-3 c =
     let f = c .before .before .refuse .ensures in
     let e : not (record { number = 3; place = placeIn v }) ≡ bounded maxClock (given v r) = rw (c .before .before .before .before .before .before .before .v .given .1, lt-ltb maxClock _ (c .before .before .before .before .before .if2 .taken)) refl in
     (f .1, given-refused (c .before .before .refuse .last .0) (f .0) (f .3) ∙ e ∙ len-drawn (b .args .form) u w v (c .before .before .before .before .before .before .before .before .before .before .before .before .before .if1 .left) r (c .before .before .before .before .before .before .before .before .before .before .before .draw-number .ensures))
-
-same-length-4 : tie.Need-same-length-4
-same-length-4 c = search needs
 
 returns-4 : tie.Need-returns-4
 unfolding given bounded
@@ -91,17 +61,5 @@ pub read-len-spec : {M : Type 1} → statement M
 read-len-spec =
     tie.close
     (tie.spec
-    read-var-requires
-    same-length
-    returns
-    draw-number-requires
-    enum-known-v
-    enum-told
-    same-length-2
-    returns-2
-    slice-read-place
-    refuse-requires
-    same-length-3
-    returns-3
-    same-length-4
-    returns-4)
+    (λ c κs. search needs) (λ c. search needs) returns (λ c κs. search needs) (λ c. search needs) (λ c. search needs) (λ c. search needs) returns-2
+    (λ c. search needs) (λ c κs. search needs) (λ c. search needs) returns-3 (λ c. search needs) returns-4)

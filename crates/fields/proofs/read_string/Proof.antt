@@ -11,21 +11,6 @@ use borrow.Author.Needs.{needs}
 use Rattle.fields.proofs.read_string.Statement.{statement}
 use Rattle.fields.proofs.read_string.Tie as tie
 
-read-buf-requires : tie.Need-read-buf-requires
-read-buf-requires c κs = search needs
-
-enum-told : tie.Need-enum-told
-enum-told c = search needs
-
-enum-told-2 : tie.Need-enum-told-2
-enum-told-2 c = search needs
-
-same-length : tie.Need-same-length
-same-length c = search needs
-
-same-length-2 : tie.Need-same-length-2
-same-length-2 c = search needs
-
 returns : tie.Need-returns
 unfolding partGiven textGiven
 returns c =
@@ -36,21 +21,6 @@ returns c =
     let q = c .before .before .before .before .before .before .read-buf .last .1 .1 .0 in
     let k = c .before .before .before .before .before .before .read-buf .ensures in
     (k .0, k .1, text-missing u (stateIn w) (bytesAt u (atIn w)) (whyIn v) (ap (partGiven (b .args .k) v q) (sym (c .enum-told2 .given .1)) ∙ k .2))
-
-mul-from : tie.Need-mul-from
-mul-from c = search needs
-
-slice-read-from : tie.Need-slice-read-from
-slice-read-from c = search needs
-
-add-end : tie.Need-add-end
-add-end c = search needs
-
-mul-end : tie.Need-mul-end
-mul-end c = search needs
-
-slice-read-end : tie.Need-slice-read-end
-slice-read-end c = search needs
 
 add-end-2 : tie.Need-add-end-2
 unfolding partIn partGiven
@@ -74,15 +44,6 @@ count-units-requires c κs =
     let e = buf-ends u (stateIn w) (atIn w) (partIn q (b .args .k)) (stateIn v) (ap (partGiven (b .args .k) v q) (sym (c .before .before .enum-told .given .1)) ∙ c .before .before .before .before .before .before .before .before .read-buf .ensures .2) in
     (omega arith, omega (arith, e))
 
-refuse-requires : tie.Need-refuse-requires
-refuse-requires c κs = search needs
-
-same-length-3 : tie.Need-same-length-3
-same-length-3 c = search needs
-
-same-length-4 : tie.Need-same-length-4
-same-length-4 c = search needs
-
 returns-2 : tie.Need-returns-2
 unfolding partIn partGiven
 returns-2 c =
@@ -100,12 +61,6 @@ returns-2 c =
           ∙ text-broken u (stateIn w) (bytesAt u (atIn w)) (partIn q (b .args .k)) (stateIn v) (ap (partGiven (b .args .k) v q) (sym (c .before .before .before .before .before .before .before .before .before .enum-told .given .1)) ∙ k .2)
           (units-broken _ (n .result) (n .ensures) (not-true (n .result .whole) (c .before .before .before .before .if1 .taken))),
     )
-
-same-length-5 : tie.Need-same-length-5
-same-length-5 c = search needs
-
-same-length-6 : tie.Need-same-length-6
-same-length-6 c = search needs
 
 returns-3 : tie.Need-returns-3
 unfolding partIn partGiven textGiven
@@ -128,23 +83,6 @@ pub read-string-spec : {M : Type 1} → statement M
 read-string-spec =
     tie.close
     (tie.spec
-    read-buf-requires
-    enum-told
-    enum-told-2
-    same-length
-    same-length-2
-    returns
-    mul-from
-    slice-read-from
-    add-end
-    mul-end
-    slice-read-end
-    add-end-2
-    count-units-requires
-    refuse-requires
-    same-length-3
-    same-length-4
-    returns-2
-    same-length-5
-    same-length-6
-    returns-3)
+    (λ c κs. search needs) (λ c. search needs) (λ c. search needs) (λ c. search needs) (λ c. search needs) returns (λ c. search needs)
+    (λ c. search needs) (λ c. search needs) (λ c. search needs) (λ c. search needs) add-end-2 count-units-requires (λ c κs. search needs)
+    (λ c. search needs) (λ c. search needs) returns-2 (λ c. search needs) (λ c. search needs) returns-3)

@@ -7,15 +7,6 @@ use borrow.Author.Needs.{needs}
 use Rattle.fields.proofs.read_text.Statement.{statement}
 use Rattle.fields.proofs.read_text.Tie as tie
 
-read-string-requires : tie.Need-read-string-requires
-read-string-requires c κs = search needs
-
-same-length : tie.Need-same-length
-same-length c = search needs
-
-same-length-2 : tie.Need-same-length-2
-same-length-2 c = search needs
-
 returns : tie.Need-returns
 unfolding line
 returns c =
@@ -24,15 +15,6 @@ returns c =
     let w = b .args .w .now in
     let k = c .before .before .before .before .read-string .ensures in
     (k .0, k .1, k .2 ∙ in-line (b .args .form) u w (c .before .before .before .before .before .before .before .if1 .taken) grammar.text)
-
-draw-text-requires : tie.Need-draw-text-requires
-draw-text-requires c κs = search needs
-
-same-length-3 : tie.Need-same-length-3
-same-length-3 c = search needs
-
-same-length-4 : tie.Need-same-length-4
-same-length-4 c = search needs
 
 returns-2 : tie.Need-returns-2
 returns-2 c =
@@ -46,11 +28,4 @@ pub read-text-spec : {M : Type 1} → statement M
 read-text-spec =
     tie.close
     (tie.spec
-    read-string-requires
-    same-length
-    same-length-2
-    returns
-    draw-text-requires
-    same-length-3
-    same-length-4
-    returns-2)
+    (λ c κs. search needs) (λ c. search needs) (λ c. search needs) returns (λ c κs. search needs) (λ c. search needs) (λ c. search needs) returns-2)

@@ -9,15 +9,6 @@ use borrow.Author.Needs.{needs}
 use Rattle.fields.proofs.read_u8.Statement.{statement}
 use Rattle.fields.proofs.read_u8.Tie as tie
 
-slice-read-at : tie.Need-slice-read-at
-slice-read-at c = search needs
-
-refuse-requires : tie.Need-refuse-requires
-refuse-requires c κs = search needs
-
-same-length : tie.Need-same-length
-same-length c = search needs
-
 returns : tie.Need-returns
 unfolding atIn
 returns c =
@@ -27,23 +18,8 @@ returns c =
     let k = c .before .before .refuse .ensures in
     (k .1, given-refused (c .before .before .refuse .last .0) (k .0) (k .3) ∙ byte-none u (stateIn w) (atIn w) (c .before .before .before .before .if1 .taken))
 
-shared-slice-read-v : tie.Need-shared-slice-read-v
-shared-slice-read-v c = search needs
-
 cast-v : tie.Need-cast-v
 cast-v c = omega (arith, c .shared-slice-known2 .given (getD (c .before .before .before .before .before .args .w .now) 63 0))
-
-add-next : tie.Need-add-next
-add-next c = search needs
-
-slice-write-w : tie.Need-slice-write-w
-slice-write-w c = search needs
-
-slice-write-w-2 : tie.Need-slice-write-w-2
-slice-write-w-2 c = search needs
-
-same-length-2 : tie.Need-same-length-2
-same-length-2 c = search needs
 
 returns-2 : tie.Need-returns-2
 unfolding atIn
@@ -60,14 +36,5 @@ pub read-u8-spec : {M : Type 1} → statement M
 read-u8-spec =
     tie.close
     (tie.spec
-    slice-read-at
-    refuse-requires
-    same-length
-    returns
-    shared-slice-read-v
-    cast-v
-    add-next
-    slice-write-w
-    slice-write-w-2
-    same-length-2
-    returns-2)
+    (λ c. search needs) (λ c κs. search needs) (λ c. search needs) returns (λ c. search needs) cast-v (λ c. search needs) (λ c. search needs)
+    (λ c. search needs) (λ c. search needs) returns-2)

@@ -7,27 +7,6 @@ use borrow.Author.Needs.{needs}
 use Rattle.fields.proofs.read_var.Statement.{statement}
 use Rattle.fields.proofs.read_var.Tie as tie
 
-slice-read-at : tie.Need-slice-read-at
-slice-read-at c = search needs
-
-read-unsigned-requires : tie.Need-read-unsigned-requires
-read-unsigned-requires c κs = search needs
-
-enum-known-n : tie.Need-enum-known-n
-enum-known-n c = search needs
-
-enum-told : tie.Need-enum-told
-enum-told c = search needs
-
-why-read-requires : tie.Need-why-read-requires
-why-read-requires c κs = search needs
-
-refuse-requires : tie.Need-refuse-requires
-refuse-requires c κs = search needs
-
-same-length : tie.Need-same-length
-same-length c = search needs
-
 returns : tie.Need-returns
 unfolding atIn
 returns c =
@@ -41,12 +20,6 @@ returns c =
           ∙ var-refused u (stateIn w) (atIn w) (b .args .most) _ (sym (c .before .before .before .before .before .before .before .read-unsigned .ensures) ∙ told),
     )
 
-refuse-requires-2 : tie.Need-refuse-requires-2
-refuse-requires-2 c κs = search needs
-
-same-length-2 : tie.Need-same-length-2
-same-length-2 c = search needs
-
 returns-2 : tie.Need-returns-2
 unfolding atIn
 returns-2 c =
@@ -57,15 +30,6 @@ returns-2 c =
       k .1,
       given-refused (c .before .before .refuse2 .last .0) (k .0) (k .3) ∙ var-over u (stateIn w) (atIn w) (b .args .most) _ _ (sym (c .before .before .before .before .before .before .before .before .read-unsigned .ensures) ∙ c .before .before .before .before .before .before .n .given .1) (c .before .before .before .before .if1 .taken),
     )
-
-slice-write-w : tie.Need-slice-write-w
-slice-write-w c = search needs
-
-slice-write-w-2 : tie.Need-slice-write-w-2
-slice-write-w-2 c = search needs
-
-same-length-3 : tie.Need-same-length-3
-same-length-3 c = search needs
 
 returns-3 : tie.Need-returns-3
 unfolding atIn
@@ -83,18 +47,6 @@ pub read-var-spec : {M : Type 1} → statement M
 read-var-spec =
     tie.close
     (tie.spec
-    slice-read-at
-    read-unsigned-requires
-    enum-known-n
-    enum-told
-    why-read-requires
-    refuse-requires
-    same-length
-    returns
-    refuse-requires-2
-    same-length-2
-    returns-2
-    slice-write-w
-    slice-write-w-2
-    same-length-3
+    (λ c. search needs) (λ c κs. search needs) (λ c. search needs) (λ c. search needs) (λ c κs. search needs) (λ c κs. search needs)
+    (λ c. search needs) returns (λ c κs. search needs) (λ c. search needs) returns-2 (λ c. search needs) (λ c. search needs) (λ c. search needs)
     returns-3)

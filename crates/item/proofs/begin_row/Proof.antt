@@ -6,9 +6,6 @@ use borrow.Author.Needs.{needs}
 use Rattle.item.proofs.begin_row.Statement.{statement}
 use Rattle.item.proofs.begin_row.Tie as tie
 
-slice-write-r : tie.Need-slice-write-r
-slice-write-r c = search needs
-
 slice-write-r-2 : tie.Need-slice-write-r-2
 slice-write-r-2 c = simp length-set (omega arith)
 
@@ -24,12 +21,6 @@ slice-write-r-5 c = simp length-set (omega arith)
 slice-write-r-6 : tie.Need-slice-write-r-6
 slice-write-r-6 c = simp length-set (omega arith)
 
-add-r : tie.Need-add-r
-add-r c = search needs
-
-mul-r : tie.Need-mul-r
-mul-r c = search needs
-
 slice-write-r-7 : tie.Need-slice-write-r-7
 slice-write-r-7 c = simp length-set (omega arith)
 
@@ -38,12 +29,6 @@ slice-write-r-8 c = simp length-set (omega arith)
 
 slice-write-r-9 : tie.Need-slice-write-r-9
 slice-write-r-9 c = simp length-set (omega arith)
-
-add-r-2 : tie.Need-add-r-2
-add-r-2 c = search needs
-
-mul-r-2 : tie.Need-mul-r-2
-mul-r-2 c = search needs
 
 slice-write-r-10 : tie.Need-slice-write-r-10
 slice-write-r-10 c = simp length-set (omega arith)
@@ -54,12 +39,6 @@ slice-write-r-11 c = simp length-set (omega arith)
 slice-write-r-12 : tie.Need-slice-write-r-12
 slice-write-r-12 c = simp length-set (omega arith)
 
-add-r-3 : tie.Need-add-r-3
-add-r-3 c = search needs
-
-mul-r-3 : tie.Need-mul-r-3
-mul-r-3 c = search needs
-
 slice-write-r-13 : tie.Need-slice-write-r-13
 slice-write-r-13 c = simp length-set (omega arith)
 
@@ -68,12 +47,6 @@ slice-write-r-14 c = simp length-set (omega arith)
 
 slice-write-r-15 : tie.Need-slice-write-r-15
 slice-write-r-15 c = simp length-set (omega arith)
-
-add-r-4 : tie.Need-add-r-4
-add-r-4 c = search needs
-
-mul-r-4 : tie.Need-mul-r-4
-mul-r-4 c = search needs
 
 slice-write-r-16 : tie.Need-slice-write-r-16
 slice-write-r-16 c = simp length-set (omega arith)
@@ -84,23 +57,11 @@ slice-write-r-17 c = simp length-set (omega arith)
 slice-write-r-18 : tie.Need-slice-write-r-18
 slice-write-r-18 c = simp length-set (omega arith)
 
-add-r-5 : tie.Need-add-r-5
-add-r-5 c = search needs
-
-mul-r-5 : tie.Need-mul-r-5
-mul-r-5 c = search needs
-
 slice-write-r-19 : tie.Need-slice-write-r-19
 slice-write-r-19 c = simp length-set (omega arith)
 
 slice-write-r-20 : tie.Need-slice-write-r-20
 slice-write-r-20 c = simp length-set (omega arith)
-
-add-r-6 : tie.Need-add-r-6
-add-r-6 c = search needs
-
-mul-r-6 : tie.Need-mul-r-6
-mul-r-6 c = search needs
 
 slice-write-r-21 : tie.Need-slice-write-r-21
 slice-write-r-21 c = simp length-set (omega arith)
@@ -117,38 +78,8 @@ pub begin-row-spec : {M : Type 1} → statement M
 begin-row-spec =
     tie.close
     (tie.spec
-    slice-write-r
-    slice-write-r-2
-    slice-write-r-3
-    slice-write-r-4
-    slice-write-r-5
-    slice-write-r-6
-    add-r
-    mul-r
-    slice-write-r-7
-    slice-write-r-8
-    slice-write-r-9
-    add-r-2
-    mul-r-2
-    slice-write-r-10
-    slice-write-r-11
-    slice-write-r-12
-    add-r-3
-    mul-r-3
-    slice-write-r-13
-    slice-write-r-14
-    slice-write-r-15
-    add-r-4
-    mul-r-4
-    slice-write-r-16
-    slice-write-r-17
-    slice-write-r-18
-    add-r-5
-    mul-r-5
-    slice-write-r-19
-    slice-write-r-20
-    add-r-6
-    mul-r-6
-    slice-write-r-21
-    same-length
-    returns)
+    (λ c. search needs) slice-write-r-2 slice-write-r-3 slice-write-r-4 slice-write-r-5 slice-write-r-6 (λ c. search needs) (λ c. search needs)
+    slice-write-r-7 slice-write-r-8 slice-write-r-9 (λ c. search needs) (λ c. search needs) slice-write-r-10 slice-write-r-11 slice-write-r-12
+    (λ c. search needs) (λ c. search needs) slice-write-r-13 slice-write-r-14 slice-write-r-15 (λ c. search needs) (λ c. search needs)
+    slice-write-r-16 slice-write-r-17 slice-write-r-18 (λ c. search needs) (λ c. search needs) slice-write-r-19 slice-write-r-20 (λ c. search needs)
+    (λ c. search needs) slice-write-r-21 same-length returns)

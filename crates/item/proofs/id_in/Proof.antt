@@ -6,21 +6,6 @@ use borrow.Author.Needs.{needs}
 use Rattle.item.proofs.id_in.Statement.{statement}
 use Rattle.item.proofs.id_in.Tie as tie
 
-mul-client : tie.Need-mul-client
-mul-client c = search needs
-
-shared-slice-read-client : tie.Need-shared-slice-read-client
-shared-slice-read-client c = search needs
-
-add-clock : tie.Need-add-clock
-add-clock c = search needs
-
-mul-clock : tie.Need-mul-clock
-mul-clock c = search needs
-
-shared-slice-read-clock : tie.Need-shared-slice-read-clock
-shared-slice-read-clock c = search needs
-
 cast-clock : tie.Need-cast-clock
 unfolding idIn
 cast-clock c = omega arith
@@ -33,10 +18,4 @@ pub id-in-spec : {M : Type 1} → statement M
 id-in-spec =
     tie.close
     (tie.spec
-    mul-client
-    shared-slice-read-client
-    add-clock
-    mul-clock
-    shared-slice-read-clock
-    cast-clock
-    returns)
+    (λ c. search needs) (λ c. search needs) (λ c. search needs) (λ c. search needs) (λ c. search needs) cast-clock returns)

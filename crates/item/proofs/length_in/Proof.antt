@@ -5,16 +5,9 @@ use borrow.Author.Needs.{needs}
 use Rattle.item.proofs.length_in.Statement.{statement}
 use Rattle.item.proofs.length_in.Tie as tie
 
-shared-slice-read-result : tie.Need-shared-slice-read-result
-shared-slice-read-result c = search needs
-
 returns : tie.Need-returns
 unfolding rowIn
 returns c = refl
 
 pub length-in-spec : {M : Type 1} → statement M
-length-in-spec =
-    tie.close
-    (tie.spec
-    shared-slice-read-result
-    returns)
+length-in-spec = tie.close (tie.spec (λ c. search needs) returns)

@@ -16,21 +16,6 @@ use borrow.Author.Needs.{needs}
 use Rattle.item.proofs.read_binary.Statement.{statement}
 use Rattle.item.proofs.read_binary.Tie as tie
 
-read-buf-requires : tie.Need-read-buf-requires
-read-buf-requires c κs = search needs
-
-enum-told : tie.Need-enum-told
-enum-told c = search needs
-
-enum-told-2 : tie.Need-enum-told-2
-enum-told-2 c = search needs
-
-same-length : tie.Need-same-length
-same-length c = search needs
-
-same-length-2 : tie.Need-same-length-2
-same-length-2 c = search needs
-
 returns : tie.Need-returns
 unfolding binary onto stateIn
 returns c =
@@ -44,20 +29,8 @@ returns c =
     let k = c .before .before .before .before .before .before .read-buf .ensures in
     (k .0, part-narrow r q (b .pre .1) (k .1), bytes-stopped form u w v 19 q _ (ap (partGiven 19 v q) (sym (c .enum-told2 .given .1)) ∙ k .2 ∙ sym (fields-bytes form u (stateIn w))))
 
-slice-write-r : tie.Need-slice-write-r
-slice-write-r c = search needs
-
-cast-r : tie.Need-cast-r
-cast-r c = search needs
-
 slice-write-r-2 : tie.Need-slice-write-r-2
 slice-write-r-2 c = simp length-set (omega arith)
-
-same-length-3 : tie.Need-same-length-3
-same-length-3 c = search needs
-
-same-length-4 : tie.Need-same-length-4
-same-length-4 c = search needs
 
 returns-2 : tie.Need-returns-2
 unfolding binary stateIn
@@ -81,15 +54,5 @@ pub read-binary-spec : {M : Type 1} → statement M
 read-binary-spec =
     tie.close
     (tie.spec
-    read-buf-requires
-    enum-told
-    enum-told-2
-    same-length
-    same-length-2
-    returns
-    slice-write-r
-    cast-r
-    slice-write-r-2
-    same-length-3
-    same-length-4
-    returns-2)
+    (λ c κs. search needs) (λ c. search needs) (λ c. search needs) (λ c. search needs) (λ c. search needs) returns (λ c. search needs)
+    (λ c. search needs) slice-write-r-2 (λ c. search needs) (λ c. search needs) returns-2)

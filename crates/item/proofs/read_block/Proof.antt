@@ -13,24 +13,6 @@ use borrow.Author.Needs.{needs}
 use Rattle.item.proofs.read_block.Statement.{statement}
 use Rattle.item.proofs.read_block.Tie as tie
 
-begin-row-requires : tie.Need-begin-row-requires
-begin-row-requires c κs = search needs
-
-read-info-requires : tie.Need-read-info-requires
-read-info-requires c κs = search needs
-
-enum-known-info : tie.Need-enum-known-info
-enum-known-info c = search needs
-
-enum-told : tie.Need-enum-told
-enum-told c = search needs
-
-same-length : tie.Need-same-length
-same-length c = search needs
-
-same-length-2 : tie.Need-same-length-2
-same-length-2 c = search needs
-
 returns : tie.Need-returns
 unfolding block blockOnto
 returns c =
@@ -44,26 +26,11 @@ returns c =
     let k = c .before .before .before .before .read-info .ensures in
     (k .0, row .0, number-stopped form u w v info _ (ap (given v) (sym (c .enum-told .given .1)) ∙ k .1))
 
-slice-read-place : tie.Need-slice-read-place
-slice-read-place c = search needs
-
 read-body-requires : tie.Need-read-body-requires
 read-body-requires c κs =
     let b = c .before .before .before .before .before .before .before .before .before .before .before .before .before .before .before .before .before in
     let row = c .before .before .before .before .before .before .before .before .before .before .before .before .begin-row .ensures in
     (c .before .before .before .before .before .before .before .before .read-info .ensures .0, row .0, begun-is (c .before .before .before .before .before .before .before .before .before .before .before .before .begin-row .last .0) (b .args .client) (b .args .clock) (row .1))
-
-enum-told-2 : tie.Need-enum-told-2
-enum-told-2 c = search needs
-
-enum-told-3 : tie.Need-enum-told-3
-enum-told-3 c = search needs
-
-same-length-3 : tie.Need-same-length-3
-same-length-3 c = search needs
-
-same-length-4 : tie.Need-same-length-4
-same-length-4 c = search needs
 
 returns-2 : tie.Need-returns-2
 unfolding block blockOnto placeIn
@@ -86,12 +53,6 @@ returns-2 c =
     let same = ap (λ (y : Block). Reads form u v (body (y .client) (y .clock) x p)) (row .1) in
     let first = number-then form u {A = Block × ℕ} w v info (λ a. body client clock (a .0) (a .1) >>= λ y. done (y, a .1)) x (ap (given v) (sym (c .before .before .before .before .before .before .before .before .before .before .before .info .given .1)) ∙ k .1) in
     (f .0, f .1, row-stopped form u v z t (body client clock x p) (λ y. done (y, p)) (ap (onto z t) (sym (c .enum-told3 .given .1)) ∙ f .2 ∙ same) ∙ first)
-
-same-length-5 : tie.Need-same-length-5
-same-length-5 c = search needs
-
-same-length-6 : tie.Need-same-length-6
-same-length-6 c = search needs
 
 returns-3 : tie.Need-returns-3
 unfolding block blockOnto placeIn
@@ -119,20 +80,6 @@ pub read-block-spec : {M : Type 1} → statement M
 read-block-spec =
     tie.close
     (tie.spec
-    begin-row-requires
-    read-info-requires
-    enum-known-info
-    enum-told
-    same-length
-    same-length-2
-    returns
-    slice-read-place
-    read-body-requires
-    enum-told-2
-    enum-told-3
-    same-length-3
-    same-length-4
-    returns-2
-    same-length-5
-    same-length-6
-    returns-3)
+    (λ c κs. search needs) (λ c κs. search needs) (λ c. search needs) (λ c. search needs) (λ c. search needs) (λ c. search needs) returns
+    (λ c. search needs) read-body-requires (λ c. search needs) (λ c. search needs) (λ c. search needs) (λ c. search needs) returns-2
+    (λ c. search needs) (λ c. search needs) returns-3)

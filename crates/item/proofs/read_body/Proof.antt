@@ -8,44 +8,17 @@ use borrow.Author.Needs.{needs}
 use Rattle.item.proofs.read_body.Statement.{statement}
 use Rattle.item.proofs.read_body.Tie as tie
 
-read-skip-requires : tie.Need-read-skip-requires
-read-skip-requires c κs = search needs
-
-read-gc-requires : tie.Need-read-gc-requires
-read-gc-requires c κs = search needs
-
-read-item-requires : tie.Need-read-item-requires
-read-item-requires c κs = search needs
-
-same-length : tie.Need-same-length
-same-length c = search needs
-
-same-length-2 : tie.Need-same-length-2
-same-length-2 c = search needs
-
 returns : tie.Need-returns
 unfolding body
 returns c =
     let k = c .before .before .before .before .read-skip .ensures in
     (k .0, k .1, rw (c .before .before .before .before .before .before .before .match .keys1) (k .2))
 
-same-length-3 : tie.Need-same-length-3
-same-length-3 c = search needs
-
-same-length-4 : tie.Need-same-length-4
-same-length-4 c = search needs
-
 returns-2 : tie.Need-returns-2
 unfolding body
 returns-2 c =
     let k = c .before .before .before .before .read-gc .ensures in
     (k .0, k .1, rw (c .before .before .before .before .before .before .before .match .keys2) (k .2))
-
-same-length-5 : tie.Need-same-length-5
-same-length-5 c = search needs
-
-same-length-6 : tie.Need-same-length-6
-same-length-6 c = search needs
 
 returns-3 : tie.Need-returns-3
 unfolding body
@@ -65,15 +38,5 @@ pub read-body-spec : {M : Type 1} → statement M
 read-body-spec =
     tie.close
     (tie.spec
-    read-skip-requires
-    read-gc-requires
-    read-item-requires
-    same-length
-    same-length-2
-    returns
-    same-length-3
-    same-length-4
-    returns-2
-    same-length-5
-    same-length-6
-    returns-3)
+    (λ c κs. search needs) (λ c κs. search needs) (λ c κs. search needs) (λ c. search needs) (λ c. search needs) returns (λ c. search needs)
+    (λ c. search needs) returns-2 (λ c. search needs) (λ c. search needs) returns-3)

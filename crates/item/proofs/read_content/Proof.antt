@@ -11,35 +11,11 @@ use borrow.Author.Needs.{needs}
 use Rattle.item.proofs.read_content.Statement.{statement}
 use Rattle.item.proofs.read_content.Tie as tie
 
-read-deleted-requires : tie.Need-read-deleted-requires
-read-deleted-requires c κs = search needs
-
-read-binary-requires : tie.Need-read-binary-requires
-read-binary-requires c κs = search needs
-
-read-string-requires : tie.Need-read-string-requires
-read-string-requires c κs = search needs
-
-refuse-requires : tie.Need-refuse-requires
-refuse-requires c κs = search needs
-
-same-length : tie.Need-same-length
-same-length c = search needs
-
-same-length-2 : tie.Need-same-length-2
-same-length-2 c = search needs
-
 returns : tie.Need-returns
 unfolding content
 returns c =
     let k = c .before .before .before .before .read-deleted .ensures in
     (k .0, k .1, rw (c .before .before .before .before .before .before .before .match .keys1) (k .2))
-
-same-length-3 : tie.Need-same-length-3
-same-length-3 c = search needs
-
-same-length-4 : tie.Need-same-length-4
-same-length-4 c = search needs
 
 returns-2 : tie.Need-returns-2
 unfolding content
@@ -47,20 +23,11 @@ returns-2 c =
     let k = c .before .before .before .before .read-binary .ensures in
     (k .0, k .1, rw (c .before .before .before .before .before .before .before .match .keys2) (k .2))
 
-same-length-5 : tie.Need-same-length-5
-same-length-5 c = search needs
-
-same-length-6 : tie.Need-same-length-6
-same-length-6 c = search needs
-
 returns-3 : tie.Need-returns-3
 unfolding content
 returns-3 c =
     let k = c .before .before .before .before .read-string .ensures in
     (k .0, k .1, rw (c .before .before .before .before .before .before .before .match .keys3) (k .2))
-
-same-length-7 : tie.Need-same-length-7
-same-length-7 c = search needs
 
 returns-4 : tie.Need-returns-4
 unfolding content onto
@@ -76,18 +43,5 @@ pub read-content-spec : {M : Type 1} → statement M
 read-content-spec =
     tie.close
     (tie.spec
-    read-deleted-requires
-    read-binary-requires
-    read-string-requires
-    refuse-requires
-    same-length
-    same-length-2
-    returns
-    same-length-3
-    same-length-4
-    returns-2
-    same-length-5
-    same-length-6
-    returns-3
-    same-length-7
-    returns-4)
+    (λ c κs. search needs) (λ c κs. search needs) (λ c κs. search needs) (λ c κs. search needs) (λ c. search needs) (λ c. search needs) returns
+    (λ c. search needs) (λ c. search needs) returns-2 (λ c. search needs) (λ c. search needs) returns-3 (λ c. search needs) returns-4)

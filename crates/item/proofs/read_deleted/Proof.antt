@@ -15,18 +15,6 @@ use borrow.Author.Needs.{needs}
 use Rattle.item.proofs.read_deleted.Statement.{statement}
 use Rattle.item.proofs.read_deleted.Tie as tie
 
-read-len-requires : tie.Need-read-len-requires
-read-len-requires c κs = search needs
-
-enum-known-v : tie.Need-enum-known-v
-enum-known-v c = search needs
-
-enum-told : tie.Need-enum-told
-enum-told c = search needs
-
-same-length : tie.Need-same-length
-same-length c = search needs
-
 returns : tie.Need-returns
 unfolding deleted onto
 returns c =
@@ -39,32 +27,14 @@ returns c =
     let k = c .before .before .before .before .read-len .ensures in
     (k .0, b .pre .1, number-stopped form u w v len _ (ap (given v) (sym (c .enum-told .given .1)) ∙ k .1))
 
-slice-write-r : tie.Need-slice-write-r
-slice-write-r c = search needs
-
-add-r : tie.Need-add-r
-add-r c = search needs
-
-mul-r : tie.Need-mul-r
-mul-r c = search needs
-
 slice-write-r-2 : tie.Need-slice-write-r-2
 slice-write-r-2 c = simp length-set (omega arith)
 
 slice-write-r-3 : tie.Need-slice-write-r-3
 slice-write-r-3 c = simp length-set (omega arith)
 
-cast-r : tie.Need-cast-r
-cast-r c = search needs
-
 slice-write-r-4 : tie.Need-slice-write-r-4
 slice-write-r-4 c = simp length-set (omega arith)
-
-same-length-2 : tie.Need-same-length-2
-same-length-2 c = search needs
-
-same-length-3 : tie.Need-same-length-3
-same-length-3 c = search needs
 
 returns-2 : tie.Need-returns-2
 unfolding deleted
@@ -87,18 +57,5 @@ pub read-deleted-spec : {M : Type 1} → statement M
 read-deleted-spec =
     tie.close
     (tie.spec
-    read-len-requires
-    enum-known-v
-    enum-told
-    same-length
-    returns
-    slice-write-r
-    add-r
-    mul-r
-    slice-write-r-2
-    slice-write-r-3
-    cast-r
-    slice-write-r-4
-    same-length-2
-    same-length-3
-    returns-2)
+    (λ c κs. search needs) (λ c. search needs) (λ c. search needs) (λ c. search needs) returns (λ c. search needs) (λ c. search needs)
+    (λ c. search needs) slice-write-r-2 slice-write-r-3 (λ c. search needs) slice-write-r-4 (λ c. search needs) (λ c. search needs) returns-2)

@@ -14,18 +14,6 @@ use borrow.Author.Needs.{needs}
 use Rattle.item.proofs.read_gc.Statement.{statement}
 use Rattle.item.proofs.read_gc.Tie as tie
 
-read-len-requires : tie.Need-read-len-requires
-read-len-requires c κs = search needs
-
-enum-known-v : tie.Need-enum-known-v
-enum-known-v c = search needs
-
-enum-told : tie.Need-enum-told
-enum-told c = search needs
-
-same-length : tie.Need-same-length
-same-length c = search needs
-
 returns : tie.Need-returns
 unfolding bare onto
 returns c =
@@ -38,20 +26,8 @@ returns c =
     let k = c .before .before .before .before .read-len .ensures in
     (k .0, b .pre .1, number-stopped form u w v len _ (ap (given v) (sym (c .enum-told .given .1)) ∙ k .1))
 
-slice-write-r : tie.Need-slice-write-r
-slice-write-r c = search needs
-
-cast-r : tie.Need-cast-r
-cast-r c = search needs
-
 slice-write-r-2 : tie.Need-slice-write-r-2
 slice-write-r-2 c = simp length-set (omega arith)
-
-same-length-2 : tie.Need-same-length-2
-same-length-2 c = search needs
-
-same-length-3 : tie.Need-same-length-3
-same-length-3 c = search needs
 
 returns-2 : tie.Need-returns-2
 unfolding bare
@@ -75,14 +51,5 @@ pub read-gc-spec : {M : Type 1} → statement M
 read-gc-spec =
     tie.close
     (tie.spec
-    read-len-requires
-    enum-known-v
-    enum-told
-    same-length
-    returns
-    slice-write-r
-    cast-r
-    slice-write-r-2
-    same-length-2
-    same-length-3
-    returns-2)
+    (λ c κs. search needs) (λ c. search needs) (λ c. search needs) (λ c. search needs) returns (λ c. search needs) (λ c. search needs) slice-write-r-2
+    (λ c. search needs) (λ c. search needs) returns-2)

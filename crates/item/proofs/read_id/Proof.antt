@@ -13,18 +13,6 @@ use borrow.Author.Needs.{needs}
 use Rattle.item.proofs.read_id.Statement.{statement}
 use Rattle.item.proofs.read_id.Tie as tie
 
-read-client-requires : tie.Need-read-client-requires
-read-client-requires c κs = search needs
-
-enum-known-client : tie.Need-enum-known-client
-enum-known-client c = search needs
-
-enum-told : tie.Need-enum-told
-enum-told c = search needs
-
-same-length : tie.Need-same-length
-same-length c = search needs
-
 returns : tie.Need-returns
 unfolding anId idOnto
 returns c =
@@ -36,18 +24,6 @@ returns c =
     let v = c .before .before .before .before .read-client .last .1 .1 .0 in
     let k = c .before .before .before .before .read-client .ensures in
     (k .0, beside-none (b .args .k) r, b .pre .4, number-stopped form u w v client _ (ap (given v) (sym (c .enum-told .given .1)) ∙ k .1))
-
-read-clock-requires : tie.Need-read-clock-requires
-read-clock-requires c κs = search needs
-
-enum-known-clock : tie.Need-enum-known-clock
-enum-known-clock c = search needs
-
-enum-told-2 : tie.Need-enum-told-2
-enum-told-2 c = search needs
-
-same-length-2 : tie.Need-same-length-2
-same-length-2 c = search needs
 
 returns-2 : tie.Need-returns-2
 unfolding anId idOnto
@@ -68,27 +44,6 @@ returns-2 c =
       number-stopped form u v z (clockAt (b .args .c)) (λ a. done (record { client = x; clock = a .0 })) (ap (given z) (sym (c .enum-told2 .given .1)) ∙ l .1)
           ∙ number-then form u w v client (λ a. draw (number (clockAt (b .args .c))) >>= λ y. done (record { client = a .0; clock = y .0 })) x (ap (given v) (sym (c .before .before .before .before .before .before .before .client .given .1)) ∙ k .1),
     )
-
-mul-r : tie.Need-mul-r
-mul-r c = search needs
-
-slice-write-r : tie.Need-slice-write-r
-slice-write-r c = search needs
-
-add-r : tie.Need-add-r
-add-r c = search needs
-
-mul-r-2 : tie.Need-mul-r-2
-mul-r-2 c = search needs
-
-slice-write-r-2 : tie.Need-slice-write-r-2
-slice-write-r-2 c = search needs
-
-same-length-3 : tie.Need-same-length-3
-same-length-3 c = search needs
-
-same-length-4 : tie.Need-same-length-4
-same-length-4 c = search needs
 
 returns-3 : tie.Need-returns-3
 unfolding anId given
@@ -119,21 +74,6 @@ pub read-id-spec : {M : Type 1} → statement M
 read-id-spec =
     tie.close
     (tie.spec
-    read-client-requires
-    enum-known-client
-    enum-told
-    same-length
-    returns
-    read-clock-requires
-    enum-known-clock
-    enum-told-2
-    same-length-2
-    returns-2
-    mul-r
-    slice-write-r
-    add-r
-    mul-r-2
-    slice-write-r-2
-    same-length-3
-    same-length-4
-    returns-3)
+    (λ c κs. search needs) (λ c. search needs) (λ c. search needs) (λ c. search needs) returns (λ c κs. search needs) (λ c. search needs)
+    (λ c. search needs) (λ c. search needs) returns-2 (λ c. search needs) (λ c. search needs) (λ c. search needs) (λ c. search needs)
+    (λ c. search needs) (λ c. search needs) (λ c. search needs) returns-3)

@@ -7,21 +7,6 @@ use borrow.Author.Needs.{needs}
 use Rattle.item.proofs.read_item.Statement.{statement}
 use Rattle.item.proofs.read_item.Tie as tie
 
-read-place-requires : tie.Need-read-place-requires
-read-place-requires c κs = search needs
-
-enum-told : tie.Need-enum-told
-enum-told c = search needs
-
-enum-told-2 : tie.Need-enum-told-2
-enum-told-2 c = search needs
-
-same-length : tie.Need-same-length
-same-length c = search needs
-
-same-length-2 : tie.Need-same-length-2
-same-length-2 c = search needs
-
 returns : tie.Need-returns
 unfolding anItem onto
 returns c =
@@ -34,15 +19,6 @@ returns c =
     let q = c .before .before .before .before .before .before .read-place .last .1 .1 .1 .0 in
     let k = c .before .before .before .before .before .before .read-place .ensures in
     (k .0, k .1, row-stopped form u w v q (place (b .args .info) (rowIn r)) (content (b .args .info) (b .args .place)) (ap (onto v q) (sym (c .enum-told2 .given .1)) ∙ k .2))
-
-read-content-requires : tie.Need-read-content-requires
-read-content-requires c κs = search needs
-
-same-length-3 : tie.Need-same-length-3
-same-length-3 c = search needs
-
-same-length-4 : tie.Need-same-length-4
-same-length-4 c = search needs
 
 returns-2 : tie.Need-returns-2
 unfolding anItem
@@ -62,13 +38,5 @@ pub read-item-spec : {M : Type 1} → statement M
 read-item-spec =
     tie.close
     (tie.spec
-    read-place-requires
-    enum-told
-    enum-told-2
-    same-length
-    same-length-2
-    returns
-    read-content-requires
-    same-length-3
-    same-length-4
-    returns-2)
+    (λ c κs. search needs) (λ c. search needs) (λ c. search needs) (λ c. search needs) (λ c. search needs) returns (λ c κs. search needs)
+    (λ c. search needs) (λ c. search needs) returns-2)

@@ -23,21 +23,6 @@ returns c =
     let r = b .args .r .now in
     (b .pre .0, b .pre .1, rw (lt-ltb (b .args .info) 32 (c .if1 .taken)) (row-done form u w r (rowIn r) refl))
 
-read-text-requires : tie.Need-read-text-requires
-read-text-requires c κs = search needs
-
-enum-told : tie.Need-enum-told
-enum-told c = search needs
-
-enum-told-2 : tie.Need-enum-told-2
-enum-told-2 c = search needs
-
-same-length : tie.Need-same-length
-same-length c = search needs
-
-same-length-2 : tie.Need-same-length-2
-same-length-2 c = search needs
-
 returns-2 : tie.Need-returns-2
 unfolding key onto
 returns-2 c =
@@ -50,15 +35,6 @@ returns-2 c =
     let q = c .before .before .before .before .before .before .read-text .last .1 .1 .1 .0 in
     let k = c .before .before .before .before .before .before .read-text .ensures in
     (k .0, key-put r q (b .pre .1) (k .1) .0, rw (le-ltb (b .args .info) 32 (c .before .before .before .before .before .before .before .before .before .if1 .left)) (text-stopped form u w v 17 q _ (ap (textGiven 17 v q) (sym (c .enum-told2 .given .1)) ∙ k .2)))
-
-slice-write-r : tie.Need-slice-write-r
-slice-write-r c = search needs
-
-same-length-3 : tie.Need-same-length-3
-same-length-3 c = search needs
-
-same-length-4 : tie.Need-same-length-4
-same-length-4 c = search needs
 
 returns-3 : tie.Need-returns-3
 unfolding key
@@ -82,14 +58,5 @@ pub read-key-spec : {M : Type 1} → statement M
 read-key-spec =
     tie.close
     (tie.spec
-    returns
-    read-text-requires
-    enum-told
-    enum-told-2
-    same-length
-    same-length-2
-    returns-2
-    slice-write-r
-    same-length-3
-    same-length-4
-    returns-3)
+    returns (λ c κs. search needs) (λ c. search needs) (λ c. search needs) (λ c. search needs) (λ c. search needs) returns-2 (λ c. search needs)
+    (λ c. search needs) (λ c. search needs) returns-3)

@@ -9,18 +9,6 @@ use borrow.Author.Needs.{needs}
 use Rattle.item.proofs.read_parent.Statement.{statement}
 use Rattle.item.proofs.read_parent.Tie as tie
 
-read-parent-info-requires : tie.Need-read-parent-info-requires
-read-parent-info-requires c κs = search needs
-
-enum-known-v : tie.Need-enum-known-v
-enum-known-v c = search needs
-
-enum-told : tie.Need-enum-told
-enum-told c = search needs
-
-same-length : tie.Need-same-length
-same-length c = search needs
-
 returns : tie.Need-returns
 unfolding parent onto
 returns c =
@@ -32,15 +20,6 @@ returns c =
     let v = c .before .before .before .before .read-parent-info .last .1 .1 .0 in
     let k = c .before .before .before .before .read-parent-info .ensures in
     (k .0, b .pre .1, number-stopped form u w v parentInfo _ (ap (given v) (sym (c .enum-told .given .1)) ∙ k .1))
-
-read-parent-after-requires : tie.Need-read-parent-after-requires
-read-parent-after-requires c κs = search needs
-
-same-length-2 : tie.Need-same-length-2
-same-length-2 c = search needs
-
-same-length-3 : tie.Need-same-length-3
-same-length-3 c = search needs
 
 returns-2 : tie.Need-returns-2
 unfolding parent
@@ -60,12 +39,5 @@ pub read-parent-spec : {M : Type 1} → statement M
 read-parent-spec =
     tie.close
     (tie.spec
-    read-parent-info-requires
-    enum-known-v
-    enum-told
-    same-length
-    returns
-    read-parent-after-requires
-    same-length-2
-    same-length-3
-    returns-2)
+    (λ c κs. search needs) (λ c. search needs) (λ c. search needs) (λ c. search needs) returns (λ c κs. search needs) (λ c. search needs)
+    (λ c. search needs) returns-2)

@@ -13,21 +13,6 @@ use borrow.Author.Needs.{needs}
 use Rattle.item.proofs.read_parent_after.Statement.{statement}
 use Rattle.item.proofs.read_parent_after.Tie as tie
 
-read-text-requires : tie.Need-read-text-requires
-read-text-requires c κs = search needs
-
-enum-told : tie.Need-enum-told
-enum-told c = search needs
-
-enum-told-2 : tie.Need-enum-told-2
-enum-told-2 c = search needs
-
-same-length : tie.Need-same-length
-same-length c = search needs
-
-same-length-2 : tie.Need-same-length-2
-same-length-2 c = search needs
-
 returns : tie.Need-returns
 unfolding parentAfter onto
 returns c =
@@ -40,15 +25,6 @@ returns c =
     let q = c .before .before .before .before .before .before .read-text .last .1 .1 .1 .0 in
     let k = c .before .before .before .before .before .before .read-text .ensures in
     (k .0, name-put r q (b .pre .1) (k .1) .0, rw (eq-eqb (b .args .v) 1 (c .before .before .before .before .before .before .before .before .before .if1 .taken)) (text-stopped form u w v 14 q _ (ap (textGiven 14 v q) (sym (c .enum-told2 .given .1)) ∙ k .2)))
-
-slice-write-r : tie.Need-slice-write-r
-slice-write-r c = search needs
-
-same-length-3 : tie.Need-same-length-3
-same-length-3 c = search needs
-
-same-length-4 : tie.Need-same-length-4
-same-length-4 c = search needs
 
 returns-2 : tie.Need-returns-2
 unfolding parentAfter
@@ -68,21 +44,6 @@ returns-2 c =
           (row-done form u v (set q 13 1) _ (p .2) ∙ text-then form u w v 14 q (λ a. done (withName (a .0) (rowIn r))) _ (ap (textGiven 14 v q) (sym (c .enum-told .given .1)) ∙ k .2)),
     )
 
-read-id-requires : tie.Need-read-id-requires
-read-id-requires c κs = search needs
-
-enum-told-3 : tie.Need-enum-told-3
-enum-told-3 c = search needs
-
-enum-told-4 : tie.Need-enum-told-4
-enum-told-4 c = search needs
-
-same-length-5 : tie.Need-same-length-5
-same-length-5 c = search needs
-
-same-length-6 : tie.Need-same-length-6
-same-length-6 c = search needs
-
 returns-3 : tie.Need-returns-3
 unfolding parentAfter clockAt onto
 returns-3 c =
@@ -99,15 +60,6 @@ returns-3 c =
       p .0,
       rw (ne-eqb (b .args .v) 1 (c .before .before .before .before .before .before .before .before .before .if1 .left)) (id-stopped form u w v 11 q (anId leftClock) _ (ap (idOnto 11 v q) (sym (c .enum-told4 .given .1)) ∙ k .3)),
     )
-
-slice-write-r-2 : tie.Need-slice-write-r-2
-slice-write-r-2 c = search needs
-
-same-length-7 : tie.Need-same-length-7
-same-length-7 c = search needs
-
-same-length-8 : tie.Need-same-length-8
-same-length-8 c = search needs
 
 returns-4 : tie.Need-returns-4
 unfolding parentAfter clockAt
@@ -131,23 +83,6 @@ pub read-parent-after-spec : {M : Type 1} → statement M
 read-parent-after-spec =
     tie.close
     (tie.spec
-    read-text-requires
-    enum-told
-    enum-told-2
-    same-length
-    same-length-2
-    returns
-    slice-write-r
-    same-length-3
-    same-length-4
-    returns-2
-    read-id-requires
-    enum-told-3
-    enum-told-4
-    same-length-5
-    same-length-6
-    returns-3
-    slice-write-r-2
-    same-length-7
-    same-length-8
-    returns-4)
+    (λ c κs. search needs) (λ c. search needs) (λ c. search needs) (λ c. search needs) (λ c. search needs) returns (λ c. search needs)
+    (λ c. search needs) (λ c. search needs) returns-2 (λ c κs. search needs) (λ c. search needs) (λ c. search needs) (λ c. search needs)
+    (λ c. search needs) returns-3 (λ c. search needs) (λ c. search needs) (λ c. search needs) returns-4)

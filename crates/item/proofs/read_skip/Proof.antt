@@ -16,18 +16,6 @@ use borrow.Author.Needs.{needs}
 use Rattle.item.proofs.read_skip.Statement.{statement}
 use Rattle.item.proofs.read_skip.Tie as tie
 
-read-var-requires : tie.Need-read-var-requires
-read-var-requires c κs = search needs
-
-enum-known-v : tie.Need-enum-known-v
-enum-known-v c = search needs
-
-enum-told : tie.Need-enum-told
-enum-told c = search needs
-
-same-length : tie.Need-same-length
-same-length c = search needs
-
 returns : tie.Need-returns
 unfolding bare onto stateIn
 returns c =
@@ -40,20 +28,8 @@ returns c =
     let k = c .before .before .before .before .read-var .ensures in
     (k .0, b .pre .1, number-stopped form u w v (upTo maxClock) _ (ap (given v) (sym (c .enum-told .given .1)) ∙ k .1 ∙ sym (fields-up-to form u maxClock (stateIn w))))
 
-slice-write-r : tie.Need-slice-write-r
-slice-write-r c = search needs
-
-cast-r : tie.Need-cast-r
-cast-r c = search needs
-
 slice-write-r-2 : tie.Need-slice-write-r-2
 slice-write-r-2 c = simp length-set (omega arith)
-
-same-length-2 : tie.Need-same-length-2
-same-length-2 c = search needs
-
-same-length-3 : tie.Need-same-length-3
-same-length-3 c = search needs
 
 returns-2 : tie.Need-returns-2
 unfolding bare stateIn
@@ -77,14 +53,5 @@ pub read-skip-spec : {M : Type 1} → statement M
 read-skip-spec =
     tie.close
     (tie.spec
-    read-var-requires
-    enum-known-v
-    enum-told
-    same-length
-    returns
-    slice-write-r
-    cast-r
-    slice-write-r-2
-    same-length-2
-    same-length-3
-    returns-2)
+    (λ c κs. search needs) (λ c. search needs) (λ c. search needs) (λ c. search needs) returns (λ c. search needs) (λ c. search needs) slice-write-r-2
+    (λ c. search needs) (λ c. search needs) returns-2)

@@ -14,21 +14,6 @@ use borrow.Author.Needs.{needs}
 use Rattle.item.proofs.read_string.Statement.{statement}
 use Rattle.item.proofs.read_string.Tie as tie
 
-read-text-requires : tie.Need-read-text-requires
-read-text-requires c κs = search needs
-
-enum-known-units : tie.Need-enum-known-units
-enum-known-units c = search needs
-
-enum-told : tie.Need-enum-told
-enum-told c = search needs
-
-same-length : tie.Need-same-length
-same-length c = search needs
-
-same-length-2 : tie.Need-same-length-2
-same-length-2 c = search needs
-
 returns : tie.Need-returns
 unfolding string onto
 returns c =
@@ -42,20 +27,8 @@ returns c =
     let k = c .before .before .before .before .before .before .read-text .ensures in
     (k .0, part-narrow r q (b .pre .1) (k .1), text-stopped form u w v 19 q _ (ap (textGiven 19 v q) (sym (c .enum-told .given .1)) ∙ k .2))
 
-slice-write-r : tie.Need-slice-write-r
-slice-write-r c = search needs
-
-cast-r : tie.Need-cast-r
-cast-r c = search needs
-
 slice-write-r-2 : tie.Need-slice-write-r-2
 slice-write-r-2 c = simp length-set (omega arith)
-
-same-length-3 : tie.Need-same-length-3
-same-length-3 c = search needs
-
-same-length-4 : tie.Need-same-length-4
-same-length-4 c = search needs
 
 returns-2 : tie.Need-returns-2
 unfolding string
@@ -79,15 +52,5 @@ pub read-string-spec : {M : Type 1} → statement M
 read-string-spec =
     tie.close
     (tie.spec
-    read-text-requires
-    enum-known-units
-    enum-told
-    same-length
-    same-length-2
-    returns
-    slice-write-r
-    cast-r
-    slice-write-r-2
-    same-length-3
-    same-length-4
-    returns-2)
+    (λ c κs. search needs) (λ c. search needs) (λ c. search needs) (λ c. search needs) (λ c. search needs) returns (λ c. search needs)
+    (λ c. search needs) slice-write-r-2 (λ c. search needs) (λ c. search needs) returns-2)

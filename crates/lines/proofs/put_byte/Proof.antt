@@ -8,12 +8,6 @@ use Rattle.lines.proofs.Laws.{overlay-byte}
 use Rattle.lines.proofs.put_byte.Statement.{statement}
 use Rattle.lines.proofs.put_byte.Tie as tie
 
-slice-write-out : tie.Need-slice-write-out
-slice-write-out c = search needs
-
-add-result : tie.Need-add-result
-add-result c = search needs
-
 same-length : tie.Need-same-length
 same-length c = ⊎-elim (λ w. ap length (w .1) ∙ simp length-set) (λ w. ap length (w .1)) (c .if1 .came)
 
@@ -23,4 +17,4 @@ returns c =
     (refl, ⊎-elim (λ w. w .1 ∙ sym (overlay-byte (a .out .now) (a .used) (a .b))) (λ w. w .1 ∙ sym (overlay-byte (a .out .now) (a .used) (a .b) ∙ set-out (a .out .now) (a .used) (a .b) (w .0 .left))) (c .if1 .came))
 
 pub put-byte-spec : {M : Type 1} → statement M
-put-byte-spec = tie.close (tie.spec slice-write-out add-result same-length returns)
+put-byte-spec = tie.close (tie.spec (λ c. search needs) (λ c. search needs) same-length returns)

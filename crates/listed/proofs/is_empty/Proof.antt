@@ -6,22 +6,10 @@ use borrow.Author.Needs.{needs}
 use Rattle.listed.proofs.is_empty.Statement.{statement}
 use Rattle.listed.proofs.is_empty.Tie as tie
 
-slice-aggregate-same : tie.Need-slice-aggregate-same
-slice-aggregate-same c = search needs
-
-same-requires : tie.Need-same-requires
-same-requires c κs = search needs
-
 returns : tie.Need-returns
 returns c =
     let a = c .before .before .before .before .args in
     c .same .ensures ∙ empty-first (a .form) (a .update .now) (eq-eqb (a .form) 1 (c .before .before .if1 .taken))
-
-slice-aggregate-same-2 : tie.Need-slice-aggregate-same-2
-slice-aggregate-same-2 c = search needs
-
-same-requires-2 : tie.Need-same-requires-2
-same-requires-2 c κs = search needs
 
 returns-2 : tie.Need-returns-2
 returns-2 c =
@@ -34,13 +22,4 @@ returns-3 c =
     empty-no-form (a .form) (a .update .now) (ne-eqb (a .form) 1 (c .before .if1 .left)) (ne-eqb (a .form) 2 (c .if2 .left))
 
 pub is-empty-spec : {M : Type 1} → statement M
-is-empty-spec =
-    tie.close
-    (tie.spec
-    slice-aggregate-same
-    same-requires
-    returns
-    slice-aggregate-same-2
-    same-requires-2
-    returns-2
-    returns-3)
+is-empty-spec = tie.close (tie.spec (λ c. search needs) (λ c κs. search needs) returns (λ c. search needs) (λ c κs. search needs) returns-2 returns-3)

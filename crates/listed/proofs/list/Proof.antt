@@ -12,15 +12,6 @@ use borrow.Author.Needs.{needs}
 use Rattle.listed.proofs.list.Statement.{statement}
 use Rattle.listed.proofs.list.Tie as tie
 
-put-listed-requires : tie.Need-put-listed-requires
-put-listed-requires c κs = search needs
-
-refuse-requires : tie.Need-refuse-requires
-refuse-requires c κs = search needs
-
-same-length : tie.Need-same-length
-same-length c = search needs
-
 returns : tie.Need-returns
 returns c =
     let a = c .before .before .before .before .before .before .before .before .before .before .before .args in
@@ -31,12 +22,6 @@ returns c =
     let v = verdict-room 0 n b refl (omega (arith, w .ensures .0, w .kept .1 .0, c .before .before .before .before .if1 .taken)) in
     let r = c .before .before .refuse .ensures in
     (r .0 ∙ refused-answer 0 n b 10 v ne, r .1 ∙ rw (w .ensures .1, length-overlay (a .out .now) 0 b) (refused-bytes 0 n b 10 v ne))
-
-finish-requires : tie.Need-finish-requires
-finish-requires c κs = search needs
-
-same-length-2 : tie.Need-same-length-2
-same-length-2 c = search needs
 
 returns-2 : tie.Need-returns-2
 returns-2 c =
@@ -53,10 +38,4 @@ pub list-spec : {M : Type 1} → statement M
 list-spec =
     tie.close
     (tie.spec
-    put-listed-requires
-    refuse-requires
-    same-length
-    returns
-    finish-requires
-    same-length-2
-    returns-2)
+    (λ c κs. search needs) (λ c κs. search needs) (λ c. search needs) returns (λ c κs. search needs) (λ c. search needs) returns-2)

@@ -7,25 +7,10 @@ use borrow.Author.Needs.{needs}
 use Rattle.listed.proofs.put_update.Statement.{statement}
 use Rattle.listed.proofs.put_update.Tie as tie
 
-is-empty-requires : tie.Need-is-empty-requires
-is-empty-requires c κs = search needs
-
-put-empty-requires : tie.Need-put-empty-requires
-put-empty-requires c κs = search needs
-
-same-length : tie.Need-same-length
-same-length c = search needs
-
 returns : tie.Need-returns
 returns c =
     let a = c .before .before .before .before .before .before .before .before .args in
     put-as (a .out .now) (text-empty (a .form) (a .update .now) (sym (c .before .before .before .before .before .is-empty .ensures) ∙ c .before .before .before .before .if1 .taken)) (c .before .before .put-empty .ensures)
-
-put-reading-requires : tie.Need-put-reading-requires
-put-reading-requires c κs = search needs
-
-same-length-2 : tie.Need-same-length-2
-same-length-2 c = search needs
 
 returns-2 : tie.Need-returns-2
 returns-2 c =
@@ -38,10 +23,4 @@ pub put-update-spec : {M : Type 1} → statement M
 put-update-spec =
     tie.close
     (tie.spec
-    is-empty-requires
-    put-empty-requires
-    same-length
-    returns
-    put-reading-requires
-    same-length-2
-    returns-2)
+    (λ c κs. search needs) (λ c κs. search needs) (λ c. search needs) returns (λ c κs. search needs) (λ c. search needs) returns-2)

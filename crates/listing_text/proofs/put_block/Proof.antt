@@ -8,12 +8,6 @@ use borrow.Author.Needs.{needs}
 use Rattle.listing_text.proofs.put_block.Statement.{statement}
 use Rattle.listing_text.proofs.put_block.Tie as tie
 
-put-number-requires : tie.Need-put-number-requires
-put-number-requires c κs = search needs
-
-cast-put-number : tie.Need-cast-put-number
-cast-put-number c = search needs
-
 put-number-requires-2 : tie.Need-put-number-requires-2
 put-number-requires-2 c κs = omega (arith, c .before .before .before .before .put-number .ensures .0, number-short (c .before .before .before .before .before .before .before .before .args .b .client) 32)
 
@@ -25,9 +19,6 @@ put-kind-requires c κs = omega (arith, c .before .before .before .put-number3 .
 
 put-byte-requires : tie.Need-put-byte-requires
 put-byte-requires c κs = omega (arith, c .before .before .before .put-kind .ensures .0, c .before .before .before .before .before .before .before .put-number3 .ensures .0, c .before .before .before .before .before .before .before .before .before .before .before .put-number2 .ensures .0, c .before .before .before .before .before .before .before .before .before .before .before .before .before .before .before .before .put-number .ensures .0, number-short (c .before .before .before .before .before .before .before .before .before .before .before .before .before .before .before .before .before .before .before .before .args .b .client) 32, number-short (c .before .before .before .before .before .before .before .before .before .before .before .before .before .before .before .before .before .before .before .before .args .b .clock) 32, number-short (c .before .before .before .before .before .before .before .before .before .before .before .before .before .before .before .before .before .before .before .before .args .b .length .0) 32, kind-short (c .before .before .before .before .before .before .before .before .before .before .before .before .before .before .before .before .before .before .before .before .args .b .kind))
-
-same-length : tie.Need-same-length
-same-length c = search needs
 
 returns : tie.Need-returns
 unfolding blockLine
@@ -46,11 +37,5 @@ pub put-block-spec : {M : Type 1} → statement M
 put-block-spec =
     tie.close
     (tie.spec
-    put-number-requires
-    cast-put-number
-    put-number-requires-2
-    put-number-requires-3
-    put-kind-requires
-    put-byte-requires
-    same-length
+    (λ c κs. search needs) (λ c. search needs) put-number-requires-2 put-number-requires-3 put-kind-requires put-byte-requires (λ c. search needs)
     returns)

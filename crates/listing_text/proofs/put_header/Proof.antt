@@ -9,26 +9,11 @@ use borrow.Author.Needs.{needs}
 use Rattle.listing_text.proofs.put_header.Statement.{statement}
 use Rattle.listing_text.proofs.put_header.Tie as tie
 
-slice-aggregate-put-named : tie.Need-slice-aggregate-put-named
-slice-aggregate-put-named c = search needs
-
-put-named-requires : tie.Need-put-named-requires
-put-named-requires c κs = search needs
-
-slice-aggregate-put-named-2 : tie.Need-slice-aggregate-put-named-2
-slice-aggregate-put-named-2 c = search needs
-
 put-named-requires-2 : tie.Need-put-named-requires-2
 put-named-requires-2 c κs = omega (arith, c .before .before .before .before .put-named .ensures .0, named-short wordForm (c .before .before .before .before .before .before .before .before .args .form) 32)
 
-slice-aggregate-put-named-3 : tie.Need-slice-aggregate-put-named-3
-slice-aggregate-put-named-3 c = search needs
-
 put-named-requires-3 : tie.Need-put-named-requires-3
 put-named-requires-3 c κs = omega (arith, c .before .before .before .before .put-named2 .ensures .0, c .before .before .before .before .before .before .before .before .before .put-named .ensures .0, named-short wordForm (c .before .before .before .before .before .before .before .before .before .before .before .before .before .args .form) 32, named-short wordBlocks (c .before .before .before .before .before .before .before .before .before .before .before .before .before .args .blocks) 32)
-
-same-length : tie.Need-same-length
-same-length c = search needs
 
 returns : tie.Need-returns
 unfolding header
@@ -42,11 +27,5 @@ pub put-header-spec : {M : Type 1} → statement M
 put-header-spec =
     tie.close
     (tie.spec
-    slice-aggregate-put-named
-    put-named-requires
-    slice-aggregate-put-named-2
-    put-named-requires-2
-    slice-aggregate-put-named-3
-    put-named-requires-3
-    same-length
+    (λ c. search needs) (λ c κs. search needs) (λ c. search needs) put-named-requires-2 (λ c. search needs) put-named-requires-3 (λ c. search needs)
     returns)

@@ -8,66 +8,21 @@ use borrow.Author.Needs.{needs}
 use Rattle.listing_text.proofs.put_kind.Statement.{statement}
 use Rattle.listing_text.proofs.put_kind.Tie as tie
 
-slice-aggregate-put-text : tie.Need-slice-aggregate-put-text
-slice-aggregate-put-text c = search needs
-
-put-text-requires : tie.Need-put-text-requires
-put-text-requires c κs = search needs
-
-same-length : tie.Need-same-length
-same-length c = search needs
-
 returns : tie.Need-returns
 unfolding kindName
 returns c = rw (eq-eqb (c .before .before .before .before .before .before .before .args .kind) 1 (c .before .before .before .before .before .if1 .taken)) (c .before .before .put-text .ensures)
-
-slice-aggregate-put-text-2 : tie.Need-slice-aggregate-put-text-2
-slice-aggregate-put-text-2 c = search needs
-
-put-text-requires-2 : tie.Need-put-text-requires-2
-put-text-requires-2 c κs = search needs
-
-same-length-2 : tie.Need-same-length-2
-same-length-2 c = search needs
 
 returns-2 : tie.Need-returns-2
 unfolding kindName
 returns-2 c = rw (ne-eqb (c .before .before .before .before .before .before .before .before .args .kind) 1 (c .before .before .before .before .before .before .if1 .left), eq-eqb (c .before .before .before .before .before .before .before .before .args .kind) 2 (c .before .before .before .before .before .if2 .taken)) (c .before .before .put-text2 .ensures)
 
-slice-aggregate-put-text-3 : tie.Need-slice-aggregate-put-text-3
-slice-aggregate-put-text-3 c = search needs
-
-put-text-requires-3 : tie.Need-put-text-requires-3
-put-text-requires-3 c κs = search needs
-
-same-length-3 : tie.Need-same-length-3
-same-length-3 c = search needs
-
 returns-3 : tie.Need-returns-3
 unfolding kindName
 returns-3 c = rw (ne-eqb (c .before .before .before .before .before .before .before .before .before .args .kind) 1 (c .before .before .before .before .before .before .before .if1 .left), ne-eqb (c .before .before .before .before .before .before .before .before .before .args .kind) 2 (c .before .before .before .before .before .before .if2 .left), eq-eqb (c .before .before .before .before .before .before .before .before .before .args .kind) 3 (c .before .before .before .before .before .if3 .taken)) (c .before .before .put-text3 .ensures)
 
-slice-aggregate-put-text-4 : tie.Need-slice-aggregate-put-text-4
-slice-aggregate-put-text-4 c = search needs
-
-put-text-requires-4 : tie.Need-put-text-requires-4
-put-text-requires-4 c κs = search needs
-
-same-length-4 : tie.Need-same-length-4
-same-length-4 c = search needs
-
 returns-4 : tie.Need-returns-4
 unfolding kindName
 returns-4 c = rw (ne-eqb (c .before .before .before .before .before .before .before .before .before .before .args .kind) 1 (c .before .before .before .before .before .before .before .before .if1 .left), ne-eqb (c .before .before .before .before .before .before .before .before .before .before .args .kind) 2 (c .before .before .before .before .before .before .before .if2 .left), ne-eqb (c .before .before .before .before .before .before .before .before .before .before .args .kind) 3 (c .before .before .before .before .before .before .if3 .left), eq-eqb (c .before .before .before .before .before .before .before .before .before .before .args .kind) 4 (c .before .before .before .before .before .if4 .taken)) (c .before .before .put-text4 .ensures)
-
-slice-aggregate-put-text-5 : tie.Need-slice-aggregate-put-text-5
-slice-aggregate-put-text-5 c = search needs
-
-put-text-requires-5 : tie.Need-put-text-requires-5
-put-text-requires-5 c κs = search needs
-
-same-length-5 : tie.Need-same-length-5
-same-length-5 c = search needs
 
 returns-5 : tie.Need-returns-5
 unfolding kindName
@@ -81,24 +36,6 @@ pub put-kind-spec : {M : Type 1} → statement M
 put-kind-spec =
     tie.close
     (tie.spec
-    slice-aggregate-put-text
-    put-text-requires
-    same-length
-    returns
-    slice-aggregate-put-text-2
-    put-text-requires-2
-    same-length-2
-    returns-2
-    slice-aggregate-put-text-3
-    put-text-requires-3
-    same-length-3
-    returns-3
-    slice-aggregate-put-text-4
-    put-text-requires-4
-    same-length-4
-    returns-4
-    slice-aggregate-put-text-5
-    put-text-requires-5
-    same-length-5
-    returns-5
-    returns-6)
+    (λ c. search needs) (λ c κs. search needs) (λ c. search needs) returns (λ c. search needs) (λ c κs. search needs) (λ c. search needs) returns-2
+    (λ c. search needs) (λ c κs. search needs) (λ c. search needs) returns-3 (λ c. search needs) (λ c κs. search needs) (λ c. search needs) returns-4
+    (λ c. search needs) (λ c κs. search needs) (λ c. search needs) returns-5 returns-6)

@@ -5,15 +5,6 @@ use borrow.Author.Needs.{needs}
 use Rattle.listing_text.proofs.put_named.Statement.{statement}
 use Rattle.listing_text.proofs.put_named.Tie as tie
 
-put-text-requires : tie.Need-put-text-requires
-put-text-requires c κs = search needs
-
-put-number-requires : tie.Need-put-number-requires
-put-number-requires c κs = search needs
-
-same-length : tie.Need-same-length
-same-length c = search needs
-
 returns : tie.Need-returns
 unfolding named
 returns c =
@@ -21,4 +12,4 @@ returns c =
     put-then (a .out .now) (a .used) (a .word .now) (number (a .v) (a .end)) (c .before .before .before .before .before .before .put-text .ensures) (c .before .before .put-number .ensures)
 
 pub put-named-spec : {M : Type 1} → statement M
-put-named-spec = tie.close (tie.spec put-text-requires put-number-requires same-length returns)
+put-named-spec = tie.close (tie.spec (λ c κs. search needs) (λ c κs. search needs) (λ c. search needs) returns)

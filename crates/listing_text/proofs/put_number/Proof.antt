@@ -8,14 +8,8 @@ use borrow.Author.Needs.{needs}
 use Rattle.listing_text.proofs.put_number.Statement.{statement}
 use Rattle.listing_text.proofs.put_number.Tie as tie
 
-put-decimal-requires : tie.Need-put-decimal-requires
-put-decimal-requires c κs = search needs
-
 put-byte-requires : tie.Need-put-byte-requires
 put-byte-requires c κs = omega (arith, c .before .before .before .put-decimal .ensures .0, decimal-short (c .before .before .before .before .before .before .args .v))
-
-same-length : tie.Need-same-length
-same-length c = search needs
 
 returns : tie.Need-returns
 unfolding number
@@ -24,4 +18,4 @@ returns c =
     put-then (a .out .now) (a .used) (decimal (a .v)) (a .end ∷ []) (c .before .before .before .before .before .before .put-decimal .ensures) (c .before .before .put-byte .ensures)
 
 pub put-number-spec : {M : Type 1} → statement M
-put-number-spec = tie.close (tie.spec put-decimal-requires put-byte-requires same-length returns)
+put-number-spec = tie.close (tie.spec (λ c κs. search needs) put-byte-requires (λ c. search needs) returns)

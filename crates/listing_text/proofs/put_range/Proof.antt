@@ -8,17 +8,11 @@ use borrow.Author.Needs.{needs}
 use Rattle.listing_text.proofs.put_range.Statement.{statement}
 use Rattle.listing_text.proofs.put_range.Tie as tie
 
-put-number-requires : tie.Need-put-number-requires
-put-number-requires c κs = search needs
-
 put-number-requires-2 : tie.Need-put-number-requires-2
 put-number-requires-2 c κs = omega (arith, c .before .before .before .put-number .ensures .0, number-short (c .before .before .before .before .before .before .args .client) 32)
 
 put-number-requires-3 : tie.Need-put-number-requires-3
 put-number-requires-3 c κs = omega (arith, c .before .before .before .put-number2 .ensures .0, c .before .before .before .before .before .before .before .put-number .ensures .0, number-short (c .before .before .before .before .before .before .before .before .before .before .args .client) 32, number-short (c .before .before .before .before .before .before .before .before .before .before .args .clock) 32)
-
-same-length : tie.Need-same-length
-same-length c = search needs
 
 returns : tie.Need-returns
 unfolding rangeLine
@@ -29,6 +23,4 @@ returns c =
     put-then (a .out .now) (a .used) (client ++ clock) (number (a .len) 10) (put-then (a .out .now) (a .used) client clock (c .before .before .before .before .before .before .before .before .before .before .put-number .ensures) (c .before .before .before .before .before .before .put-number2 .ensures)) (c .before .before .put-number3 .ensures)
 
 pub put-range-spec : {M : Type 1} → statement M
-put-range-spec =
-    tie.close
-    (tie.spec put-number-requires put-number-requires-2 put-number-requires-3 same-length returns)
+put-range-spec = tie.close (tie.spec (λ c κs. search needs) put-number-requires-2 put-number-requires-3 (λ c. search needs) returns)

@@ -29,42 +29,6 @@ loop-holds c =
     let e : a .n - 0 ≡ a .n = omega arith in
     (omega arith, omega arith, rw e, rw e, refl)
 
-mul-first : tie.Need-mul-first Inv-loop μ-loop
-mul-first c = search needs
-
-mul-client : tie.Need-mul-client Inv-loop μ-loop
-mul-client c = search needs
-
-shared-slice-read-client : tie.Need-shared-slice-read-client Inv-loop μ-loop
-shared-slice-read-client c = search needs
-
-add-clock : tie.Need-add-clock Inv-loop μ-loop
-add-clock c = search needs
-
-mul-clock : tie.Need-mul-clock Inv-loop μ-loop
-mul-clock c = search needs
-
-shared-slice-read-clock : tie.Need-shared-slice-read-clock Inv-loop μ-loop
-shared-slice-read-clock c = search needs
-
-add-len : tie.Need-add-len Inv-loop μ-loop
-add-len c = search needs
-
-mul-len : tie.Need-mul-len Inv-loop μ-loop
-mul-len c = search needs
-
-shared-slice-read-len : tie.Need-shared-slice-read-len Inv-loop μ-loop
-shared-slice-read-len c = search needs
-
-put-range-requires : tie.Need-put-range-requires Inv-loop μ-loop
-put-range-requires c κs = search needs
-
-add-i : tie.Need-add-i Inv-loop μ-loop
-add-i c = search needs
-
-loop-less : tie.Need-loop-less Inv-loop μ-loop
-loop-less c = search needs
-
 loop-again : tie.Need-loop-again Inv-loop μ-loop
 unfolding row
 loop-again c =
@@ -92,21 +56,6 @@ pub put-ranges-spec : {M : Type 1} → statement M
 put-ranges-spec =
     tie.close
     (tie.spec
-    Inv-loop
-    μ-loop
-    loop-holds
-    mul-first
-    mul-client
-    shared-slice-read-client
-    add-clock
-    mul-clock
-    shared-slice-read-clock
-    add-len
-    mul-len
-    shared-slice-read-len
-    put-range-requires
-    add-i
-    loop-less
-    loop-again
-    same-length
+    Inv-loop μ-loop loop-holds (λ c. search needs) (λ c. search needs) (λ c. search needs) (λ c. search needs) (λ c. search needs) (λ c. search needs)
+    (λ c. search needs) (λ c. search needs) (λ c. search needs) (λ c κs. search needs) (λ c. search needs) (λ c. search needs) loop-again same-length
     returns)

@@ -20,12 +20,6 @@ Inv u w₀ at₀ k₀ w at k = Small w × (k ≤ 9) × Cutting u w k at
 abbrev μ : tie.MeasureT-loop
 μ u w₀ at₀ k₀ w at k = 9 - k
 
-refuse-requires : tie.Need-refuse-requires Inv μ
-refuse-requires c κs = search needs
-
-same-length : tie.Need-same-length Inv μ
-same-length c = search needs
-
 returns : tie.Need-returns Inv μ
 returns c =
     let b = c .before .before .before .before .before .before .before in
@@ -36,24 +30,6 @@ loop-holds : tie.Need-loop-holds Inv μ
 loop-holds c =
     let b = c .before .before .before in
     (b .pre, omega arith, cutting-none (b .args .update .now) (b .args .w .now) (c .if1 .left))
-
-read-unsigned-requires : tie.Need-read-unsigned-requires Inv μ
-read-unsigned-requires c κs = search needs
-
-enum-known-n : tie.Need-enum-known-n Inv μ
-enum-known-n c = search needs
-
-enum-told : tie.Need-enum-told Inv μ
-enum-told c = search needs
-
-why-read-requires : tie.Need-why-read-requires Inv μ
-why-read-requires c κs = search needs
-
-refuse-requires-2 : tie.Need-refuse-requires-2 Inv μ
-refuse-requires-2 c κs = search needs
-
-same-length-2 : tie.Need-same-length-2 Inv μ
-same-length-2 c = search needs
 
 returns-2 : tie.Need-returns-2 Inv μ
 returns-2 c =
@@ -76,12 +52,6 @@ sub-left : tie.Need-sub-left Inv μ
 sub-left c =
     omega (arith, ends c)
 
-refuse-requires-3 : tie.Need-refuse-requires-3 Inv μ
-refuse-requires-3 c κs = search needs
-
-same-length-3 : tie.Need-same-length-3 Inv μ
-same-length-3 c = search needs
-
 returns-3 : tie.Need-returns-3 Inv μ
 returns-3 c =
     let a = c .before .before .before .before .before .before .before .before .before .before .before .before .before .before .args in
@@ -95,12 +65,6 @@ returns-3 c =
 add-to : tie.Need-add-to Inv μ
 add-to c =
     omega (arith, ends (c .before))
-
-put-column-requires : tie.Need-put-column-requires Inv μ
-put-column-requires c κs = search needs
-
-add-k : tie.Need-add-k Inv μ
-add-k c = search needs
 
 loop-less : tie.Need-loop-less Inv μ
 loop-less c =
@@ -118,16 +82,10 @@ loop-again c =
           (column-there (a .update .now) (l .at) (g .0 .0) (g .0 .1 .0) (sym (c .before .before .before .before .before .before .before .before .read-unsigned .ensures) ∙ g .1) (c .before .before .before .before .if2 .left)) p,
     )
 
-slice-write-w : tie.Need-slice-write-w Inv μ
-slice-write-w c = search needs
-
 open-text-requires : tie.Need-open-text-requires Inv μ
 open-text-requires c κs =
     let l = c .before .before .loop in
     small-at (l .w) (l .inv .0) (l .at)
-
-same-length-4 : tie.Need-same-length-4 Inv μ
-same-length-4 c = search needs
 
 returns-4 : tie.Need-returns-4 Inv μ
 returns-4 c =
@@ -141,29 +99,6 @@ pub open-spec : {M : Type 1} → statement M
 open-spec =
     tie.close
     (tie.spec
-    Inv
-    μ
-    refuse-requires
-    same-length
-    returns
-    loop-holds
-    read-unsigned-requires
-    enum-known-n
-    enum-told
-    why-read-requires
-    refuse-requires-2
-    same-length-2
-    returns-2
-    sub-left
-    refuse-requires-3
-    same-length-3
-    returns-3
-    add-to
-    put-column-requires
-    add-k
-    loop-less
-    loop-again
-    slice-write-w
-    open-text-requires
-    same-length-4
-    returns-4)
+    Inv μ (λ c κs. search needs) (λ c. search needs) returns loop-holds (λ c κs. search needs) (λ c. search needs) (λ c. search needs)
+    (λ c κs. search needs) (λ c κs. search needs) (λ c. search needs) returns-2 sub-left (λ c κs. search needs) (λ c. search needs) returns-3 add-to
+    (λ c κs. search needs) (λ c. search needs) loop-less loop-again (λ c. search needs) open-text-requires (λ c. search needs) returns-4)

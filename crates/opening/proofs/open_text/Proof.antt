@@ -8,38 +8,11 @@ use borrow.Author.Needs.{needs}
 use Rattle.opening.proofs.open_text.Statement.{statement}
 use Rattle.opening.proofs.open_text.Tie as tie
 
-slice-read-at : tie.Need-slice-read-at
-slice-read-at c = search needs
-
-slice-read-to : tie.Need-slice-read-to
-slice-read-to c = search needs
-
-upto-requires : tie.Need-upto-requires
-upto-requires c κs = search needs
-
-open-requires : tie.Need-open-requires
-open-requires c κs = search needs
-
-enum-known-why : tie.Need-enum-known-why
-enum-known-why c = search needs
-
-refuse-requires : tie.Need-refuse-requires
-refuse-requires c κs = search needs
-
-enum-known-place : tie.Need-enum-known-place
-enum-known-place c = search needs
-
-slice-write-w : tie.Need-slice-write-w
-slice-write-w c = search needs
-
 slice-write-w-2 : tie.Need-slice-write-w-2
 slice-write-w-2 c = simp length-set (omega arith)
 
 slice-write-w-3 : tie.Need-slice-write-w-3
 slice-write-w-3 c = simp length-set (omega arith)
-
-cast-w : tie.Need-cast-w
-cast-w c = search needs
 
 slice-write-w-4 : tie.Need-slice-write-w-4
 slice-write-w-4 c = simp length-set (omega arith)
@@ -49,9 +22,6 @@ slice-write-w-5 c = simp length-set (omega arith)
 
 slice-write-w-6 : tie.Need-slice-write-w-6
 slice-write-w-6 c = simp length-set (omega arith)
-
-same-length : tie.Need-same-length
-same-length c = search needs
 
 returns : tie.Need-returns
 unfolding cell
@@ -75,21 +45,6 @@ pub open-text-spec : {M : Type 1} → statement M
 open-text-spec =
     tie.close
     (tie.spec
-    slice-read-at
-    slice-read-to
-    upto-requires
-    open-requires
-    enum-known-why
-    refuse-requires
-    enum-known-place
-    slice-write-w
-    slice-write-w-2
-    slice-write-w-3
-    cast-w
-    slice-write-w-4
-    slice-write-w-5
-    slice-write-w-6
-    same-length
-    returns
-    same-length-2
-    returns-2)
+    (λ c. search needs) (λ c. search needs) (λ c κs. search needs) (λ c κs. search needs) (λ c. search needs) (λ c κs. search needs)
+    (λ c. search needs) (λ c. search needs) slice-write-w-2 slice-write-w-3 (λ c. search needs) slice-write-w-4 slice-write-w-5 slice-write-w-6
+    (λ c. search needs) returns same-length-2 returns-2)

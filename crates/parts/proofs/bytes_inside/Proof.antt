@@ -18,9 +18,6 @@ returns : tie.Need-returns
 unfolding bytesIn
 returns c = (rw (span _ _ _) (omega (arith, c .if1 .taken)), search needs)
 
-sub-left : tie.Need-sub-left
-sub-left c = search needs
-
 returns-2 : tie.Need-returns-2
 unfolding bytesIn
 returns-2 c = (rw (span _ _ _) (omega (arith, c .if2 .taken, c .before .before .if1 .left)), search needs)
@@ -30,4 +27,4 @@ unfolding bytesIn
 returns-3 c = (rw (span _ _ _) (omega (arith, c .if2 .left, c .before .before .if1 .left)), search needs)
 
 pub bytes-inside-spec : {M : Type 1} → statement M
-bytes-inside-spec = tie.close (tie.spec returns sub-left returns-2 returns-3)
+bytes-inside-spec = tie.close (tie.spec returns (λ c. search needs) returns-2 returns-3)

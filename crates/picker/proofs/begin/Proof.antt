@@ -6,22 +6,13 @@ use borrow.Author.Needs.{needs}
 use Rattle.picker.proofs.begin.Statement.{statement}
 use Rattle.picker.proofs.begin.Tie as tie
 
-point-requires : tie.Need-point-requires
-point-requires c κs = search needs
-
 returns : tie.Need-returns
 unfolding looks
 returns c = rw (lt-leb (c .before .before .before .before .args .blocks) maxBlocks (c .before .if1 .taken)) (c .point .ensures)
-
-mul-point : tie.Need-mul-point
-mul-point c = search needs
-
-point-requires-2 : tie.Need-point-requires-2
-point-requires-2 c κs = search needs
 
 returns-2 : tie.Need-returns-2
 unfolding looks
 returns-2 c = rw (le-leb (c .before .before .before .before .args .blocks) maxBlocks (c .before .if1 .left)) (c .point2 .ensures)
 
 pub begin-spec : {M : Type 1} → statement M
-begin-spec = tie.close (tie.spec point-requires returns mul-point point-requires-2 returns-2)
+begin-spec = tie.close (tie.spec (λ c κs. search needs) returns (λ c. search needs) (λ c κs. search needs) returns-2)

@@ -9,12 +9,6 @@ use borrow.Author.Needs.{needs}
 use Rattle.picker.proofs.consider.Statement.{statement}
 use Rattle.picker.proofs.consider.Tie as tie
 
-is-other-requires : tie.Need-is-other-requires
-is-other-requires c κs = search needs
-
-set-ready-requires : tie.Need-set-ready-requires
-set-ready-requires c κs = search needs
-
 returns : tie.Need-returns
 returns c =
     let a = c .before .before .before .before .before .before .args in
@@ -28,12 +22,6 @@ rank-of-requires c κs = c .before .before .before .before .before .pre
 is-at-requires : tie.Need-is-at-requires
 is-at-requires c κs = (c .before .before .before .before .before .before .pre .0, c .rank-of .ensures .0)
 
-is-met-requires : tie.Need-is-met-requires
-is-met-requires c κs = search needs
-
-set-ready-requires-2 : tie.Need-set-ready-requires-2
-set-ready-requires-2 c κs = search needs
-
 returns-2 : tie.Need-returns-2
 returns-2 c =
     let a = c .before .before .before .before .before .before .before .before .before .before .args in
@@ -44,9 +32,6 @@ returns-2 c =
     c .set-ready2 .ensures
     ∙ sym (is-met (a .client) (slotsFrom (a .slots .now) 0 (a .n)) (a .reach .now) (a .f) (a .k) (a .a) (p .result) (named .result) (p .ensures .0)
     (named .ensures) e (sym (c .before .before .is-met .ensures) ∙ c .before .if2 .taken))
-
-wait-for-requires : tie.Need-wait-for-requires
-wait-for-requires c κs = search needs
 
 returns-3 : tie.Need-returns-3
 returns-3 c =
@@ -63,13 +48,5 @@ pub consider-spec : {M : Type 1} → statement M
 consider-spec =
     tie.close
     (tie.spec
-    is-other-requires
-    set-ready-requires
-    returns
-    rank-of-requires
-    is-at-requires
-    is-met-requires
-    set-ready-requires-2
-    returns-2
-    wait-for-requires
-    returns-3)
+    (λ c κs. search needs) (λ c κs. search needs) returns rank-of-requires is-at-requires (λ c κs. search needs) (λ c κs. search needs) returns-2
+    (λ c κs. search needs) returns-3)

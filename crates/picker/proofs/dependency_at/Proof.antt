@@ -8,15 +8,9 @@ use borrow.Author.Needs.{needs}
 use Rattle.picker.proofs.dependency_at.Statement.{statement}
 use Rattle.picker.proofs.dependency_at.Tie as tie
 
-no-dependency-requires : tie.Need-no-dependency-requires
-no-dependency-requires c κs = search needs
-
 returns : tie.Need-returns
 unfolding dependencies dependencyAt
 returns c = rw (eq-eqb (c .before .before .before .args .b .kind) 2 (c .before .if1 .taken)) (c .no-dependency .ensures)
-
-no-dependency-requires-2 : tie.Need-no-dependency-requires-2
-no-dependency-requires-2 c κs = search needs
 
 returns-2 : tie.Need-returns-2
 unfolding dependencies dependencyAt
@@ -43,13 +37,4 @@ returns-5 c =
     c .no-dependency2 .ensures ∙ sym (no-fourth (a .b) (a .k) (omega (arith, m .0 .0 .1, m .0 .1, m .1)))
 
 pub dependency-at-spec : {M : Type 1} → statement M
-dependency-at-spec =
-    tie.close
-    (tie.spec
-    no-dependency-requires
-    returns
-    no-dependency-requires-2
-    returns-2
-    returns-3
-    returns-4
-    returns-5)
+dependency-at-spec = tie.close (tie.spec (λ c κs. search needs) returns (λ c κs. search needs) returns-2 returns-3 returns-4 returns-5)

@@ -20,12 +20,6 @@ loop-holds : tie.Need-loop-holds Inv-loop μ-loop
 unfolding looked
 loop-holds c = refl
 
-dependency-at-requires : tie.Need-dependency-at-requires Inv-loop μ-loop
-dependency-at-requires c κs = search needs
-
-add-k : tie.Need-add-k Inv-loop μ-loop
-add-k c = search needs
-
 consider-requires : tie.Need-consider-requires Inv-loop μ-loop
 consider-requires c κs = c .before .before .before .before .before .pre
 
@@ -39,9 +33,6 @@ returns c =
     (g .ensures) (c .if1 .taken)
     ∙ l .inv
 
-loop-less : tie.Need-loop-less Inv-loop μ-loop
-loop-less c = search needs
-
 loop-again : tie.Need-loop-again Inv-loop μ-loop
 loop-again c =
     let a = c .before .before .before .before .before .before .before .before .args in
@@ -51,9 +42,6 @@ loop-again c =
     look-on (slotsFrom (a .slots .now) 0 (a .n)) (a .reach .now) (a .f) (a .b) (l .k) (l .k + 1) (d .result) (g .result) (add-one (l .k)) (d .ensures)
     (g .ensures) (c .if1 .left)
     ∙ l .inv
-
-set-ready-requires : tie.Need-set-ready-requires Inv-loop μ-loop
-set-ready-requires c κs = search needs
 
 returns-2 : tie.Need-returns-2 Inv-loop μ-loop
 returns-2 c =
@@ -65,14 +53,5 @@ pub examine-spec : {M : Type 1} → statement M
 examine-spec =
     tie.close
     (tie.spec
-    Inv-loop
-    μ-loop
-    loop-holds
-    dependency-at-requires
-    add-k
-    consider-requires
-    returns
-    loop-less
-    loop-again
-    set-ready-requires
-    returns-2)
+    Inv-loop μ-loop loop-holds (λ c κs. search needs) (λ c. search needs) consider-requires returns (λ c. search needs) loop-again
+    (λ c κs. search needs) returns-2)

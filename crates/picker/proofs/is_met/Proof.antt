@@ -19,20 +19,9 @@ returns-2 c =
     let e = List·getD-eq-default (a .reach .now) 0 {n = a .p} (c .if2 .taken) in
     rw (not-false (a .named) (c .before .if1 .left), e, le-ltb (a .id .clock) 0 (omega arith)) refl
 
-cast-result : tie.Need-cast-result
-cast-result c = search needs
-
-mul-result : tie.Need-mul-result
-mul-result c = search needs
-
-shared-slice-read-result : tie.Need-shared-slice-read-result
-shared-slice-read-result c = search needs
-
 returns-3 : tie.Need-returns-3
 unfolding metAt
 returns-3 c = rw (not-false (c .before .before .before .before .args .named) (c .before .before .before .if1 .left)) refl
 
 pub is-met-spec : {M : Type 1} → statement M
-is-met-spec =
-    tie.close
-    (tie.spec returns returns-2 cast-result mul-result shared-slice-read-result returns-3)
+is-met-spec = tie.close (tie.spec returns returns-2 (λ c. search needs) (λ c. search needs) (λ c. search needs) returns-3)

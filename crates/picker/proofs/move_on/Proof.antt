@@ -9,23 +9,11 @@ use borrow.Author.Needs.{needs}
 use Rattle.picker.proofs.move_on.Statement.{statement}
 use Rattle.picker.proofs.move_on.Tie as tie
 
-one-more-requires : tie.Need-one-more-requires
-one-more-requires c κs = search needs
-
-none-requires : tie.Need-none-requires
-none-requires c κs = search needs
-
 returns : tie.Need-returns
 unfolding moved
 returns c =
     let a = c .before .before .before .before .args in
     rw (le-leb (a .f .left) 1 (c .before .if1 .taken), ← c .before .before .before .one-more .ensures, c .none .ensures) refl
-
-sub-begin : tie.Need-sub-begin
-sub-begin c = search needs
-
-begin-requires : tie.Need-begin-requires
-begin-requires c κs = search needs
 
 returns-2 : tie.Need-returns-2
 unfolding moved fresh
@@ -35,5 +23,4 @@ returns-2 c =
     (c .begin .ensures ∙ rw (ne-eqb (left - 1) 0 (λ e. omega (arith, c .before .before .if1 .left))) refl)
 
 pub move-on-spec : {M : Type 1} → statement M
-move-on-spec =
-    tie.close (tie.spec one-more-requires none-requires returns sub-begin begin-requires returns-2)
+move-on-spec = tie.close (tie.spec (λ c κs. search needs) (λ c κs. search needs) returns (λ c. search needs) (λ c κs. search needs) returns-2)

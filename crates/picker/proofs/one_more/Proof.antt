@@ -8,9 +8,6 @@ use borrow.Author.Needs.{needs}
 use Rattle.picker.proofs.one_more.Statement.{statement}
 use Rattle.picker.proofs.one_more.Tie as tie
 
-add-result : tie.Need-add-result
-add-result c = search needs
-
 returns : tie.Need-returns
 unfolding oneMore
 returns c = rw (lt-ltb (c .before .args .n) brim (c .if1 .taken), add-one) refl
@@ -20,4 +17,4 @@ unfolding oneMore
 returns-2 c = rw (le-ltb (c .before .args .n) brim (c .if1 .left)) refl
 
 pub one-more-spec : {M : Type 1} → statement M
-one-more-spec = tie.close (tie.spec add-result returns returns-2)
+one-more-spec = tie.close (tie.spec (λ c. search needs) returns returns-2)

@@ -11,18 +11,12 @@ returns : tie.Need-returns
 unfolding pointed
 returns c = rw (le-ltb 0 (c .before .before .before .args .left) (omega (arith, c .if1 .taken))) refl
 
-first-due-requires : tie.Need-first-due-requires
-first-due-requires c κs = search needs
-
 returns-2 : tie.Need-returns-2
 unfolding pointed
 returns-2 c =
     let a = c .before .before .before .before .before .args in
     let slot = c .before .first-due in
     rw (lt-ltb 0 (a .left) (omega (arith, c .before .before .if1 .left)), ← slot .ensures .0, le-ltb (slot .result) (a .n) (c .if2 .taken)) refl
-
-front-at-requires : tie.Need-front-at-requires
-front-at-requires c κs = search needs
 
 returns-3 : tie.Need-returns-3
 unfolding pointed
@@ -38,4 +32,4 @@ returns-3 c =
     refl
 
 pub point-spec : {M : Type 1} → statement M
-point-spec = tie.close (tie.spec returns first-due-requires returns-2 front-at-requires returns-3)
+point-spec = tie.close (tie.spec returns (λ c κs. search needs) returns-2 (λ c κs. search needs) returns-3)

@@ -30,27 +30,6 @@ returns-3 c =
     let a = c .before .before .before .before .before .args in
     sym (set-out (a .reach .now) (a .p) (lifted (getD (a .reach .now) (a .p) 0) (a .b)) (c .if3 .taken))
 
-cast-end : tie.Need-cast-end
-cast-end c = search needs
-
-add-end : tie.Need-add-end
-add-end c = search needs
-
-mul-if4 : tie.Need-mul-if4
-mul-if4 c = search needs
-
-slice-read-if4 : tie.Need-slice-read-if4
-slice-read-if4 c = search needs
-
-mul-reach : tie.Need-mul-reach
-mul-reach c = search needs
-
-slice-write-reach : tie.Need-slice-write-reach
-slice-write-reach c = search needs
-
-same-length : tie.Need-same-length
-same-length c = search needs
-
 returns-4 : tie.Need-returns-4
 unfolding lift lifted
 returns-4 c =
@@ -73,15 +52,5 @@ pub raise-spec : {M : Type 1} → statement M
 raise-spec =
     tie.close
     (tie.spec
-    returns
-    returns-2
-    returns-3
-    cast-end
-    add-end
-    mul-if4
-    slice-read-if4
-    mul-reach
-    slice-write-reach
-    same-length
-    returns-4
-    returns-5)
+    returns returns-2 returns-3 (λ c. search needs) (λ c. search needs) (λ c. search needs) (λ c. search needs) (λ c. search needs)
+    (λ c. search needs) (λ c. search needs) returns-4 returns-5)

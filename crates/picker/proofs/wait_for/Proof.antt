@@ -5,12 +5,6 @@ use borrow.Author.Needs.{needs}
 use Rattle.picker.proofs.wait_for.Statement.{statement}
 use Rattle.picker.proofs.wait_for.Tie as tie
 
-cast-next : tie.Need-cast-next
-cast-next c = search needs
-
-add-next : tie.Need-add-next
-add-next c = search needs
-
 returns : tie.Need-returns
 unfolding awaitingAt
 returns c = rw (c .before .if1 .taken) refl
@@ -20,4 +14,4 @@ unfolding awaitingAt
 returns-2 c = rw (c .if1 .left) refl
 
 pub wait-for-spec : {M : Type 1} → statement M
-wait-for-spec = tie.close (tie.spec cast-next add-next returns returns-2)
+wait-for-spec = tie.close (tie.spec (λ c. search needs) (λ c. search needs) returns returns-2)

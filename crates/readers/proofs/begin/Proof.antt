@@ -4,30 +4,6 @@ use borrow.Author.Needs.{needs}
 use Rattle.readers.proofs.begin.Statement.{statement}
 use Rattle.readers.proofs.begin.Tie as tie
 
-enum-told : tie.Need-enum-told
-enum-told c = search needs
-
-start-requires : tie.Need-start-requires
-start-requires c κs = search needs
-
-enum-told-2 : tie.Need-enum-told-2
-enum-told-2 c = search needs
-
-start-requires-2 : tie.Need-start-requires-2
-start-requires-2 c κs = search needs
-
-enum-told-3 : tie.Need-enum-told-3
-enum-told-3 c = search needs
-
-start-requires-3 : tie.Need-start-requires-3
-start-requires-3 c κs = search needs
-
-enum-told-4 : tie.Need-enum-told-4
-enum-told-4 c = search needs
-
-begin-text-requires : tie.Need-begin-text-requires
-begin-text-requires c κs = search needs
-
 returns : tie.Need-returns
 unfolding startOf
 returns c = rw (c .start .ensures, c .before .enum-told .given .1)
@@ -48,15 +24,5 @@ pub begin-spec : {M : Type 1} → statement M
 begin-spec =
     tie.close
     (tie.spec
-    enum-told
-    start-requires
-    enum-told-2
-    start-requires-2
-    enum-told-3
-    start-requires-3
-    enum-told-4
-    begin-text-requires
-    returns
-    returns-2
-    returns-3
-    returns-4)
+    (λ c. search needs) (λ c κs. search needs) (λ c. search needs) (λ c κs. search needs) (λ c. search needs) (λ c κs. search needs)
+    (λ c. search needs) (λ c κs. search needs) returns returns-2 returns-3 returns-4)

@@ -5,24 +5,6 @@ use borrow.Author.Needs.{needs}
 use Rattle.readers.proofs.difference_step.Statement.{statement}
 use Rattle.readers.proofs.difference_step.Tie as tie
 
-next-requires : tie.Need-next-requires
-next-requires c κs = search needs
-
-enum-known-value : tie.Need-enum-known-value
-enum-known-value c = search needs
-
-cast-value-of : tie.Need-cast-value-of
-cast-value-of c = search needs
-
-value-of-requires : tie.Need-value-of-requires
-value-of-requires c κs = search needs
-
-enum-known-why : tie.Need-enum-known-why
-enum-known-why c = search needs
-
-refuse-requires : tie.Need-refuse-requires
-refuse-requires c κs = search needs
-
 returns : tie.Need-returns
 unfolding differenceStep
 returns c = let r = c .before .before .before .before .next .ensures in rw (c .value-of .ensures) (sym (ap (differenceStep _) (sym r ∙ c .before .before .value .given .1)))
@@ -35,11 +17,4 @@ pub difference-step-spec : {M : Type 1} → statement M
 difference-step-spec =
     tie.close
     (tie.spec
-    next-requires
-    enum-known-value
-    cast-value-of
-    value-of-requires
-    enum-known-why
-    refuse-requires
-    returns
-    returns-2)
+    (λ c κs. search needs) (λ c. search needs) (λ c. search needs) (λ c κs. search needs) (λ c. search needs) (λ c κs. search needs) returns returns-2)

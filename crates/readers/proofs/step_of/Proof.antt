@@ -5,30 +5,6 @@ use borrow.Author.Needs.{needs}
 use Rattle.readers.proofs.step_of.Statement.{statement}
 use Rattle.readers.proofs.step_of.Tie as tie
 
-enum-known-place : tie.Need-enum-known-place
-enum-known-place c = search needs
-
-number-step-requires : tie.Need-number-step-requires
-number-step-requires c κs = search needs
-
-enum-known-place-2 : tie.Need-enum-known-place-2
-enum-known-place-2 c = search needs
-
-difference-step-requires : tie.Need-difference-step-requires
-difference-step-requires c κs = search needs
-
-enum-known-place-3 : tie.Need-enum-known-place-3
-enum-known-place-3 c = search needs
-
-byte-step-requires : tie.Need-byte-step-requires
-byte-step-requires c κs = search needs
-
-enum-known-place-4 : tie.Need-enum-known-place-4
-enum-known-place-4 c = search needs
-
-text-step-requires : tie.Need-text-step-requires
-text-step-requires c κs = search needs
-
 returns : tie.Need-returns
 unfolding stepOf
 returns c = c .number-step .ensures ∙ ap (stepOf _) (sym (c .before .before .place .given .1))
@@ -49,15 +25,5 @@ pub step-of-spec : {M : Type 1} → statement M
 step-of-spec =
     tie.close
     (tie.spec
-    enum-known-place
-    number-step-requires
-    enum-known-place-2
-    difference-step-requires
-    enum-known-place-3
-    byte-step-requires
-    enum-known-place-4
-    text-step-requires
-    returns
-    returns-2
-    returns-3
-    returns-4)
+    (λ c. search needs) (λ c κs. search needs) (λ c. search needs) (λ c κs. search needs) (λ c. search needs) (λ c κs. search needs)
+    (λ c. search needs) (λ c κs. search needs) returns returns-2 returns-3 returns-4)

@@ -11,19 +11,10 @@ use borrow.Author.Needs.{needs}
 use Rattle.records.proofs.count_units.Statement.{statement}
 use Rattle.records.proofs.count_units.Tie as tie
 
-bytes-inside-requires : tie.Need-bytes-inside-requires
-bytes-inside-requires c κs = search needs
-
 returns : tie.Need-returns
 returns c =
     let a = c .before .before .before .args in
     units-none (bytesIn (a .update .now) (a .part)) (sym (c .before .bytes-inside .ensures .0) ∙ c .if1 .taken)
-
-add-count-units : tie.Need-add-count-units
-add-count-units c = search needs
-
-count-units-requires : tie.Need-count-units-requires
-count-units-requires c κs = search needs
 
 returns-2 : tie.Need-returns-2
 returns-2 c =
@@ -33,6 +24,4 @@ returns-2 c =
     ∙ ap (λ (l : List ℕ). countedIn l .units) (part-slice (a .update .now) (a .part) (n .result) (n .ensures .0))
 
 pub count-units-spec : {M : Type 1} → statement M
-count-units-spec =
-    tie.close
-    (tie.spec bytes-inside-requires returns add-count-units count-units-requires returns-2)
+count-units-spec = tie.close (tie.spec (λ c κs. search needs) returns (λ c. search needs) (λ c κs. search needs) returns-2)

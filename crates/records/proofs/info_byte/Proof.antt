@@ -4,27 +4,6 @@ use borrow.Author.Needs.{needs}
 use Rattle.records.proofs.info_byte.Statement.{statement}
 use Rattle.records.proofs.info_byte.Tie as tie
 
-content-number-requires : tie.Need-content-number-requires
-content-number-requires c κs = search needs
-
-bit-requires : tie.Need-bit-requires
-bit-requires c κs = search needs
-
-bit-requires-2 : tie.Need-bit-requires-2
-bit-requires-2 c κs = search needs
-
-bit-requires-3 : tie.Need-bit-requires-3
-bit-requires-3 c κs = search needs
-
-add-result : tie.Need-add-result
-add-result c = search needs
-
-add-result-2 : tie.Need-add-result-2
-add-result-2 c = search needs
-
-add-result-3 : tie.Need-add-result-3
-add-result-3 c = search needs
-
 returns : tie.Need-returns
 returns c =
     let p1 = c .before in
@@ -38,11 +17,5 @@ pub info-byte-spec : {M : Type 1} → statement M
 info-byte-spec =
     tie.close
     (tie.spec
-    content-number-requires
-    bit-requires
-    bit-requires-2
-    bit-requires-3
-    add-result
-    add-result-2
-    add-result-3
-    returns)
+    (λ c κs. search needs) (λ c κs. search needs) (λ c κs. search needs) (λ c κs. search needs) (λ c. search needs) (λ c. search needs)
+    (λ c. search needs) returns)

@@ -4,15 +4,6 @@ use borrow.Author.Needs.{needs}
 use Rattle.records.proofs.write_block.Statement.{statement}
 use Rattle.records.proofs.write_block.Tie as tie
 
-write-info-requires : tie.Need-write-info-requires
-write-info-requires c κs = search needs
-
-write-len-requires : tie.Need-write-len-requires
-write-len-requires c κs = search needs
-
-same-length : tie.Need-same-length
-same-length c = search needs
-
 returns : tie.Need-returns
 returns c =
     let p2 = c .before .before in
@@ -21,15 +12,6 @@ returns c =
     let p13 = p8 .before .before .before .before .before in
     let a = p13 .args in
     block-gc (a .out .now) (a .update .now) (a .e) (a .b) (p8 .if1 .taken) (p6 .write-info .ensures) (p2 .write-len .ensures)
-
-write-info-requires-2 : tie.Need-write-info-requires-2
-write-info-requires-2 c κs = search needs
-
-write-var-requires : tie.Need-write-var-requires
-write-var-requires c κs = search needs
-
-same-length-2 : tie.Need-same-length-2
-same-length-2 c = search needs
 
 returns-2 : tie.Need-returns-2
 returns-2 c =
@@ -40,21 +22,6 @@ returns-2 c =
     let p15 = p10 .before .before .before .before .before in
     let a = p15 .args in
     block-skip (a .out .now) (a .update .now) (a .e) (a .b) (p10 .if1 .left) (p8 .if2 .taken) (p6 .write-info2 .ensures) (p2 .write-var .ensures)
-
-info-byte-requires : tie.Need-info-byte-requires
-info-byte-requires c κs = search needs
-
-write-info-requires-3 : tie.Need-write-info-requires-3
-write-info-requires-3 c κs = search needs
-
-write-place-requires : tie.Need-write-place-requires
-write-place-requires c κs = search needs
-
-write-content-requires : tie.Need-write-content-requires
-write-content-requires c κs = search needs
-
-same-length-3 : tie.Need-same-length-3
-same-length-3 c = search needs
 
 returns-3 : tie.Need-returns-3
 returns-3 c =
@@ -73,17 +40,5 @@ pub write-block-spec : {M : Type 1} → statement M
 write-block-spec =
     tie.close
     (tie.spec
-    write-info-requires
-    write-len-requires
-    same-length
-    returns
-    write-info-requires-2
-    write-var-requires
-    same-length-2
-    returns-2
-    info-byte-requires
-    write-info-requires-3
-    write-place-requires
-    write-content-requires
-    same-length-3
-    returns-3)
+    (λ c κs. search needs) (λ c κs. search needs) (λ c. search needs) returns (λ c κs. search needs) (λ c κs. search needs) (λ c. search needs)
+    returns-2 (λ c κs. search needs) (λ c κs. search needs) (λ c κs. search needs) (λ c κs. search needs) (λ c. search needs) returns-3)

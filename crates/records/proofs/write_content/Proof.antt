@@ -4,22 +4,10 @@ use borrow.Author.Needs.{needs}
 use Rattle.records.proofs.write_content.Statement.{statement}
 use Rattle.records.proofs.write_content.Tie as tie
 
-write-len-requires : tie.Need-write-len-requires
-write-len-requires c κs = search needs
-
-same-length : tie.Need-same-length
-same-length c = search needs
-
 returns : tie.Need-returns
 returns c =
     let a = c .before .before .before .before .before .before .before .before .before .before .args in
     content-deleted (a .out .now) (a .update .now) (a .e) (a .b) (c .before .before .before .before .if1 .taken) (c .before .before .write-len .ensures)
-
-write-buf-requires : tie.Need-write-buf-requires
-write-buf-requires c κs = search needs
-
-same-length-2 : tie.Need-same-length-2
-same-length-2 c = search needs
 
 returns-2 : tie.Need-returns-2
 returns-2 c =
@@ -29,12 +17,6 @@ returns-2 c =
     let p12 = p6 .before .before .before .before .before .before in
     let a = p12 .args in
     content-binary (a .out .now) (a .update .now) (a .e) (a .b) (p6 .if1 .left) (p4 .if2 .taken) (p2 .write-buf .ensures)
-
-write-string-requires : tie.Need-write-string-requires
-write-string-requires c κs = search needs
-
-same-length-3 : tie.Need-same-length-3
-same-length-3 c = search needs
 
 returns-3 : tie.Need-returns-3
 returns-3 c =
@@ -49,12 +31,5 @@ pub write-content-spec : {M : Type 1} → statement M
 write-content-spec =
     tie.close
     (tie.spec
-    write-len-requires
-    same-length
-    returns
-    write-buf-requires
-    same-length-2
-    returns-2
-    write-string-requires
-    same-length-3
+    (λ c κs. search needs) (λ c. search needs) returns (λ c κs. search needs) (λ c. search needs) returns-2 (λ c κs. search needs) (λ c. search needs)
     returns-3)

@@ -10,24 +10,6 @@ returns c =
     let a = c .before .before .args in
     head-none (a .out .now) [] (a .e) (a .b) (a .count) (a .from .0) (c .if1 .taken) (c .before .before .pre .0)
 
-cast-clock : tie.Need-cast-clock
-cast-clock c = search needs
-
-add-clock : tie.Need-add-clock
-add-clock c = search needs
-
-write-var-requires : tie.Need-write-var-requires
-write-var-requires c κs = search needs
-
-write-client-requires : tie.Need-write-client-requires
-write-client-requires c κs = search needs
-
-write-var-requires-2 : tie.Need-write-var-requires-2
-write-var-requires-2 c κs = search needs
-
-same-length : tie.Need-same-length
-same-length c = search needs
-
 returns-2 : tie.Need-returns-2
 returns-2 c =
     let p2 = c .before .before in
@@ -43,11 +25,4 @@ pub write-head-spec : {M : Type 1} → statement M
 write-head-spec =
     tie.close
     (tie.spec
-    returns
-    cast-clock
-    add-clock
-    write-var-requires
-    write-client-requires
-    write-var-requires-2
-    same-length
-    returns-2)
+    returns (λ c. search needs) (λ c. search needs) (λ c κs. search needs) (λ c κs. search needs) (λ c κs. search needs) (λ c. search needs) returns-2)

@@ -10,12 +10,6 @@ returns c =
     let a = c .before .before .before .before .args in
     key-none (a .out .now) (a .update .now) (a .e) (a .b) (not-true (a .b .«has_key») (c .if1 .taken)) (c .before .before .before .before .pre)
 
-write-name-requires : tie.Need-write-name-requires
-write-name-requires c κs = search needs
-
-same-length : tie.Need-same-length
-same-length c = search needs
-
 returns-2 : tie.Need-returns-2
 returns-2 c =
     let p2 = c .before .before in
@@ -25,4 +19,4 @@ returns-2 c =
     key-some (a .out .now) (a .update .now) (a .e) (a .b) (not-false (a .b .«has_key») (p5 .if1 .left)) (p2 .write-name .ensures)
 
 pub write-key-spec : {M : Type 1} → statement M
-write-key-spec = tie.close (tie.spec returns write-name-requires same-length returns-2)
+write-key-spec = tie.close (tie.spec returns (λ c κs. search needs) (λ c. search needs) returns-2)

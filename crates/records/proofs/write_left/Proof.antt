@@ -11,18 +11,6 @@ returns c =
     let a = c .before .before .before .args in
     left-none (a .out .now) [] (a .e) (a .b) (not-true (a .b .«has_left») (c .if1 .taken)) (c .before .before .before .pre)
 
-write-client-requires : tie.Need-write-client-requires
-write-client-requires c κs = search needs
-
-cast-write-left-clock : tie.Need-cast-write-left-clock
-cast-write-left-clock c = search needs
-
-write-left-clock-requires : tie.Need-write-left-clock-requires
-write-left-clock-requires c κs = search needs
-
-same-length : tie.Need-same-length
-same-length c = search needs
-
 returns-2 : tie.Need-returns-2
 returns-2 c =
     let p2 = c .before .before in
@@ -33,12 +21,4 @@ returns-2 c =
     left-some (a .out .now) [] (a .e) (a .b) (not-false (a .b .«has_left») (p10 .if1 .left)) (p7 .write-client .ensures) (p2 .write-left-clock .ensures)
 
 pub write-left-spec : {M : Type 1} → statement M
-write-left-spec =
-    tie.close
-    (tie.spec
-    returns
-    write-client-requires
-    cast-write-left-clock
-    write-left-clock-requires
-    same-length
-    returns-2)
+write-left-spec = tie.close (tie.spec returns (λ c κs. search needs) (λ c. search needs) (λ c κs. search needs) (λ c. search needs) returns-2)

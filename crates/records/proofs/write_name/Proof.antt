@@ -6,26 +6,11 @@ use borrow.Author.Needs.{needs}
 use Rattle.records.proofs.write_name.Statement.{statement}
 use Rattle.records.proofs.write_name.Tie as tie
 
-write-string-requires : tie.Need-write-string-requires
-write-string-requires c κs = search needs
-
-same-length : tie.Need-same-length
-same-length c = search needs
-
 returns : tie.Need-returns
 returns c =
     let a = c .before .before .before .before .before .before .before .before .args in
     let b = bytesIn (a .update .now) (a .part) in
     wrote-any (a .out .now) (a .e) b 0 (countedIn b .units .0) (c .before .before .before .before .if1 .taken) (c .before .before .write-string .ensures)
-
-count-units-requires : tie.Need-count-units-requires
-count-units-requires c κs = search needs
-
-write-string-requires-2 : tie.Need-write-string-requires-2
-write-string-requires-2 c κs = search needs
-
-same-length-2 : tie.Need-same-length-2
-same-length-2 c = search needs
 
 returns-2 : tie.Need-returns-2
 returns-2 c = rw (← c .before .before .before .before .count-units .ensures) (c .before .before .write-string2 .ensures)
@@ -34,10 +19,4 @@ pub write-name-spec : {M : Type 1} → statement M
 write-name-spec =
     tie.close
     (tie.spec
-    write-string-requires
-    same-length
-    returns
-    count-units-requires
-    write-string-requires-2
-    same-length-2
-    returns-2)
+    (λ c κs. search needs) (λ c. search needs) returns (λ c κs. search needs) (λ c κs. search needs) (λ c. search needs) returns-2)

@@ -11,18 +11,6 @@ returns c =
     let a = c .before .before .before .args in
     right-none (a .out .now) [] (a .e) (a .b) (not-true (a .b .«has_right») (c .if1 .taken)) (c .before .before .before .pre)
 
-write-client-requires : tie.Need-write-client-requires
-write-client-requires c κs = search needs
-
-cast-write-right-clock : tie.Need-cast-write-right-clock
-cast-write-right-clock c = search needs
-
-write-right-clock-requires : tie.Need-write-right-clock-requires
-write-right-clock-requires c κs = search needs
-
-same-length : tie.Need-same-length
-same-length c = search needs
-
 returns-2 : tie.Need-returns-2
 returns-2 c =
     let p2 = c .before .before in
@@ -33,12 +21,4 @@ returns-2 c =
     right-some (a .out .now) [] (a .e) (a .b) (not-false (a .b .«has_right») (p10 .if1 .left)) (p7 .write-client .ensures) (p2 .write-right-clock .ensures)
 
 pub write-right-spec : {M : Type 1} → statement M
-write-right-spec =
-    tie.close
-    (tie.spec
-    returns
-    write-client-requires
-    cast-write-right-clock
-    write-right-clock-requires
-    same-length
-    returns-2)
+write-right-spec = tie.close (tie.spec returns (λ c κs. search needs) (λ c. search needs) (λ c κs. search needs) (λ c. search needs) returns-2)

@@ -7,9 +7,6 @@ use borrow.Author.Needs.{needs}
 use Rattle.records.proofs.write_row.Statement.{statement}
 use Rattle.records.proofs.write_row.Tie as tie
 
-is-sane-requires : tie.Need-is-sane-requires
-is-sane-requires c κs = search needs
-
 returns : tie.Need-returns
 returns c =
     let p1 = c .before in
@@ -32,12 +29,6 @@ cut-requires c κs =
     let p5 = p4 .before in
     sym (p5 .is-sane .ensures) ∙ not-false (p5 .is-sane .result) (p4 .if1 .left)
 
-write-block-requires : tie.Need-write-block-requires
-write-block-requires c κs = search needs
-
-same-length : tie.Need-same-length
-same-length c = search needs
-
 returns-2 : tie.Need-returns-2
 returns-2 c =
     let p2 = c .before .before in
@@ -55,10 +46,4 @@ pub write-row-spec : {M : Type 1} → statement M
 write-row-spec =
     tie.close
     (tie.spec
-    is-sane-requires
-    returns
-    write-head-requires
-    cut-requires
-    write-block-requires
-    same-length
-    returns-2)
+    (λ c κs. search needs) returns write-head-requires cut-requires (λ c κs. search needs) (λ c. search needs) returns-2)

@@ -9,11 +9,8 @@ use Rattle.reports.proofs.awaited_reach.Tie as tie
 returns : tie.Need-returns
 returns c = rw (eq-eqb (c .before .before .args .need) never (c .if1 .taken)) refl
 
-reach-at-requires : tie.Need-reach-at-requires
-reach-at-requires c κs = search needs
-
 returns-2 : tie.Need-returns-2
 returns-2 c = rw (ne-eqb (c .before .before .before .args .need) never (c .before .if1 .left)) (c .reach-at .ensures)
 
 pub awaited-reach-spec : {M : Type 1} → statement M
-awaited-reach-spec = tie.close (tie.spec returns reach-at-requires returns-2)
+awaited-reach-spec = tie.close (tie.spec returns (λ c κs. search needs) returns-2)

@@ -5,17 +5,8 @@ use borrow.Author.Needs.{needs}
 use Rattle.reports.proofs.clear_after.Statement.{statement}
 use Rattle.reports.proofs.clear_after.Tie as tie
 
-clear-requires : tie.Need-clear-requires
-clear-requires c κs = search needs
-
-same-length : tie.Need-same-length
-same-length c = search needs
-
-returns : tie.Need-returns
-returns c = search needs
-
 returns-2 : tie.Need-returns-2
 returns-2 c = let a = c .before .before .args in cleared-none (a .out .now) (a .n) (omega arith)
 
 pub clear-after-spec : {M : Type 1} → statement M
-clear-after-spec = tie.close (tie.spec clear-requires same-length returns returns-2)
+clear-after-spec = tie.close (tie.spec (λ c κs. search needs) (λ c. search needs) (λ c. search needs) returns-2)

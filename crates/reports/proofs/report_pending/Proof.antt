@@ -19,15 +19,6 @@ loop-holds c =
     let a = c .before .before .before .before .args in
     (begun (pendings (a .fronts .now) (a .reach .now)) (a .slots .now) (a .n) (a .out .now), omega arith, omega arith)
 
-report-waiting-requires : tie.Need-report-waiting-requires Inv-loop μ-loop
-report-waiting-requires c κs = search needs
-
-add-i : tie.Need-add-i Inv-loop μ-loop
-add-i c = search needs
-
-loop-less : tie.Need-loop-less Inv-loop μ-loop
-loop-less c = search needs
-
 loop-again : tie.Need-loop-again Inv-loop μ-loop
 loop-again c =
     let call = c .before .before .report-waiting in
@@ -36,12 +27,6 @@ loop-again c =
     let l = at .loop in
     let next = turn (pendings (a .fronts .now) (a .reach .now)) (l .inv .0) (omega arith) in
     (rw (call .ensures .2, call .ensures .0) next, omega arith, omega (arith, call .ensures .1))
-
-clear-after-requires : tie.Need-clear-after-requires Inv-loop μ-loop
-clear-after-requires c κs = search needs
-
-same-length : tie.Need-same-length Inv-loop μ-loop
-same-length c = search needs
 
 returns : tie.Need-returns Inv-loop μ-loop
 returns c =
@@ -59,13 +44,5 @@ pub report-pending-spec : {M : Type 1} → statement M
 report-pending-spec =
     tie.close
     (tie.spec
-    Inv-loop
-    μ-loop
-    loop-holds
-    report-waiting-requires
-    add-i
-    loop-less
-    loop-again
-    clear-after-requires
-    same-length
+    Inv-loop μ-loop loop-holds (λ c κs. search needs) (λ c. search needs) (λ c. search needs) loop-again (λ c κs. search needs) (λ c. search needs)
     returns)

@@ -20,39 +20,6 @@ loop-holds c =
     let a = c .before .before .before .args in
     (begun (reaches (a .reach .now)) (a .slots .now) (a .n) (a .out .now), omega arith)
 
-mul-client : tie.Need-mul-client Inv-loop μ-loop
-mul-client c = search needs
-
-mul-client-2 : tie.Need-mul-client-2 Inv-loop μ-loop
-mul-client-2 c = search needs
-
-shared-slice-read-client : tie.Need-shared-slice-read-client Inv-loop μ-loop
-shared-slice-read-client c = search needs
-
-reach-at-requires : tie.Need-reach-at-requires Inv-loop μ-loop
-reach-at-requires c κs = search needs
-
-mul-put-word : tie.Need-mul-put-word Inv-loop μ-loop
-mul-put-word c = search needs
-
-put-word-requires : tie.Need-put-word-requires Inv-loop μ-loop
-put-word-requires c κs = search needs
-
-mul-put-word-2 : tie.Need-mul-put-word-2 Inv-loop μ-loop
-mul-put-word-2 c = search needs
-
-add-put-word : tie.Need-add-put-word Inv-loop μ-loop
-add-put-word c = search needs
-
-put-word-requires-2 : tie.Need-put-word-requires-2 Inv-loop μ-loop
-put-word-requires-2 c κs = search needs
-
-add-i : tie.Need-add-i Inv-loop μ-loop
-add-i c = search needs
-
-loop-less : tie.Need-loop-less Inv-loop μ-loop
-loop-less c = search needs
-
 loop-again : tie.Need-loop-again Inv-loop μ-loop
 loop-again c =
     let second = c .before .before in
@@ -66,18 +33,6 @@ loop-again c =
     let behind : 2 * l .i + 1 ≡ suc (2 * l .i) = omega arith in
     let words = reach-words (a .slots .now) (a .reach .now) (l .i) in
     (rw (second .put-word2 .ensures, first .put-word .ensures, reached .reach-at .ensures, e, behind) (rw words at next), omega arith)
-
-mul-clear-after : tie.Need-mul-clear-after Inv-loop μ-loop
-mul-clear-after c = search needs
-
-clear-after-requires : tie.Need-clear-after-requires Inv-loop μ-loop
-clear-after-requires c κs = search needs
-
-mul-result : tie.Need-mul-result Inv-loop μ-loop
-mul-result c = search needs
-
-same-length : tie.Need-same-length Inv-loop μ-loop
-same-length c = search needs
 
 returns : tie.Need-returns Inv-loop μ-loop
 returns c =
@@ -93,23 +48,6 @@ pub report-reaches-spec : {M : Type 1} → statement M
 report-reaches-spec =
     tie.close
     (tie.spec
-    Inv-loop
-    μ-loop
-    loop-holds
-    mul-client
-    mul-client-2
-    shared-slice-read-client
-    reach-at-requires
-    mul-put-word
-    put-word-requires
-    mul-put-word-2
-    add-put-word
-    put-word-requires-2
-    add-i
-    loop-less
-    loop-again
-    mul-clear-after
-    clear-after-requires
-    mul-result
-    same-length
-    returns)
+    Inv-loop μ-loop loop-holds (λ c. search needs) (λ c. search needs) (λ c. search needs) (λ c κs. search needs) (λ c. search needs)
+    (λ c κs. search needs) (λ c. search needs) (λ c. search needs) (λ c κs. search needs) (λ c. search needs) (λ c. search needs) loop-again
+    (λ c. search needs) (λ c κs. search needs) (λ c. search needs) (λ c. search needs) returns)

@@ -9,48 +9,12 @@ use borrow.Author.Needs.{needs}
 use Rattle.reports.proofs.report_waiting.Statement.{statement}
 use Rattle.reports.proofs.report_waiting.Tie as tie
 
-front-at-requires : tie.Need-front-at-requires
-front-at-requires c κs = search needs
-
 returns : tie.Need-returns
 returns c =
     let front = c .before .before in
     let a = front .before .before .before .before .before .args in
     let e = pending-none (a .slots .now) (a .i) (front .front-at .result) (a .reach .now) (c .if1 .taken) in
     rw (← front .front-at .ensures, e) (sym (add-zero (a .at)), omega arith, refl)
-
-mul-client : tie.Need-mul-client
-mul-client c = search needs
-
-mul-client-2 : tie.Need-mul-client-2
-mul-client-2 c = search needs
-
-shared-slice-read-client : tie.Need-shared-slice-read-client
-shared-slice-read-client c = search needs
-
-awaited-reach-requires : tie.Need-awaited-reach-requires
-awaited-reach-requires c κs = search needs
-
-put-word-requires : tie.Need-put-word-requires
-put-word-requires c κs = search needs
-
-add-put-word : tie.Need-add-put-word
-add-put-word c = search needs
-
-put-word-requires-2 : tie.Need-put-word-requires-2
-put-word-requires-2 c κs = search needs
-
-add-put-word-2 : tie.Need-add-put-word-2
-add-put-word-2 c = search needs
-
-put-word-requires-3 : tie.Need-put-word-requires-3
-put-word-requires-3 c κs = search needs
-
-add-result : tie.Need-add-result
-add-result c = search needs
-
-same-length : tie.Need-same-length
-same-length c = search needs
 
 returns-2 : tie.Need-returns-2
 returns-2 c =
@@ -72,17 +36,5 @@ pub report-waiting-spec : {M : Type 1} → statement M
 report-waiting-spec =
     tie.close
     (tie.spec
-    front-at-requires
-    returns
-    mul-client
-    mul-client-2
-    shared-slice-read-client
-    awaited-reach-requires
-    put-word-requires
-    add-put-word
-    put-word-requires-2
-    add-put-word-2
-    put-word-requires-3
-    add-result
-    same-length
-    returns-2)
+    (λ c κs. search needs) returns (λ c. search needs) (λ c. search needs) (λ c. search needs) (λ c κs. search needs) (λ c κs. search needs)
+    (λ c. search needs) (λ c κs. search needs) (λ c. search needs) (λ c κs. search needs) (λ c. search needs) (λ c. search needs) returns-2)

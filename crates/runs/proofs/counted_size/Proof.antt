@@ -7,31 +7,11 @@ use borrow.Author.Needs.{needs}
 use Rattle.runs.proofs.counted_size.Statement.{statement}
 use Rattle.runs.proofs.counted_size.Tie as tie
 
-size-signed-requires : tie.Need-size-signed-requires
-size-signed-requires c κs = search needs
-
 returns : tie.Need-returns
 returns c = (λ m. c .before .size-signed .ensures .0 m ∙ ap length (sym (run-one m (c .before .before .args .x) _ (c .if1 .taken))), omega (arith, c .before .size-signed .ensures .1))
-
-sub-size-unsigned : tie.Need-sub-size-unsigned
-sub-size-unsigned c = search needs
-
-size-unsigned-requires : tie.Need-size-unsigned-requires
-size-unsigned-requires c κs = search needs
-
-add-result : tie.Need-add-result
-add-result c = search needs
 
 returns-2 : tie.Need-returns-2
 returns-2 c = (λ m. omega (arith, c .before .before .size-signed .ensures .0 m, c .size-unsigned .ensures .0, run-many-length m (c .before .before .before .args .x) (c .before .before .before .args .n) (c .before .if1 .left)), omega (arith, c .before .before .size-signed .ensures .1, c .size-unsigned .ensures .1))
 
 pub counted-size-spec : {M : Type 1} → statement M
-counted-size-spec =
-    tie.close
-    (tie.spec
-    size-signed-requires
-    returns
-    sub-size-unsigned
-    size-unsigned-requires
-    add-result
-    returns-2)
+counted-size-spec = tie.close (tie.spec (λ c κs. search needs) returns (λ c. search needs) (λ c κs. search needs) (λ c. search needs) returns-2)

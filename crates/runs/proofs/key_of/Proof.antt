@@ -6,18 +6,9 @@ use borrow.Author.Needs.{needs}
 use Rattle.runs.proofs.key_of.Statement.{statement}
 use Rattle.runs.proofs.key_of.Tie as tie
 
-enum-told : tie.Need-enum-told
-enum-told c = search needs
-
-enum-told-2 : tie.Need-enum-told-2
-enum-told-2 c = search needs
-
 key-between-requires : tie.Need-key-between-requires
 unfolding coding
 key-between-requires c κs = let p = rw (c .enum-told2 .given .1) at (c .before .before .pre) in p
-
-enum-told-3 : tie.Need-enum-told-3
-enum-told-3 c = search needs
 
 returns : tie.Need-returns
 unfolding coding
@@ -35,6 +26,4 @@ unfolding coding
 returns-3 c = (rw (c .enum-told3 .given .1), rw (c .enum-told3 .given .1) (rw (c .enum-told3 .given .1) at (key-most (c .before .before .args .column) (c .before .before .args .last) (c .before .before .args .v) (c .before .before .pre .1))))
 
 pub key-of-spec : {M : Type 1} → statement M
-key-of-spec =
-    tie.close
-    (tie.spec enum-told enum-told-2 key-between-requires enum-told-3 returns returns-2 returns-3)
+key-of-spec = tie.close (tie.spec (λ c. search needs) (λ c. search needs) key-between-requires (λ c. search needs) returns returns-2 returns-3)

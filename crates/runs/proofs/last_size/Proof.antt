@@ -6,21 +6,9 @@ use borrow.Author.Needs.{needs}
 use Rattle.runs.proofs.last_size.Statement.{statement}
 use Rattle.runs.proofs.last_size.Tie as tie
 
-enum-told : tie.Need-enum-told
-enum-told c = search needs
-
-run-size-requires : tie.Need-run-size-requires
-run-size-requires c κs = search needs
-
-enum-told-2 : tie.Need-enum-told-2
-enum-told-2 c = search needs
-
 run-size-requires-2 : tie.Need-run-size-requires-2
 unfolding coding keyMost
 run-size-requires-2 c κs = let p = rw (c .enum-told2 .given .1) at (c .before .before .pre) in omega arith
-
-enum-told-3 : tie.Need-enum-told-3
-enum-told-3 c = search needs
 
 returns : tie.Need-returns
 unfolding coding
@@ -38,11 +26,4 @@ pub last-size-spec : {M : Type 1} → statement M
 last-size-spec =
     tie.close
     (tie.spec
-    enum-told
-    run-size-requires
-    enum-told-2
-    run-size-requires-2
-    enum-told-3
-    returns
-    returns-2
-    returns-3)
+    (λ c. search needs) (λ c κs. search needs) (λ c. search needs) run-size-requires-2 (λ c. search needs) returns returns-2 returns-3)

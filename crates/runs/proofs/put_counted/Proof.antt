@@ -10,23 +10,14 @@ use Rattle.runs.proofs.put_counted.Tie as tie
 write-signed-requires : tie.Need-write-signed-requires
 write-signed-requires c κs = let a = c .before .before .args in omega (arith, run-head (a .minus) (a .x) (a .n))
 
-same-length : tie.Need-same-length
-same-length c = search needs
-
 returns : tie.Need-returns
 returns c = let a = c .before .before .before .before .before .before .args in rw (run-one (a .minus) (a .x) _ (c .if1 .taken)) (c .before .before .before .write-signed .ensures)
-
-sub-write-unsigned : tie.Need-sub-write-unsigned
-sub-write-unsigned c = search needs
 
 write-unsigned-requires : tie.Need-write-unsigned-requires
 write-unsigned-requires c κs =
     let a = c .before .before .before .before .before .before .before .args in
     let w = c .before .before .before .before .write-signed in
     omega (arith, run-many-length (a .minus) (a .x) (a .n) (c .before .if1 .left), w .ensures .0, w .kept .0)
-
-same-length-2 : tie.Need-same-length-2
-same-length-2 c = search needs
 
 returns-2 : tie.Need-returns-2
 returns-2 c =
@@ -39,10 +30,4 @@ pub put-counted-spec : {M : Type 1} → statement M
 put-counted-spec =
     tie.close
     (tie.spec
-    write-signed-requires
-    same-length
-    returns
-    sub-write-unsigned
-    write-unsigned-requires
-    same-length-2
-    returns-2)
+    write-signed-requires (λ c. search needs) returns (λ c. search needs) write-unsigned-requires (λ c. search needs) returns-2)

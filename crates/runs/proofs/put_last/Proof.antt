@@ -5,43 +5,25 @@ use borrow.Author.Needs.{needs}
 use Rattle.runs.proofs.put_last.Statement.{statement}
 use Rattle.runs.proofs.put_last.Tie as tie
 
-enum-told : tie.Need-enum-told
-enum-told c = search needs
-
 put-run-requires : tie.Need-put-run-requires
 unfolding coding
 put-run-requires c κs = rw (c .before .enum-told .given .1) at (c .before .before .before .before .pre .0)
-
-enum-told-2 : tie.Need-enum-told-2
-enum-told-2 c = search needs
 
 put-run-requires-2 : tie.Need-put-run-requires-2
 unfolding coding keyMost
 put-run-requires-2 c κs = let p = rw (c .before .enum-told2 .given .1) at (c .before .before .before .before .pre) in (p .0, omega arith)
 
-enum-told-3 : tie.Need-enum-told-3
-enum-told-3 c = search needs
-
 put-last-requires : tie.Need-put-last-requires
 unfolding coding keyMost
 put-last-requires c κs = let p = rw (c .before .enum-told3 .given .1) at (c .before .before .before .before .pre) in (p .0, omega arith)
-
-same-length : tie.Need-same-length
-same-length c = search needs
 
 returns : tie.Need-returns
 unfolding coding
 returns c = rw (c .before .before .before .before .enum-told .given .1) (c .before .before .put-run .ensures)
 
-same-length-2 : tie.Need-same-length-2
-same-length-2 c = search needs
-
 returns-2 : tie.Need-returns-2
 unfolding coding
 returns-2 c = rw (c .before .before .before .before .enum-told2 .given .1) (c .before .before .put-run2 .ensures)
-
-same-length-3 : tie.Need-same-length-3
-same-length-3 c = search needs
 
 returns-3 : tie.Need-returns-3
 unfolding coding
@@ -51,15 +33,5 @@ pub put-last-spec : {M : Type 1} → statement M
 put-last-spec =
     tie.close
     (tie.spec
-    enum-told
-    put-run-requires
-    enum-told-2
-    put-run-requires-2
-    enum-told-3
-    put-last-requires
-    same-length
-    returns
-    same-length-2
-    returns-2
-    same-length-3
-    returns-3)
+    (λ c. search needs) put-run-requires (λ c. search needs) put-run-requires-2 (λ c. search needs) put-last-requires (λ c. search needs) returns
+    (λ c. search needs) returns-2 (λ c. search needs) returns-3)

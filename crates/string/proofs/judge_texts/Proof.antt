@@ -21,29 +21,14 @@ Inv-loop text units j₀ t₀ i₀ j t i = JudgedTo Number units i j × TakenTo 
 abbrev μ-loop : tie.MeasureT-loop
 μ-loop text units j₀ t₀ i₀ j t i = length units - i
 
-judge-none-requires : tie.Need-judge-none-requires Inv-loop μ-loop
-judge-none-requires c κs = search needs
-
 loop-holds : tie.Need-loop-holds Inv-loop μ-loop
 loop-holds c = let a = c .before .before .before .args in (rw (c .judge-none .ensures) (judge-begin Number (a .units .now)), taking-begin (a .text .now) (a .units .now))
-
-mul-u : tie.Need-mul-u Inv-loop μ-loop
-mul-u c = search needs
-
-shared-slice-read-u : tie.Need-shared-slice-read-u Inv-loop μ-loop
-shared-slice-read-u c = search needs
-
-add-i : tie.Need-add-i Inv-loop μ-loop
-add-i c = search needs
 
 judge-next-requires : tie.Need-judge-next-requires Inv-loop μ-loop
 judge-next-requires c κs = let l = c .before .before .loop in (l .inv .0 .sound, omega (arith, l .inv .0 .few))
 
 take-next-requires : tie.Need-take-next-requires Inv-loop μ-loop
 take-next-requires c κs = c .before .before .before .loop .inv .1 .room
-
-loop-less : tie.Need-loop-less Inv-loop μ-loop
-loop-less c = search needs
 
 loop-again : tie.Need-loop-again Inv-loop μ-loop
 loop-again c =
@@ -68,9 +53,6 @@ returns : tie.Need-returns Inv-loop μ-loop
 returns c =
     let a = c .before .before .before .before .before .before .before .args in
     sym (why-six (a .text .now) (a .units .now) (sym (checked (c .before)) ∙ not-true (c .before .check .result) (c .if1 .taken)))
-
-judge-end-requires : tie.Need-judge-end-requires Inv-loop μ-loop
-judge-end-requires c κs = search needs
 
 returns-2 : tie.Need-returns-2 Inv-loop μ-loop
 returns-2 c =
@@ -99,20 +81,5 @@ pub judge-texts-spec : {M : Type 1} → statement M
 judge-texts-spec =
     tie.close
     (tie.spec
-    Inv-loop
-    μ-loop
-    judge-none-requires
-    loop-holds
-    mul-u
-    shared-slice-read-u
-    add-i
-    judge-next-requires
-    take-next-requires
-    loop-less
-    loop-again
-    check-requires
-    returns
-    judge-end-requires
-    returns-2
-    returns-3
-    returns-4)
+    Inv-loop μ-loop (λ c κs. search needs) loop-holds (λ c. search needs) (λ c. search needs) (λ c. search needs) judge-next-requires
+    take-next-requires (λ c. search needs) loop-again check-requires returns (λ c κs. search needs) returns-2 returns-3 returns-4)

@@ -7,26 +7,11 @@ use borrow.Author.Needs.{needs}
 use Rattle.string.proofs.next.Statement.{statement}
 use Rattle.string.proofs.next.Tie as tie
 
-next-requires : tie.Need-next-requires
-next-requires c κs = search needs
-
-enum-known-r : tie.Need-enum-known-r
-enum-known-r c = search needs
-
-enum-told : tie.Need-enum-told
-enum-told c = search needs
-
-why-requires : tie.Need-why-requires
-why-requires c κs = search needs
-
 returns : tie.Need-returns
 unfolding nextText drawn
 returns c =
     let told = c .before .enum-told .given .1 in
     rw (← c .before .before .before .next .ensures, told) (ap Bad (c .why .ensures ∙ ap whyNumber told))
-
-take-requires : tie.Need-take-requires
-take-requires c κs = search needs
 
 returns-2 : tie.Need-returns-2
 unfolding nextText drawn
@@ -35,4 +20,5 @@ returns-2 c = rw (← c .before .before .before .before .next .ensures, c .befor
 pub next-spec : {M : Type 1} → statement M
 next-spec =
     tie.close
-    (tie.spec next-requires enum-known-r enum-told why-requires returns take-requires returns-2)
+    (tie.spec
+    (λ c κs. search needs) (λ c. search needs) (λ c. search needs) (λ c κs. search needs) returns (λ c κs. search needs) returns-2)

@@ -13,18 +13,6 @@ use borrow.Author.Needs.{needs}
 use Rattle.string.proofs.open.Statement.{statement}
 use Rattle.string.proofs.open.Tie as tie
 
-read-unsigned-requires : tie.Need-read-unsigned-requires
-read-unsigned-requires c κs = search needs
-
-enum-known-r : tie.Need-enum-known-r
-enum-known-r c = search needs
-
-enum-told : tie.Need-enum-told
-enum-told c = search needs
-
-why-read-requires : tie.Need-why-read-requires
-why-read-requires c κs = search needs
-
 returns : tie.Need-returns
 unfolding openText opened
 returns c =
@@ -47,9 +35,6 @@ returns-2 c =
     let r = c .before .before in
     rw (← r .before .before .read-unsigned .ensures, r .r .given .1, lt-ltb _ _ (c .if1 .taken))
 
-add-end : tie.Need-add-end
-add-end c = search needs
-
 check-requires : tie.Need-check-requires
 check-requires c κs = (omega arith, omega (arith, ends (c .before), c .if1 .left))
 
@@ -59,9 +44,6 @@ returns-3 c =
     let r = c .before .before .before .before in
     let k = c .before .check in
     rw (← r .before .before .read-unsigned .ensures, r .r .given .1, le-ltb _ _ (c .before .before .if1 .left), ← k .ensures, not-true (k .result) (c .if2 .taken))
-
-start-requires : tie.Need-start-requires
-start-requires c κs = search needs
 
 returns-4 : tie.Need-returns-4
 unfolding openText opened
@@ -75,15 +57,5 @@ pub open-spec : {M : Type 1} → statement M
 open-spec =
     tie.close
     (tie.spec
-    read-unsigned-requires
-    enum-known-r
-    enum-told
-    why-read-requires
-    returns
-    sub-left
-    returns-2
-    add-end
-    check-requires
-    returns-3
-    start-requires
-    returns-4)
+    (λ c κs. search needs) (λ c. search needs) (λ c. search needs) (λ c κs. search needs) returns sub-left returns-2 (λ c. search needs)
+    check-requires returns-3 (λ c κs. search needs) returns-4)

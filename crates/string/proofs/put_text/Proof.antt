@@ -21,9 +21,6 @@ write-unsigned-requires c κs = omega (arith, head-length (c .before .before .be
 loop-holds : tie.Need-loop-holds Inv-loop μ-loop
 loop-holds c = (refl, omega arith, omega arith)
 
-shared-slice-read-out : tie.Need-shared-slice-read-out Inv-loop μ-loop
-shared-slice-read-out c = search needs
-
 -- stores keep the length
 size : (c : tie.At-loop Inv-loop μ-loop) → length (c .loop .out) ≡ length (c .before .before .before .before .before .before .before .args .out .now)
 size c =
@@ -42,12 +39,6 @@ slice-write-out c = omega (arith, room (c .before), size (c .before .before))
 
 add-at : tie.Need-add-at Inv-loop μ-loop
 add-at c = omega (arith, room (c .before))
-
-add-i : tie.Need-add-i Inv-loop μ-loop
-add-i c = search needs
-
-loop-less : tie.Need-loop-less Inv-loop μ-loop
-loop-less c = search needs
 
 loop-again : tie.Need-loop-again Inv-loop μ-loop
 loop-again c =
@@ -70,15 +61,5 @@ pub put-text-spec : {M : Type 1} → statement M
 put-text-spec =
     tie.close
     (tie.spec
-    Inv-loop
-    μ-loop
-    write-unsigned-requires
-    loop-holds
-    shared-slice-read-out
-    slice-write-out
-    add-at
-    add-i
-    loop-less
-    loop-again
-    same-length
-    returns)
+    Inv-loop μ-loop write-unsigned-requires loop-holds (λ c. search needs) slice-write-out add-at (λ c. search needs) (λ c. search needs) loop-again
+    same-length returns)

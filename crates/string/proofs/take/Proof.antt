@@ -12,12 +12,6 @@ use borrow.Author.Needs.{needs}
 use Rattle.string.proofs.take.Statement.{statement}
 use Rattle.string.proofs.take.Tie as tie
 
-take-text-requires : tie.Need-take-text-requires
-take-text-requires c κs = search needs
-
-enum-known-bytes : tie.Need-enum-known-bytes
-enum-known-bytes c = search needs
-
 add-next : tie.Need-add-next
 unfolding TookWithin
 add-next c =
@@ -26,9 +20,6 @@ add-next c =
     let a = c .before .before .before .before .before .before .args in
     let w : (a .at + b .0 .0 .0 ≤ length (now (a .column))) ⊎ (b .0 .0 .0 ≡ 0) = subst (λ (r : Taken). TookWithin (now (a .column)) (a .at) r) (b .1) (k .ensures .1) in
     ⊎-elim (λ l. omega (arith, l)) (λ z. omega (arith, z)) w
-
-enum-known-n : tie.Need-enum-known-n
-enum-known-n c = search needs
 
 returns : tie.Need-returns
 unfolding taken ending
@@ -39,6 +30,4 @@ unfolding taken ending
 returns-2 c = rw (← c .before .before .before .take-text .ensures .0, c .before .n .given .1)
 
 pub take-spec : {M : Type 1} → statement M
-take-spec =
-    tie.close
-    (tie.spec take-text-requires enum-known-bytes add-next enum-known-n returns returns-2)
+take-spec = tie.close (tie.spec (λ c κs. search needs) (λ c. search needs) add-next (λ c. search needs) returns returns-2)

@@ -15,21 +15,12 @@ returns : tie.Need-returns
 unfolding takeNext
 returns c = (rw (not-true (c .before .before .before .args .t .found) (c .if1 .taken)), c .before .before .before .pre)
 
-take-units-requires : tie.Need-take-units-requires
-take-units-requires c κs = search needs
-
-enum-known-bytes : tie.Need-enum-known-bytes
-enum-known-bytes c = search needs
-
 add-past : tie.Need-add-past
 add-past c =
     let a = c .before .before .before .before .before .before .before .before .args in
     let g = c .before .before .bytes .given in
     let w = cut-at 7 (a .u) (g .0 .0 .0) (a .t .at) (length (a .text .now)) (a .text .now) (c .before .before .before .before .before .before .before .before .pre) (omega arith) (sym (c .before .before .before .before .take-units .ensures) ∙ g .1) .within in
     omega (arith, w)
-
-enum-told : tie.Need-enum-told
-enum-told c = search needs
 
 returns-2 : tie.Need-returns-2
 unfolding takeNext tookText
@@ -50,6 +41,4 @@ returns-3 c =
     (rw (not-false (a .t .found) (c .before .before .before .if1 .left), d), c .before .before .before .before .before .before .pre)
 
 pub take-next-spec : {M : Type 1} → statement M
-take-next-spec =
-    tie.close
-    (tie.spec returns take-units-requires enum-known-bytes add-past enum-told returns-2 returns-3)
+take-next-spec = tie.close (tie.spec returns (λ c κs. search needs) (λ c. search needs) add-past (λ c. search needs) returns-2 returns-3)

@@ -12,15 +12,6 @@ use borrow.Author.Needs.{needs}
 use Rattle.string.proofs.take_text.Statement.{statement}
 use Rattle.string.proofs.take_text.Tie as tie
 
-least-requires : tie.Need-least-requires
-least-requires c κs = search needs
-
-least-requires-2 : tie.Need-least-requires-2
-least-requires-2 c κs = search needs
-
-take-units-requires : tie.Need-take-units-requires
-take-units-requires c κs = search needs
-
 -- the bytes that are looked at are those that were asked for
 same : (c : tie.After-least2)
     → let a = c .before .before .before .args in slice (c .least2 .result) (c .before .least .result) (now (a .column)) ≡ slice (a .at) (a .end) (now (a .column))
@@ -44,4 +35,4 @@ returns : tie.Need-returns
 returns c = (c .take-units .ensures ∙ ap (takeUnits 7 _) (same (c .before)), within (c .before) _ (c .take-units .ensures))
 
 pub take-text-spec : {M : Type 1} → statement M
-take-text-spec = tie.close (tie.spec least-requires least-requires-2 take-units-requires returns)
+take-text-spec = tie.close (tie.spec (λ c κs. search needs) (λ c κs. search needs) (λ c κs. search needs) returns)

@@ -9,15 +9,6 @@ use borrow.Author.Needs.{needs}
 use Rattle.string.proofs.write.Statement.{statement}
 use Rattle.string.proofs.write.Tie as tie
 
-judge-texts-requires : tie.Need-judge-texts-requires
-judge-texts-requires c κs = search needs
-
-refuse-requires : tie.Need-refuse-requires
-refuse-requires c κs = search needs
-
-same-length : tie.Need-same-length
-same-length c = search needs
-
 returns : tie.Need-returns
 returns c =
     let a = c .before .before .before .before .before .before .before .before .before .args in
@@ -32,15 +23,6 @@ returns c =
 legal : (c : tie.Else1) → whyTexts (c .before .before .before .before .before .args .text .now) (c .before .before .before .before .before .args .units .now) ≡ 0
 legal c = sym (c .before .judge-texts .ensures) ∙ c .if1 .left
 
-size-unsigned-requires : tie.Need-size-unsigned-requires
-size-unsigned-requires c κs = search needs
-
-refuse-requires-2 : tie.Need-refuse-requires-2
-refuse-requires-2 c κs = search needs
-
-same-length-2 : tie.Need-same-length-2
-same-length-2 c = search needs
-
 returns-2 : tie.Need-returns-2
 returns-2 c =
     let a = c .before .before .before .before .before .before .before .before .before .before .before .args in
@@ -49,15 +31,6 @@ returns-2 c =
     let q = refuses-room (whyTexts (a .text .now) (a .units .now)) (length (a .out .now)) (textColumn (a .text .now) (a .units .now)) (legal (n .before)) l in
     let r = c .before .before .refuse2 .ensures in
     (r .0 ∙ q .0, r .1 ∙ q .1)
-
-sub-if3 : tie.Need-sub-if3
-sub-if3 c = search needs
-
-refuse-requires-3 : tie.Need-refuse-requires-3
-refuse-requires-3 c κs = search needs
-
-same-length-3 : tie.Need-same-length-3
-same-length-3 c = search needs
 
 returns-3 : tie.Need-returns-3
 returns-3 c =
@@ -81,9 +54,6 @@ put-all-requires c κs =
     let p = c .before .before .before .put-text in
     (omega (arith, p .ensures .0, p .kept .0, room (c .before .before .before .before .before)), why-says (a .text .now) (a .units .now) (legal (c .before .before .before .before .before .before .before .before)) .1)
 
-same-length-4 : tie.Need-same-length-4
-same-length-4 c = search needs
-
 returns-4 : tie.Need-returns-4
 unfolding textColumn
 returns-4 c =
@@ -96,19 +66,6 @@ pub write-spec : {M : Type 1} → statement M
 write-spec =
     tie.close
     (tie.spec
-    judge-texts-requires
-    refuse-requires
-    same-length
-    returns
-    size-unsigned-requires
-    refuse-requires-2
-    same-length-2
-    returns-2
-    sub-if3
-    refuse-requires-3
-    same-length-3
-    returns-3
-    put-text-requires
-    put-all-requires
-    same-length-4
+    (λ c κs. search needs) (λ c κs. search needs) (λ c. search needs) returns (λ c κs. search needs) (λ c κs. search needs) (λ c. search needs)
+    returns-2 (λ c. search needs) (λ c κs. search needs) (λ c. search needs) returns-3 put-text-requires put-all-requires (λ c. search needs)
     returns-4)

@@ -13,26 +13,11 @@ use borrow.Author.Needs.{needs}
 use Rattle.tokens.proofs.close.Statement.{statement}
 use Rattle.tokens.proofs.close.Tie as tie
 
-is-line-requires : tie.Need-is-line-requires
-is-line-requires c κs = search needs
-
 returns : tie.Need-returns
 returns c = let a = c .before .before .before .before .args in end-line (a .out .now) (a .e) (sym (c .before .is-line .ensures) ∙ c .if1 .taken)
 
 returns-2 : tie.Need-returns-2
 returns-2 c = let a = c .before .before .before .before .before .args in at-brim (a .out .now) (a .e) (lastRun (a .e)) (c .if2 .taken)
-
-size-end-requires : tie.Need-size-end-requires
-size-end-requires c κs = search needs
-
-fits-requires : tie.Need-fits-requires
-fits-requires c κs = search needs
-
-add-moved : tie.Need-add-moved
-add-moved c = search needs
-
-moved-requires : tie.Need-moved-requires
-moved-requires c κs = search needs
 
 -- the last run
 run : (c : tie.Else1) → lastRun (c .before .before .before .before .args .e) ≡ finished (c .before .before .before .before .args .e .run)
@@ -62,12 +47,6 @@ finish-requires c κs =
     let n = c .before .before .before .size-end in
     (omega (arith, n .ensures .0, leb-true (a .e .run .at + n .result) (length (a .out .now)) (room (c .before))), c .before .before .before .before .before .before .before .before .before .pre)
 
-moved-requires-2 : tie.Need-moved-requires-2
-moved-requires-2 c κs = search needs
-
-same-length : tie.Need-same-length
-same-length c = search needs
-
 returns-4 : tie.Need-returns-4
 returns-4 c =
     let a = c .before .before .before .before .before .before .before .before .before .before .before .before .before .args in
@@ -83,15 +62,5 @@ pub close-spec : {M : Type 1} → statement M
 close-spec =
     tie.close
     (tie.spec
-    is-line-requires
-    returns
-    returns-2
-    size-end-requires
-    fits-requires
-    add-moved
-    moved-requires
-    returns-3
-    finish-requires
-    moved-requires-2
-    same-length
-    returns-4)
+    (λ c κs. search needs) returns returns-2 (λ c κs. search needs) (λ c κs. search needs) (λ c. search needs) (λ c κs. search needs) returns-3
+    finish-requires (λ c κs. search needs) (λ c. search needs) returns-4)

@@ -25,11 +25,4 @@ unfolding columnIn
 returns-5 c = rw (ne-eqb _ lefts (c .before .before .before .if1 .left), ne-eqb _ rights (c .before .before .if2 .left), ne-eqb _ infos (c .before .if3 .left), ne-eqb _ parents (c .if4 .left))
 
 pub column-of-spec : {M : Type 1} → statement M
-column-of-spec =
-    tie.close
-    (tie.spec
-    returns
-    returns-2
-    returns-3
-    returns-4
-    returns-5)
+column-of-spec = tie.close (tie.spec returns returns-2 returns-3 returns-4 returns-5)

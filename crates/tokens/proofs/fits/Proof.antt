@@ -14,8 +14,4 @@ returns-2 : tie.Need-returns-2
 returns-2 c = let a = c .before .args in leb-less (a .end) (a .at) (a .n) (c .if1 .left)
 
 pub fits-spec : {M : Type 1} → statement M
-fits-spec =
-    tie.close
-    (tie.spec
-    returns
-    returns-2)
+fits-spec = tie.close (tie.spec returns returns-2)

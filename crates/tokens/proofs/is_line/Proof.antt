@@ -17,9 +17,4 @@ unfolding inLine
 returns-3 c = rw (ne-eqb _ texts (c .before .if1 .left), ne-eqb _ rest (c .if2 .left))
 
 pub is-line-spec : {M : Type 1} → statement M
-is-line-spec =
-    tie.close
-    (tie.spec
-    returns
-    returns-2
-    returns-3)
+is-line-spec = tie.close (tie.spec returns returns-2 returns-3)

@@ -14,18 +14,9 @@ returns-2 : tie.Need-returns-2
 unfolding takes
 returns-2 c = rw (lt-ltb _ brim (c .before .before .if1 .left), le-ltb _ brim (c .if2 .taken))
 
-most-requires : tie.Need-most-requires
-most-requires c κs = search needs
-
 returns-3 : tie.Need-returns-3
 unfolding takes
 returns-3 c = rw (lt-ltb _ brim (c .before .before .before .if1 .left), lt-ltb _ brim (c .before .if2 .left), c .most .ensures)
 
 pub is-taken-spec : {M : Type 1} → statement M
-is-taken-spec =
-    tie.close
-    (tie.spec
-    returns
-    returns-2
-    most-requires
-    returns-3)
+is-taken-spec = tie.close (tie.spec returns returns-2 (λ c κs. search needs) returns-3)

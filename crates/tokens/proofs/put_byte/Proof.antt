@@ -13,18 +13,6 @@ use Rattle.tokens.proofs.put_byte.Tie as tie
 returns : tie.Need-returns
 returns c = let a = c .before .before .before .args in at-brim (a .out .now) (a .e) (a .v ∷ []) (c .if1 .taken)
 
-add-next : tie.Need-add-next
-add-next c = search needs
-
-slice-write-out : tie.Need-slice-write-out
-slice-write-out c = search needs
-
-moved-requires : tie.Need-moved-requires
-moved-requires c κs = search needs
-
-same-length : tie.Need-same-length
-same-length c = search needs
-
 returns-2 : tie.Need-returns-2
 returns-2 c =
     let a = c .before .before .before .before .before .args in
@@ -32,9 +20,6 @@ returns-2 c =
       c .moved .ensures ∙ moved-on o (a .e) (a .v ∷ []) (a .e .run .at + 1) (c .before .before .if1 .left) refl,
       bytes-laid o (a .e) (a .v ∷ []) 1 (c .before .before .if1 .left) refl (le-leb (a .e .run .at + 1) (length o) (omega (arith, c .before .if2 .taken))),
     )
-
-moved-requires-2 : tie.Need-moved-requires-2
-moved-requires-2 c κs = search needs
 
 returns-3 : tie.Need-returns-3
 returns-3 c =
@@ -48,11 +33,4 @@ pub put-byte-spec : {M : Type 1} → statement M
 put-byte-spec =
     tie.close
     (tie.spec
-    returns
-    add-next
-    slice-write-out
-    moved-requires
-    same-length
-    returns-2
-    moved-requires-2
-    returns-3)
+    returns (λ c. search needs) (λ c. search needs) (λ c κs. search needs) (λ c. search needs) returns-2 (λ c κs. search needs) returns-3)

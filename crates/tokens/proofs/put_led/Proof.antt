@@ -18,24 +18,6 @@ use Rattle.tokens.proofs.put_led.Tie as tie
 returns : tie.Need-returns
 returns c = let a = c .before .before .before .before .args in at-brim (a .out .now) (a .e) (led (bytesIn (a .update .now) (a .part))) (c .if1 .taken)
 
-bytes-inside-requires : tie.Need-bytes-inside-requires
-bytes-inside-requires c κs = search needs
-
-size-unsigned-requires : tie.Need-size-unsigned-requires
-size-unsigned-requires c κs = search needs
-
-add-size : tie.Need-add-size
-add-size c = search needs
-
-add-next : tie.Need-add-next
-add-next c = search needs
-
-fits-requires : tie.Need-fits-requires
-fits-requires c κs = search needs
-
-moved-requires : tie.Need-moved-requires
-moved-requires c κs = search needs
-
 -- head and bytes
 size : (c : tie.After-size-unsigned)
     → c .size-unsigned .result + c .before .bytes-inside .result ≡ length (led (bytesIn (c .before .before .before .before .before .before .args .update .now) (c .before .before .before .before .before .before .args .part)))
@@ -72,12 +54,6 @@ copy-requires c κs =
     let s = c .before .before .before .before .before .before .before in
     (omega (arith, w .ensures .0, w .kept .0, s .size-unsigned .ensures .0, fit (c .before .before .before .before .before)), s .before .bytes-inside .ensures .1)
 
-moved-requires-2 : tie.Need-moved-requires-2
-moved-requires-2 c κs = search needs
-
-same-length : tie.Need-same-length
-same-length c = search needs
-
 returns-3 : tie.Need-returns-3
 returns-3 c =
     let a = c .before .before .before .before .before .before .before .before .before .before .before .before .before .before .before .before .before .args in
@@ -98,16 +74,5 @@ pub put-led-spec : {M : Type 1} → statement M
 put-led-spec =
     tie.close
     (tie.spec
-    returns
-    bytes-inside-requires
-    size-unsigned-requires
-    add-size
-    add-next
-    fits-requires
-    moved-requires
-    returns-2
-    write-unsigned-requires
-    copy-requires
-    moved-requires-2
-    same-length
-    returns-3)
+    returns (λ c κs. search needs) (λ c κs. search needs) (λ c. search needs) (λ c. search needs) (λ c κs. search needs) (λ c κs. search needs)
+    returns-2 write-unsigned-requires copy-requires (λ c κs. search needs) (λ c. search needs) returns-3)

@@ -15,18 +15,6 @@ use Rattle.tokens.proofs.put_number.Tie as tie
 returns : tie.Need-returns
 returns c = let a = c .before .before .before .args in at-brim (a .out .now) (a .e) (unsigned (a .v)) (c .if1 .taken)
 
-size-unsigned-requires : tie.Need-size-unsigned-requires
-size-unsigned-requires c κs = search needs
-
-fits-requires : tie.Need-fits-requires
-fits-requires c κs = search needs
-
-add-moved : tie.Need-add-moved
-add-moved c = search needs
-
-moved-requires : tie.Need-moved-requires
-moved-requires c κs = search needs
-
 returns-2 : tie.Need-returns-2
 returns-2 c =
     let a = c .before .before .before .before .before .before .before .args in
@@ -48,12 +36,6 @@ write-unsigned-requires c κs =
     let n = c .before .before .before .size-unsigned in
     omega (arith, n .ensures .0, leb-true (a .e .run .at + n .result) (length (a .out .now)) (room (c .before)))
 
-moved-requires-2 : tie.Need-moved-requires-2
-moved-requires-2 c κs = search needs
-
-same-length : tie.Need-same-length
-same-length c = search needs
-
 returns-3 : tie.Need-returns-3
 returns-3 c =
     let a = c .before .before .before .before .before .before .before .before .before .before .before .args in
@@ -68,13 +50,5 @@ pub put-number-spec : {M : Type 1} → statement M
 put-number-spec =
     tie.close
     (tie.spec
-    returns
-    size-unsigned-requires
-    fits-requires
-    add-moved
-    moved-requires
-    returns-2
-    write-unsigned-requires
-    moved-requires-2
-    same-length
-    returns-3)
+    returns (λ c κs. search needs) (λ c κs. search needs) (λ c. search needs) (λ c κs. search needs) returns-2 write-unsigned-requires
+    (λ c κs. search needs) (λ c. search needs) returns-3)

@@ -16,18 +16,6 @@ use Rattle.tokens.proofs.put_part.Tie as tie
 returns : tie.Need-returns
 returns c = let a = c .before .before .before .before .args in at-brim (a .out .now) (a .e) (bytesIn (a .update .now) (a .part)) (c .if1 .taken)
 
-bytes-inside-requires : tie.Need-bytes-inside-requires
-bytes-inside-requires c κs = search needs
-
-add-next : tie.Need-add-next
-add-next c = search needs
-
-fits-requires : tie.Need-fits-requires
-fits-requires c κs = search needs
-
-moved-requires : tie.Need-moved-requires
-moved-requires c κs = search needs
-
 returns-2 : tie.Need-returns-2
 returns-2 c =
     let a = c .before .before .before .before .before .before .before .before .args in
@@ -49,12 +37,6 @@ copy-requires c κs =
     let n = c .before .before .before .bytes-inside in
     (leb-true (a .e .run .at + n .result) (length (a .out .now)) (room (c .before)), n .ensures .1)
 
-moved-requires-2 : tie.Need-moved-requires-2
-moved-requires-2 c κs = search needs
-
-same-length : tie.Need-same-length
-same-length c = search needs
-
 returns-3 : tie.Need-returns-3
 returns-3 c =
     let a = c .before .before .before .before .before .before .before .before .before .before .before .before .args in
@@ -70,13 +52,5 @@ pub put-part-spec : {M : Type 1} → statement M
 put-part-spec =
     tie.close
     (tie.spec
-    returns
-    bytes-inside-requires
-    add-next
-    fits-requires
-    moved-requires
-    returns-2
-    copy-requires
-    moved-requires-2
-    same-length
-    returns-3)
+    returns (λ c κs. search needs) (λ c. search needs) (λ c κs. search needs) (λ c κs. search needs) returns-2 copy-requires (λ c κs. search needs)
+    (λ c. search needs) returns-3)

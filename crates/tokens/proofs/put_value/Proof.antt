@@ -16,9 +16,6 @@ use borrow.Author.Needs.{needs}
 use Rattle.tokens.proofs.put_value.Statement.{statement}
 use Rattle.tokens.proofs.put_value.Tie as tie
 
-is-taken-requires : tie.Need-is-taken-requires
-is-taken-requires c κs = search needs
-
 returns : tie.Need-returns
 returns c =
     let a = c .before .before .before .before .args in
@@ -41,14 +38,8 @@ far c = c .far-with .ensures ∙ rw (c .before .key-of .ensures .0)
 key-of-requires : tie.Need-key-of-requires
 key-of-requires c κs = (c .before .before .before .before .pre .0, legal c .2)
 
-far-with-requires : tie.Need-far-with-requires
-far-with-requires c κs = search needs
-
 size-ahead-requires : tie.Need-size-ahead-requires
 size-ahead-requires c κs = (c .before .before .before .before .before .before .pre, legal (c .before .before) .2)
-
-fits-requires : tie.Need-fits-requires
-fits-requires c κs = search needs
 
 measure-requires : tie.Need-measure-requires
 measure-requires c κs = let l = legal (c .before .before .before .before .before) in (omega (arith, l .0), omega (arith, l .1), c .before .before .before .before .before .before .before .before .before .pre, l .2)
@@ -77,9 +68,6 @@ push-requires c κs =
     let n = c .before .before .before .size-ahead in
     (omega (arith, n .ensures .0, leb-true (a .e .run .at + n .result) (length (a .out .now)) (room (c .before))), omega (arith, l .1), c .before .before .before .before .before .before .before .before .before .before .pre, l .2)
 
-same-length : tie.Need-same-length
-same-length c = search needs
-
 returns-3 : tie.Need-returns-3
 returns-3 c =
     let a = c .before .before .before .before .before .before .before .before .before .before .before .before .before .args in
@@ -96,14 +84,5 @@ pub put-value-spec : {M : Type 1} → statement M
 put-value-spec =
     tie.close
     (tie.spec
-    is-taken-requires
-    returns
-    key-of-requires
-    far-with-requires
-    size-ahead-requires
-    fits-requires
-    measure-requires
-    returns-2
-    push-requires
-    same-length
-    returns-3)
+    (λ c κs. search needs) returns key-of-requires (λ c κs. search needs) size-ahead-requires (λ c κs. search needs) measure-requires returns-2
+    push-requires (λ c. search needs) returns-3)

@@ -7,47 +7,20 @@ use borrow.Author.Needs.{needs}
 use Rattle.update.proofs.begin.Statement.{statement}
 use Rattle.update.proofs.begin.Tie as tie
 
-slice-write-w : tie.Need-slice-write-w
-slice-write-w c = search needs
-
 read-count-requires : tie.Need-read-count-requires
 read-count-requires c κs =
     small-at (c .before .before .before .before .args .w .now) (c .before .before .before .before .pre) 0
-
-same-length : tie.Need-same-length
-same-length c = search needs
 
 returns : tie.Need-returns
 returns c =
     let a = c .before .before .before .before .before .before .before .args in
     starts-line (a .form) (a .update .now) _ _ _ (c .before .before .before .before .if1 .taken) (at-moved (a .w .now) (c .before .before .before .before .before .before .before .pre) 0) (c .before .before .read-count .ensures)
 
-open-requires : tie.Need-open-requires
-open-requires c κs = search needs
-
-enum-told : tie.Need-enum-told
-enum-told c = search needs
-
-enum-told-2 : tie.Need-enum-told-2
-enum-told-2 c = search needs
-
-why-requires : tie.Need-why-requires
-why-requires c κs = search needs
-
-same-length-2 : tie.Need-same-length-2
-same-length-2 c = search needs
-
 returns-2 : tie.Need-returns-2
 returns-2 c =
     let a = c .before .before .before .before .before .before .before .before .before .before .before .args in
     let v = c .before .before .before .before .before .before .«open» .last .1 .0 in
     rw (c .why .ensures) (unopened (a .form) (a .update .now) v (c .before .before .before .before .before .before .before .before .if1 .left) (c .before .before .before .before .before .before .«open» .ensures .0) (ap (openedIn v) (sym (c .before .before .enum-told2 .given .1)) ∙ c .before .before .before .before .before .before .«open» .ensures .1))
-
-read-count-requires-2 : tie.Need-read-count-requires-2
-read-count-requires-2 c κs = search needs
-
-same-length-3 : tie.Need-same-length-3
-same-length-3 c = search needs
 
 returns-3 : tie.Need-returns-3
 returns-3 c =
@@ -59,16 +32,5 @@ pub begin-spec : {M : Type 1} → statement M
 begin-spec =
     tie.close
     (tie.spec
-    slice-write-w
-    read-count-requires
-    same-length
-    returns
-    open-requires
-    enum-told
-    enum-told-2
-    why-requires
-    same-length-2
-    returns-2
-    read-count-requires-2
-    same-length-3
-    returns-3)
+    (λ c. search needs) read-count-requires (λ c. search needs) returns (λ c κs. search needs) (λ c. search needs) (λ c. search needs)
+    (λ c κs. search needs) (λ c. search needs) returns-2 (λ c κs. search needs) (λ c. search needs) returns-3)

@@ -9,24 +9,6 @@ use borrow.Author.Needs.{needs}
 use Rattle.update.proofs.read_block.Statement.{statement}
 use Rattle.update.proofs.read_block.Tie as tie
 
-read-block-requires : tie.Need-read-block-requires
-read-block-requires c κs = search needs
-
-enum-known-at : tie.Need-enum-known-at
-enum-known-at c = search needs
-
-enum-told : tie.Need-enum-told
-enum-told c = search needs
-
-why-requires : tie.Need-why-requires
-why-requires c κs = search needs
-
-same-length : tie.Need-same-length
-same-length c = search needs
-
-same-length-2 : tie.Need-same-length-2
-same-length-2 c = search needs
-
 returns : tie.Need-returns
 returns c =
     let a = c .before .before .before .before .before .before .before .before .before .before .before .before .before .before .before .args in
@@ -38,15 +20,6 @@ returns c =
     let q = c .before .before .before .before .before .before .before .before .read-block .last .1 .1 .1 .0 in
     let law = no-block (a .form) u m (a .w .now) s (p .3) v q (ap (blockOnto v q) (sym (c .before .before .enum-told .given .1)) ∙ c .before .before .before .before .before .before .before .before .read-block .ensures .2) in
     rw (c .why .ensures) (refuses (a .form) u m (a .w .now) (a .r .now) s m v q (c .before .before .before .before .before .before .before .before .read-block .ensures .0) refl (c .before .before .before .before .before .before .before .before .read-block .ensures .1 .size ∙ sym (p .1)) _ law)
-
-length-in-requires : tie.Need-length-in-requires
-length-in-requires c κs = search needs
-
-same-length-3 : tie.Need-same-length-3
-same-length-3 c = search needs
-
-same-length-4 : tie.Need-same-length-4
-same-length-4 c = search needs
 
 returns-2 : tie.Need-returns-2
 returns-2 c =
@@ -65,12 +38,6 @@ add-end : tie.Need-add-end
 add-end c =
     omega (arith, c .before .before .before .before .before .before .before .before .before .before .before .before .before .before .before .before .before .before .pre .2 .clock, c .before .if1 .left)
 
-same-length-5 : tie.Need-same-length-5
-same-length-5 c = search needs
-
-same-length-6 : tie.Need-same-length-6
-same-length-6 c = search needs
-
 returns-3 : tie.Need-returns-3
 returns-3 c =
     let a = c .before .before .before .before .before .before .before .before .before .before .before .before .before .before .before .before .before .before .before .args in
@@ -83,18 +50,6 @@ returns-3 c =
     let b = ap (blockOnto v q) (sym (c .before .before .before .before .before .before .at .given .1)) ∙ c .before .before .before .before .before .before .before .before .before .before .before .before .read-block .ensures .2 in
     let law = too-far (a .form) u m (a .w .now) s (p .3) v q _ b (omega (arith, c .if2 .taken, c .before .before .before .length-in .ensures)) in
     refuses (a .form) u m (a .w .now) (a .r .now) s m v q (c .before .before .before .before .before .before .before .before .before .before .before .before .read-block .ensures .0) refl (c .before .before .before .before .before .before .before .before .before .before .before .before .read-block .ensures .1 .size ∙ sym (p .1)) _ law
-
-sub-t : tie.Need-sub-t
-sub-t c = search needs
-
-is-dropped-requires : tie.Need-is-dropped-requires
-is-dropped-requires c κs = search needs
-
-same-length-7 : tie.Need-same-length-7
-same-length-7 c = search needs
-
-same-length-8 : tie.Need-same-length-8
-same-length-8 c = search needs
 
 returns-4 : tie.Need-returns-4
 returns-4 c =
@@ -111,12 +66,6 @@ returns-4 c =
     (goes-on (a .form) u m (a .w .now) (a .r .now) s m v q (c .before .before .before .before .before .before .before .before .before .before .before .before .before .before .before .before .read-block .ensures .0) refl (c .before .before .before .before .before .before .before .before .before .before .before .before .before .before .before .before .read-block .ensures .1 .size ∙ sym (p .1)) _
     (drops (a .form) u m (a .w .now) s (p .3) v q _ b near (sym (c .before .is-dropped .ensures) ∙ c .if3 .taken))
     (end-fine (a .form) u m (a .w .now) s (p .3) v q _ b near (p .2)) (end-less (a .form) u m (a .w .now) s (p .3) v q _ b near))
-
-same-length-9 : tie.Need-same-length-9
-same-length-9 c = search needs
-
-same-length-10 : tie.Need-same-length-10
-same-length-10 c = search needs
 
 returns-5 : tie.Need-returns-5
 returns-5 c =
@@ -138,26 +87,6 @@ pub read-block-spec : {M : Type 1} → statement M
 read-block-spec =
     tie.close
     (tie.spec
-    read-block-requires
-    enum-known-at
-    enum-told
-    why-requires
-    same-length
-    same-length-2
-    returns
-    length-in-requires
-    same-length-3
-    same-length-4
-    returns-2
-    add-end
-    same-length-5
-    same-length-6
-    returns-3
-    sub-t
-    is-dropped-requires
-    same-length-7
-    same-length-8
-    returns-4
-    same-length-9
-    same-length-10
-    returns-5)
+    (λ c κs. search needs) (λ c. search needs) (λ c. search needs) (λ c κs. search needs) (λ c. search needs) (λ c. search needs) returns
+    (λ c κs. search needs) (λ c. search needs) (λ c. search needs) returns-2 add-end (λ c. search needs) (λ c. search needs) returns-3
+    (λ c. search needs) (λ c κs. search needs) (λ c. search needs) (λ c. search needs) returns-4 (λ c. search needs) (λ c. search needs) returns-5)

@@ -7,30 +7,12 @@ use borrow.Author.Needs.{needs}
 use Rattle.update.proofs.read_count.Statement.{statement}
 use Rattle.update.proofs.read_count.Tie as tie
 
-read-var-requires : tie.Need-read-var-requires
-read-var-requires c κs = search needs
-
-enum-known-sections : tie.Need-enum-known-sections
-enum-known-sections c = search needs
-
-enum-told : tie.Need-enum-told
-enum-told c = search needs
-
-why-requires : tie.Need-why-requires
-why-requires c κs = search needs
-
-same-length : tie.Need-same-length
-same-length c = search needs
-
 returns : tie.Need-returns
 returns c =
     let a = c .before .before .before .before .before .before .before .before .before .before .args in
     let v = c .before .before .before .before .before .before .read-var .last .1 .0 in
     let e = in-line (a .form) (a .update .now) maxClients (a .w .now) v (c .before .before .before .before .before .before .read-var .result) (c .before .before .before .before .before .before .read-var .ensures .1) in
     rw (c .why .ensures) (uncounted (a .form) (a .update .now) (a .w .now) v (c .before .before .before .before .before .before .read-var .ensures .0) (ap (given v) (sym (c .before .before .enum-told .given .1)) ∙ e))
-
-same-length-2 : tie.Need-same-length-2
-same-length-2 c = search needs
 
 returns-2 : tie.Need-returns-2
 returns-2 c =
@@ -43,11 +25,4 @@ pub read-count-spec : {M : Type 1} → statement M
 read-count-spec =
     tie.close
     (tie.spec
-    read-var-requires
-    enum-known-sections
-    enum-told
-    why-requires
-    same-length
-    returns
-    same-length-2
-    returns-2)
+    (λ c κs. search needs) (λ c. search needs) (λ c. search needs) (λ c κs. search needs) (λ c. search needs) returns (λ c. search needs) returns-2)

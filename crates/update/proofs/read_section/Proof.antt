@@ -11,21 +11,6 @@ use borrow.Author.Needs.{needs}
 use Rattle.update.proofs.read_section.Statement.{statement}
 use Rattle.update.proofs.read_section.Tie as tie
 
-read-var-requires : tie.Need-read-var-requires
-read-var-requires c κs = search needs
-
-enum-known-count : tie.Need-enum-known-count
-enum-known-count c = search needs
-
-enum-told : tie.Need-enum-told
-enum-told c = search needs
-
-why-requires : tie.Need-why-requires
-why-requires c κs = search needs
-
-same-length : tie.Need-same-length
-same-length c = search needs
-
 returns : tie.Need-returns
 returns c =
     let a = c .before .before .before .before .before .before .before .before .before .before .before .before .args in
@@ -37,21 +22,6 @@ returns c =
     let k : given w₁ (c .before .before .before .before .before .before .read-var .result) ≡ fields (a .form) u (grammar.number (grammar.upTo (s .room))) (stateIn (a .w .now)) = in-line (a .form) u (s .room) (a .w .now) w₁ (c .before .before .before .before .before .before .read-var .result) (c .before .before .before .before .before .before .read-var .ensures .1) in
     let law = no-count (a .form) u m (a .w .now) s (p .3) (p .2) w₁ (ap (given w₁) (sym (c .before .before .enum-told .given .1)) ∙ k) in
     rw (c .why .ensures) (refuses (a .form) u m (a .w .now) (a .r .now) s m w₁ (a .r .now) (c .before .before .before .before .before .before .read-var .ensures .0) refl refl _ law)
-
-read-client-requires : tie.Need-read-client-requires
-read-client-requires c κs = search needs
-
-enum-known-client : tie.Need-enum-known-client
-enum-known-client c = search needs
-
-enum-told-2 : tie.Need-enum-told-2
-enum-told-2 c = search needs
-
-why-requires-2 : tie.Need-why-requires-2
-why-requires-2 c κs = search needs
-
-same-length-2 : tie.Need-same-length-2
-same-length-2 c = search needs
 
 returns-2 : tie.Need-returns-2
 returns-2 c =
@@ -66,18 +36,6 @@ returns-2 c =
     let w₂ = c .before .before .before .before .before .before .read-client .last .1 .1 .0 in
     let law = no-client (a .form) u m (a .w .now) s (p .3) (p .2) w₁ _ k₁ w₂ (ap (given w₂) (sym (c .before .before .enum-told2 .given .1)) ∙ c .before .before .before .before .before .before .read-client .ensures .1) in
     rw (c .why2 .ensures) (refuses (a .form) u m (a .w .now) (a .r .now) s m w₂ (a .r .now) (c .before .before .before .before .before .before .read-client .ensures .0) refl refl _ law)
-
-slice-read-place : tie.Need-slice-read-place
-slice-read-place c = search needs
-
-is-among-requires : tie.Need-is-among-requires
-is-among-requires c κs = search needs
-
-same-length-3 : tie.Need-same-length-3
-same-length-3 c = search needs
-
-same-length-4 : tie.Need-same-length-4
-same-length-4 c = search needs
 
 returns-3 : tie.Need-returns-3
 unfolding placeIn
@@ -94,24 +52,6 @@ returns-3 c =
     let c₁ = ap (given w₂) (sym (c .before .before .before .before .before .client .given .1)) ∙ c .before .before .before .before .before .before .before .before .before .read-client .ensures .1 in
     let law = again (a .form) u m (a .w .now) s (p .3) (p .2) w₁ _ k₁ w₂ _ c₁ (sym (c .before .is-among .ensures) ∙ c .if1 .taken) in
     refuses (a .form) u m (a .w .now) (a .r .now) s m w₂ (a .r .now) (c .before .before .before .before .before .before .before .before .before .read-client .ensures .0) refl refl _ law
-
-read-var-requires-2 : tie.Need-read-var-requires-2
-read-var-requires-2 c κs = search needs
-
-enum-known-clock : tie.Need-enum-known-clock
-enum-known-clock c = search needs
-
-enum-told-3 : tie.Need-enum-told-3
-enum-told-3 c = search needs
-
-why-requires-3 : tie.Need-why-requires-3
-why-requires-3 c κs = search needs
-
-same-length-5 : tie.Need-same-length-5
-same-length-5 c = search needs
-
-same-length-6 : tie.Need-same-length-6
-same-length-6 c = search needs
 
 returns-4 : tie.Need-returns-4
 returns-4 c =
@@ -150,12 +90,6 @@ sub-t39 c =
 add-t37 : tie.Need-add-t37
 add-t37 c = omega (arith, c .before .before .before .before .before .before .before .before .before .before .before .before .before .before .before .before .before .before .before .before .before .before .before .before .before .before .before .before .before .before .before .pre .1 .seen, c .before .before .before .before .before .before .before .before .before .before .before .before .before .before .before .before .before .before .before .before .before .before .before .before .before .before .before .before .before .before .before .pre .2, c .before .before .before .before .before .before .before .before .before .before .before .before .before .before .before .before .before .before .before .before .before .before .before .before .before .before .before .before .before .before .before .good .1 .1 .1 .1 .0 .0)
 
-same-length-7 : tie.Need-same-length-7
-same-length-7 c = search needs
-
-same-length-8 : tie.Need-same-length-8
-same-length-8 c = search needs
-
 returns-5 : tie.Need-returns-5
 returns-5 c =
     let a = c .before .before .before .before .before .before .before .before .before .before .before .before .before .before .before .before .before .before .before .before .before .before .before .before .before .before .before .before .before .before .before .args in
@@ -183,35 +117,8 @@ pub read-section-spec : {M : Type 1} → statement M
 read-section-spec =
     tie.close
     (tie.spec
-    read-var-requires
-    enum-known-count
-    enum-told
-    why-requires
-    same-length
-    returns
-    read-client-requires
-    enum-known-client
-    enum-told-2
-    why-requires-2
-    same-length-2
-    returns-2
-    slice-read-place
-    is-among-requires
-    same-length-3
-    same-length-4
-    returns-3
-    read-var-requires-2
-    enum-known-clock
-    enum-told-3
-    why-requires-3
-    same-length-5
-    same-length-6
-    returns-4
-    mul-memory
-    slice-write-memory
-    sub-t26
-    sub-t39
-    add-t37
-    same-length-7
-    same-length-8
+    (λ c κs. search needs) (λ c. search needs) (λ c. search needs) (λ c κs. search needs) (λ c. search needs) returns (λ c κs. search needs)
+    (λ c. search needs) (λ c. search needs) (λ c κs. search needs) (λ c. search needs) returns-2 (λ c. search needs) (λ c κs. search needs)
+    (λ c. search needs) (λ c. search needs) returns-3 (λ c κs. search needs) (λ c. search needs) (λ c. search needs) (λ c κs. search needs)
+    (λ c. search needs) (λ c. search needs) returns-4 mul-memory slice-write-memory sub-t26 sub-t39 add-t37 (λ c. search needs) (λ c. search needs)
     returns-5)

@@ -16,18 +16,6 @@ Inv-loop vector clients₀ clocks₀ n first count at₀ i₀ clients clocks at 
 abbrev μ-loop : tie.MeasureT-loop
 μ-loop vector clients₀ clocks₀ n first count at₀ i₀ clients clocks at i = count - i
 
-read-up-to-requires : tie.Need-read-up-to-requires Inv-loop μ-loop
-read-up-to-requires c κs = search needs
-
-enum-known-d : tie.Need-enum-known-d Inv-loop μ-loop
-enum-known-d c = search needs
-
-enum-told : tie.Need-enum-told Inv-loop μ-loop
-enum-told c = search needs
-
-why-read-requires : tie.Need-why-read-requires Inv-loop μ-loop
-why-read-requires c κs = search needs
-
 returns : tie.Need-returns Inv-loop μ-loop
 returns c =
     none-read (c .before .before .before .before .before .before .before .args .vector .now) _ _ _ (drew-not _ _ _ (c .before .before .before .read-up-to .ensures) _ _ (c .before .enum-told .given .1) (c .why-read .ensures))
@@ -35,18 +23,6 @@ returns c =
 loop-holds : tie.Need-loop-holds Inv-loop μ-loop
 loop-holds c =
     let v = c .before .before .before .before .before .before .before .args .vector .now in let h = drew _ _ _ (c .before .before .before .read-up-to .ensures) _ _ (c .before .d .given .1) in (read-begin v _ _ _ _ h, refl, refl, few v _ _ h)
-
-read-up-to-requires-2 : tie.Need-read-up-to-requires-2 Inv-loop μ-loop
-read-up-to-requires-2 c κs = search needs
-
-enum-known-c : tie.Need-enum-known-c Inv-loop μ-loop
-enum-known-c c = search needs
-
-enum-told-2 : tie.Need-enum-told-2 Inv-loop μ-loop
-enum-told-2 c = search needs
-
-why-read-requires-2 : tie.Need-why-read-requires-2 Inv-loop μ-loop
-why-read-requires-2 c κs = search needs
 
 same-length : tie.Need-same-length Inv-loop μ-loop
 same-length c = c .before .before .before .before .before .loop .inv .1
@@ -60,9 +36,6 @@ returns-2 c =
     read-stop v n (l .i) (l .at) _ _ (l .inv .0) _ (omega arith)
     (no-client v (n - (l .i + 1)) _ (l .at) _ (drew-not _ _ _ (c .before .before .before .read-up-to2 .ensures) _ _ (c .before .enum-told2 .given .1) (c .why-read2 .ensures)))
 
-is-among-requires : tie.Need-is-among-requires Inv-loop μ-loop
-is-among-requires c κs = search needs
-
 same-length-3 : tie.Need-same-length-3 Inv-loop μ-loop
 same-length-3 c = c .before .before .before .before .before .before .before .before .loop .inv .1
 
@@ -74,18 +47,6 @@ returns-3 c =
     let v = c .before .before .before .before .before .before .before .before .before .before .before .before .before .before .before .before .args .vector .now in let l = c .before .before .before .before .before .before .before .before .loop in let n = c .before .before .before .before .before .before .before .before .before .before .d .given .0 .0 in
     read-stop v n (l .i) (l .at) _ _ (l .inv .0) _ (omega arith)
     (twice v (n - (l .i + 1)) _ (l .at) _ _ (drew _ _ _ (c .before .before .before .before .before .before .read-up-to2 .ensures) _ _ (c .before .before .before .before .c .given .1)) (rw (← l .inv .0 .clients, ← c .before .is-among .ensures) (c .if1 .taken)))
-
-read-up-to-requires-3 : tie.Need-read-up-to-requires-3 Inv-loop μ-loop
-read-up-to-requires-3 c κs = search needs
-
-enum-known-k : tie.Need-enum-known-k Inv-loop μ-loop
-enum-known-k c = search needs
-
-enum-told-3 : tie.Need-enum-told-3 Inv-loop μ-loop
-enum-told-3 c = search needs
-
-why-read-requires-3 : tie.Need-why-read-requires-3 Inv-loop μ-loop
-why-read-requires-3 c κs = search needs
 
 same-length-5 : tie.Need-same-length-5 Inv-loop μ-loop
 same-length-5 c = c .before .before .before .before .before .before .before .before .before .before .before .before .loop .inv .1
@@ -104,21 +65,9 @@ mul-clients : tie.Need-mul-clients Inv-loop μ-loop
 mul-clients c =
     omega (arith, c .before .before .before .before .before .before .before .before .before .before .before .before .before .before .before .before .before .before .before .before .pre .0, c .before .before .before .before .before .before .before .before .before .before .before .before .before .before .before .before .before .before .before .before .good .1 .0 .1)
 
-slice-write-clients : tie.Need-slice-write-clients Inv-loop μ-loop
-slice-write-clients c = search needs
-
 mul-clocks : tie.Need-mul-clocks Inv-loop μ-loop
 mul-clocks c =
     omega (arith, c .before .before .before .before .before .before .before .before .before .before .before .before .before .before .before .before .before .before .before .before .pre .1, c .before .before .before .before .before .before .before .before .before .before .before .before .before .before .before .before .before .before .before .before .good .1 .1 .0 .1)
-
-slice-write-clocks : tie.Need-slice-write-clocks Inv-loop μ-loop
-slice-write-clocks c = search needs
-
-add-i : tie.Need-add-i Inv-loop μ-loop
-add-i c = search needs
-
-loop-less : tie.Need-loop-less Inv-loop μ-loop
-loop-less c = search needs
 
 loop-again : tie.Need-loop-again Inv-loop μ-loop
 loop-again c =
@@ -144,39 +93,8 @@ pub read-announced-spec : {M : Type 1} → statement M
 read-announced-spec =
     tie.close
     (tie.spec
-    Inv-loop
-    μ-loop
-    read-up-to-requires
-    enum-known-d
-    enum-told
-    why-read-requires
-    returns
-    loop-holds
-    read-up-to-requires-2
-    enum-known-c
-    enum-told-2
-    why-read-requires-2
-    same-length
-    same-length-2
-    returns-2
-    is-among-requires
-    same-length-3
-    same-length-4
-    returns-3
-    read-up-to-requires-3
-    enum-known-k
-    enum-told-3
-    why-read-requires-3
-    same-length-5
-    same-length-6
-    returns-4
-    mul-clients
-    slice-write-clients
-    mul-clocks
-    slice-write-clocks
-    add-i
-    loop-less
-    loop-again
-    same-length-7
-    same-length-8
-    returns-5)
+    Inv-loop μ-loop (λ c κs. search needs) (λ c. search needs) (λ c. search needs) (λ c κs. search needs) returns loop-holds (λ c κs. search needs)
+    (λ c. search needs) (λ c. search needs) (λ c κs. search needs) same-length same-length-2 returns-2 (λ c κs. search needs) same-length-3
+    same-length-4 returns-3 (λ c κs. search needs) (λ c. search needs) (λ c. search needs) (λ c κs. search needs) same-length-5 same-length-6
+    returns-4 mul-clients (λ c. search needs) mul-clocks (λ c. search needs) (λ c. search needs) (λ c. search needs) loop-again same-length-7
+    same-length-8 returns-5)

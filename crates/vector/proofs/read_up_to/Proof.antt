@@ -6,15 +6,6 @@ use borrow.Author.Needs.{needs}
 use Rattle.vector.proofs.read_up_to.Statement.{statement}
 use Rattle.vector.proofs.read_up_to.Tie as tie
 
-read-unsigned-requires : tie.Need-read-unsigned-requires
-read-unsigned-requires c κs = search needs
-
-enum-known-r : tie.Need-enum-known-r
-enum-known-r c = search needs
-
-enum-told : tie.Need-enum-told
-enum-told c = search needs
-
 returns : tie.Need-returns
 unfolding upTo varAt bounded numberAt
 returns c = rw (← c .before .before .read-unsigned .ensures, c .enum-told .given .1) refl
@@ -30,5 +21,4 @@ returns-3 c =
     rw (← c .before .before .before .before .read-unsigned .ensures, c .before .before .r .given .1, le-ltb (c .before .before .before .before .before .before .args .most) (c .before .before .r .given .0 .0) (c .if1 .left)) refl
 
 pub read-up-to-spec : {M : Type 1} → statement M
-read-up-to-spec =
-    tie.close (tie.spec read-unsigned-requires enum-known-r enum-told returns returns-2 returns-3)
+read-up-to-spec = tie.close (tie.spec (λ c κs. search needs) (λ c. search needs) (λ c. search needs) returns returns-2 returns-3)

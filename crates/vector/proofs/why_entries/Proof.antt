@@ -5,12 +5,6 @@ use borrow.Author.Needs.{needs}
 use Rattle.vector.proofs.why_entries.Statement.{statement}
 use Rattle.vector.proofs.why_entries.Tie as tie
 
-enum-told : tie.Need-enum-told
-enum-told c = search needs
-
-enum-known-r : tie.Need-enum-known-r
-enum-known-r c = search needs
-
 returns : tie.Need-returns
 returns c = ap whyEntries (sym (c .enum-told .given .1))
 
@@ -18,4 +12,4 @@ returns-2 : tie.Need-returns-2
 returns-2 c = sym (ap whyEntries (c .before .r .given .1))
 
 pub why-entries-spec : {M : Type 1} → statement M
-why-entries-spec = tie.close (tie.spec enum-told enum-known-r returns returns-2)
+why-entries-spec = tie.close (tie.spec (λ c. search needs) (λ c. search needs) returns returns-2)

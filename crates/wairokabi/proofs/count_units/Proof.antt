@@ -9,9 +9,6 @@ use borrow.Author.Needs.{needs}
 use Rattle.wairokabi.proofs.count_units.Statement.{statement}
 use Rattle.wairokabi.proofs.count_units.Tie as tie
 
-count-units-requires : tie.Need-count-units-requires
-count-units-requires c κs = search needs
-
 returns : tie.Need-returns
 unfolding countAnswer countedIn
 returns c =
@@ -30,4 +27,4 @@ returns-2 c =
     rw w
 
 pub count-units-spec : {M : Type 1} → statement M
-count-units-spec = tie.close (tie.spec count-units-requires returns returns-2)
+count-units-spec = tie.close (tie.spec (λ c κs. search needs) returns returns-2)

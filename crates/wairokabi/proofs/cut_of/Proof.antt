@@ -5,15 +5,6 @@ use borrow.Author.Needs.{needs}
 use Rattle.wairokabi.proofs.cut_of.Statement.{statement}
 use Rattle.wairokabi.proofs.cut_of.Tie as tie
 
-enum-known-t : tie.Need-enum-known-t
-enum-known-t c = search needs
-
-enum-known-t-2 : tie.Need-enum-known-t-2
-enum-known-t-2 c = search needs
-
-refused-cut-requires : tie.Need-refused-cut-requires
-refused-cut-requires c κs = search needs
-
 returns : tie.Need-returns
 unfolding cutAnswer
 returns c = sym (ap cutAnswer (c .before .t .given .1))
@@ -23,5 +14,4 @@ unfolding cutAnswer
 returns-2 c = c .refused-cut .ensures ∙ sym (ap cutAnswer (c .before .before .t2 .given .1))
 
 pub cut-of-spec : {M : Type 1} → statement M
-cut-of-spec =
-    tie.close (tie.spec enum-known-t enum-known-t-2 refused-cut-requires returns returns-2)
+cut-of-spec = tie.close (tie.spec (λ c. search needs) (λ c. search needs) (λ c κs. search needs) returns returns-2)

@@ -12,12 +12,6 @@ use borrow.Author.Needs.{needs}
 use Rattle.wairokabi.proofs.cut_text.Statement.{statement}
 use Rattle.wairokabi.proofs.cut_text.Tie as tie
 
-take-units-requires : tie.Need-take-units-requires
-take-units-requires c κs = search needs
-
-enum-known-bytes : tie.Need-enum-known-bytes
-enum-known-bytes c = search needs
-
 -- what was taken is of the whole text, and a cut of it
 taken-here : (c : tie.After-bytes) → takeUnits 9 (c .before .before .before .before .args .units .0) (c .before .before .before .before .args .text .now) ≡ taken.Took (c .bytes .given .0 .0)
 taken-here c = ap (takeUnits 9 _) (sym (slice-whole (c .before .before .before .before .args .text .now))) ∙ sym (c .before .before .take-units .ensures) ∙ c .bytes .given .1
@@ -28,9 +22,6 @@ took-here c = cut 9 (c .before .before .before .before .args .units .0) (c .byte
 check-requires : tie.Need-check-requires
 check-requires c κs = (took-here (c .before) .within, omega arith)
 
-refused-cut-requires : tie.Need-refused-cut-requires
-refused-cut-requires c κs = search needs
-
 returns : tie.Need-returns
 unfolding cutAnswer
 returns c =
@@ -39,15 +30,6 @@ returns c =
     let w : wellFormed t ≡ false = sym (took-here (c .before .before .before .before) .back) ∙ ap wellFormed (sym (slice-from t (c .before .before .before .before .bytes .given .0 .0 .0))) ∙ sym (k .ensures) ∙ not-true (k .result) (c .before .if1 .taken) in
     rw w (c .refused-cut .ensures)
 
-enum-known-number : tie.Need-enum-known-number
-enum-known-number c = search needs
-
-check-requires-2 : tie.Need-check-requires-2
-check-requires-2 c κs = search needs
-
-refused-cut-requires-2 : tie.Need-refused-cut-requires-2
-refused-cut-requires-2 c κs = search needs
-
 returns-2 : tie.Need-returns-2
 unfolding cutAnswer
 returns-2 c =
@@ -55,9 +37,6 @@ returns-2 c =
     let k = c .before .before .check2 in
     let w : wellFormed t ≡ false = ap wellFormed (sym (slice-whole t)) ∙ sym (k .ensures) ∙ not-true (k .result) (c .before .if2 .taken) in
     rw w (c .refused-cut2 .ensures)
-
-refused-cut-requires-3 : tie.Need-refused-cut-requires-3
-refused-cut-requires-3 c κs = search needs
 
 returns-3 : tie.Need-returns-3
 unfolding cutAnswer
@@ -80,15 +59,5 @@ pub cut-text-spec : {M : Type 1} → statement M
 cut-text-spec =
     tie.close
     (tie.spec
-    take-units-requires
-    enum-known-bytes
-    check-requires
-    refused-cut-requires
-    returns
-    enum-known-number
-    check-requires-2
-    refused-cut-requires-2
-    returns-2
-    refused-cut-requires-3
-    returns-3
-    returns-4)
+    (λ c κs. search needs) (λ c. search needs) check-requires (λ c κs. search needs) returns (λ c. search needs) (λ c κs. search needs)
+    (λ c κs. search needs) returns-2 (λ c κs. search needs) returns-3 returns-4)

@@ -5,15 +5,6 @@ use borrow.Author.Needs.{needs}
 use Rattle.wairokabi.proofs.next_difference.Statement.{statement}
 use Rattle.wairokabi.proofs.next_difference.Tie as tie
 
-next-requires : tie.Need-next-requires
-next-requires c κs = search needs
-
-enum-known-value : tie.Need-enum-known-value
-enum-known-value c = search needs
-
-enum-known-why : tie.Need-enum-known-why
-enum-known-why c = search needs
-
 returns : tie.Need-returns
 unfolding differenceAnswer
 returns c = let r = c .before .before .before .next .ensures in sym (ap (differenceAnswer _) (sym r ∙ c .before .value .given .1))
@@ -23,5 +14,4 @@ unfolding differenceAnswer
 returns-2 c = let r = c .before .before .before .next .ensures in sym (ap (differenceAnswer _) (sym r ∙ c .before .why .given .1))
 
 pub next-difference-spec : {M : Type 1} → statement M
-next-difference-spec =
-    tie.close (tie.spec next-requires enum-known-value enum-known-why returns returns-2)
+next-difference-spec = tie.close (tie.spec (λ c κs. search needs) (λ c. search needs) (λ c. search needs) returns returns-2)

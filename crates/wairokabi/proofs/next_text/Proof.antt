@@ -5,15 +5,6 @@ use borrow.Author.Needs.{needs}
 use Rattle.wairokabi.proofs.next_text.Statement.{statement}
 use Rattle.wairokabi.proofs.next_text.Tie as tie
 
-next-requires : tie.Need-next-requires
-next-requires c κs = search needs
-
-enum-known-part : tie.Need-enum-known-part
-enum-known-part c = search needs
-
-enum-known-why : tie.Need-enum-known-why
-enum-known-why c = search needs
-
 returns : tie.Need-returns
 unfolding textAnswer
 returns c = let r = c .before .before .before .next .ensures in sym (ap (textAnswer _) (sym r ∙ c .before .part .given .1))
@@ -23,5 +14,4 @@ unfolding textAnswer
 returns-2 c = let r = c .before .before .before .next .ensures in sym (ap (textAnswer _) (sym r ∙ c .before .why .given .1))
 
 pub next-text-spec : {M : Type 1} → statement M
-next-text-spec =
-    tie.close (tie.spec next-requires enum-known-part enum-known-why returns returns-2)
+next-text-spec = tie.close (tie.spec (λ c κs. search needs) (λ c. search needs) (λ c. search needs) returns returns-2)

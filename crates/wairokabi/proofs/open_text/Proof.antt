@@ -5,18 +5,6 @@ use borrow.Author.Needs.{needs}
 use Rattle.wairokabi.proofs.open_text.Statement.{statement}
 use Rattle.wairokabi.proofs.open_text.Tie as tie
 
-open-requires : tie.Need-open-requires
-open-requires c κs = search needs
-
-enum-known-place : tie.Need-enum-known-place
-enum-known-place c = search needs
-
-enum-known-why : tie.Need-enum-known-why
-enum-known-why c = search needs
-
-start-requires : tie.Need-start-requires
-start-requires c κs = search needs
-
 returns : tie.Need-returns
 unfolding openAnswer
 returns c = let r = c .before .before .before .«open» .ensures in sym (ap openAnswer (sym r ∙ c .before .place .given .1))
@@ -26,6 +14,4 @@ unfolding openAnswer
 returns-2 c = let r = c .before .before .before .before .«open» .ensures in rw (c .start .ensures) (sym (ap openAnswer (sym r ∙ c .before .before .why .given .1)))
 
 pub open-text-spec : {M : Type 1} → statement M
-open-text-spec =
-    tie.close
-    (tie.spec open-requires enum-known-place enum-known-why start-requires returns returns-2)
+open-text-spec = tie.close (tie.spec (λ c κs. search needs) (λ c. search needs) (λ c. search needs) (λ c κs. search needs) returns returns-2)

@@ -5,15 +5,6 @@ use borrow.Author.Needs.{needs}
 use Rattle.wairokabi.proofs.read_signed.Statement.{statement}
 use Rattle.wairokabi.proofs.read_signed.Tie as tie
 
-read-signed-requires : tie.Need-read-signed-requires
-read-signed-requires c κs = search needs
-
-enum-known-minus : tie.Need-enum-known-minus
-enum-known-minus c = search needs
-
-enum-known-why : tie.Need-enum-known-why
-enum-known-why c = search needs
-
 returns : tie.Need-returns
 unfolding signedAnswer
 returns c = let r = c .before .before .before .read-signed .ensures in sym (ap signedAnswer (sym r ∙ c .before .minus .given .1))
@@ -23,5 +14,4 @@ unfolding signedAnswer
 returns-2 c = let r = c .before .before .before .read-signed .ensures in sym (ap signedAnswer (sym r ∙ c .before .why .given .1))
 
 pub read-signed-spec : {M : Type 1} → statement M
-read-signed-spec =
-    tie.close (tie.spec read-signed-requires enum-known-minus enum-known-why returns returns-2)
+read-signed-spec = tie.close (tie.spec (λ c κs. search needs) (λ c. search needs) (λ c. search needs) returns returns-2)

@@ -5,15 +5,6 @@ use borrow.Author.Needs.{needs}
 use Rattle.wairokabi.proofs.read_unsigned.Statement.{statement}
 use Rattle.wairokabi.proofs.read_unsigned.Tie as tie
 
-read-unsigned-requires : tie.Need-read-unsigned-requires
-read-unsigned-requires c κs = search needs
-
-enum-known-value : tie.Need-enum-known-value
-enum-known-value c = search needs
-
-enum-known-why : tie.Need-enum-known-why
-enum-known-why c = search needs
-
 returns : tie.Need-returns
 unfolding unsignedAnswer
 returns c = let r = c .before .before .before .read-unsigned .ensures in sym (ap unsignedAnswer (sym r ∙ c .before .value .given .1))
@@ -23,5 +14,4 @@ unfolding unsignedAnswer
 returns-2 c = let r = c .before .before .before .read-unsigned .ensures in sym (ap unsignedAnswer (sym r ∙ c .before .why .given .1))
 
 pub read-unsigned-spec : {M : Type 1} → statement M
-read-unsigned-spec =
-    tie.close (tie.spec read-unsigned-requires enum-known-value enum-known-why returns returns-2)
+read-unsigned-spec = tie.close (tie.spec (λ c κs. search needs) (λ c. search needs) (λ c. search needs) returns returns-2)

@@ -7,22 +7,10 @@ use borrow.Author.Needs.{needs}
 use Rattle.wairokabi.proofs.take_text.Statement.{statement}
 use Rattle.wairokabi.proofs.take_text.Tie as tie
 
-take-units-requires : tie.Need-take-units-requires
-take-units-requires c κs = search needs
-
-cut-of-requires : tie.Need-cut-of-requires
-cut-of-requires c κs = search needs
-
 returns : tie.Need-returns
 returns c =
     let t = c .before .before .before .before .args .text .now in
     c .cut-of .ensures ∙ ap cutAnswer (c .before .take-units .ensures ∙ ap (takeUnits 7 _) (slice-end t (c .before .before .before .before .args .at) (c .before .before .if1 .taken)))
-
-take-units-requires-2 : tie.Need-take-units-requires-2
-take-units-requires-2 c κs = search needs
-
-cut-of-requires-2 : tie.Need-cut-of-requires-2
-cut-of-requires-2 c κs = search needs
 
 returns-2 : tie.Need-returns-2
 returns-2 c =
@@ -30,12 +18,4 @@ returns-2 c =
     c .cut-of2 .ensures ∙ ap cutAnswer (c .before .take-units2 .ensures ∙ ap (takeUnits 7 _) (slice-from t (c .before .before .before .before .args .at)))
 
 pub take-text-spec : {M : Type 1} → statement M
-take-text-spec =
-    tie.close
-    (tie.spec
-    take-units-requires
-    cut-of-requires
-    returns
-    take-units-requires-2
-    cut-of-requires-2
-    returns-2)
+take-text-spec = tie.close (tie.spec (λ c κs. search needs) (λ c κs. search needs) returns (λ c κs. search needs) (λ c κs. search needs) returns-2)

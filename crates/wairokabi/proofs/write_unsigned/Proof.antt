@@ -15,12 +15,6 @@ use borrow.Author.Needs.{needs}
 use Rattle.wairokabi.proofs.write_unsigned.Statement.{statement}
 use Rattle.wairokabi.proofs.write_unsigned.Tie as tie
 
-refuse-requires : tie.Need-refuse-requires
-refuse-requires c κs = search needs
-
-same-length : tie.Need-same-length
-same-length c = search needs
-
 returns : tie.Need-returns
 unfolding over
 returns c =
@@ -31,15 +25,6 @@ returns c =
     let v = verdict-why 3 n b ne in
     let r = c .before .before .refuse .ensures in
     rw (lt-ltb maxUnsigned (a .value) (c .before .before .before .before .if1 .taken)) (r .0 ∙ refused-answer 3 n b 3 v ne, r .1 ∙ refused-bytes 3 n b 3 v ne)
-
-size-unsigned-requires : tie.Need-size-unsigned-requires
-size-unsigned-requires c κs = search needs
-
-refuse-requires-2 : tie.Need-refuse-requires-2
-refuse-requires-2 c κs = search needs
-
-same-length-2 : tie.Need-same-length-2
-same-length-2 c = search needs
 
 returns-2 : tie.Need-returns-2
 unfolding over
@@ -63,9 +48,6 @@ finish-requires c κs =
     let w = c .before .before .before .write-unsigned in
     omega (arith, w .ensures .0, w .kept .0, c .before .before .before .before .before .before .size-unsigned .ensures .0, c .before .before .before .before .before .if2 .left)
 
-same-length-3 : tie.Need-same-length-3
-same-length-3 c = search needs
-
 returns-3 : tie.Need-returns-3
 unfolding over
 returns-3 c =
@@ -85,14 +67,5 @@ pub write-unsigned-spec : {M : Type 1} → statement M
 write-unsigned-spec =
     tie.close
     (tie.spec
-    refuse-requires
-    same-length
-    returns
-    size-unsigned-requires
-    refuse-requires-2
-    same-length-2
-    returns-2
-    write-unsigned-requires
-    finish-requires
-    same-length-3
-    returns-3)
+    (λ c κs. search needs) (λ c. search needs) returns (λ c κs. search needs) (λ c κs. search needs) (λ c. search needs) returns-2
+    write-unsigned-requires finish-requires (λ c. search needs) returns-3)

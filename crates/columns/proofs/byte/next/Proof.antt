@@ -9,19 +9,13 @@ returns : tie.Need-returns
 unfolding nextByte
 returns c = rw (c .if1 .taken)
 
-sub-left : tie.Need-sub-left
-sub-left c = search needs
-
 returns-2 : tie.Need-returns-2
 unfolding nextByte
 returns-2 c = rw (c .before .if1 .left, lt-ltb 0 _ (c .if2 .taken))
-
-next-run-requires : tie.Need-next-run-requires
-next-run-requires c κs = search needs
 
 returns-3 : tie.Need-returns-3
 unfolding nextByte
 returns-3 c = rw (c .before .before .if1 .left, le-ltb 0 _ (c .before .if2 .left)) (c .next-run .ensures)
 
 pub next-spec : {M : Type 1} → statement M
-next-spec = tie.close (tie.spec returns sub-left returns-2 next-run-requires returns-3)
+next-spec = tie.close (tie.spec returns (λ c. search needs) returns-2 (λ c κs. search needs) returns-3)

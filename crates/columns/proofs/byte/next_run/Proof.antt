@@ -15,27 +15,9 @@ returns : tie.Need-returns
 unfolding begun
 returns c = rw (le-leb _ _ (c .if1 .taken))
 
-shared-slice-read-b : tie.Need-shared-slice-read-b
-shared-slice-read-b c = search needs
-
-add-e : tie.Need-add-e
-add-e c = search needs
-
 returns-2 : tie.Need-returns-2
 unfolding begun
 returns-2 c = rw (lt-leb _ _ (c .before .before .if1 .left), le-leb _ _ (c .if2 .taken))
-
-read-unsigned-requires : tie.Need-read-unsigned-requires
-read-unsigned-requires c κs = search needs
-
-enum-known-k : tie.Need-enum-known-k
-enum-known-k c = search needs
-
-enum-told : tie.Need-enum-told
-enum-told c = search needs
-
-why-read-requires : tie.Need-why-read-requires
-why-read-requires c κs = search needs
 
 -- where the run's count is read: what came before, once for the three returns after it
 begun-here : (c : tie.Else2)
@@ -57,9 +39,6 @@ returns-4 c =
     let k = c .before .before .before .before in
     rw (begun-here (k .before), ← k .read-unsigned .ensures, c .before .before .k .given .1, lt-ltb _ _ (c .if3 .taken))
 
-cast-left : tie.Need-cast-left
-cast-left c = search needs
-
 returns-5 : tie.Need-returns-5
 unfolding counted
 returns-5 c =
@@ -70,15 +49,5 @@ pub next-run-spec : {M : Type 1} → statement M
 next-run-spec =
     tie.close
     (tie.spec
-    returns
-    shared-slice-read-b
-    add-e
-    returns-2
-    read-unsigned-requires
-    enum-known-k
-    enum-told
-    why-read-requires
-    returns-3
-    returns-4
-    cast-left
-    returns-5)
+    returns (λ c. search needs) (λ c. search needs) returns-2 (λ c κs. search needs) (λ c. search needs) (λ c. search needs) (λ c κs. search needs)
+    returns-3 returns-4 (λ c. search needs) returns-5)

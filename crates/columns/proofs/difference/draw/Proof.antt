@@ -5,15 +5,6 @@ use borrow.Author.Needs.{needs}
 use Rattle.columns.proofs.difference.draw.Statement.{statement}
 use Rattle.columns.proofs.difference.draw.Tie as tie
 
-cast-sum : tie.Need-cast-sum
-cast-sum c = search needs
-
-cast-sum-2 : tie.Need-cast-sum-2
-cast-sum-2 c = search needs
-
-add-sum : tie.Need-add-sum
-add-sum c = search needs
-
 returns : tie.Need-returns
 unfolding drawn
 returns c = rw (lt-ltb _ _ (c .if1 .taken))
@@ -22,12 +13,6 @@ returns-2 : tie.Need-returns-2
 unfolding drawn
 returns-2 c = rw (le-ltb _ _ (c .before .if1 .left), lt-ltb _ _ (c .if2 .taken))
 
-cast-clock : tie.Need-cast-clock
-cast-clock c = search needs
-
-sub-left : tie.Need-sub-left
-sub-left c = search needs
-
 returns-3 : tie.Need-returns-3
 unfolding drawn
 returns-3 c = rw (le-ltb _ _ (c .before .before .if1 .left), le-ltb _ _ (c .before .if2 .left))
@@ -35,4 +20,5 @@ returns-3 c = rw (le-ltb _ _ (c .before .before .if1 .left), le-ltb _ _ (c .befo
 pub draw-spec : {M : Type 1} → statement M
 draw-spec =
     tie.close
-    (tie.spec cast-sum cast-sum-2 add-sum returns returns-2 cast-clock sub-left returns-3)
+    (tie.spec
+    (λ c. search needs) (λ c. search needs) (λ c. search needs) returns returns-2 (λ c. search needs) (λ c. search needs) returns-3)

@@ -4,24 +4,9 @@ use borrow.Author.Needs.{needs}
 use Rattle.columns.proofs.difference.key_read.Statement.{statement}
 use Rattle.columns.proofs.difference.key_read.Tie as tie
 
-add-result : tie.Need-add-result
-add-result c = search needs
-
-sub-result : tie.Need-sub-result
-sub-result c = search needs
-
-cast-result : tie.Need-cast-result
-cast-result c = search needs
-
 returns : tie.Need-returns
 unfolding keyRead
 returns c = rw (c .if1 .taken)
-
-add-result-2 : tie.Need-add-result-2
-add-result-2 c = search needs
-
-cast-result-2 : tie.Need-cast-result-2
-cast-result-2 c = search needs
 
 returns-2 : tie.Need-returns-2
 unfolding keyRead
@@ -30,4 +15,5 @@ returns-2 c = rw (c .if1 .left)
 pub key-read-spec : {M : Type 1} → statement M
 key-read-spec =
     tie.close
-    (tie.spec add-result sub-result cast-result returns add-result-2 cast-result-2 returns-2)
+    (tie.spec
+    (λ c. search needs) (λ c. search needs) (λ c. search needs) returns (λ c. search needs) (λ c. search needs) returns-2)

@@ -5,19 +5,13 @@ use borrow.Author.Needs.{needs}
 use Rattle.columns.proofs.difference.next.Statement.{statement}
 use Rattle.columns.proofs.difference.next.Tie as tie
 
-draw-requires : tie.Need-draw-requires
-draw-requires c κs = search needs
-
 returns : tie.Need-returns
 unfolding nextDifference
 returns c = rw (lt-ltb 0 _ (c .before .if1 .taken)) (c .draw .ensures)
-
-next-run-requires : tie.Need-next-run-requires
-next-run-requires c κs = search needs
 
 returns-2 : tie.Need-returns-2
 unfolding nextDifference
 returns-2 c = rw (le-ltb 0 _ (c .before .if1 .left)) (c .next-run .ensures)
 
 pub next-spec : {M : Type 1} → statement M
-next-spec = tie.close (tie.spec draw-requires returns next-run-requires returns-2)
+next-spec = tie.close (tie.spec (λ c κs. search needs) returns (λ c κs. search needs) returns-2)

@@ -9,12 +9,9 @@ returns : tie.Need-returns
 unfolding drawn
 returns c = rw (lt-ltb _ _ (c .if1 .taken))
 
-sub-left : tie.Need-sub-left
-sub-left c = search needs
-
 returns-2 : tie.Need-returns-2
 unfolding drawn
 returns-2 c = rw (le-ltb _ _ (c .before .if1 .left))
 
 pub draw-spec : {M : Type 1} → statement M
-draw-spec = tie.close (tie.spec returns sub-left returns-2)
+draw-spec = tie.close (tie.spec returns (λ c. search needs) returns-2)

@@ -5,17 +5,8 @@ use borrow.Author.Needs.{needs}
 use Rattle.columns.proofs.number.why.Statement.{statement}
 use Rattle.columns.proofs.number.why.Tie as tie
 
-enum-told : tie.Need-enum-told
-enum-told c = search needs
-
-enum-known-r : tie.Need-enum-known-r
-enum-known-r c = search needs
-
 returns : tie.Need-returns
 returns c = ap whyNumber (sym (c .enum-told .given .1))
 
-returns-2 : tie.Need-returns-2
-returns-2 c = search needs
-
 pub why-spec : {M : Type 1} → statement M
-why-spec = tie.close (tie.spec enum-told enum-known-r returns returns-2)
+why-spec = tie.close (tie.spec (λ c. search needs) (λ c. search needs) returns (λ c. search needs))

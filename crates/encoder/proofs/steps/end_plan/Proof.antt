@@ -8,15 +8,9 @@ use borrow.Author.Needs.{needs}
 use Rattle.encoder.proofs.steps.end_plan.Statement.{statement}
 use Rattle.encoder.proofs.steps.end_plan.Tie as tie
 
-end-section-requires : tie.Need-end-section-requires
-end-section-requires c κs = search needs
-
-same-length : tie.Need-same-length
-same-length c = search needs
-
 returns : tie.Need-returns
 unfolding outcomeOf
 returns c = let r = c .before .before .end-section in (rw (← r .ensures .0), r .ensures .1)
 
 pub end-plan-spec : {M : Type 1} → statement M
-end-plan-spec = tie.close (tie.spec end-section-requires same-length returns)
+end-plan-spec = tie.close (tie.spec (λ c κs. search needs) (λ c. search needs) returns)

@@ -6,29 +6,17 @@ use borrow.Author.Needs.{needs}
 use Rattle.kept.proofs.cursor.advance.Statement.{statement}
 use Rattle.kept.proofs.cursor.advance.Tie as tie
 
-ended-requires : tie.Need-ended-requires
-ended-requires c κs = search needs
-
 returns : tie.Need-returns
 unfolding advanced
 returns c =
     let a = c .before .before .before .before .args in
     rw (eq-eqb (a .c .row) nowhere (c .before .if1 .taken)) (c .ended .ensures)
 
-open-requires : tie.Need-open-requires
-open-requires c κs = search needs
-
 returns-2 : tie.Need-returns-2
 unfolding advanced
 returns-2 c =
     let a = c .before .before .before .before .before .before .args in
     rw (ne-eqb (a .c .row) nowhere (c .before .before .before .if1 .left), eq-eqb (a .c .left) 0 (c .before .if2 .taken)) (c .«open» .ensures)
-
-add-next : tie.Need-add-next
-add-next c = search needs
-
-sub-next : tie.Need-sub-next
-sub-next c = search needs
 
 returns-3 : tie.Need-returns-3
 unfolding advanced
@@ -37,5 +25,4 @@ returns-3 c =
     rw (ne-eqb (a .c .row) nowhere (c .before .before .before .before .if1 .left), ne-eqb (a .c .left) 0 (c .before .before .if2 .left)) refl
 
 pub advance-spec : {M : Type 1} → statement M
-advance-spec =
-    tie.close (tie.spec ended-requires returns open-requires returns-2 add-next sub-next returns-3)
+advance-spec = tie.close (tie.spec (λ c κs. search needs) returns (λ c κs. search needs) returns-2 (λ c. search needs) (λ c. search needs) returns-3)

@@ -12,9 +12,6 @@ returns : tie.Need-returns
 unfolding laterPart
 returns c = rw (eq-eqb (c .before .before .args .from .0) 0 (c .if1 .taken)) refl
 
-no-id-requires : tie.Need-no-id-requires
-no-id-requires c κs = search needs
-
 left-of-requires : tie.Need-left-of-requires
 left-of-requires c κs =
     let s = c .before .before .before .before in
@@ -25,9 +22,6 @@ part-of-requires : tie.Need-part-of-requires
 part-of-requires c κs =
     let s = c .before .before .before .before .before in
     sane-less (s .args .b) (s .args .from .0) (s .args .skip .0) 0 (s .args .skip .0) (omega arith) (omega arith) (s .pre)
-
-cast-start : tie.Need-cast-start
-cast-start c = search needs
 
 add-start : tie.Need-add-start
 add-start c =
@@ -63,12 +57,4 @@ pub cut-spec : {M : Type 1} → statement M
 cut-spec =
     tie.close
     (tie.spec
-    returns
-    no-id-requires
-    left-of-requires
-    part-of-requires
-    cast-start
-    add-start
-    cast-clock
-    sub-rest
-    returns-2)
+    returns (λ c κs. search needs) left-of-requires part-of-requires (λ c. search needs) add-start cast-clock sub-rest returns-2)

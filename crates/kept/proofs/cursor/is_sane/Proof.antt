@@ -19,12 +19,6 @@ returns-2 c =
     let a = c .before .before .before .before .before .before .before .before .args in
     sym (not-end (a .b) (a .from .0) (a .skip .0) (omega (arith, c .if2 .taken)))
 
-cast-end : tie.Need-cast-end
-cast-end c = search needs
-
-add-end : tie.Need-add-end
-add-end c = search needs
-
 returns-3 : tie.Need-returns-3
 returns-3 c =
     let a = c .before .before .before .before .before .before .before .before .before .before .before .args in
@@ -43,9 +37,6 @@ returns-5 c =
     (c .before .before .before .before .before .if3 .left) (c .before .before .if4 .left)
     ∙ le-ltb (a .b .part .place + a .b .part .bytes .0) brim (omega (arith, c .if5 .taken)))
 
-sub-room : tie.Need-sub-room
-sub-room c = search needs
-
 returns-6 : tie.Need-returns-6
 returns-6 c =
     let a = c .before .before .before .before .before .before .before .before .before .before .before .before .before .before .before .before .before .before .args in
@@ -56,4 +47,5 @@ returns-6 c =
 pub is-sane-spec : {M : Type 1} → statement M
 is-sane-spec =
     tie.close
-    (tie.spec returns returns-2 cast-end add-end returns-3 returns-4 returns-5 sub-room returns-6)
+    (tie.spec
+    returns returns-2 (λ c. search needs) (λ c. search needs) returns-3 returns-4 returns-5 (λ c. search needs) returns-6)

@@ -7,25 +7,16 @@ use borrow.Author.Needs.{needs}
 use Rattle.kept.proofs.cursor.left_of.Statement.{statement}
 use Rattle.kept.proofs.cursor.left_of.Tie as tie
 
-no-id-requires : tie.Need-no-id-requires
-no-id-requires c κs = search needs
-
 returns : tie.Need-returns
 returns c =
     let a = c .before .before .before .args in
     rw (le-ltb 2 (a .b .kind) (c .before .if1 .taken)) (c .no-id .ensures)
-
-cast-start : tie.Need-cast-start
-cast-start c = search needs
 
 add-start : tie.Need-add-start
 add-start c =
     let s = c .before .before .before .before in
     let w = sane-within (s .args .b) (s .args .from .0) 0 (s .pre .0) in
     omega (arith, w .units, w .end)
-
-sub-clock : tie.Need-sub-clock
-sub-clock c = search needs
 
 cast-clock : tie.Need-cast-clock
 cast-clock c =
@@ -39,5 +30,4 @@ returns-2 c =
     rw (lt-ltb 2 (a .b .kind) (c .before .before .if1 .left)) refl
 
 pub left-of-spec : {M : Type 1} → statement M
-left-of-spec =
-    tie.close (tie.spec no-id-requires returns cast-start add-start sub-clock cast-clock returns-2)
+left-of-spec = tie.close (tie.spec (λ c κs. search needs) returns (λ c. search needs) add-start (λ c. search needs) cast-clock returns-2)

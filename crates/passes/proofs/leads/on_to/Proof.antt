@@ -14,12 +14,9 @@ returns-2 : tie.Need-returns-2
 unfolding onTo
 returns-2 c = rw (lt-ltb _ brim (c .before .if1 .left), le-ltb _ brim (c .if2 .taken))
 
-add-result : tie.Need-add-result
-add-result c = search needs
-
 returns-3 : tie.Need-returns-3
 unfolding onTo
 returns-3 c = rw (lt-ltb _ brim (c .before .if1 .left), lt-ltb _ brim (c .if2 .left))
 
 pub on-to-spec : {M : Type 1} → statement M
-on-to-spec = tie.close (tie.spec returns returns-2 add-result returns-3)
+on-to-spec = tie.close (tie.spec returns returns-2 (λ c. search needs) returns-3)

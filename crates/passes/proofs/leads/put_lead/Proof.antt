@@ -5,17 +5,8 @@ use Rattle.tokens.specs.declared.Lane.{Lane}
 use Rattle.passes.proofs.leads.put_lead.Statement.{statement}
 use Rattle.passes.proofs.leads.put_lead.Tie as tie
 
-write-lead-requires : tie.Need-write-lead-requires
-write-lead-requires c κs = search needs
-
-end-of-requires : tie.Need-end-of-requires
-end-of-requires c κs = search needs
-
-same-length : tie.Need-same-length
-same-length c = search needs
-
 returns : tie.Need-returns
 returns c = let w = c .before .before .before .write-lead .ensures in (c .end-of .ensures ∙ ap (λ (e : Lane). e .run .at) (w .0), w .1)
 
 pub put-lead-spec : {M : Type 1} → statement M
-put-lead-spec = tie.close (tie.spec write-lead-requires end-of-requires same-length returns)
+put-lead-spec = tie.close (tie.spec (λ c κs. search needs) (λ c κs. search needs) (λ c. search needs) returns)

@@ -6,12 +6,6 @@ use Rattle.passes.specs.Forms.{textSize}
 use Rattle.passes.proofs.leads.text_size.Statement.{statement}
 use Rattle.passes.proofs.leads.text_size.Tie as tie
 
-shared-slice-read-texts : tie.Need-shared-slice-read-texts
-shared-slice-read-texts c = search needs
-
-shared-slice-read-units : tie.Need-shared-slice-read-units
-shared-slice-read-units c = search needs
-
 returns : tie.Need-returns
 unfolding textSize
 returns c = rw (le-ltb _ brim (c .if1 .taken))
@@ -19,15 +13,6 @@ returns c = rw (le-ltb _ brim (c .if1 .taken))
 returns-2 : tie.Need-returns-2
 unfolding textSize
 returns-2 c = rw (lt-ltb _ brim (c .before .if1 .left), le-ltb _ brim (c .if2 .taken))
-
-size-unsigned-requires : tie.Need-size-unsigned-requires
-size-unsigned-requires c κs = search needs
-
-add-led : tie.Need-add-led
-add-led c = search needs
-
-add-result : tie.Need-add-result
-add-result c = search needs
 
 returns-3 : tie.Need-returns-3
 unfolding textSize
@@ -37,11 +22,4 @@ pub text-size-spec : {M : Type 1} → statement M
 text-size-spec =
     tie.close
     (tie.spec
-    shared-slice-read-texts
-    shared-slice-read-units
-    returns
-    returns-2
-    size-unsigned-requires
-    add-led
-    add-result
-    returns-3)
+    (λ c. search needs) (λ c. search needs) returns returns-2 (λ c κs. search needs) (λ c. search needs) (λ c. search needs) returns-3)

@@ -15,32 +15,8 @@ Inv-loop sizes from to room₀ at₀ k₀ room at k = (totalFrom sizes k (to - k
 abbrev μ-loop : tie.MeasureT-loop
 μ-loop sizes from to room₀ at₀ k₀ room at k = to - k
 
-loop-holds : tie.Need-loop-holds Inv-loop μ-loop
-loop-holds c = search needs
-
 slice-aggregate-put-lead : tie.Need-slice-aggregate-put-lead Inv-loop μ-loop
 slice-aggregate-put-lead c = sym (c .before .before .loop .inv .2)
-
-put-lead-requires : tie.Need-put-lead-requires Inv-loop μ-loop
-put-lead-requires c κs = search needs
-
-cast-size : tie.Need-cast-size Inv-loop μ-loop
-cast-size c = search needs
-
-mul-size : tie.Need-mul-size Inv-loop μ-loop
-mul-size c = search needs
-
-shared-slice-read-size : tie.Need-shared-slice-read-size Inv-loop μ-loop
-shared-slice-read-size c = search needs
-
-on-to-requires : tie.Need-on-to-requires Inv-loop μ-loop
-on-to-requires c κs = search needs
-
-add-k : tie.Need-add-k Inv-loop μ-loop
-add-k c = search needs
-
-loop-less : tie.Need-loop-less Inv-loop μ-loop
-loop-less c = search needs
 
 loop-again : tie.Need-loop-again Inv-loop μ-loop
 loop-again c =
@@ -59,16 +35,5 @@ pub total-spec : {M : Type 1} → statement M
 total-spec =
     tie.close
     (tie.spec
-    Inv-loop
-    μ-loop
-    loop-holds
-    slice-aggregate-put-lead
-    put-lead-requires
-    cast-size
-    mul-size
-    shared-slice-read-size
-    on-to-requires
-    add-k
-    loop-less
-    loop-again
-    returns)
+    Inv-loop μ-loop (λ c. search needs) slice-aggregate-put-lead (λ c κs. search needs) (λ c. search needs) (λ c. search needs) (λ c. search needs)
+    (λ c κs. search needs) (λ c. search needs) (λ c. search needs) loop-again returns)

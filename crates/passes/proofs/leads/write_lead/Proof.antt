@@ -8,34 +8,10 @@ use Rattle.passes.proofs.Leading.{clients-tokens, texts-tokens, lens-to
 use Rattle.passes.proofs.leads.write_lead.Statement.{statement}
 use Rattle.passes.proofs.leads.write_lead.Tie as tie
 
-begin-requires : tie.Need-begin-requires
-begin-requires c κs = search needs
-
-is-bare-requires : tie.Need-is-bare-requires
-is-bare-requires c κs = search needs
-
 returns : tie.Need-returns
 returns c =
     let a = c .before .before .before .before .before .args in
     lead-bare (a .out .now) (a .sizes .now) (a .k) (a .at) (c .before .before .begin .ensures .0) (sym (c .before .is-bare .ensures) ∙ c .if1 .taken)
-
-mul-size : tie.Need-mul-size
-mul-size c = search needs
-
-shared-slice-read-size : tie.Need-shared-slice-read-size
-shared-slice-read-size c = search needs
-
-write-var-requires : tie.Need-write-var-requires
-write-var-requires c κs = search needs
-
-write-var-requires-2 : tie.Need-write-var-requires-2
-write-var-requires-2 c κs = search needs
-
-write-var-requires-3 : tie.Need-write-var-requires-3
-write-var-requires-3 c κs = search needs
-
-same-length : tie.Need-same-length
-same-length c = search needs
 
 returns-2 : tie.Need-returns-2
 returns-2 c =
@@ -48,18 +24,6 @@ returns-2 c =
     lead-three (a .out .now) z (a .k) (a .at) (var 0) (var 0) (var (getD z (a .k) 0)) (clients-tokens z (a .k) bare (c .before .before .before .before .before .before .before .before .before .before .before .before .if2 .taken)) (c .before .before .before .before .before .before .before .before .before .before .before .before .before .before .before .before .begin .ensures .0)
     (w .0) (w .1) (w2 .0) (w2 .1) (w3 .0) (w3 .1)
 
-text-size-requires : tie.Need-text-size-requires
-text-size-requires c κs = search needs
-
-write-var-requires-4 : tie.Need-write-var-requires-4
-write-var-requires-4 c κs = search needs
-
-write-var-requires-5 : tie.Need-write-var-requires-5
-write-var-requires-5 c κs = search needs
-
-same-length-2 : tie.Need-same-length-2
-same-length-2 c = search needs
-
 returns-3 : tie.Need-returns-3
 returns-3 c =
     let a = c .before .before .before .before .before .before .before .before .before .before .before .before .before .before .before .before .before .args in
@@ -71,15 +35,6 @@ returns-3 c =
     lead-two (a .out .now) z (a .k) (a .at) (var (textSize z)) (var (getD z (a .k) 0)) (texts-tokens z (a .k) bare (c .before .before .before .before .before .before .before .before .before .before .if2 .left) (c .before .before .before .before .before .before .before .before .before .if3 .taken))
     (c .before .before .before .before .before .before .before .before .before .before .before .before .before .before .begin .ensures .0) (rw (← column) (w .0)) (rw (← column) (w .1)) (w2 .0) (w2 .1)
 
-write-var-requires-6 : tie.Need-write-var-requires-6
-write-var-requires-6 c κs = search needs
-
-write-var-requires-7 : tie.Need-write-var-requires-7
-write-var-requires-7 c κs = search needs
-
-same-length-3 : tie.Need-same-length-3
-same-length-3 c = search needs
-
 returns-4 : tie.Need-returns-4
 returns-4 c =
     let a = c .before .before .before .before .before .before .before .before .before .before .before .before .before .before .before .before .before .args in
@@ -89,12 +44,6 @@ returns-4 c =
     let w2 = c .before .before .write-var7 .ensures in
     lead-two (a .out .now) z (a .k) (a .at) (var 0) (var (getD z (a .k) 0)) (lens-tokens z (a .k) bare (c .before .before .before .before .before .before .before .before .before .before .if2 .left) (c .before .before .before .before .before .before .before .before .before .if3 .left) (c .before .before .before .before .before .before .before .before .if4 .taken))
     (c .before .before .before .before .before .before .before .before .before .before .before .before .before .before .begin .ensures .0) (w .0) (w .1) (w2 .0) (w2 .1)
-
-write-var-requires-8 : tie.Need-write-var-requires-8
-write-var-requires-8 c κs = search needs
-
-same-length-4 : tie.Need-same-length-4
-same-length-4 c = search needs
 
 returns-5 : tie.Need-returns-5
 returns-5 c =
@@ -109,25 +58,6 @@ pub write-lead-spec : {M : Type 1} → statement M
 write-lead-spec =
     tie.close
     (tie.spec
-    begin-requires
-    is-bare-requires
-    returns
-    mul-size
-    shared-slice-read-size
-    write-var-requires
-    write-var-requires-2
-    write-var-requires-3
-    same-length
-    returns-2
-    text-size-requires
-    write-var-requires-4
-    write-var-requires-5
-    same-length-2
-    returns-3
-    write-var-requires-6
-    write-var-requires-7
-    same-length-3
-    returns-4
-    write-var-requires-8
-    same-length-4
-    returns-5)
+    (λ c κs. search needs) (λ c κs. search needs) returns (λ c. search needs) (λ c. search needs) (λ c κs. search needs) (λ c κs. search needs)
+    (λ c κs. search needs) (λ c. search needs) returns-2 (λ c κs. search needs) (λ c κs. search needs) (λ c κs. search needs) (λ c. search needs)
+    returns-3 (λ c κs. search needs) (λ c κs. search needs) (λ c. search needs) returns-4 (λ c κs. search needs) (λ c. search needs) returns-5)

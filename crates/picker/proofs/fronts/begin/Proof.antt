@@ -6,9 +6,6 @@ use borrow.Author.Needs.{needs}
 use Rattle.picker.proofs.fronts.begin.Statement.{statement}
 use Rattle.picker.proofs.fronts.begin.Tie as tie
 
-none-requires : tie.Need-none-requires
-none-requires c κs = search needs
-
 returns : tie.Need-returns
 unfolding fresh
 returns c = rw (eq-eqb (c .before .before .args .count) 0 (c .before .if1 .taken)) (c .none .ensures)
@@ -18,4 +15,4 @@ unfolding fresh
 returns-2 c = rw (ne-eqb (c .before .args .count) 0 (c .if1 .left)) refl
 
 pub begin-spec : {M : Type 1} → statement M
-begin-spec = tie.close (tie.spec none-requires returns returns-2)
+begin-spec = tie.close (tie.spec (λ c κs. search needs) returns returns-2)

@@ -24,27 +24,6 @@ abbrev μ-loop : tie.MeasureT-loop
 loop-holds : tie.Need-loop-holds Inv-loop μ-loop
 loop-holds c = (omega arith, rw sub-zero refl, refl)
 
-mul-remote-clock : tie.Need-mul-remote-clock Inv-loop μ-loop
-mul-remote-clock c = search needs
-
-mul-remote-clock-2 : tie.Need-mul-remote-clock-2 Inv-loop μ-loop
-mul-remote-clock-2 c = search needs
-
-shared-slice-read-remote-clock : tie.Need-shared-slice-read-remote-clock Inv-loop μ-loop
-shared-slice-read-remote-clock c = search needs
-
-remote-clock-requires : tie.Need-remote-clock-requires Inv-loop μ-loop
-remote-clock-requires c κs = search needs
-
-put-word-requires : tie.Need-put-word-requires Inv-loop μ-loop
-put-word-requires c κs = search needs
-
-add-i : tie.Need-add-i Inv-loop μ-loop
-add-i c = search needs
-
-loop-less : tie.Need-loop-less Inv-loop μ-loop
-loop-less c = search needs
-
 loop-again : tie.Need-loop-again Inv-loop μ-loop
 loop-again c =
     let l = c .before .before .before .before .before .before .before .loop in
@@ -70,16 +49,5 @@ pub fill-reaches-spec : {M : Type 1} → statement M
 fill-reaches-spec =
     tie.close
     (tie.spec
-    Inv-loop
-    μ-loop
-    loop-holds
-    mul-remote-clock
-    mul-remote-clock-2
-    shared-slice-read-remote-clock
-    remote-clock-requires
-    put-word-requires
-    add-i
-    loop-less
-    loop-again
-    same-length
-    returns)
+    Inv-loop μ-loop loop-holds (λ c. search needs) (λ c. search needs) (λ c. search needs) (λ c κs. search needs) (λ c κs. search needs)
+    (λ c. search needs) (λ c. search needs) loop-again same-length returns)

@@ -18,20 +18,11 @@ abbrev μ-loop : tie.MeasureT-loop
 loop-holds : tie.Need-loop-holds Inv-loop μ-loop
 loop-holds c = (omega arith, rw sub-zero refl)
 
-is-due-requires : tie.Need-is-due-requires Inv-loop μ-loop
-is-due-requires c κs = search needs
-
 returns : tie.Need-returns Inv-loop μ-loop
 returns c =
     let l = c .before .before .before .loop in
     let a = c .before .before .before .before .before .before .args in
     (sym (due-found (a .fronts .now) (a .reach .now) (a .n) (l .i) (omega arith) (sym (c .before .is-due .ensures) ∙ c .if1 .taken)) ∙ l .inv .1, l .inv .0)
-
-add-i : tie.Need-add-i Inv-loop μ-loop
-add-i c = search needs
-
-loop-less : tie.Need-loop-less Inv-loop μ-loop
-loop-less c = search needs
 
 loop-again : tie.Need-loop-again Inv-loop μ-loop
 loop-again c =
@@ -49,12 +40,4 @@ pub first-due-spec : {M : Type 1} → statement M
 first-due-spec =
     tie.close
     (tie.spec
-    Inv-loop
-    μ-loop
-    loop-holds
-    is-due-requires
-    returns
-    add-i
-    loop-less
-    loop-again
-    returns-2)
+    Inv-loop μ-loop loop-holds (λ c κs. search needs) returns (λ c. search needs) (λ c. search needs) loop-again returns-2)

@@ -21,39 +21,6 @@ abbrev μ-loop : tie.MeasureT-loop
 loop-holds : tie.Need-loop-holds Inv-loop μ-loop
 loop-holds c = (omega arith, rw sub-zero refl, refl)
 
-mul-at : tie.Need-mul-at Inv-loop μ-loop
-mul-at c = search needs
-
-add-begin : tie.Need-add-begin Inv-loop μ-loop
-add-begin c = search needs
-
-mul-begin : tie.Need-mul-begin Inv-loop μ-loop
-mul-begin c = search needs
-
-shared-slice-read-begin : tie.Need-shared-slice-read-begin Inv-loop μ-loop
-shared-slice-read-begin c = search needs
-
-add-begin-2 : tie.Need-add-begin-2 Inv-loop μ-loop
-add-begin-2 c = search needs
-
-mul-begin-2 : tie.Need-mul-begin-2 Inv-loop μ-loop
-mul-begin-2 c = search needs
-
-shared-slice-read-begin-2 : tie.Need-shared-slice-read-begin-2 Inv-loop μ-loop
-shared-slice-read-begin-2 c = search needs
-
-begin-requires : tie.Need-begin-requires Inv-loop μ-loop
-begin-requires c κs = search needs
-
-put-front-requires : tie.Need-put-front-requires Inv-loop μ-loop
-put-front-requires c κs = search needs
-
-add-i : tie.Need-add-i Inv-loop μ-loop
-add-i c = search needs
-
-loop-less : tie.Need-loop-less Inv-loop μ-loop
-loop-less c = search needs
-
 loop-again : tie.Need-loop-again Inv-loop μ-loop
 loop-again c =
     let l = c .before .before .before .before .before .before .before .before .loop in
@@ -78,20 +45,5 @@ pub open-spec : {M : Type 1} → statement M
 open-spec =
     tie.close
     (tie.spec
-    Inv-loop
-    μ-loop
-    loop-holds
-    mul-at
-    add-begin
-    mul-begin
-    shared-slice-read-begin
-    add-begin-2
-    mul-begin-2
-    shared-slice-read-begin-2
-    begin-requires
-    put-front-requires
-    add-i
-    loop-less
-    loop-again
-    same-length
-    returns)
+    Inv-loop μ-loop loop-holds (λ c. search needs) (λ c. search needs) (λ c. search needs) (λ c. search needs) (λ c. search needs) (λ c. search needs)
+    (λ c. search needs) (λ c κs. search needs) (λ c κs. search needs) (λ c. search needs) (λ c. search needs) loop-again same-length returns)

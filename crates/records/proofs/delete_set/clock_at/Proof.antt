@@ -5,22 +5,9 @@ use borrow.Author.Needs.{needs}
 use Rattle.records.proofs.delete_set.clock_at.Statement.{statement}
 use Rattle.records.proofs.delete_set.clock_at.Tie as tie
 
-mul-result : tie.Need-mul-result
-mul-result c = search needs
-
-add-result : tie.Need-add-result
-add-result c = search needs
-
-mul-result-2 : tie.Need-mul-result-2
-mul-result-2 c = search needs
-
-shared-slice-read-result : tie.Need-shared-slice-read-result
-shared-slice-read-result c = search needs
-
 returns : tie.Need-returns
 unfolding row
 returns c = refl
 
 pub clock-at-spec : {M : Type 1} → statement M
-clock-at-spec =
-    tie.close (tie.spec mul-result add-result mul-result-2 shared-slice-read-result returns)
+clock-at-spec = tie.close (tie.spec (λ c. search needs) (λ c. search needs) (λ c. search needs) (λ c. search needs) returns)

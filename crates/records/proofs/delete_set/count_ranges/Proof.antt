@@ -15,22 +15,10 @@ Inv-loop ranges i n client j₀ j = (j - i + leading client (rowsFrom ranges j (
 abbrev μ-loop : tie.MeasureT-loop
 μ-loop ranges i n client j₀ j = n - j
 
-client-at-requires : tie.Need-client-at-requires Inv-loop μ-loop
-client-at-requires c κs = search needs
-
-add-j : tie.Need-add-j Inv-loop μ-loop
-add-j c = search needs
-
 loop-holds : tie.Need-loop-holds Inv-loop μ-loop
 loop-holds c =
     let a = c .before .before .args in
     (siblings-begin (a .ranges .now) (a .i) (a .n - (a .i + 1)) (c .client-at .result) (c .client-at .ensures), omega arith, omega arith)
-
-client-at-requires-2 : tie.Need-client-at-requires-2 Inv-loop μ-loop
-client-at-requires-2 c κs = search needs
-
-sub-result : tie.Need-sub-result Inv-loop μ-loop
-sub-result c = search needs
 
 returns : tie.Need-returns Inv-loop μ-loop
 returns c =
@@ -42,12 +30,6 @@ returns c =
     let l = p3 .loop in
     omega (arith, leading-other (a .ranges .now) (a .n) (l .j) (omega arith) (p4 .client-at .result) (λ e. c .if1 .taken (p1 .client-at2 .ensures ∙ e)))
 
-add-j-2 : tie.Need-add-j-2 Inv-loop μ-loop
-add-j-2 c = search needs
-
-loop-less : tie.Need-loop-less Inv-loop μ-loop
-loop-less c = search needs
-
 loop-again : tie.Need-loop-again Inv-loop μ-loop
 loop-again c =
     let p1 = c .before in
@@ -57,9 +39,6 @@ loop-again c =
     let a = p6 .args in
     let l = p3 .loop in
     (omega (arith, leading-same (a .ranges .now) (a .n) (l .j) (omega arith) (p4 .client-at .result) (sym (p1 .client-at2 .ensures) ∙ c .if1 .left)), omega arith, omega arith)
-
-sub-result-2 : tie.Need-sub-result-2 Inv-loop μ-loop
-sub-result-2 c = search needs
 
 returns-2 : tie.Need-returns-2 Inv-loop μ-loop
 returns-2 c =
@@ -71,16 +50,5 @@ pub count-ranges-spec : {M : Type 1} → statement M
 count-ranges-spec =
     tie.close
     (tie.spec
-    Inv-loop
-    μ-loop
-    client-at-requires
-    add-j
-    loop-holds
-    client-at-requires-2
-    sub-result
-    returns
-    add-j-2
-    loop-less
-    loop-again
-    sub-result-2
-    returns-2)
+    Inv-loop μ-loop (λ c κs. search needs) (λ c. search needs) loop-holds (λ c κs. search needs) (λ c. search needs) returns (λ c. search needs)
+    (λ c. search needs) loop-again (λ c. search needs) returns-2)

@@ -6,12 +6,6 @@ use borrow.Author.Needs.{needs}
 use Rattle.records.proofs.delete_set.increase.Statement.{statement}
 use Rattle.records.proofs.delete_set.increase.Tie as tie
 
-clock-at-requires : tie.Need-clock-at-requires
-clock-at-requires c κs = search needs
-
-is-first-requires : tie.Need-is-first-requires
-is-first-requires c κs = search needs
-
 returns : tie.Need-returns
 returns c =
     let a = c .before .before .before .before .args in
@@ -22,22 +16,10 @@ sub-clock-at c =
     let a = c .before .before .before .before .args in
     omega (arith, not-first-later (a .ranges .now) (a .i) (sym (c .before .is-first .ensures) ∙ c .if1 .left))
 
-clock-at-requires-2 : tie.Need-clock-at-requires-2
-clock-at-requires-2 c κs = search needs
-
-less-requires : tie.Need-less-requires
-less-requires c κs = search needs
-
 sub-length-at : tie.Need-sub-length-at
 sub-length-at c =
     let a = c .before .before .before .before .before .before .args in
     omega (arith, not-first-later (a .ranges .now) (a .i) (sym (c .before .before .before .is-first .ensures) ∙ c .before .before .if1 .left))
-
-length-at-requires : tie.Need-length-at-requires
-length-at-requires c κs = search needs
-
-less-requires-2 : tie.Need-less-requires-2
-less-requires-2 c κs = search needs
 
 returns-2 : tie.Need-returns-2
 returns-2 c =
@@ -57,13 +39,5 @@ pub increase-spec : {M : Type 1} → statement M
 increase-spec =
     tie.close
     (tie.spec
-    clock-at-requires
-    is-first-requires
-    returns
-    sub-clock-at
-    clock-at-requires-2
-    less-requires
-    sub-length-at
-    length-at-requires
-    less-requires-2
-    returns-2)
+    (λ c κs. search needs) (λ c κs. search needs) returns sub-clock-at (λ c κs. search needs) (λ c κs. search needs) sub-length-at
+    (λ c κs. search needs) (λ c κs. search needs) returns-2)

@@ -17,9 +17,6 @@ Inv-loop out₀ ranges n clients written₀ i₀ out written i = Writing ranges 
 abbrev μ-loop : tie.MeasureT-loop
 μ-loop out₀ ranges n clients written₀ i₀ out written i = n - i
 
-has-numbers-requires : tie.Need-has-numbers-requires Inv-loop μ-loop
-has-numbers-requires c κs = search needs
-
 returns : tie.Need-returns Inv-loop μ-loop
 returns c =
     let p1 = c .before in
@@ -27,12 +24,6 @@ returns c =
     let a = p4 .args in
     deletes-none (a .out .now) (a .e) (formOf (a .e .lane)) (rowsFrom (a .ranges .now) 0 (a .n))
     (sym (p1 .has-numbers .ensures) ∙ not-true (p1 .has-numbers .result) (c .if1 .taken)) (p4 .pre .0)
-
-count-clients-requires : tie.Need-count-clients-requires Inv-loop μ-loop
-count-clients-requires c κs = search needs
-
-write-var-requires : tie.Need-write-var-requires Inv-loop μ-loop
-write-var-requires c κs = search needs
 
 loop-holds : tie.Need-loop-holds Inv-loop μ-loop
 loop-holds c =
@@ -47,12 +38,6 @@ write-range-requires c κs =
     let p12 = p2 .before .before .before .before .before .before .before .before .before .before in
     (p2 .loop .inv .0 .2, p1 .loop-test .taken, p12 .pre .1)
 
-add-i : tie.Need-add-i Inv-loop μ-loop
-add-i c = search needs
-
-loop-less : tie.Need-loop-less Inv-loop μ-loop
-loop-less c = search needs
-
 loop-again : tie.Need-loop-again Inv-loop μ-loop
 loop-again c =
     let p2 = c .before .before in
@@ -62,9 +47,6 @@ loop-again c =
     let a = p15 .args in
     let l = p5 .loop in
     (writing-turn (a .ranges .now) (a .n) _ _ (l .out) (l .written) (l .i) (p4 .loop-test .taken) (l .inv .0) (p2 .write-range .ensures), omega arith, search needs)
-
-same-length : tie.Need-same-length Inv-loop μ-loop
-same-length c = search needs
 
 returns-2 : tie.Need-returns-2 Inv-loop μ-loop
 returns-2 c =
@@ -81,16 +63,5 @@ pub write-delete-set-spec : {M : Type 1} → statement M
 write-delete-set-spec =
     tie.close
     (tie.spec
-    Inv-loop
-    μ-loop
-    has-numbers-requires
-    returns
-    count-clients-requires
-    write-var-requires
-    loop-holds
-    write-range-requires
-    add-i
-    loop-less
-    loop-again
-    same-length
-    returns-2)
+    Inv-loop μ-loop (λ c κs. search needs) returns (λ c κs. search needs) (λ c κs. search needs) loop-holds write-range-requires (λ c. search needs)
+    (λ c. search needs) loop-again (λ c. search needs) returns-2)

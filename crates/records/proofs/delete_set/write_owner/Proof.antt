@@ -7,9 +7,6 @@ use borrow.Author.Needs.{needs}
 use Rattle.records.proofs.delete_set.write_owner.Statement.{statement}
 use Rattle.records.proofs.delete_set.write_owner.Tie as tie
 
-is-first-requires : tie.Need-is-first-requires
-is-first-requires c κs = search needs
-
 returns : tie.Need-returns
 returns c =
     let p1 = c .before in
@@ -17,21 +14,6 @@ returns c =
     let a = p4 .args in
     owner-none (a .out .now) (a .e) (a .ranges .now) (a .i) (a .n - (a .i + 1))
     (sym (p1 .is-first .ensures) ∙ not-true (p1 .is-first .result) (c .if1 .taken)) (p4 .pre .0)
-
-client-at-requires : tie.Need-client-at-requires
-client-at-requires c κs = search needs
-
-count-ranges-requires : tie.Need-count-ranges-requires
-count-ranges-requires c κs = search needs
-
-write-var-requires : tie.Need-write-var-requires
-write-var-requires c κs = search needs
-
-write-var-requires-2 : tie.Need-write-var-requires-2
-write-var-requires-2 c κs = search needs
-
-same-length : tie.Need-same-length
-same-length c = search needs
 
 returns-2 : tie.Need-returns-2
 returns-2 c =
@@ -51,11 +33,5 @@ pub write-owner-spec : {M : Type 1} → statement M
 write-owner-spec =
     tie.close
     (tie.spec
-    is-first-requires
-    returns
-    client-at-requires
-    count-ranges-requires
-    write-var-requires
-    write-var-requires-2
-    same-length
+    (λ c κs. search needs) returns (λ c κs. search needs) (λ c κs. search needs) (λ c κs. search needs) (λ c κs. search needs) (λ c. search needs)
     returns-2)

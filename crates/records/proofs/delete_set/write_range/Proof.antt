@@ -5,24 +5,6 @@ use borrow.Author.Needs.{needs}
 use Rattle.records.proofs.delete_set.write_range.Statement.{statement}
 use Rattle.records.proofs.delete_set.write_range.Tie as tie
 
-length-at-requires : tie.Need-length-at-requires
-length-at-requires c κs = search needs
-
-write-owner-requires : tie.Need-write-owner-requires
-write-owner-requires c κs = search needs
-
-clock-at-requires : tie.Need-clock-at-requires
-clock-at-requires c κs = search needs
-
-write-var-requires : tie.Need-write-var-requires
-write-var-requires c κs = search needs
-
-write-var-requires-2 : tie.Need-write-var-requires-2
-write-var-requires-2 c κs = search needs
-
-same-length : tie.Need-same-length
-same-length c = search needs
-
 returns : tie.Need-returns
 returns c =
     let p2 = c .before .before in
@@ -35,21 +17,6 @@ returns c =
     let a = p18 .args in
     range-line (a .out .now) (a .e) (a .ranges .now) (a .i) (a .n - (a .i + 1)) (p9 .if1 .taken) (p13 .write-owner .ensures)
     (rw (p8 .clock-at .ensures) at (p6 .write-var .ensures)) (rw (p15 .length-at .ensures) at (p2 .write-var2 .ensures))
-
-increase-requires : tie.Need-increase-requires
-increase-requires c κs = search needs
-
-write-var-requires-3 : tie.Need-write-var-requires-3
-write-var-requires-3 c κs = search needs
-
-less-requires : tie.Need-less-requires
-less-requires c κs = search needs
-
-write-var-requires-4 : tie.Need-write-var-requires-4
-write-var-requires-4 c κs = search needs
-
-same-length-2 : tie.Need-same-length-2
-same-length-2 c = search needs
 
 returns-2 : tie.Need-returns-2
 returns-2 c =
@@ -69,16 +36,5 @@ pub write-range-spec : {M : Type 1} → statement M
 write-range-spec =
     tie.close
     (tie.spec
-    length-at-requires
-    write-owner-requires
-    clock-at-requires
-    write-var-requires
-    write-var-requires-2
-    same-length
-    returns
-    increase-requires
-    write-var-requires-3
-    less-requires
-    write-var-requires-4
-    same-length-2
-    returns-2)
+    (λ c κs. search needs) (λ c κs. search needs) (λ c κs. search needs) (λ c κs. search needs) (λ c κs. search needs) (λ c. search needs) returns
+    (λ c κs. search needs) (λ c κs. search needs) (λ c κs. search needs) (λ c κs. search needs) (λ c. search needs) returns-2)

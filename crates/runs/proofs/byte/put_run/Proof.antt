@@ -9,14 +9,8 @@ use borrow.Author.Needs.{needs}
 use Rattle.runs.proofs.byte.put_run.Statement.{statement}
 use Rattle.runs.proofs.byte.put_run.Tie as tie
 
-cast-out : tie.Need-cast-out
-cast-out c = search needs
-
 slice-write-out : tie.Need-slice-write-out
 slice-write-out c = omega (arith, byte-length (c .before .args .k) (c .before .args .n))
-
-add-mid : tie.Need-add-mid
-add-mid c = search needs
 
 write-unsigned-requires : tie.Need-write-unsigned-requires
 write-unsigned-requires c κs = simp length-set (omega (arith, byte-length (c .before .before .args .k) (c .before .before .args .n)))
@@ -31,6 +25,4 @@ returns c =
     (omega (arith, u .ensures .0), u .ensures .1 ∙ rw add-one)
 
 pub put-run-spec : {M : Type 1} → statement M
-put-run-spec =
-    tie.close
-    (tie.spec cast-out slice-write-out add-mid write-unsigned-requires same-length returns)
+put-run-spec = tie.close (tie.spec (λ c. search needs) slice-write-out (λ c. search needs) write-unsigned-requires same-length returns)

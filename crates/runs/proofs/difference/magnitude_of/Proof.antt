@@ -5,27 +5,9 @@ use borrow.Author.Needs.{needs}
 use Rattle.runs.proofs.difference.magnitude_of.Statement.{statement}
 use Rattle.runs.proofs.difference.magnitude_of.Tie as tie
 
-odd-of-requires : tie.Need-odd-of-requires
-odd-of-requires c κs = search needs
-
-sub-result : tie.Need-sub-result
-sub-result c = search needs
-
-mul-result : tie.Need-mul-result
-mul-result c = search needs
-
-sub-result-2 : tie.Need-sub-result-2
-sub-result-2 c = search needs
-
 returns : tie.Need-returns
 unfolding magnitude
 returns c = rw (lt-ltb _ _ (c .if1 .taken), c .before .odd-of .ensures .0)
-
-mul-result-2 : tie.Need-mul-result-2
-mul-result-2 c = search needs
-
-add-result : tie.Need-add-result
-add-result c = search needs
 
 returns-2 : tie.Need-returns-2
 unfolding magnitude
@@ -35,11 +17,4 @@ pub magnitude-of-spec : {M : Type 1} → statement M
 magnitude-of-spec =
     tie.close
     (tie.spec
-    odd-of-requires
-    sub-result
-    mul-result
-    sub-result-2
-    returns
-    mul-result-2
-    add-result
-    returns-2)
+    (λ c κs. search needs) (λ c. search needs) (λ c. search needs) (λ c. search needs) returns (λ c. search needs) (λ c. search needs) returns-2)

@@ -11,20 +11,14 @@ use borrow.Author.Needs.{needs}
 use Rattle.runs.proofs.difference.put_run.Statement.{statement}
 use Rattle.runs.proofs.difference.put_run.Tie as tie
 
-magnitude-of-requires : tie.Need-magnitude-of-requires
-magnitude-of-requires c κs = search needs
-
 put-counted-requires : tie.Need-put-counted-requires
 put-counted-requires c κs =
     let a = c .before .before .before .args in
     let q = ap (λ (x : ℕ). length (signedRun (ltb (a .k) zeroKey) x (a .n))) (c .before .magnitude-of .ensures) in
     omega (arith, q, ap length (difference-run (a .k) (a .n)))
 
-same-length : tie.Need-same-length
-same-length c = search needs
-
 returns : tie.Need-returns
 returns c = let a = c .before .before .before .before .before .before .args in rw (difference-run (a .k) (a .n), ← c .before .before .before .before .magnitude-of .ensures) (c .before .before .put-counted .ensures)
 
 pub put-run-spec : {M : Type 1} → statement M
-put-run-spec = tie.close (tie.spec magnitude-of-requires put-counted-requires same-length returns)
+put-run-spec = tie.close (tie.spec (λ c κs. search needs) put-counted-requires (λ c. search needs) returns)

@@ -8,12 +8,6 @@ use borrow.Author.Needs.{needs}
 use Rattle.runs.proofs.difference.run_size.Statement.{statement}
 use Rattle.runs.proofs.difference.run_size.Tie as tie
 
-magnitude-of-requires : tie.Need-magnitude-of-requires
-magnitude-of-requires c κs = search needs
-
-counted-size-requires : tie.Need-counted-size-requires
-counted-size-requires c κs = search needs
-
 returns : tie.Need-returns
 returns c =
     let a = c .before .before .args in
@@ -21,4 +15,4 @@ returns c =
     (e ∙ rw (c .before .magnitude-of .ensures) (ap length (sym (difference-run (a .k) (a .n)))), c .counted-size .ensures .1)
 
 pub run-size-spec : {M : Type 1} → statement M
-run-size-spec = tie.close (tie.spec magnitude-of-requires counted-size-requires returns)
+run-size-spec = tie.close (tie.spec (λ c κs. search needs) (λ c κs. search needs) returns)

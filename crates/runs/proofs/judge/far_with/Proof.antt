@@ -5,12 +5,6 @@ use borrow.Author.Needs.{needs}
 use Rattle.runs.proofs.judge.far_with.Statement.{statement}
 use Rattle.runs.proofs.judge.far_with.Tie as tie
 
-enum-told : tie.Need-enum-told
-enum-told c = search needs
-
-enum-told-2 : tie.Need-enum-told-2
-enum-told-2 c = search needs
-
 returns : tie.Need-returns
 unfolding coding nearKey
 returns c = rw (c .before .enum-told2 .given .1, lt-leb 1073741824 _ (c .if1 .taken))
@@ -18,9 +12,6 @@ returns c = rw (c .before .enum-told2 .given .1, lt-leb 1073741824 _ (c .if1 .ta
 returns-2 : tie.Need-returns-2
 unfolding coding nearKey
 returns-2 c = rw (c .before .before .enum-told2 .given .1, le-leb 1073741824 _ (c .before .if1 .left), le-ltb _ 3221225472 (c .if2 .taken))
-
-enum-told-3 : tie.Need-enum-told-3
-enum-told-3 c = search needs
 
 returns-3 : tie.Need-returns-3
 unfolding coding
@@ -35,6 +26,4 @@ unfolding coding
 returns-5 c = rw (c .enum-told3 .given .1)
 
 pub far-with-spec : {M : Type 1} → statement M
-far-with-spec =
-    tie.close
-    (tie.spec enum-told enum-told-2 returns returns-2 enum-told-3 returns-3 returns-4 returns-5)
+far-with-spec = tie.close (tie.spec (λ c. search needs) (λ c. search needs) returns returns-2 (λ c. search needs) returns-3 returns-4 returns-5)

@@ -10,9 +10,6 @@ returns : tie.Need-returns
 unfolding sentence
 returns c = rw (c .if1 .taken)
 
-last-fits-requires : tie.Need-last-fits-requires
-last-fits-requires c κs = search needs
-
 returns-2 : tie.Need-returns-2
 unfolding sentence
 returns-2 c = let r = c .before .last-fits in rw (c .before .before .if1 .left, sym (r .ensures) ∙ not-true (r .result) (c .if2 .taken))
@@ -26,4 +23,4 @@ unfolding sentence
 returns-4 c = let r = c .before .before .last-fits in rw (c .before .before .before .if1 .left, sym (r .ensures) ∙ not-false (r .result) (c .before .if2 .left), c .if3 .left)
 
 pub judge-end-spec : {M : Type 1} → statement M
-judge-end-spec = tie.close (tie.spec returns last-fits-requires returns-2 returns-3 returns-4)
+judge-end-spec = tie.close (tie.spec returns (λ c κs. search needs) returns-2 returns-3 returns-4)

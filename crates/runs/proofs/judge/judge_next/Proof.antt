@@ -10,30 +10,15 @@ returns : tie.Need-returns
 unfolding judged
 returns c = rw (c .if1 .taken)
 
-most-requires : tie.Need-most-requires
-most-requires c κs = search needs
-
 returns-2 : tie.Need-returns-2
 unfolding judged
 returns-2 c = rw (c .before .before .if1 .left, ← c .before .most .ensures, lt-ltb _ _ (c .if2 .taken))
-
-key-of-requires : tie.Need-key-of-requires
-key-of-requires c κs = search needs
-
-run-fits-requires : tie.Need-run-fits-requires
-run-fits-requires c κs = search needs
 
 returns-3 : tie.Need-returns-3
 unfolding judged keyAfter
 returns-3 c =
     let r = c .before .run-fits in
     rw (c .before .before .before .before .before .if1 .left, ← c .before .before .before .before .most .ensures, le-ltb _ _ (c .before .before .before .if2 .left), ← c .before .before .key-of .ensures .0, sym (r .ensures) ∙ not-true (r .result) (c .if3 .taken))
-
-far-with-requires : tie.Need-far-with-requires
-far-with-requires c κs = search needs
-
-go-on-requires : tie.Need-go-on-requires
-go-on-requires c κs = search needs
 
 returns-4 : tie.Need-returns-4
 unfolding judged keyAfter
@@ -45,12 +30,5 @@ pub judge-next-spec : {M : Type 1} → statement M
 judge-next-spec =
     tie.close
     (tie.spec
-    returns
-    most-requires
-    returns-2
-    key-of-requires
-    run-fits-requires
-    returns-3
-    far-with-requires
-    go-on-requires
+    returns (λ c κs. search needs) returns-2 (λ c κs. search needs) (λ c κs. search needs) returns-3 (λ c κs. search needs) (λ c κs. search needs)
     returns-4)

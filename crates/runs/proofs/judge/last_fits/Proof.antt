@@ -10,24 +10,6 @@ returns : tie.Need-returns
 unfolding lastFitsIn
 returns c = rw (eq-eqb _ 0 (c .if1 .taken))
 
-sub-n : tie.Need-sub-n
-sub-n c = search needs
-
-enum-told : tie.Need-enum-told
-enum-told c = search needs
-
-add-result : tie.Need-add-result
-add-result c = search needs
-
-enum-told-2 : tie.Need-enum-told-2
-enum-told-2 c = search needs
-
-add-result-2 : tie.Need-add-result-2
-add-result-2 c = search needs
-
-enum-told-3 : tie.Need-enum-told-3
-enum-told-3 c = search needs
-
 returns-2 : tie.Need-returns-2
 unfolding lastFitsIn coding fitsLessTwo fitsLessOne
 returns-2 c = rw (ne-eqb _ 0 (c .before .before .before .if1 .left), c .enum-told .given .1)
@@ -44,13 +26,5 @@ pub last-fits-spec : {M : Type 1} → statement M
 last-fits-spec =
     tie.close
     (tie.spec
-    returns
-    sub-n
-    enum-told
-    add-result
-    enum-told-2
-    add-result-2
-    enum-told-3
-    returns-2
-    returns-3
-    returns-4)
+    returns (λ c. search needs) (λ c. search needs) (λ c. search needs) (λ c. search needs) (λ c. search needs) (λ c. search needs) returns-2
+    returns-3 returns-4)

@@ -9,30 +9,12 @@ use borrow.Author.Needs.{needs}
 use Rattle.runs.proofs.judge.run_fits.Statement.{statement}
 use Rattle.runs.proofs.judge.run_fits.Tie as tie
 
-ends-run-requires : tie.Need-ends-run-requires
-ends-run-requires c κs = search needs
-
 returns : tie.Need-returns
 unfolding runFits
 returns c = let r = c .before .ends-run in rw (sym (r .ensures) ∙ not-true (r .result) (c .if1 .taken))
 
 sub-n : tie.Need-sub-n
 sub-n c = let r = c .before .before .ends-run in omega (arith, ends-some (c .before .before .before .args .k) (c .before .before .before .args .w) (sym (r .ensures) ∙ not-false (r .result) (c .before .if1 .left)))
-
-enum-told : tie.Need-enum-told
-enum-told c = search needs
-
-add-result : tie.Need-add-result
-add-result c = search needs
-
-enum-told-2 : tie.Need-enum-told-2
-enum-told-2 c = search needs
-
-add-result-2 : tie.Need-add-result-2
-add-result-2 c = search needs
-
-enum-told-3 : tie.Need-enum-told-3
-enum-told-3 c = search needs
 
 returns-2 : tie.Need-returns-2
 unfolding runFits coding fitsLessTwo fitsLessOne
@@ -50,14 +32,5 @@ pub run-fits-spec : {M : Type 1} → statement M
 run-fits-spec =
     tie.close
     (tie.spec
-    ends-run-requires
-    returns
-    sub-n
-    enum-told
-    add-result
-    enum-told-2
-    add-result-2
-    enum-told-3
-    returns-2
-    returns-3
-    returns-4)
+    (λ c κs. search needs) returns sub-n (λ c. search needs) (λ c. search needs) (λ c. search needs) (λ c. search needs) (λ c. search needs) returns-2
+    returns-3 returns-4)

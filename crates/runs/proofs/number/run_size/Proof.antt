@@ -7,11 +7,8 @@ use borrow.Author.Needs.{needs}
 use Rattle.runs.proofs.number.run_size.Statement.{statement}
 use Rattle.runs.proofs.number.run_size.Tie as tie
 
-counted-size-requires : tie.Need-counted-size-requires
-counted-size-requires c κs = search needs
-
 returns : tie.Need-returns
 returns c = (c .counted-size .ensures .0 (ltb 0 (c .before .args .n)) ∙ ap length (sym (number-run (c .before .args .v) (c .before .args .n))), c .counted-size .ensures .1)
 
 pub run-size-spec : {M : Type 1} → statement M
-run-size-spec = tie.close (tie.spec counted-size-requires returns)
+run-size-spec = tie.close (tie.spec (λ c κs. search needs) returns)

@@ -12,18 +12,6 @@ use borrow.Author.Needs.{needs}
 use Rattle.runs.proofs.slice.close.Statement.{statement}
 use Rattle.runs.proofs.slice.close.Tie as tie
 
-size-end-requires : tie.Need-size-end-requires
-size-end-requires c κs = search needs
-
-sub-room : tie.Need-sub-room
-sub-room c = search needs
-
-refuse-requires : tie.Need-refuse-requires
-refuse-requires c κs = search needs
-
-same-length : tie.Need-same-length
-same-length c = search needs
-
 returns : tie.Need-returns
 returns c =
     let a = c .before .before .before .before .before .before .before .args in
@@ -42,9 +30,6 @@ finish-requires-2 c κs =
     let f = c .before .before .before .finish in
     omega (arith, f .ensures .0, f .kept .0, c .before .before .before .before .before .before .size-end .ensures .0, c .before .before .before .before .before .if1 .left, c .before .before .before .before .before .before .before .before .pre .0)
 
-same-length-2 : tie.Need-same-length-2
-same-length-2 c = search needs
-
 returns-2 : tie.Need-returns-2
 returns-2 c =
     let a = c .before .before .before .before .before .before .before .before .before .before .before .args in
@@ -62,12 +47,5 @@ pub close-spec : {M : Type 1} → statement M
 close-spec =
     tie.close
     (tie.spec
-    size-end-requires
-    sub-room
-    refuse-requires
-    same-length
-    returns
-    finish-requires
-    finish-requires-2
-    same-length-2
-    returns-2)
+    (λ c κs. search needs) (λ c. search needs) (λ c κs. search needs) (λ c. search needs) returns finish-requires finish-requires-2
+    (λ c. search needs) returns-2)

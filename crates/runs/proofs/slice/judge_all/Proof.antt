@@ -14,35 +14,17 @@ Inv-loop values j₀ i₀ j i = JudgedTo (j₀ .writer .column) values i j
 abbrev μ-loop : tie.MeasureT-loop
 μ-loop values j₀ i₀ j i = length values - i
 
-judge-none-requires : tie.Need-judge-none-requires Inv-loop μ-loop
-judge-none-requires c κs = search needs
-
 loop-holds : tie.Need-loop-holds Inv-loop μ-loop
 loop-holds c = let a = c .before .before .args in rw (c .judge-none .ensures) (judge-begin (a .column) (a .values .now))
 
-mul-v : tie.Need-mul-v Inv-loop μ-loop
-mul-v c = search needs
-
-shared-slice-read-v : tie.Need-shared-slice-read-v Inv-loop μ-loop
-shared-slice-read-v c = search needs
-
-add-i : tie.Need-add-i Inv-loop μ-loop
-add-i c = search needs
-
 judge-next-requires : tie.Need-judge-next-requires Inv-loop μ-loop
 judge-next-requires c κs = let l = c .before .before .loop in (l .inv .sound, omega (arith, l .inv .few))
-
-loop-less : tie.Need-loop-less Inv-loop μ-loop
-loop-less c = search needs
 
 loop-again : tie.Need-loop-again Inv-loop μ-loop
 loop-again c =
     let l = c .before .before .before .loop in
     let a = c .before .before .before .before .before .before .args in
     rw (c .judge-next .ensures) (judge-on _ (a .values .now) (l .i) (l .j) (l .inv) (omega arith))
-
-judge-end-requires : tie.Need-judge-end-requires Inv-loop μ-loop
-judge-end-requires c κs = search needs
 
 returns : tie.Need-returns Inv-loop μ-loop
 returns c =
@@ -54,15 +36,5 @@ pub judge-all-spec : {M : Type 1} → statement M
 judge-all-spec =
     tie.close
     (tie.spec
-    Inv-loop
-    μ-loop
-    judge-none-requires
-    loop-holds
-    mul-v
-    shared-slice-read-v
-    add-i
-    judge-next-requires
-    loop-less
-    loop-again
-    judge-end-requires
-    returns)
+    Inv-loop μ-loop (λ c κs. search needs) loop-holds (λ c. search needs) (λ c. search needs) (λ c. search needs) judge-next-requires
+    (λ c. search needs) loop-again (λ c κs. search needs) returns)

@@ -15,35 +15,17 @@ Inv-loop values j₀ i₀ j i = JudgedTo Byte values i j
 abbrev μ-loop : tie.MeasureT-loop
 μ-loop values j₀ i₀ j i = length values - i
 
-judge-none-requires : tie.Need-judge-none-requires Inv-loop μ-loop
-judge-none-requires c κs = search needs
-
 loop-holds : tie.Need-loop-holds Inv-loop μ-loop
 loop-holds c = rw (c .judge-none .ensures) (judge-begin Byte (c .before .before .args .values .now))
 
-shared-slice-read-wide : tie.Need-shared-slice-read-wide Inv-loop μ-loop
-shared-slice-read-wide c = search needs
-
-wide-requires : tie.Need-wide-requires Inv-loop μ-loop
-wide-requires c κs = search needs
-
-add-i : tie.Need-add-i Inv-loop μ-loop
-add-i c = search needs
-
 judge-next-requires : tie.Need-judge-next-requires Inv-loop μ-loop
 judge-next-requires c κs = let l = c .before .before .before .loop in (l .inv .sound, omega (arith, l .inv .few))
-
-loop-less : tie.Need-loop-less Inv-loop μ-loop
-loop-less c = search needs
 
 loop-again : tie.Need-loop-again Inv-loop μ-loop
 loop-again c =
     let l = c .before .before .before .before .loop in
     let a = c .before .before .before .before .before .before .before .args in
     rw (c .judge-next .ensures, c .before .wide .ensures) (judge-on Byte (a .values .now) (l .i) (l .j) (l .inv) (omega arith))
-
-judge-end-requires : tie.Need-judge-end-requires Inv-loop μ-loop
-judge-end-requires c κs = search needs
 
 returns : tie.Need-returns Inv-loop μ-loop
 returns c =
@@ -55,15 +37,5 @@ pub judge-bytes-spec : {M : Type 1} → statement M
 judge-bytes-spec =
     tie.close
     (tie.spec
-    Inv-loop
-    μ-loop
-    judge-none-requires
-    loop-holds
-    shared-slice-read-wide
-    wide-requires
-    add-i
-    judge-next-requires
-    loop-less
-    loop-again
-    judge-end-requires
-    returns)
+    Inv-loop μ-loop (λ c κs. search needs) loop-holds (λ c. search needs) (λ c κs. search needs) (λ c. search needs) judge-next-requires
+    (λ c. search needs) loop-again (λ c κs. search needs) returns)

@@ -7,12 +7,6 @@ use borrow.Author.Needs.{needs}
 use Rattle.runs.proofs.slice.push_within.Statement.{statement}
 use Rattle.runs.proofs.slice.push_within.Tie as tie
 
-size-ahead-requires : tie.Need-size-ahead-requires
-size-ahead-requires c κs = search needs
-
-sub-room : tie.Need-sub-room
-sub-room c = search needs
-
 returns : tie.Need-returns
 returns c =
     let a = c .before .before .before .args in
@@ -22,9 +16,6 @@ returns c =
 push-requires : tie.Need-push-requires
 push-requires c κs = let p = c .before .before .before .before .pre in (omega (arith, c .before .before .size-ahead .ensures .0, c .before .if1 .left), p .1, p .2, p .3)
 
-same-length : tie.Need-same-length
-same-length c = search needs
-
 returns-2 : tie.Need-returns-2
 returns-2 c =
     let a = c .before .before .before .before .before .before .before .args in
@@ -33,5 +24,4 @@ returns-2 c =
     (ap On (p .0) ∙ sym (o .0), p .1 ∙ sym (o .1))
 
 pub push-within-spec : {M : Type 1} → statement M
-push-within-spec =
-    tie.close (tie.spec size-ahead-requires sub-room returns push-requires same-length returns-2)
+push-within-spec = tie.close (tie.spec (λ c κs. search needs) (λ c. search needs) returns push-requires (λ c. search needs) returns-2)

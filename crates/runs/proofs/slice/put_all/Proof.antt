@@ -17,20 +17,8 @@ Inv-loop out₀ at values w₀ i₀ out w i = PutTo (w₀ .column) out₀ at val
 abbrev μ-loop : tie.MeasureT-loop
 μ-loop out₀ at values w₀ i₀ out w i = length values - i
 
-begin-requires : tie.Need-begin-requires Inv-loop μ-loop
-begin-requires c κs = search needs
-
 loop-holds : tie.Need-loop-holds Inv-loop μ-loop
 loop-holds c = let a = c .before .before .before .args in rw (c .begin .ensures) (put-begin (a .column) (a .out .now) (a .at) (a .values .now) (c .before .before .before .pre .0))
-
-mul-v : tie.Need-mul-v Inv-loop μ-loop
-mul-v c = search needs
-
-shared-slice-read-v : tie.Need-shared-slice-read-v Inv-loop μ-loop
-shared-slice-read-v c = search needs
-
-add-i : tie.Need-add-i Inv-loop μ-loop
-add-i c = search needs
 
 push-within-requires : tie.Need-push-within-requires Inv-loop μ-loop
 push-within-requires c κs =
@@ -39,15 +27,6 @@ push-within-requires c κs =
     let h = rw (c .before .before .before .before .begin .ensures) at (l .inv) in
     let m = legal-at (a .column) (a .values .now) (l .i) (c .before .before .before .before .before .before .before .pre .1) (omega arith) in
     (h .room, omega (arith, h .holds .stands .few, length-take-most (a .values .now) (l .i)), h .holds .stands .sound, rw (h .holds .stands .kind) m)
-
-enum-known-p : tie.Need-enum-known-p Inv-loop μ-loop
-enum-known-p c = search needs
-
-enum-told : tie.Need-enum-told Inv-loop μ-loop
-enum-told c = search needs
-
-refuse-requires : tie.Need-refuse-requires Inv-loop μ-loop
-refuse-requires c κs = search needs
 
 same-length : tie.Need-same-length Inv-loop μ-loop
 same-length c = c .before .before .refuse .kept .0 ∙ c .before .before .before .before .before .before .before .before .push-within .kept .0 ∙ c .before .before .before .before .before .before .before .before .before .before .before .before .loop .inv .size
@@ -64,9 +43,6 @@ returns c =
     let n = p .kept .0 ∙ h .size in
     let r = c .before .before .refuse .ensures in
     (r .0 ∙ refused-answer 0 (length e) b 10 v (λ z. omega arith), rw n at (r .1) ∙ refused-bytes 0 (length e) b 10 v (λ z. omega arith))
-
-loop-less : tie.Need-loop-less Inv-loop μ-loop
-loop-less c = search needs
 
 loop-again : tie.Need-loop-again Inv-loop μ-loop
 loop-again c =
@@ -95,21 +71,6 @@ pub put-all-spec : {M : Type 1} → statement M
 put-all-spec =
     tie.close
     (tie.spec
-    Inv-loop
-    μ-loop
-    begin-requires
-    loop-holds
-    mul-v
-    shared-slice-read-v
-    add-i
-    push-within-requires
-    enum-known-p
-    enum-told
-    refuse-requires
-    same-length
-    returns
-    loop-less
-    loop-again
-    close-requires
-    same-length-2
+    Inv-loop μ-loop (λ c κs. search needs) loop-holds (λ c. search needs) (λ c. search needs) (λ c. search needs) push-within-requires
+    (λ c. search needs) (λ c. search needs) (λ c κs. search needs) same-length returns (λ c. search needs) loop-again close-requires same-length-2
     returns-2)

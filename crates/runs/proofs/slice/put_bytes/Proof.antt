@@ -18,20 +18,8 @@ Inv-loop out₀ values w₀ i₀ out w i = PutTo Byte out₀ 0 values i w out
 abbrev μ-loop : tie.MeasureT-loop
 μ-loop out₀ values w₀ i₀ out w i = length values - i
 
-begin-requires : tie.Need-begin-requires Inv-loop μ-loop
-begin-requires c κs = search needs
-
 loop-holds : tie.Need-loop-holds Inv-loop μ-loop
 loop-holds c = let a = c .before .before .before .args in rw (c .begin .ensures) (put-begin Byte (a .out .now) 0 (a .values .now) (omega arith))
-
-shared-slice-read-wide : tie.Need-shared-slice-read-wide Inv-loop μ-loop
-shared-slice-read-wide c = search needs
-
-wide-requires : tie.Need-wide-requires Inv-loop μ-loop
-wide-requires c κs = search needs
-
-add-i : tie.Need-add-i Inv-loop μ-loop
-add-i c = search needs
 
 push-within-requires : tie.Need-push-within-requires Inv-loop μ-loop
 push-within-requires c κs =
@@ -40,15 +28,6 @@ push-within-requires c κs =
     let h = l .inv in
     let m : getD (a .values .now) (l .i) 0 ≤ coding Byte .most = omega (arith, most-byte, c .before .before .shared-slice-known2 .given (l .i)) in
     (h .room, omega (arith, h .holds .stands .few, length-take-most (a .values .now) (l .i)), h .holds .stands .sound, rw (h .holds .stands .kind, c .before .wide .ensures) m)
-
-enum-known-p : tie.Need-enum-known-p Inv-loop μ-loop
-enum-known-p c = search needs
-
-enum-told : tie.Need-enum-told Inv-loop μ-loop
-enum-told c = search needs
-
-refuse-requires : tie.Need-refuse-requires Inv-loop μ-loop
-refuse-requires c κs = search needs
 
 same-length : tie.Need-same-length Inv-loop μ-loop
 same-length c = c .before .before .refuse .kept .0 ∙ c .before .before .before .before .before .before .before .before .push-within .kept .0 ∙ c .before .before .before .before .before .before .before .before .before .before .before .before .before .loop .inv .size
@@ -65,9 +44,6 @@ returns c =
     let n = p .kept .0 ∙ h .size in
     let r = c .before .before .refuse .ensures in
     (r .0 ∙ refused-answer 0 (length e) b 10 v (λ z. omega arith), rw n at (r .1) ∙ refused-bytes 0 (length e) b 10 v (λ z. omega arith))
-
-loop-less : tie.Need-loop-less Inv-loop μ-loop
-loop-less c = search needs
 
 loop-again : tie.Need-loop-again Inv-loop μ-loop
 loop-again c =
@@ -96,21 +72,6 @@ pub put-bytes-spec : {M : Type 1} → statement M
 put-bytes-spec =
     tie.close
     (tie.spec
-    Inv-loop
-    μ-loop
-    begin-requires
-    loop-holds
-    shared-slice-read-wide
-    wide-requires
-    add-i
-    push-within-requires
-    enum-known-p
-    enum-told
-    refuse-requires
-    same-length
-    returns
-    loop-less
-    loop-again
-    close-requires
-    same-length-2
+    Inv-loop μ-loop (λ c κs. search needs) loop-holds (λ c. search needs) (λ c κs. search needs) (λ c. search needs) push-within-requires
+    (λ c. search needs) (λ c. search needs) (λ c κs. search needs) same-length returns (λ c. search needs) loop-again close-requires same-length-2
     returns-2)

@@ -8,15 +8,6 @@ use borrow.Author.Needs.{needs}
 use Rattle.runs.proofs.slice.write_all.Statement.{statement}
 use Rattle.runs.proofs.slice.write_all.Tie as tie
 
-judge-all-requires : tie.Need-judge-all-requires
-judge-all-requires c κs = search needs
-
-refuse-requires : tie.Need-refuse-requires
-refuse-requires c κs = search needs
-
-same-length : tie.Need-same-length
-same-length c = search needs
-
 returns : tie.Need-returns
 returns c =
     let a = c .before .before .before .before .before .before .before .before .args in
@@ -32,9 +23,6 @@ returns c =
 put-all-requires : tie.Need-put-all-requires
 put-all-requires c κs = (omega arith, sym (c .before .before .judge-all .ensures) ∙ c .before .if1 .left)
 
-same-length-2 : tie.Need-same-length-2
-same-length-2 c = search needs
-
 returns-2 : tie.Need-returns-2
 returns-2 c =
     let z = sym (c .before .before .before .before .before .judge-all .ensures) ∙ c .before .before .before .before .if1 .left in
@@ -44,10 +32,4 @@ pub write-all-spec : {M : Type 1} → statement M
 write-all-spec =
     tie.close
     (tie.spec
-    judge-all-requires
-    refuse-requires
-    same-length
-    returns
-    put-all-requires
-    same-length-2
-    returns-2)
+    (λ c κs. search needs) (λ c κs. search needs) (λ c. search needs) returns put-all-requires (λ c. search needs) returns-2)

@@ -8,15 +8,6 @@ use borrow.Author.Needs.{needs}
 use Rattle.runs.proofs.slice.write_bytes.Statement.{statement}
 use Rattle.runs.proofs.slice.write_bytes.Tie as tie
 
-judge-bytes-requires : tie.Need-judge-bytes-requires
-judge-bytes-requires c κs = search needs
-
-refuse-requires : tie.Need-refuse-requires
-refuse-requires c κs = search needs
-
-same-length : tie.Need-same-length
-same-length c = search needs
-
 returns : tie.Need-returns
 returns c =
     let a = c .before .before .before .before .before .before .before .before .args in
@@ -29,12 +20,6 @@ returns c =
     let r = c .before .before .refuse .ensures in
     (r .0 ∙ rw (j .ensures) (refused-answer y (length e) b y v ne), r .1 ∙ refused-bytes y (length e) b y v ne)
 
-put-bytes-requires : tie.Need-put-bytes-requires
-put-bytes-requires c κs = search needs
-
-same-length-2 : tie.Need-same-length-2
-same-length-2 c = search needs
-
 returns-2 : tie.Need-returns-2
 returns-2 c =
     let z = sym (c .before .before .before .before .before .judge-bytes .ensures) ∙ c .before .before .before .before .if1 .left in
@@ -44,10 +29,4 @@ pub write-bytes-spec : {M : Type 1} → statement M
 write-bytes-spec =
     tie.close
     (tie.spec
-    judge-bytes-requires
-    refuse-requires
-    same-length
-    returns
-    put-bytes-requires
-    same-length-2
-    returns-2)
+    (λ c κs. search needs) (λ c κs. search needs) (λ c. search needs) returns (λ c κs. search needs) (λ c. search needs) returns-2)

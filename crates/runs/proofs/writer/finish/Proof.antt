@@ -10,17 +10,11 @@ use Rattle.runs.proofs.writer.finish.Tie as tie
 returns : tie.Need-returns
 returns c = let e = finished-none (c .before .before .before .args .w) (c .if1 .taken) in rw e (omega arith, refl)
 
-sub-n : tie.Need-sub-n
-sub-n c = search needs
-
 put-last-requires : tie.Need-put-last-requires
 put-last-requires c κs = (omega (arith, ap length (finished-some (c .before .before .before .before .before .args .w) (c .before .before .if1 .left))), c .before .before .before .before .before .pre .1 .1)
-
-same-length : tie.Need-same-length
-same-length c = search needs
 
 returns-2 : tie.Need-returns-2
 returns-2 c = rw (finished-some (c .before .before .before .before .before .before .before .before .args .w) (c .before .before .before .before .before .if1 .left)) (c .before .before .put-last .ensures)
 
 pub finish-spec : {M : Type 1} → statement M
-finish-spec = tie.close (tie.spec returns sub-n put-last-requires same-length returns-2)
+finish-spec = tie.close (tie.spec returns (λ c. search needs) put-last-requires (λ c. search needs) returns-2)

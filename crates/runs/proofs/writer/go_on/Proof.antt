@@ -4,19 +4,13 @@ use borrow.Author.Needs.{needs}
 use Rattle.runs.proofs.writer.go_on.Statement.{statement}
 use Rattle.runs.proofs.writer.go_on.Tie as tie
 
-ends-run-requires : tie.Need-ends-run-requires
-ends-run-requires c κs = search needs
-
 returns : tie.Need-returns
 unfolding moved
 returns c = rw (← c .before .ends-run .ensures, c .if1 .taken)
-
-add-more : tie.Need-add-more
-add-more c = search needs
 
 returns-2 : tie.Need-returns-2
 unfolding moved
 returns-2 c = rw (← c .before .before .ends-run .ensures, c .before .if1 .left)
 
 pub go-on-spec : {M : Type 1} → statement M
-go-on-spec = tie.close (tie.spec ends-run-requires returns add-more returns-2)
+go-on-spec = tie.close (tie.spec (λ c κs. search needs) returns (λ c. search needs) returns-2)

@@ -7,18 +7,6 @@ use borrow.Author.Needs.{needs}
 use Rattle.runs.proofs.writer.measure.Statement.{statement}
 use Rattle.runs.proofs.writer.measure.Tie as tie
 
-key-of-requires : tie.Need-key-of-requires
-key-of-requires c κs = search needs
-
-size-ahead-requires : tie.Need-size-ahead-requires
-size-ahead-requires c κs = search needs
-
-add-next : tie.Need-add-next
-add-next c = search needs
-
-go-on-requires : tie.Need-go-on-requires
-go-on-requires c κs = search needs
-
 returns : tie.Need-returns
 unfolding keyAfter
 returns c =
@@ -27,5 +15,4 @@ returns c =
     c .go-on .ensures ∙ pushed-some (a .w) (a .v) (k′ .result) (k′ .ensures .0) _ (ap (λ (n : ℕ). a .w .at + n) (c .before .before .size-ahead .ensures .0))
 
 pub measure-spec : {M : Type 1} → statement M
-measure-spec =
-    tie.close (tie.spec key-of-requires size-ahead-requires add-next go-on-requires returns)
+measure-spec = tie.close (tie.spec (λ c κs. search needs) (λ c κs. search needs) (λ c. search needs) (λ c κs. search needs) returns)

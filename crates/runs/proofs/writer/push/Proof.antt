@@ -10,15 +10,6 @@ use borrow.Author.Needs.{needs}
 use Rattle.runs.proofs.writer.push.Statement.{statement}
 use Rattle.runs.proofs.writer.push.Tie as tie
 
-key-of-requires : tie.Need-key-of-requires
-key-of-requires c κs = search needs
-
-ends-run-requires : tie.Need-ends-run-requires
-ends-run-requires c κs = search needs
-
-go-on-requires : tie.Need-go-on-requires
-go-on-requires c κs = search needs
-
 returns : tie.Need-returns
 unfolding keyAfter
 returns c =
@@ -43,12 +34,6 @@ put-run-requires c κs =
     let e : ends (k′ .result) (a .w) ≡ true = sym (r .ensures) ∙ not-false (r .result) (c .before .before .if1 .left) in
     (omega (arith, ap length (emitted-some (a .w) (a .v) (k′ .result) (k′ .ensures .0) e)), c .before .before .before .before .before .before .pre .2 .1)
 
-go-on-requires-2 : tie.Need-go-on-requires-2
-go-on-requires-2 c κs = search needs
-
-same-length : tie.Need-same-length
-same-length c = search needs
-
 returns-2 : tie.Need-returns-2
 unfolding keyAfter
 returns-2 c =
@@ -64,12 +49,5 @@ pub push-spec : {M : Type 1} → statement M
 push-spec =
     tie.close
     (tie.spec
-    key-of-requires
-    ends-run-requires
-    go-on-requires
-    returns
-    sub-n
-    put-run-requires
-    go-on-requires-2
-    same-length
+    (λ c κs. search needs) (λ c κs. search needs) (λ c κs. search needs) returns sub-n put-run-requires (λ c κs. search needs) (λ c. search needs)
     returns-2)

@@ -10,12 +10,6 @@ use borrow.Author.Needs.{needs}
 use Rattle.runs.proofs.writer.size_ahead.Statement.{statement}
 use Rattle.runs.proofs.writer.size_ahead.Tie as tie
 
-key-of-requires : tie.Need-key-of-requires
-key-of-requires c κs = search needs
-
-ends-run-requires : tie.Need-ends-run-requires
-ends-run-requires c κs = search needs
-
 returns : tie.Need-returns
 unfolding keyAfter
 returns c =
@@ -31,9 +25,6 @@ sub-n c =
     let r = c .before .before .ends-run in
     omega (arith, ends-some (c .before .before .before .key-of .result) (a .w) (sym (r .ensures) ∙ not-false (r .result) (c .before .if1 .left)))
 
-run-size-requires : tie.Need-run-size-requires
-run-size-requires c κs = search needs
-
 returns-2 : tie.Need-returns-2
 unfolding keyAfter
 returns-2 c =
@@ -44,6 +35,4 @@ returns-2 c =
     (c .run-size .ensures .0 ∙ sym (ap length (emitted-some (a .w) (a .v) (k′ .result) (k′ .ensures .0) e)), c .run-size .ensures .1)
 
 pub size-ahead-spec : {M : Type 1} → statement M
-size-ahead-spec =
-    tie.close
-    (tie.spec key-of-requires ends-run-requires returns sub-n run-size-requires returns-2)
+size-ahead-spec = tie.close (tie.spec (λ c κs. search needs) (λ c κs. search needs) returns sub-n (λ c κs. search needs) returns-2)

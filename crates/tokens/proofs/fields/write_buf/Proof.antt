@@ -7,12 +7,6 @@ use borrow.Author.Needs.{needs}
 use Rattle.tokens.proofs.fields.write_buf.Statement.{statement}
 use Rattle.tokens.proofs.fields.write_buf.Tie as tie
 
-put-led-requires : tie.Need-put-led-requires
-put-led-requires c κs = search needs
-
-same-length : tie.Need-same-length
-same-length c = search needs
-
 returns : tie.Need-returns
 returns c =
     let a = c .before .before .before .before .before .before .before .before .args in
@@ -21,12 +15,6 @@ returns c =
     let b = bytesIn (a .update .now) (a .part) in
     let x = takes-bytes (a .out .now) (a .e) (buf b) (led b) (in-line (a .e .lane) h) (buf-line (a .e .lane) b h) in
     wrote (a .out .now) (a .e) (buf b) (c .before .before .before .before .before .before .before .before .pre) (p .0 ∙ x .0) (p .1 ∙ x .1)
-
-put-led-requires-2 : tie.Need-put-led-requires-2
-put-led-requires-2 c κs = search needs
-
-same-length-2 : tie.Need-same-length-2
-same-length-2 c = search needs
 
 returns-2 : tie.Need-returns-2
 returns-2 c =
@@ -48,10 +36,4 @@ pub write-buf-spec : {M : Type 1} → statement M
 write-buf-spec =
     tie.close
     (tie.spec
-    put-led-requires
-    same-length
-    returns
-    put-led-requires-2
-    same-length-2
-    returns-2
-    returns-3)
+    (λ c κs. search needs) (λ c. search needs) returns (λ c κs. search needs) (λ c. search needs) returns-2 returns-3)

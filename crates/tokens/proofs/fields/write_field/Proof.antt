@@ -7,12 +7,6 @@ use borrow.Author.Needs.{needs}
 use Rattle.tokens.proofs.fields.write_field.Statement.{statement}
 use Rattle.tokens.proofs.fields.write_field.Tie as tie
 
-put-number-requires : tie.Need-put-number-requires
-put-number-requires c κs = search needs
-
-same-length : tie.Need-same-length
-same-length c = search needs
-
 returns : tie.Need-returns
 returns c =
     let a = c .before .before .before .before .before .before .before .args in
@@ -21,12 +15,6 @@ returns c =
     let t = field (a .k) (a .v) in
     let x = takes-bytes (a .out .now) (a .e) t (unsigned (a .v)) (in-line (a .e .lane) h) (field-line (a .e .lane) (a .k) (a .v) h (c .before .before .before .before .before .before .before .pre .2)) in
     wrote (a .out .now) (a .e) t (c .before .before .before .before .before .before .before .pre .0) (p .0 ∙ x .0) (p .1 ∙ x .1)
-
-put-value-requires : tie.Need-put-value-requires
-put-value-requires c κs = search needs
-
-same-length-2 : tie.Need-same-length-2
-same-length-2 c = search needs
 
 returns-2 : tie.Need-returns-2
 returns-2 c =
@@ -47,10 +35,4 @@ pub write-field-spec : {M : Type 1} → statement M
 write-field-spec =
     tie.close
     (tie.spec
-    put-number-requires
-    same-length
-    returns
-    put-value-requires
-    same-length-2
-    returns-2
-    returns-3)
+    (λ c κs. search needs) (λ c. search needs) returns (λ c κs. search needs) (λ c. search needs) returns-2 returns-3)

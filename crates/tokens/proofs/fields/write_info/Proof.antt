@@ -7,12 +7,6 @@ use borrow.Author.Needs.{needs}
 use Rattle.tokens.proofs.fields.write_info.Statement.{statement}
 use Rattle.tokens.proofs.fields.write_info.Tie as tie
 
-put-byte-requires : tie.Need-put-byte-requires
-put-byte-requires c κs = search needs
-
-same-length : tie.Need-same-length
-same-length c = search needs
-
 returns : tie.Need-returns
 returns c =
     let a = c .before .before .before .before .before .before .before .args in
@@ -20,15 +14,6 @@ returns c =
     let p = c .before .before .put-byte .ensures in
     let x = takes-bytes (a .out .now) (a .e) (info (a .v)) (a .v ∷ []) (in-line (a .e .lane) h) (info-line (a .e .lane) (a .v) h) in
     wrote (a .out .now) (a .e) (info (a .v)) (c .before .before .before .before .before .before .before .pre) (p .0 ∙ x .0) (p .1 ∙ x .1)
-
-wide-requires : tie.Need-wide-requires
-wide-requires c κs = search needs
-
-put-value-requires : tie.Need-put-value-requires
-put-value-requires c κs = search needs
-
-same-length-2 : tie.Need-same-length-2
-same-length-2 c = search needs
 
 returns-2 : tie.Need-returns-2
 unfolding inLine
@@ -51,11 +36,4 @@ pub write-info-spec : {M : Type 1} → statement M
 write-info-spec =
     tie.close
     (tie.spec
-    put-byte-requires
-    same-length
-    returns
-    wide-requires
-    put-value-requires
-    same-length-2
-    returns-2
-    returns-3)
+    (λ c κs. search needs) (λ c. search needs) returns (λ c κs. search needs) (λ c κs. search needs) (λ c. search needs) returns-2 returns-3)

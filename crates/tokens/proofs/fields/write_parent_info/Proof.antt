@@ -10,16 +10,5 @@ write-field-requires : tie.Need-write-field-requires
 unfolding inLine
 write-field-requires c κs = (c .before .before .pre, refl, λ p. omega arith)
 
-same-length : tie.Need-same-length
-same-length c = search needs
-
-returns : tie.Need-returns
-returns c = search needs
-
 pub write-parent-info-spec : {M : Type 1} → statement M
-write-parent-info-spec =
-    tie.close
-    (tie.spec
-    write-field-requires
-    same-length
-    returns)
+write-parent-info-spec = tie.close (tie.spec write-field-requires (λ c. search needs) (λ c. search needs))

@@ -7,12 +7,6 @@ use borrow.Author.Needs.{needs}
 use Rattle.tokens.proofs.fields.write_string.Statement.{statement}
 use Rattle.tokens.proofs.fields.write_string.Tie as tie
 
-put-led-requires : tie.Need-put-led-requires
-put-led-requires c κs = search needs
-
-same-length : tie.Need-same-length
-same-length c = search needs
-
 returns : tie.Need-returns
 returns c =
     let a = c .before .before .before .before .before .before .before .before .args in
@@ -23,12 +17,6 @@ returns c =
     let x = takes-bytes (a .out .now) (a .e) (text b n) (led b) (in-line (a .e .lane) h) (text-line (a .e .lane) b n h) in
     wrote (a .out .now) (a .e) (text b n) (c .before .before .before .before .before .before .before .before .pre) (p .0 ∙ x .0) (p .1 ∙ x .1)
 
-put-part-requires : tie.Need-put-part-requires
-put-part-requires c κs = search needs
-
-same-length-2 : tie.Need-same-length-2
-same-length-2 c = search needs
-
 returns-2 : tie.Need-returns-2
 returns-2 c =
     let a = c .before .before .before .before .before .before .before .before .before .before .args in
@@ -38,12 +26,6 @@ returns-2 c =
     let n = a .units .0 in
     let x = takes-bytes (a .out .now) (a .e) (text b n) b (in-texts (a .e .lane) h) (text-texts (a .e .lane) b n (c .before .before .before .before .before .before .if1 .left) h) in
     wrote (a .out .now) (a .e) (text b n) (c .before .before .before .before .before .before .before .before .before .before .pre) (p .0 ∙ x .0) (p .1 ∙ x .1)
-
-put-value-requires : tie.Need-put-value-requires
-put-value-requires c κs = search needs
-
-same-length-3 : tie.Need-same-length-3
-same-length-3 c = search needs
 
 returns-3 : tie.Need-returns-3
 unfolding inLine
@@ -69,13 +51,5 @@ pub write-string-spec : {M : Type 1} → statement M
 write-string-spec =
     tie.close
     (tie.spec
-    put-led-requires
-    same-length
-    returns
-    put-part-requires
-    same-length-2
-    returns-2
-    put-value-requires
-    same-length-3
-    returns-3
-    returns-4)
+    (λ c κs. search needs) (λ c. search needs) returns (λ c κs. search needs) (λ c. search needs) returns-2 (λ c κs. search needs) (λ c. search needs)
+    returns-3 returns-4)

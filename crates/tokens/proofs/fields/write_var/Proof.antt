@@ -7,12 +7,6 @@ use borrow.Author.Needs.{needs}
 use Rattle.tokens.proofs.fields.write_var.Statement.{statement}
 use Rattle.tokens.proofs.fields.write_var.Tie as tie
 
-put-number-requires : tie.Need-put-number-requires
-put-number-requires c κs = search needs
-
-same-length : tie.Need-same-length
-same-length c = search needs
-
 returns : tie.Need-returns
 returns c =
     let a = c .before .before .before .before .before .before .before .args in
@@ -20,12 +14,6 @@ returns c =
     let p = c .before .before .put-number .ensures in
     let x = takes-bytes (a .out .now) (a .e) (var (a .v)) (unsigned (a .v)) (in-line (a .e .lane) h) (var-line (a .e .lane) (a .v) h) in
     wrote (a .out .now) (a .e) (var (a .v)) (c .before .before .before .before .before .before .before .pre) (p .0 ∙ x .0) (p .1 ∙ x .1)
-
-put-number-requires-2 : tie.Need-put-number-requires-2
-put-number-requires-2 c κs = search needs
-
-same-length-2 : tie.Need-same-length-2
-same-length-2 c = search needs
 
 returns-2 : tie.Need-returns-2
 returns-2 c =
@@ -45,10 +33,4 @@ pub write-var-spec : {M : Type 1} → statement M
 write-var-spec =
     tie.close
     (tie.spec
-    put-number-requires
-    same-length
-    returns
-    put-number-requires-2
-    same-length-2
-    returns-2
-    returns-3)
+    (λ c κs. search needs) (λ c. search needs) returns (λ c κs. search needs) (λ c. search needs) returns-2 returns-3)

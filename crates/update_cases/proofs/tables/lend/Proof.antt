@@ -4,31 +4,11 @@ use borrow.Author.Needs.{needs}
 use Rattle.update_cases.proofs.tables.lend.Statement.{statement}
 use Rattle.update_cases.proofs.tables.lend.Tie as tie
 
-returns : tie.Need-returns
-returns c = search needs
-
-array-borrow-prefix-words : tie.Need-array-borrow-prefix-words
-array-borrow-prefix-words c = search needs
-
 slice-aggregate-ask : tie.Need-slice-aggregate-ask
 slice-aggregate-ask c = search (needs, length-take-le)
-
-ask-requires : tie.Need-ask-requires
-ask-requires c κs = search needs
-
-same-length : tie.Need-same-length
-same-length c = search needs
-
-returns-2 : tie.Need-returns-2
-returns-2 c = search needs
 
 pub lend-spec : {M : Type 1} → statement M
 lend-spec =
     tie.close
     (tie.spec
-    returns
-    array-borrow-prefix-words
-    slice-aggregate-ask
-    ask-requires
-    same-length
-    returns-2)
+    (λ c. search needs) (λ c. search needs) slice-aggregate-ask (λ c κs. search needs) (λ c. search needs) (λ c. search needs))
