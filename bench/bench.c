@@ -75,7 +75,7 @@ static void check(bool holds, const char *input, const char *work, const char *w
 
 static void ours_read(void) {
     const wairokabi_update r = wairokabi_read_update(on.form, on.update.bytes, on.update.count, on.rows, on.blocks, on.words, 3 * on.ranges);
-    on.answer[0] = r.number ? (uint64_t)-1 : r.blocks;
+    on.answer[0] = r.refusal.number ? (uint64_t)-1 : r.blocks;
     on.answer[1] = r.ranges;
 }
 
@@ -87,7 +87,7 @@ static void rust_read(void) {
 static void ours_diff(void) {
     const wairokabi_diff r = wairokabi_encode_diff(on.form, on.update.bytes, on.update.count, on.vector.bytes, on.vector.count, on.to, on.rows, on.blocks,
                                                    on.words, 3 * on.ranges, on.out, on.room);
-    on.answer[0] = r.number ? (uint64_t)-1 : r.bytes;
+    on.answer[0] = r.refusal.number ? (uint64_t)-1 : r.bytes;
 }
 
 static void rust_diff(void) {
@@ -100,7 +100,7 @@ static const uint8_t none[] = {0};
 static void ours_sort(void) {
     const wairokabi_sorted r = wairokabi_sort(on.form, on.update.bytes, on.update.count, none, 1, on.rows, on.blocks, on.words, 3 * on.ranges, on.order,
                                               on.blocks, on.counts, 128, on.reaches, 256, on.pending, 192);
-    on.answer[0] = r.number ? (uint64_t)-1 : r.steps;
+    on.answer[0] = r.refusal.number ? (uint64_t)-1 : r.steps;
     on.answer[1] = r.blocks - r.steps;
     on.answer[2] = 0;
     for (size_t k = 0; k < r.reaches; k++)
@@ -119,7 +119,7 @@ static void ours_each(void) {
     on.answer[0] = on.answer[1] = 0;
     for (size_t k = 0; k < on.count; p += n[k++]) {
         const wairokabi_update r = wairokabi_read_update(1, p, n[k], on.rows, 64, on.words, 192);
-        on.answer[0] += r.number ? 1000000000 : r.blocks;
+        on.answer[0] += r.refusal.number ? 1000000000 : r.blocks;
         on.answer[1] += r.ranges;
     }
 }
@@ -148,7 +148,7 @@ static void ours_next(void) {
         wairokabi_number_place p = wairokabi_open_numbers(0);
         for (size_t k = 0; k < on.count; k++) {
             const wairokabi_number_next r = wairokabi_next_number(s, n, p);
-            bad |= r.number;
+            bad |= r.refusal.number;
             sum += r.value;
             p = r.place;
         }
@@ -158,7 +158,7 @@ static void ours_next(void) {
         wairokabi_difference_place p = wairokabi_open_differences(0);
         for (size_t k = 0; k < on.count; k++) {
             const wairokabi_difference_next r = wairokabi_next_difference(s, n, p);
-            bad |= r.number;
+            bad |= r.refusal.number;
             sum += r.value;
             p = r.place;
         }
@@ -168,7 +168,7 @@ static void ours_next(void) {
         wairokabi_byte_place p = wairokabi_open_bytes(0);
         for (size_t k = 0; k < on.count; k++) {
             const wairokabi_byte_next r = wairokabi_next_byte(s, n, p);
-            bad |= r.number;
+            bad |= r.refusal.number;
             sum += r.value;
             p = r.place;
         }
@@ -176,11 +176,11 @@ static void ours_next(void) {
     }
     default: {
         const wairokabi_text_opened o = wairokabi_open_text(s, n, 0);
-        bad |= o.number;
+        bad |= o.refusal.number;
         wairokabi_string_place p = o.place;
         for (size_t k = 0; k < on.count; k++) {
             const wairokabi_text_next r = wairokabi_next_text(s, n, p);
-            bad |= r.number;
+            bad |= r.refusal.number;
             sum += r.part.bytes.count;
             p = r.place;
         }
@@ -316,7 +316,7 @@ static void check_diff(const char *input, const char *work, size_t bytes) {
     check(len == bytes, input, work, "lengths part");
     const wairokabi_update a = wairokabi_read_update(on.to, on.out, bytes, on.rows, on.blocks, on.words, 3 * on.ranges);
     const wairokabi_update b = wairokabi_read_update(on.to, on.copy, len, on.others, on.blocks, on.more, 3 * on.ranges);
-    check(a.number == 0 && b.number == 0 && a.blocks == b.blocks && a.ranges == b.ranges, input, work, "what is read again parts");
+    check(a.refusal.number == 0 && b.refusal.number == 0 && a.blocks == b.blocks && a.ranges == b.ranges, input, work, "what is read again parts");
     check(memcmp(on.words, on.more, 24 * on.ranges) == 0, input, work, "ranges part");
     for (size_t k = 0; k < a.blocks; k++) {
         const wairokabi_block *x = &on.rows[k], *y = &on.others[k];

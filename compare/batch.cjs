@@ -58,7 +58,7 @@ const compared = batch => {
   const all = updates.map(({ update, ...x }) => {
     const r = j.readUpdate(x.form, update)
     const twice = r.number === 0 && new Set(r.deleteClients).size !== r.deleteClients.length
-    return { r, x: { ...x, bytes: update, number: r.number, what: r.what, value: r.value, column: r.column, masked: r.masked, twice } }
+    return { r, x: { ...x, bytes: update, number: r.number, place: r.place, what: r.what, value: r.value, column: r.column, masked: r.masked, twice } }
   })
   const reads = all.map(({ x }) => [1, x.form, 0, x.bytes])
   const ours = askOurs(reads)
@@ -68,7 +68,7 @@ const compared = batch => {
     count('updates', x.form, x.made)
     count('how', x.how, x.form)
     count('number', r.number)
-    judge.ours('read', x, ours[k], j.readLine(x.bytes, r))
+    judge.ours('read', x, ours[k], j.readLine(x.bytes, r), r)
     const seen = judge.readYjs(x, ours[k])
     builds.forEach(([checked], n) => judge.readYrs(x, checked, ours[k], yrs[n][k]))
     if (r.number === 0) readable.push({ ...x, emptyRange: seen?.emptyRange ?? false })
@@ -81,12 +81,13 @@ const compared = batch => {
   const yrsDiffs = builds.map(([, name]) => askYrs(name, diffs))
   const diffNumbers = asked.map((x, k) => {
     const r = j.diff(x.form, x.to, x.bytes, x.vector)
-    judge.ours('diff', x, ourDiffs[k], j.diffLine(r))
+    judge.ours('diff', x, ourDiffs[k], j.diffLine(r), r)
+    const number = j.numberOf(ourDiffs[k].split('|')[0])
     if (x.number === 0) {
-      count('diffs', `${x.form} to ${x.to}`, ourDiffs[k].split('|')[0])
+      count('diffs', `${x.form} to ${x.to}`, number)
       judge.diffYjs(x, ourDiffs[k])
     }
-    return Number(ourDiffs[k].split('|')[0])
+    return number
   })
   builds.forEach(([checked, name], n) => {
     const both = asked.map((x, k) => k).filter(k => diffNumbers[k] === 0 && yrsDiffs[n][k].startsWith('0|'))
@@ -102,7 +103,7 @@ const compared = batch => {
   const yrsSorts = builds.map(([, name]) => askYrs(name, sorts))
   asked.forEach((x, k) => {
     const r = j.sort(x.form, x.bytes, x.vector)
-    judge.ours('sort', x, ourSorts[k], j.sortLine(r))
+    judge.ours('sort', x, ourSorts[k], j.sortLine(r), r)
     if (x.number !== 0) return
     count('sorts', x.form, x.doc !== undefined ? 'edited' : 'as garbage', r.number)
     judge.sortYjs(x, ourSorts[k], r)
@@ -114,9 +115,9 @@ const compared = batch => {
   const yrsColumns = builds.map(([, name]) => askYrs(name, columnReads))
   columns.forEach(([kind, bytes], k) => {
     const r = j.drawn(kind, bytes)
-    const x = { kind, bytes, number: r.number, what: r.what, column: true }
+    const x = { kind, bytes, number: r.number, place: r.place, what: r.what, column: true }
     count('columns', ['numbers', 'differences', 'bytes', 'texts'][kind])
-    judge.ours('column', x, ourColumns[k], j.columnLine(kind, r))
+    judge.ours('column', x, ourColumns[k], j.columnLine(kind, r), r)
     const lib0 = j.lib0Column(kind, bytes)
     judge.column('lib0', 'lib0', x, ourColumns[k], lib0.values, lib0.end)
     builds.forEach(([checked, name], n) => {
@@ -127,7 +128,8 @@ const compared = batch => {
   // State vectors.
   const ourVectors = askOurs(vectors.map(bytes => [5, 0, 0, bytes]))
   vectors.forEach((bytes, k) => {
-    judge.ours('vector', { bytes }, ourVectors[k], j.vectorLine(j.readVector(bytes)))
+    const r = j.readVector(bytes)
+    judge.ours('vector', { bytes }, ourVectors[k], j.vectorLine(r), r)
     judge.vectorYjs({ bytes }, ourVectors[k])
   })
   return judge

@@ -1,5 +1,6 @@
 // The comparisons themselves. Each takes what was asked and the answers, and says with `same`, `known` or `unknown` what came of it.
 'use strict'
+const { first } = require('../tools/cases/stream.cjs')
 const { ourRecord, theirRecord, theirIds, kept, compareVector } = require('../tools/cases/yjs.cjs')
 const model = require('../tools/cases/update-model.cjs')
 const columnModel = require('../tools/cases/model.cjs')
@@ -14,22 +15,24 @@ const MOST = 64 // values of a column, as the other programs have it
 const list = text => text === '' ? [] : text.split(',')
 const bracketed = bytes => `<${Buffer.from(bytes).toString('hex')}>`
 const bytesOf = text => [...Buffer.from(text.slice(1, -1), 'hex')]
+// The number of a line's refusal, without its place: that is held against the model's, and the others have none.
+const numberOf = refusal => Number(refusal.split('@')[0])
 
 // ---- the model's answers, in the words of compare/ours.c
 
 const groups = all => all.map(words => words.join(' ')).join(',')
-const readLine = (update, r) => r.number !== 0 ? `${r.number}||`
+const readLine = (update, r) => r.number !== 0 ? `${first(r)}||`
   : `0|${r.blocks.map(ourRecord(update)).join(',')}|${groups(r.ranges.map(d => [d.client, d.clock, d.length]))}`
-const diffLine = r => r.number !== 0 ? `${r.number}|<>` : `0|${bracketed(r.bytes)}`
-const sortLine = r => r.number !== 0 ? `${r.number}||||` : `0|${r.order.join(',')}|${groups(r.taken)}|${groups(r.reaches)}|${groups(r.pending)}`
-const vectorLine = r => r.number !== 0 ? `${r.number}|` : `0|${groups(r.entries.map(e => [e.client, e.clock]))}`
+const diffLine = r => r.number !== 0 ? `${first(r)}|<>` : `0|${bracketed(r.bytes)}`
+const sortLine = r => r.number !== 0 ? `${first(r)}||||` : `0|${r.order.join(',')}|${groups(r.taken)}|${groups(r.reaches)}|${groups(r.pending)}`
+const vectorLine = r => r.number !== 0 ? `${first(r)}|` : `0|${groups(r.entries.map(e => [e.client, e.clock]))}`
 const drawn = (kind, column) => {
   if (kind < 3) return columnModel.draws([columnModel.numbers, columnModel.differences, columnModel.bytes][kind](column), BigInt(MOST))
   const opened = columnModel.texts(column)
-  return opened.number !== 0 ? { number: opened.number, what: 'text opened', values: [] } : columnModel.draws(opened.draw, BigInt(MOST))
+  return opened.number !== 0 ? { ...opened, what: 'text opened', values: [] } : columnModel.draws(opened.draw, BigInt(MOST))
 }
 const valueWord = (kind, v) => kind === 3 ? bracketed(v) : `${v}`
-const columnLine = (kind, r) => `${r.values.map(v => valueWord(kind, v)).join(',')}|${r.number === 0 ? 'more' : r.number}`
+const columnLine = (kind, r) => `${r.values.map(v => valueWord(kind, v)).join(',')}|${r.number === 0 ? 'more' : first(r)}`
 
 // ---- what is said
 
@@ -46,10 +49,11 @@ const begin = () => {
     else count('known', side, name, work)
     return name !== null
   }
-  // Ours against the model of document 01: never a known difference.
-  const ours = (work, x, line, expected) => {
-    if (line === expected) return count('model', work)
-    unknown.push({ side: 'ours', work, why: `ours ${line.slice(0, 300)}, by document 01 ${expected.slice(0, 300)}`, ...x })
+  // Ours against the model of documents 01 and 02, a refusal's place too: never a known difference. `r` is the model's answer.
+  const ours = (work, x, line, expected, r) => {
+    if (line !== expected) return unknown.push({ side: 'ours', work, why: `ours ${line.slice(0, 300)}, by documents 01 and 02 ${expected.slice(0, 300)}`, ...x })
+    count('model', work)
+    if (r.number !== 0) count('places', work, r.place === 0 ? 'at 0' : 'elsewhere')
   }
 
   // ---- reading
@@ -68,7 +72,7 @@ const begin = () => {
 
   const readYjs = (asked, line) => {
     const [number, records, ranges] = line.split('|')
-    const x = { ...asked, number: Number(number) }
+    const x = { ...asked, number: numberOf(number) }
     const seen = watched.read(x.form, x.bytes)
     const y = { ...x, got: seen.got !== null ? 'read' : seen.stopped ? 'stopped' : 'error', past: seen.past, textPast: seen.textPast }
     const outcome = what => count('read', 'Yjs', x.form, x.made, what)
@@ -88,7 +92,7 @@ const begin = () => {
 
   const readYrs = (asked, checked, line, theirs) => {
     const [number, records, ranges] = line.split('|')
-    const x = { ...asked, number: Number(number) }
+    const x = { ...asked, number: numberOf(number) }
     const [got, theirRecords, theirRanges] = theirs.split('|')
     const y = { ...x, checked, got: got === '0' ? 'read' : got }
     const build = checked ? 'yrs checked' : 'yrs release'
@@ -107,10 +111,11 @@ const begin = () => {
   // ---- diffs
 
   const diffYjs = (x, line) => {
-    const [number, bytes] = line.split('|')
-    if (!['0', '9', '13'].includes(number)) return count('diff', 'Yjs', 'refused by ours')
+    const [refusal, bytes] = line.split('|')
+    const number = numberOf(refusal)
+    if (![0, 9, 13].includes(number)) return count('diff', 'Yjs', 'refused by ours')
     try {
-      yjsDiffs.compare(x.form, x.to, x.bytes, x.vector, { number: Number(number), bytes: bytesOf(bytes) })
+      yjsDiffs.compare(x.form, x.to, x.bytes, x.vector, { number, bytes: bytesOf(bytes) })
       count('diff', 'Yjs', 'compared')
     } catch (e) {
       unknown.push({ side: 'Yjs', work: 'diff', why: e.message, ...x })
@@ -118,7 +123,7 @@ const begin = () => {
   }
   // `theirs` is the Rust's diff; `again` what the Rust reads from ours and from its own.
   const diffYrs = (x, checked, line, theirs, again) => {
-    const number = Number(line.split('|')[0])
+    const number = numberOf(line.split('|')[0])
     const build = checked ? 'yrs checked' : 'yrs release'
     const [got] = theirs.split('|')
     const y = { ...x, number, checked, got: got === '0' ? 'read' : got }
@@ -135,8 +140,8 @@ const begin = () => {
   // ---- sorts
 
   const sortYjs = (x, line, r) => {
-    const [number, order, taken, reaches, pending] = line.split('|')
-    if (number !== '0') return count('sort', 'Yjs', 'refused by ours')
+    const [refusal, order, taken, reaches, pending] = line.split('|')
+    if (numberOf(refusal) !== 0) return count('sort', 'Yjs', 'refused by ours')
     const words = text => list(text).map(g => g.split(' ').map(BigInt))
     const ours = { ...r, order: list(order).map(Number), taken: words(taken), reaches: words(reaches), pending: words(pending) }
     const garbage = () => yjsSorts.compare(x.form, x.bytes, x.vector, ours)
@@ -182,23 +187,24 @@ const begin = () => {
   // ---- columns
 
   const column = (side, work, x, line, values, end) => {
-    const [words, number] = line.split('|')
+    const [words, refusal] = line.split('|')
     const ours = list(words)
     const fail = why => unknown.push({ side, work, why, ...x })
     if (values.slice(0, ours.length).join(',') !== words) return fail(`${values.slice(0, 9)}, ours ${line.slice(0, 99)}`)
-    if (number === 'more') return end === 'more' ? count('same', work, 'column') : fail(`ends with ${end}, ours goes on`)
+    if (refusal === 'more') return end === 'more' ? count('same', work, 'column') : fail(`ends with ${end}, ours goes on`)
     const got = values.length > ours.length ? 'read' : end
     if (got === 'error') return count('same', work, 'column')
-    known(side, work, { ...x, number: Number(number), got }, 'a column')
+    known(side, work, { ...x, number: numberOf(refusal), got }, 'a column')
   }
 
   // ---- state vectors: what ours reads, Yjs reads; what ends early for ours does so for Yjs
 
   const vectorYjs = (x, line) => {
-    const [number, entries] = line.split('|')
+    const [refusal, entries] = line.split('|')
+    const number = numberOf(refusal)
     try {
-      compareVector(x.bytes, { number: Number(number), entries: list(entries).map(e => e.split(' ').map(BigInt)).map(([client, clock]) => ({ client, clock })) })
-      count('vector', 'Yjs', ['0', '1'].includes(number) ? 'compared' : "a limit of ours: not compared")
+      compareVector(x.bytes, { number, entries: list(entries).map(e => e.split(' ').map(BigInt)).map(([client, clock]) => ({ client, clock })) })
+      count('vector', 'Yjs', [0, 1].includes(number) ? 'compared' : "a limit of ours: not compared")
     } catch (e) {
       unknown.push({ side: 'Yjs', work: 'vector', why: e.message, ...x })
     }
@@ -208,7 +214,7 @@ const begin = () => {
 }
 
 module.exports = {
-  begin, list, bytesOf, MOST, drawn, readLine, diffLine, sortLine, columnLine, vectorLine,
+  begin, list, bytesOf, numberOf, MOST, drawn, readLine, diffLine, sortLine, columnLine, vectorLine,
   readUpdate: model.readUpdate, readVector: model.readVector, diff: diffModel.diff, sort: sortModel.sort,
   lib0Column: (kind, bytes) => {
     const { values, end } = watched.column(kind, bytes, MOST)

@@ -1,10 +1,11 @@
 // ours REQUESTS: answers the requests of a file with the library, a line each on standard output, for compare/batch.cjs. A request is four bytes (what is
 // asked, form or column, form to write, 0), then two parts, each led by its length in four bytes, lowest first: the update or column, and the vector.
-//   1 read    number|blocks|ranges         a block: client clock length kind left right name parent key content, `none` for what is not there
-//   2 diff    number|bytes
-//   3 sort    number|order|counts|reaches|pending
-//   4 column  values|number                0 numbers, 1 differences, 2 bytes, 3 texts; at most 64 values, then `more`
-//   5 vector  number|entries
+//   1 read    refusal|blocks|ranges        a block: client clock length kind left right name parent key content, `none` for what is not there
+//   2 diff    refusal|bytes
+//   3 sort    refusal|order|counts|reaches|pending
+//   4 column  values|refusal               0 numbers, 1 differences, 2 bytes, 3 texts; at most 64 values, then `more`
+//   5 vector  refusal|entries
+// A refusal is number@place, in the bytes that were handed over; 0 if there is none.
 #include "wairokabi.h"
 
 #include <inttypes.h>
@@ -29,6 +30,11 @@ static wairokabi_block *rows;
 static uint64_t *ranges, *order, counts[2 * 64], reaches[2 * 128], pending[3 * 64];
 static uint8_t *out;
 
+static void refusal(wairokabi_refusal r) {
+    printf("%d", r.number);
+    if (r.number || r.place)
+        printf("@%zu", r.place);
+}
 static void hex(const uint8_t *bytes, size_t count) {
     putchar('<');
     for (size_t k = 0; k < count; k++) {
@@ -70,9 +76,10 @@ static void words(const uint64_t *w, size_t count, size_t of) {
 // Rows and room as short updates need them, since all that is lent is set to zero; all there can be, if that was too little.
 static void read_update(uint8_t form, const uint8_t *u, size_t n) {
     wairokabi_update r = wairokabi_read_update(form, u, n, rows, n < ROWS ? n : ROWS, ranges, 3 * n);
-    if (r.number == 8)
+    if (r.refusal.number == 8)
         r = wairokabi_read_update(form, u, n, rows, ROWS, ranges, 3 * n);
-    printf("%d|", r.number);
+    refusal(r.refusal);
+    putchar('|');
     for (size_t k = 0; k < r.blocks; k++) {
         if (k)
             putchar(',');
@@ -82,17 +89,18 @@ static void read_update(uint8_t form, const uint8_t *u, size_t n) {
 }
 static void diff(uint8_t form, uint8_t to, const uint8_t *u, size_t n, const uint8_t *v, size_t m) {
     wairokabi_diff r = wairokabi_encode_diff(form, u, n, v, m, to, rows, n < ROWS ? n : ROWS, ranges, 3 * n, out, 4 * n < ROOM ? 4 * n : ROOM);
-    if (r.number == 8 || r.number == 10)
+    if (r.refusal.number == 8 || r.refusal.number == 10)
         r = wairokabi_encode_diff(form, u, n, v, m, to, rows, ROWS, ranges, 3 * n, out, ROOM);
-    printf("%d|", r.number);
+    refusal(r.refusal);
+    putchar('|');
     hex(out, r.bytes);
 }
 static void sort(uint8_t form, const uint8_t *u, size_t n, const uint8_t *v, size_t m) {
-    wairokabi_sorted r = {8, 0, 0, 0, 0, 0, 0};
+    wairokabi_sorted r = {{8, 0}, 0, 0, 0, 0, 0, 0};
     const size_t fits[] = {n < ROWS ? n : ROWS, ROWS};
-    for (int k = 0; k < 2 && r.number == 8; k++)
+    for (int k = 0; k < 2 && r.refusal.number == 8; k++)
         r = wairokabi_sort(form, u, n, v, m, rows, fits[k], ranges, 3 * n, order, fits[k], counts, 2 * 64, reaches, 2 * 128, pending, 3 * 64);
-    printf("%d", r.number);
+    refusal(r.refusal);
     words(order, r.steps, 1);
     words(counts, r.counts, 2);
     words(reaches, r.reaches, 2);
@@ -101,7 +109,7 @@ static void sort(uint8_t form, const uint8_t *u, size_t n, const uint8_t *v, siz
 
 static void vector(const uint8_t *v, size_t n) {
     const wairokabi_vector r = wairokabi_read_state_vector(v, n, reaches, 2 * WAIROKABI_MAX_CLIENTS);
-    printf("%d", r.number);
+    refusal(r.refusal);
     words(reaches, r.count, 2);
 }
 
@@ -109,8 +117,9 @@ static void numbers(const uint8_t *c, size_t n) {
     wairokabi_number_place p = wairokabi_open_numbers(0);
     for (int k = 0; k < MOST; k++) {
         const wairokabi_number_next r = wairokabi_next_number(c, n, p);
-        if (r.number) {
-            printf("|%d", r.number);
+        if (r.refusal.number) {
+            putchar('|');
+            refusal(r.refusal);
             return;
         }
         printf("%s%" PRIu64, k ? "," : "", r.value);
@@ -122,8 +131,9 @@ static void differences(const uint8_t *c, size_t n) {
     wairokabi_difference_place p = wairokabi_open_differences(0);
     for (int k = 0; k < MOST; k++) {
         const wairokabi_difference_next r = wairokabi_next_difference(c, n, p);
-        if (r.number) {
-            printf("|%d", r.number);
+        if (r.refusal.number) {
+            putchar('|');
+            refusal(r.refusal);
             return;
         }
         printf("%s%" PRIu32, k ? "," : "", r.value);
@@ -135,8 +145,9 @@ static void bytes(const uint8_t *c, size_t n) {
     wairokabi_byte_place p = wairokabi_open_bytes(0);
     for (int k = 0; k < MOST; k++) {
         const wairokabi_byte_next r = wairokabi_next_byte(c, n, p);
-        if (r.number) {
-            printf("|%d", r.number);
+        if (r.refusal.number) {
+            putchar('|');
+            refusal(r.refusal);
             return;
         }
         printf("%s%d", k ? "," : "", r.value);
@@ -148,11 +159,12 @@ static void texts(const uint8_t *c, size_t n) {
     const wairokabi_text_opened opened = wairokabi_open_text(c, n, 0);
     wairokabi_string_place p = opened.place;
     for (int k = 0; k < MOST; k++) {
-        wairokabi_text_next r = {opened.number, {0, {0}}, p};
-        if (!opened.number)
+        wairokabi_text_next r = {opened.refusal, {0, {0}}, p};
+        if (!opened.refusal.number)
             r = wairokabi_next_text(c, n, p);
-        if (r.number) {
-            printf("|%d", r.number);
+        if (r.refusal.number) {
+            putchar('|');
+            refusal(r.refusal);
             return;
         }
         if (k)

@@ -64,6 +64,13 @@ const asked = table(['asked', 'how many'], [
   ['state vectors', sum('model', 'vector')]
 ])
 
+// The model's works; a diff or a sort of an update that is refused has the update's place.
+const WORKS = { read: 'readings', diff: 'diffs', sort: 'sorts', column: 'columns', vector: 'state vectors' }
+const places = table(['refusals, number and place', 'at 0', 'elsewhere', 'together'], [
+  ...Object.entries(WORKS).map(([work, name]) => [name, sum('places', work, 'at 0'), sum('places', work, 'elsewhere'), sum('places', work)]),
+  ['**all**', sum('places', null, 'at 0'), sum('places', null, 'elsewhere'), sum('places')]
+])
+
 const classes = []
 for (const side of wordsAt(1, 'known')) {
   for (const name of wordsAt(2, 'known', side)) {
@@ -81,7 +88,9 @@ const disagreements = table(['against', 'class', 'row of DIFFERENCES.md', 'how m
 const written = `
 ${table(['', ''], versions, 2)}
 
-Every answer of the library, ${thousands(sum('model'))} in all, refusals too, was first held against a model of document 01 (tools/cases): all are equal.
+Every answer of the library, ${thousands(sum('model'))} in all, refusals too, was first held against a model of documents 01 and 02 (tools/cases): all are equal. ${thousands(sum('places'))} of them are refusals, and these have the model's place too (W-201):
+
+${places}
 
 ${updates}
 

@@ -2,8 +2,9 @@
 // this file to them. What "proved" means, call by call, is in docs/PROMISES.md.
 //
 // What is promised. Every call answers every input, in the same way each time: it keeps no state, allocates nothing, reads and writes nothing but what
-// it is lent, and ends. An answer begins with its number: 0 for done, else why it is refused. On a refusal every other field of the answer is zero
-// (a refused `wairokabi_next_..` gives back its place), and so is all that was lent to be written. On 0 what is lent and not used is zero.
+// it is lent, and ends. An answer of a call that reads begins with a refusal, which is a number and a place; any other answer begins with a number.
+// Number 0 is done, at place 0; any other says why it is refused, and the place says where. On a refusal every other field of the answer is zero (a
+// refused `wairokabi_next_..` gives back the place it was given), and so is all that was lent to be written. On 0 what is lent and not used is zero.
 //
 // What is asked, which C cannot say:
 // - A pointer with a count after it leads to that many elements (not bytes) of its type, aligned as C aligns it. It is not null, even if the count is 0.
@@ -11,7 +12,7 @@
 // - What is lent to be written (no `const`) shares no byte with anything else that is lent to the same call.
 // Calls may run at the same time in several threads, each on what it alone is lent. `wairokabi_list` takes the most stack, about 128 KiB.
 //
-// Numbers that an answer begins with:
+// Numbers:
 //
 //  0  done
 //  1  bytes or a column end early
@@ -27,6 +28,19 @@
 // 11  no block n, or it has no binary or text
 // 12  form not 1 or 2
 // 13  form 2, or a difference column, needs a difference outside -2^30 to 2^30-1
+//
+// Places: the byte that is blamed, counted from 0 in the update, or in the bytes that a number or a column is read from:
+//
+// - 1: the end of the column that ends early, which is the place after its last byte; else the end of the update, or of the bytes.
+// - 2, 3: the first byte of the number, a run's count too. A number that is drawn from a run blames the run's first byte, and so does the clock that a
+//   difference leads to.
+// - 4: the section's client.
+// - 5, 8 for a block's row, 3 for a block's end: the block's info byte. 8 for a range's row, 3 for a range's end: the first byte of the range's clock.
+// - 6, 7: the first byte of the text, not of its length.
+//
+// In form 2 a section's client and an info byte are drawn from runs too. Where no byte is blamed the place is 0: 9 to 13, 8 for order steps, an update
+// over WAIROKABI_MAX_UPDATE, whatever a state vector is refused by. Place 0 may be blamed too: form 1 has its count of sections there, and an update of no
+// bytes its end.
 #ifndef WAIROKABI_H
 #define WAIROKABI_H
 
@@ -66,6 +80,12 @@ typedef struct wairokabi_part {
     size_t place;
     wairokabi_bytes bytes;
 } wairokabi_part;
+
+// Why a call that reads is refused, and the place of the byte that it blames. Zeros for done.
+typedef struct wairokabi_refusal {
+    uint8_t number;
+    size_t place;
+} wairokabi_refusal;
 
 typedef struct wairokabi_id {
     uint64_t client;
@@ -109,7 +129,7 @@ typedef struct wairokabi_written {
 
 // How many blocks and how many delete ranges were read.
 typedef struct wairokabi_update {
-    uint8_t number;
+    wairokabi_refusal refusal;
     size_t blocks;
     size_t ranges;
 } wairokabi_update;
@@ -124,7 +144,7 @@ wairokabi_update wairokabi_read_update(
 
 // Where a part lies in the update.
 typedef struct wairokabi_where {
-    uint8_t number;
+    wairokabi_refusal refusal;
     wairokabi_part part;
 } wairokabi_where;
 
@@ -136,7 +156,7 @@ wairokabi_where wairokabi_content(
 
 // How many bytes were written, and how many blocks and delete ranges were read.
 typedef struct wairokabi_diff {
-    uint8_t number;
+    wairokabi_refusal refusal;
     size_t bytes;
     size_t blocks;
     size_t ranges;
@@ -164,7 +184,7 @@ wairokabi_diff wairokabi_encode_update(
 
 // How many blocks are taken, how many clients each report names, and how many blocks and delete ranges were read.
 typedef struct wairokabi_sorted {
-    uint8_t number;
+    wairokabi_refusal refusal;
     size_t steps;
     size_t counts;
     size_t reaches;
@@ -189,15 +209,15 @@ wairokabi_sorted wairokabi_sort(
     uint64_t *reaches, size_t reaches_count,
     uint64_t *pending, size_t pending_count);
 
-// Writes the listing of an update as text. `input` is a form byte, then the update. A refusal of reading is text too (`refused N`); 10 where the text
-// does not fit, which never happens with WAIROKABI_MAX_TEXT bytes.
+// Writes the listing of an update as text. `input` is a form byte, then the update. A refusal of reading is text too (`refused 3 at 17`, the place counted
+// in the update); 10 where the text does not fit, which never happens with WAIROKABI_MAX_TEXT bytes.
 wairokabi_written wairokabi_list(
     const uint8_t *input, size_t input_count,
     uint8_t *out, size_t out_count);
 
-// How many entries were read.
+// How many entries were read. A refusal's place is 0.
 typedef struct wairokabi_vector {
-    uint8_t number;
+    wairokabi_refusal refusal;
     size_t count;
 } wairokabi_vector;
 
@@ -210,7 +230,7 @@ wairokabi_vector wairokabi_read_state_vector(
 
 // A number, and the place after it.
 typedef struct wairokabi_unsigned {
-    uint8_t number;
+    wairokabi_refusal refusal;
     uint64_t value;
     size_t next;
 } wairokabi_unsigned;
@@ -220,7 +240,7 @@ wairokabi_unsigned wairokabi_read_unsigned(const uint8_t *s, size_t s_count, siz
 
 // A sign and a size, minus zero too, and the place after them.
 typedef struct wairokabi_signed {
-    uint8_t number;
+    wairokabi_refusal refusal;
     bool minus;
     uint64_t magnitude;
     size_t next;
@@ -272,7 +292,7 @@ typedef struct wairokabi_number_place {
 wairokabi_number_place wairokabi_open_numbers(size_t at);
 
 typedef struct wairokabi_number_next {
-    uint8_t number;
+    wairokabi_refusal refusal;
     uint64_t value;
     wairokabi_number_place place;
 } wairokabi_number_next;
@@ -293,7 +313,7 @@ typedef struct wairokabi_difference_place {
 wairokabi_difference_place wairokabi_open_differences(size_t at);
 
 typedef struct wairokabi_difference_next {
-    uint8_t number;
+    wairokabi_refusal refusal;
     uint32_t value;
     wairokabi_difference_place place;
 } wairokabi_difference_next;
@@ -314,7 +334,7 @@ typedef struct wairokabi_byte_place {
 wairokabi_byte_place wairokabi_open_bytes(size_t at);
 
 typedef struct wairokabi_byte_next {
-    uint8_t number;
+    wairokabi_refusal refusal;
     uint8_t value;
     wairokabi_byte_place place;
 } wairokabi_byte_next;
@@ -330,7 +350,7 @@ typedef struct wairokabi_string_place {
 } wairokabi_string_place;
 
 typedef struct wairokabi_text_opened {
-    uint8_t number;
+    wairokabi_refusal refusal;
     wairokabi_string_place place;
 } wairokabi_text_opened;
 
@@ -338,7 +358,7 @@ typedef struct wairokabi_text_opened {
 wairokabi_text_opened wairokabi_open_text(const uint8_t *column, size_t column_count, size_t at);
 
 typedef struct wairokabi_text_next {
-    uint8_t number;
+    wairokabi_refusal refusal;
     wairokabi_part part;
     wairokabi_string_place place;
 } wairokabi_text_next;

@@ -257,7 +257,7 @@ UNFOLDED = {}  # (crate, module) -> the specs whose contracts were unfolded, eac
 
 
 def unfolded(t, here):
-    """a contract that is one name at arguments (`ReadUpdate form ..`), as the specs of its crate, or of one below, define it"""
+    """a contract that is one name at arguments (`ReadUpdate form ..`), as the specs of its crate, or of one below, define it; and so on, while that is one"""
     words = split(t, ' ')
     mod = {} if '≡' in t or not words else ghosts(here, here[0])
     spec = re.match(r'Rattle·(\w+)(?:·specs)?\.specs\.(\w+)$', mod.get(words[0], ''))
@@ -270,7 +270,8 @@ def unfolded(t, here):
     params, body = defined.groups()
     at = dict(zip(params.split(), words[1:]))
     UNFOLDED.setdefault(here, []).append((*spec.groups(), set(re.findall(NAME, body))))
-    return re.sub(r'(?<![^\s(){};,⌜⌝])' + NAME, lambda m: at.get(m.group(0), m.group(0)), re.sub(r'\s+', ' ', body))  # no field
+    body = re.sub(r'(?<![^\s(){};,⌜⌝])' + NAME, lambda m: at.get(m.group(0), m.group(0)), re.sub(r'\s+', ' ', body))  # no field
+    return unfolded(' '.join([body] + words[1 + len(params.split()):]), here)
 
 
 # ---------------------------------------------------------------- imports

@@ -1,4 +1,5 @@
-// Links the proved library by its header and holds it to document 01's cases C, D, E and M, to refusals, and each other call to one worked case.
+// Links the proved library by its header and holds it to document 01's cases C, D, E and M, to refusals and the places that they blame, and each other
+// call to one worked case.
 // What it shows is that C and the library agree on names, parameters and layouts; what the calls answer is proved.
 #include "wairokabi.h"
 
@@ -93,6 +94,15 @@ static bool zero_rows(size_t from) {
     return true;
 }
 
+// Refused by this number, blaming this byte.
+static bool refused(wairokabi_refusal r, uint8_t number, size_t place) {
+    return r.number == number && r.place == place;
+}
+
+static bool done(wairokabi_refusal r) {
+    return refused(r, 0, 0);
+}
+
 static wairokabi_update read_update(uint8_t form, const uint8_t *update, size_t count, size_t lent) {
     fill();
     return wairokabi_read_update(form, update, count, rows, lent, words, WORDS);
@@ -110,54 +120,113 @@ static bool wrote(size_t bytes, const uint8_t *expected, size_t count) {
 static void reads(void) {
     wairokabi_update u = read_update(1, C, sizeof C, ROWS);
     EXPECT(sizeof(wairokabi_block) == 128);
-    EXPECT(u.number == 0 && u.blocks == 1 && u.ranges == 0);
+    EXPECT(done(u.refusal) && u.blocks == 1 && u.ranges == 0);
     EXPECT(is_hi(&rows[0], 7, 9) && zero_rows(1) && zero_words(0));
     u = read_update(2, D, sizeof D, ROWS);
-    EXPECT(u.number == 0 && u.blocks == 1 && u.ranges == 0);
+    EXPECT(done(u.refusal) && u.blocks == 1 && u.ranges == 0);
     EXPECT(is_hi(&rows[0], 10, 11) && zero_rows(1) && zero_words(0));
     u = read_update(1, GONE, sizeof GONE, ROWS);
-    EXPECT(u.number == 0 && u.blocks == 1 && u.ranges == 1);
+    EXPECT(done(u.refusal) && u.blocks == 1 && u.ranges == 1);
     EXPECT(alone(&rows[0], 2, 3, WAIROKABI_GC) && !rows[0].has_name && zero_rows(1));
     EXPECT(words[0] == 7 && words[1] == 3 && words[2] == 2 && zero_words(3));
     wairokabi_where w = wairokabi_content(1, C, sizeof C, 0);
-    EXPECT(w.number == 0 && same_part(w.part, 9, 2));
+    EXPECT(done(w.refusal) && same_part(w.part, 9, 2));
     w = wairokabi_content(2, D, sizeof D, 0);
-    EXPECT(w.number == 0 && same_part(w.part, 11, 2));
+    EXPECT(done(w.refusal) && same_part(w.part, 11, 2));
 }
 
 // A left id comes back through the row's middle: case E, read again, is the cut block.
 static void diffs(void) {
     wairokabi_diff d = encode_diff(1, C, sizeof C, HAS_ONE, sizeof HAS_ONE, 1, ROOM);
-    EXPECT(d.number == 0 && d.blocks == 1 && d.ranges == 0 && wrote(d.bytes, E, sizeof E));
+    EXPECT(done(d.refusal) && d.blocks == 1 && d.ranges == 0 && wrote(d.bytes, E, sizeof E));
     EXPECT(is_hi(&rows[0], 7, 9) && zero_rows(1) && zero_words(0));
     wairokabi_update u = read_update(1, E, sizeof E, ROWS);
-    EXPECT(u.number == 0 && u.blocks == 1 && rows[0].clock == 1 && rows[0].has_left && same_id(rows[0].left, 5, 0) && same_part(rows[0].part, 8, 1));
+    EXPECT(done(u.refusal) && u.blocks == 1 && rows[0].clock == 1 && rows[0].has_left && same_id(rows[0].left, 5, 0) && same_part(rows[0].part, 8, 1));
     d = encode_diff(1, C, sizeof C, HAS_ALL, sizeof HAS_ALL, 1, ROOM);
-    EXPECT(d.number == 0 && d.blocks == 1 && d.ranges == 0 && wrote(d.bytes, EMPTY, sizeof EMPTY));
+    EXPECT(done(d.refusal) && d.blocks == 1 && d.ranges == 0 && wrote(d.bytes, EMPTY, sizeof EMPTY));
     fill();
     d = wairokabi_encode_update(1, C, sizeof C, 2, rows, ROWS, words, WORDS, out, ROOM);
-    EXPECT(d.number == 0 && d.blocks == 1 && d.ranges == 0 && wrote(d.bytes, D, sizeof D));
+    EXPECT(done(d.refusal) && d.blocks == 1 && d.ranges == 0 && wrote(d.bytes, D, sizeof D));
     fill();
     d = wairokabi_encode_update(2, D, sizeof D, 1, rows, ROWS, words, WORDS, out, ROOM);
-    EXPECT(d.number == 0 && d.blocks == 1 && d.ranges == 0 && wrote(d.bytes, C, sizeof C));
+    EXPECT(done(d.refusal) && d.blocks == 1 && d.ranges == 0 && wrote(d.bytes, C, sizeof C));
 }
 
 static void refusals(void) {
     for (size_t count = 0; count < sizeof C; count++) {
         const wairokabi_update u = read_update(1, C, count, ROWS);
-        EXPECT(u.number == 1 && u.blocks == 0 && u.ranges == 0 && zero_rows(0) && zero_words(0));
+        EXPECT(refused(u.refusal, 1, count) && u.blocks == 0 && u.ranges == 0 && zero_rows(0) && zero_words(0));
     }
     wairokabi_update u = read_update(3, C, sizeof C, ROWS);
-    EXPECT(u.number == 12 && zero_rows(0) && zero_words(0));
+    EXPECT(refused(u.refusal, 12, 0) && zero_rows(0) && zero_words(0));
     u = read_update(1, C, sizeof C, 0);
-    EXPECT(u.number == 8 && u.blocks == 0 && zero_words(0) && rows[0].clock == 2);
+    EXPECT(refused(u.refusal, 8, 4) && u.blocks == 0 && zero_words(0) && rows[0].clock == 2);
+    fill();
+    u = wairokabi_read_update(1, GONE, sizeof GONE, rows, ROWS, words, 2);
+    EXPECT(refused(u.refusal, 8, 9) && u.ranges == 0 && zero_rows(0) && words[0] == 0 && words[1] == 0);
     wairokabi_diff d = encode_diff(1, C, sizeof C, HAS_ONE, sizeof HAS_ONE, 1, sizeof E - 1);
-    EXPECT(d.number == 10 && d.bytes == 0 && d.blocks == 0 && zero_rows(0) && zero_words(0));
+    EXPECT(refused(d.refusal, 10, 0) && d.bytes == 0 && d.blocks == 0 && zero_rows(0) && zero_words(0));
     EXPECT(zero_bytes(out, 0, sizeof E - 1) && out[sizeof E - 1] == 0xa5);
     d = encode_diff(1, C, sizeof C, HAS_ONE, 2, 1, ROOM);
-    EXPECT(d.number == 1 && d.bytes == 0 && zero_rows(0) && zero_bytes(out, 0, ROOM));
+    EXPECT(refused(d.refusal, 1, 0) && d.bytes == 0 && zero_rows(0) && zero_bytes(out, 0, ROOM));
     const wairokabi_where w = wairokabi_content(1, C, sizeof C, 1);
-    EXPECT(w.number == 11 && same_part(w.part, 0, 0));
+    EXPECT(refused(w.refusal, 11, 0) && same_part(w.part, 0, 0));
+}
+
+// Each call that reads an update is refused alike; the vector, which would be refused too, is not looked at.
+static void refuse_alike(int line, uint8_t number, size_t place, uint8_t form, const uint8_t *update, size_t count) {
+    static const uint8_t vector[] = {0x41};
+    uint64_t order[ROWS], counts[2], reaches[2], pending[3];
+    expect(refused(read_update(form, update, count, ROWS).refusal, number, place), line, "read_update");
+    expect(refused(wairokabi_content(form, update, count, 0).refusal, number, place), line, "content");
+    expect(refused(encode_diff(form, update, count, vector, sizeof vector, 1, ROOM).refusal, number, place), line, "encode_diff");
+    const wairokabi_diff d = wairokabi_encode_update(form, update, count, 2, rows, ROWS, words, WORDS, out, ROOM);
+    expect(refused(d.refusal, number, place), line, "encode_update");
+    const wairokabi_sorted s = wairokabi_sort(form, update, count, vector, sizeof vector, rows, ROWS, words, WORDS, order, ROWS, counts, 2, reaches, 2,
+                                              pending, 3);
+    expect(refused(s.refusal, number, place), line, "sort");
+}
+
+// Case D with another byte at `at`.
+static void refuse_changed(int line, uint8_t number, size_t place, size_t at, uint8_t byte) {
+    uint8_t update[sizeof D];
+    memcpy(update, D, sizeof D);
+    update[at] = byte;
+    refuse_alike(line, number, place, 2, update, sizeof update);
+}
+
+#define REFUSED(number, place, form, ...) \
+    refuse_alike(__LINE__, number, place, form, (const uint8_t[]){__VA_ARGS__}, sizeof(const uint8_t[]){__VA_ARGS__})
+#define CHANGED(number, place, at, byte) refuse_changed(__LINE__, number, place, at, byte)
+
+// Which byte an update is refused for.
+static void places(void) {
+    refuse_alike(__LINE__, 1, 0, 1, C, 0);
+    refuse_alike(__LINE__, 1, 0, 2, D, 0);
+    REFUSED(2, 1, 1, 0x01, 0x80, 0x80, 0x80, 0x80, 0x80, 0x80, 0x80, 0x80, 0x80, 0x00);
+    REFUSED(3, 0, 1, 0x41);
+    REFUSED(4, 7, 1, 0x02, 0x01, 0x05, 0x00, 0x00, 0x01, 0x01, 0x05);
+    REFUSED(5, 4, 1, 0x01, 0x01, 0x05, 0x00, 0x82, 0x09, 0x00);
+    REFUSED(6, 7, 1, 0x01, 0x01, 0x05, 0x00, 0x04, 0x01, 0x01, 0xff);
+    // an end over the limit: of a block its info byte, of a range its clock
+    REFUSED(3, 8, 1, 0x01, 0x01, 0x05, 0xff, 0xff, 0xff, 0xff, 0x07, 0x00, 0x01);
+    REFUSED(3, 4, 1, 0x00, 0x01, 0x05, 0x01, 0xff, 0xff, 0xff, 0xff, 0x07, 0x01);
+    // the length of a column; the client column's end, where a run's count is missing; content 5; a byte of the text; units past it; the rest
+    REFUSED(2, 2, 2, 0x00, 0x00, 0x80, 0x80, 0x80, 0x80, 0x80, 0x80, 0x80, 0x80, 0x80);
+    CHANGED(1, 4, 3, 0x45);
+    CHANGED(5, 7, 7, 0x05);
+    CHANGED(6, 10, 11, 0xff);
+    CHANGED(7, 11, 14, 0x03);
+    CHANGED(3, 22, 22, 0x41);
+    // two sections whose clients are one run, 45 00: the second blames the run's first byte
+    REFUSED(4, 3, 2, 0x00, 0x00, 0x02, 0x45, 0x00, 0x00, 0x00, 0x01, 0x00, 0x01, 0x00, 0x00, 0x00, 0x02, 0x41, 0x00, 0x02, 0x01, 0x00, 0x01, 0x00, 0x00);
+    // a state vector has no places
+    fill();
+    const wairokabi_vector v = wairokabi_read_state_vector((const uint8_t[]){0x02, 0x05, 0x00, 0x05, 0x00}, 5, words, WORDS);
+    EXPECT(refused(v.refusal, 4, 0) && v.count == 0 && zero_words(0));
+    uint64_t some[6];
+    const wairokabi_sorted s = wairokabi_sort(1, C, sizeof C, HAS_ONE, 2, rows, ROWS, words, WORDS, some, 1, some + 1, 1, some + 2, 1, some + 3, 3);
+    EXPECT(refused(s.refusal, 1, 0));
 }
 
 // Case M: 5's block has left id (9,0). With 9's block both are taken, 9's first; without it 5 waits for 9, at reach 0.
@@ -167,36 +236,49 @@ static void sorts(void) {
     uint64_t order[3] = {7, 7, 7}, counts[6] = {7, 7, 7, 7, 7, 7}, reaches[6] = {7, 7, 7, 7, 7, 7}, pending[6] = {7, 7, 7, 7, 7, 7};
     fill();
     wairokabi_sorted s = wairokabi_sort(1, both, sizeof both, none, sizeof none, rows, ROWS, words, WORDS, order, 3, counts, 6, reaches, 6, pending, 6);
-    EXPECT(s.number == 0 && s.steps == 2 && s.counts == 2 && s.reaches == 2 && s.pending == 0 && s.blocks == 2 && s.ranges == 0);
+    EXPECT(done(s.refusal) && s.steps == 2 && s.counts == 2 && s.reaches == 2 && s.pending == 0 && s.blocks == 2 && s.ranges == 0);
     EXPECT(rows[0].client == 9 && rows[1].client == 5 && same_id(rows[1].left, 9, 0) && zero_rows(2) && zero_words(0));
     EXPECT(same_words(order, (uint64_t[]){0, 1, 0}, 3) && same_words(counts, (uint64_t[]){9, 1, 5, 1, 0, 0}, 6));
     EXPECT(same_words(reaches, (uint64_t[]){9, 1, 5, 1, 0, 0}, 6) && same_words(pending, (uint64_t[]){0, 0, 0, 0, 0, 0}, 6));
     fill();
     s = wairokabi_sort(1, waits, sizeof waits, none, sizeof none, rows, ROWS, words, WORDS, order, 3, counts, 6, reaches, 6, pending, 6);
-    EXPECT(s.number == 0 && s.steps == 0 && s.counts == 1 && s.reaches == 1 && s.pending == 1 && s.blocks == 1 && s.ranges == 0);
+    EXPECT(done(s.refusal) && s.steps == 0 && s.counts == 1 && s.reaches == 1 && s.pending == 1 && s.blocks == 1 && s.ranges == 0);
     EXPECT(same_words(order, (uint64_t[]){0, 0, 0}, 3) && same_words(counts, (uint64_t[]){5, 0, 0, 0, 0, 0}, 6));
     EXPECT(same_words(reaches, (uint64_t[]){5, 0, 0, 0, 0, 0}, 6) && same_words(pending, (uint64_t[]){5, 9, 0, 0, 0, 0}, 6));
     s = wairokabi_sort(1, both, sizeof both, none, sizeof none, rows, ROWS, words, WORDS, order, 1, counts, 6, reaches, 6, pending, 6);
-    EXPECT(s.number == 8 && s.steps == 0 && s.blocks == 0 && zero_rows(0) && order[0] == 0 && counts[0] == 0);
+    EXPECT(refused(s.refusal, 8, 0) && s.steps == 0 && s.blocks == 0 && zero_rows(0) && order[0] == 0 && counts[0] == 0);
 }
 
 static void others(void) {
     static const uint8_t input[] = {0x01, 0x01, 0x01, 0x05, 0x00, 0x04, 0x01, 0x01, 0x74, 0x02, 0x68, 0x69, 0x00};
-    static const char listing[] = "update form 1 blocks 1 ranges 0\n5 0 2 text\nend\n";
+    static const char listing[] = "update form 1 blocks 1 ranges 0\n5 0 2 text\nend\n", short_listing[] = "refused 1 at 11\n";
     fill();
     wairokabi_written w = wairokabi_list(input, sizeof input, out, ROOM);
     EXPECT(w.number == 0 && wrote(w.bytes, (const uint8_t *)listing, sizeof listing - 1));
     fill();
+    w = wairokabi_list(input, sizeof input - 1, out, ROOM);
+    EXPECT(w.number == 0 && wrote(w.bytes, (const uint8_t *)short_listing, sizeof short_listing - 1));
+    fill();
     const wairokabi_vector v = wairokabi_read_state_vector(HAS_ALL, sizeof HAS_ALL, words, WORDS);
-    EXPECT(v.number == 0 && v.count == 1 && words[0] == 5 && words[1] == 2 && zero_words(2));
+    EXPECT(done(v.refusal) && v.count == 1 && words[0] == 5 && words[1] == 2 && zero_words(2));
 }
 
 static void numbers(void) {
-    static const uint8_t number[] = {0x80, 0x01, 0x40};
-    const wairokabi_unsigned n = wairokabi_read_unsigned(number, sizeof number, 0);
-    EXPECT(n.number == 0 && n.value == 128 && n.next == 2);
-    const wairokabi_signed minus = wairokabi_read_signed(number, sizeof number, 2);
-    EXPECT(minus.number == 0 && minus.minus && minus.magnitude == 0 && minus.next == 3);
+    static const uint8_t number[] = {0x80, 0x01, 0x40}, nine[] = {0x05, 0x80, 0x80, 0x80, 0x80, 0x80, 0x80, 0x80, 0x80, 0x80};
+    wairokabi_unsigned n = wairokabi_read_unsigned(number, sizeof number, 0);
+    EXPECT(done(n.refusal) && n.value == 128 && n.next == 2);
+    n = wairokabi_read_unsigned(nine, 5, 1);
+    EXPECT(refused(n.refusal, 1, 5) && n.value == 0 && n.next == 0);
+    n = wairokabi_read_unsigned(nine, 5, 9);
+    EXPECT(refused(n.refusal, 1, 5) && n.value == 0 && n.next == 0);
+    n = wairokabi_read_unsigned(nine, sizeof nine, 1);
+    EXPECT(refused(n.refusal, 2, 1) && n.value == 0 && n.next == 0);
+    wairokabi_signed minus = wairokabi_read_signed(number, sizeof number, 2);
+    EXPECT(done(minus.refusal) && minus.minus && minus.magnitude == 0 && minus.next == 3);
+    minus = wairokabi_read_signed(nine, 5, 1);
+    EXPECT(refused(minus.refusal, 1, 5) && !minus.minus && minus.magnitude == 0 && minus.next == 0);
+    minus = wairokabi_read_signed(nine, sizeof nine, 1);
+    EXPECT(refused(minus.refusal, 2, 1) && !minus.minus && minus.magnitude == 0 && minus.next == 0);
     fill();
     wairokabi_written w = wairokabi_write_unsigned(out, ROOM, 128);
     EXPECT(w.number == 0 && wrote(w.bytes, number, 2));
@@ -223,32 +305,33 @@ static void texts(void) {
 // Cases F, H, K and, for the texts, the text column of D: each column read to its end, and written again.
 static void columns(void) {
     static const uint8_t zeros[] = {0x40, 0x03}, steps[] = {0x03, 0x01}, bytes[] = {0x04, 0x01, 0x00}, column[] = {0x03, 0x74, 0x68, 0x69, 0x01, 0x02};
-    wairokabi_number_next n = {0, 0, wairokabi_open_numbers(0)};
+    wairokabi_number_next n = {{0, 0}, 0, wairokabi_open_numbers(0)};
     for (int i = 0; i < 5; i++) {
         n = wairokabi_next_number(zeros, sizeof zeros, n.place);
-        EXPECT(n.number == 0 && n.value == 0);
+        EXPECT(done(n.refusal) && n.value == 0);
     }
     const wairokabi_number_place kept = n.place;
     n = wairokabi_next_number(zeros, sizeof zeros, n.place);
-    EXPECT(n.number == 1 && n.value == 0 && n.place.at == kept.at && n.place.from == kept.from && n.place.last == kept.last && n.place.count == kept.count);
-    wairokabi_difference_next d = {0, 0, wairokabi_open_differences(0)};
+    EXPECT(refused(n.refusal, 1, 2) && n.value == 0);
+    EXPECT(n.place.at == kept.at && n.place.from == kept.from && n.place.last == kept.last && n.place.count == kept.count);
+    wairokabi_difference_next d = {{0, 0}, 0, wairokabi_open_differences(0)};
     for (uint32_t i = 1; i <= 3; i++) {
         d = wairokabi_next_difference(steps, sizeof steps, d.place);
-        EXPECT(d.number == 0 && d.value == i);
+        EXPECT(done(d.refusal) && d.value == i);
     }
-    EXPECT(wairokabi_next_difference(steps, sizeof steps, d.place).number == 1);
-    wairokabi_byte_next b = {0, 0, wairokabi_open_bytes(0)};
+    EXPECT(refused(wairokabi_next_difference(steps, sizeof steps, d.place).refusal, 1, 2));
+    wairokabi_byte_next b = {{0, 0}, 0, wairokabi_open_bytes(0)};
     for (int i = 0; i < 9; i++) {
         b = wairokabi_next_byte(bytes, sizeof bytes, b.place);
-        EXPECT(b.number == 0 && b.value == (i < 2 ? 4 : 0) && b.place.endless == (i >= 2));
+        EXPECT(done(b.refusal) && b.value == (i < 2 ? 4 : 0) && b.place.endless == (i >= 2));
     }
     const wairokabi_text_opened o = wairokabi_open_text(column, sizeof column, 0);
-    EXPECT(o.number == 0);
+    EXPECT(done(o.refusal));
     wairokabi_text_next t = wairokabi_next_text(column, sizeof column, o.place);
-    EXPECT(t.number == 0 && same_part(t.part, 1, 1));
+    EXPECT(done(t.refusal) && same_part(t.part, 1, 1));
     t = wairokabi_next_text(column, sizeof column, t.place);
-    EXPECT(t.number == 0 && same_part(t.part, 2, 2));
-    EXPECT(wairokabi_next_text(column, sizeof column, t.place).number == 1);
+    EXPECT(done(t.refusal) && same_part(t.part, 2, 2));
+    EXPECT(refused(wairokabi_next_text(column, sizeof column, t.place).refusal, 1, 6));
 
     static const uint64_t five[5] = {0}, three[] = {1, 2, 3}, units[] = {1, 2};
     static const uint8_t values[] = {4, 4, 0};
@@ -266,15 +349,51 @@ static void columns(void) {
     EXPECT(w.number == 0 && wrote(w.bytes, column, sizeof column));
 }
 
+// Which byte a column is refused for, counted from the column's first one; the place to read from comes back as it was.
+static void column_places(void) {
+    // 5, then a run of 2^53, which is over the limit; 4, then a run of -2: 2, 0, and no clock
+    static const uint8_t over[] = {0x05, 0xc0, 0x80, 0x80, 0x80, 0x80, 0x80, 0x80, 0x20, 0x00}, below[] = {0x08, 0x43, 0x01};
+    wairokabi_number_next n = wairokabi_next_number(over, sizeof over, wairokabi_open_numbers(0));
+    EXPECT(done(n.refusal) && n.value == 5);
+    n = wairokabi_next_number(over, sizeof over, n.place);
+    EXPECT(refused(n.refusal, 3, 1) && n.value == 0 && n.place.at == 1 && n.place.count == 0);
+    wairokabi_difference_next d = {{0, 0}, 0, wairokabi_open_differences(0)};
+    for (uint32_t i = 0; i < 3; i++) {
+        d = wairokabi_next_difference(below, sizeof below, d.place);
+        EXPECT(done(d.refusal) && d.value == 4 - 2 * i);
+    }
+    d = wairokabi_next_difference(below, sizeof below, d.place);
+    EXPECT(refused(d.refusal, 3, 1) && d.value == 0 && d.place.at == 3 && d.place.count == 1);
+    // a count over its limit, which is no first byte of a run, and one that ends early
+    static const uint8_t often[] = {0x04, 0xfe, 0xff, 0xff, 0xff, 0x07};
+    const wairokabi_byte_place start = wairokabi_open_bytes(0);
+    EXPECT(refused(wairokabi_next_byte(often, sizeof often, start).refusal, 3, 1));
+    EXPECT(refused(wairokabi_next_byte(often, 3, start).refusal, 1, 3));
+    EXPECT(refused(wairokabi_next_byte(often, 0, start).refusal, 1, 0));
+    // texts: one of five bytes that has one; one that is not UTF-8; two units of "t"; none left
+    static const uint8_t cut[] = {0x05, 0x74}, bad[] = {0x01, 0xff, 0x01}, far[] = {0x01, 0x74, 0x02}, left[] = {0x01, 0x74, 0x41, 0x00};
+    const wairokabi_text_opened o = wairokabi_open_text(cut, sizeof cut, 0);
+    EXPECT(refused(o.refusal, 1, 2) && o.place.at == 0 && o.place.end == 0 && o.place.units.at == 0);
+    EXPECT(refused(wairokabi_open_text(bad, sizeof bad, 0).refusal, 6, 1));
+    wairokabi_text_next t = wairokabi_next_text(far, sizeof far, wairokabi_open_text(far, sizeof far, 0).place);
+    EXPECT(refused(t.refusal, 7, 1) && same_part(t.part, 0, 0) && t.place.at == 1 && t.place.end == 2 && t.place.units.at == 2);
+    t = wairokabi_next_text(left, sizeof left, wairokabi_open_text(left, sizeof left, 0).place);
+    EXPECT(done(t.refusal) && same_part(t.part, 1, 1));
+    t = wairokabi_next_text(left, sizeof left, t.place);
+    EXPECT(refused(t.refusal, 7, 2) && same_part(t.part, 0, 0));
+}
+
 int main(void) {
     reads();
     diffs();
     sorts();
     refusals();
+    places();
     others();
     numbers();
     texts();
     columns();
+    column_places();
     printf("c test: %d held, %d not\n", tried - failed, failed);
     return failed != 0;
 }

@@ -3,14 +3,15 @@
 const encoding = require('/usr/share/nodejs/lib0/encoding.cjs')
 const decoding = require('/usr/share/nodejs/lib0/decoding.cjs')
 const model = require('./model.cjs')
-const { number, limited, sized, list, roomOf, LONG, SHORT, hex, begin, worked } = require('./stream.cjs')
+const { held } = require('./held.cjs')
+const { number, limited, sized, list, roomOf, LONG, SHORT, hex, first, begin, worked } = require('./stream.cjs')
 
 const SAFE = 2n ** 53n - 1n
 const same = (what, ours, theirs) => {
   if (ours !== theirs) throw new Error(`the model and lib0 part at ${what}: ${ours} against ${theirs}`)
 }
 
-const { add, bad, stream, output, counts, told } = begin()
+const { add, bad, stream, output, counts, placed, told } = begin()
 let compared = 0
 
 // ---- lib0's answers
@@ -63,25 +64,27 @@ const compareDrawn = (what, decoder, r) => {
 
 const readUnsigned = (bytes, at) => {
   const r = model.readUnsigned(bytes, BigInt(at))
+  held(bytes, r, other => model.readUnsigned(other, BigInt(at)))
   compareUnsigned(bytes, BigInt(at), r)
-  return add(1, [sized(bytes, LONG), number(at)], r.number === 0 ? [0, r.value, r.next] : [r.number])
+  return add(1, [sized(bytes, LONG), number(at)], [first(r), ...(r.number === 0 ? [r.value, r.next] : [])])
 }
 
 const readSigned = (bytes, at) => {
   const r = model.readSigned(bytes, BigInt(at))
+  held(bytes, r, other => model.readSigned(other, BigInt(at)))
   compareSigned(bytes, BigInt(at), r)
-  return add(2, [sized(bytes, LONG), number(at)], r.number === 0 ? [0, r.minus ? 1 : 0, r.magnitude, r.next] : [r.number])
+  return add(2, [sized(bytes, LONG), number(at)], [first(r), ...(r.number === 0 ? [r.minus ? 1 : 0, r.magnitude, r.next] : [])])
 }
 
 // A writer's line; `theirs` gives lib0's bytes, and is asked where the model writes.
 const writer = (operation, parts, r, theirs) => {
-  if (r.number !== 0) return add(operation, parts, [r.number, 'zero'])
+  if (r.number !== 0) return add(operation, parts, [first(r), 'zero'])
   const lib0 = theirs()
   if (lib0 !== null) {
     same(`what operation ${operation} writes`, hex(r.bytes), hex(lib0))
     compared++
   }
-  return add(operation, parts, [0, hex(r.bytes), 'zero'])
+  return add(operation, parts, [first(r), hex(r.bytes), 'zero'])
 }
 
 const writeUnsigned = (value, room) =>
@@ -93,9 +96,11 @@ const writeSigned = (minus, magnitude, room) =>
     () => BigInt(magnitude) > SAFE ? null : lib0Bytes(e => encoding.writeVarInt(e, minus ? -Number(magnitude) : Number(magnitude))))
 
 const readColumn = (operation, what, draw, decoder) => (column, times) => {
-  const r = model.draws(draw(column), BigInt(times))
+  const read = column => model.draws(draw(column), BigInt(times))
+  const r = read(column)
+  held(column, r, read, { bare: operation === 7 })
   compareDrawn(what, decoder(Uint8Array.from(column)), r)
-  return add(operation, [sized(column, SHORT), limited('times', times, 4096)], [r.number, ...r.values])
+  return add(operation, [sized(column, SHORT), limited('times', times, 4096)], [first(r), ...r.values])
 }
 const readNumbers = readColumn(5, 'a number column', model.numbers, c => new decoding.UintOptRleDecoder(c))
 const readDifferences = readColumn(6, 'a difference column', model.differences, c => new decoding.IntDiffOptRleDecoder(c))
@@ -103,13 +108,14 @@ const readBytes = readColumn(7, 'a byte column', model.bytes, c => new decoding.
 
 const readTexts = (column, times) => {
   const r = model.readTexts(column, BigInt(times))
+  held(column, r, other => model.readTexts(other, BigInt(times)))
   const decoder = attempt(() => new decoding.StringDecoder(Uint8Array.from(column)))
   if (r.values.length > 0) {
     for (const text of r.values) same('a text column', hex(text), hex(Buffer.from(decoder.read(), 'utf8')))
     compared++
   }
   if (r.number === 6) same('UTF-8', decoder, null)
-  return add(8, [sized(column, SHORT), limited('times', times, 4096)], [r.number, ...r.values.map(hex)])
+  return add(8, [sized(column, SHORT), limited('times', times, 4096)], [first(r), ...r.values.map(hex)])
 }
 
 const encoded = (encoder, values) => {
@@ -152,5 +158,9 @@ module.exports = {
   readUnsigned, readSigned, writeUnsigned, writeSigned, readNumbers, readDifferences, readBytes, readTexts,
   writeNumbers, writeDifferences, writeBytes, writeTexts, worked, encoded,
   bad, stream, output,
-  told: () => told(counts) + `  compared with lib0 ${require('/usr/share/nodejs/lib0/package.json').version}: ${compared}`
+  told: () => [
+    `cases of an operation: ${told(counts)}`,
+    `refused at another place than 0: ${told(placed)}`,
+    `compared with lib0 ${require('/usr/share/nodejs/lib0/package.json').version}: ${compared}`
+  ].join('\n')
 }

@@ -5,9 +5,9 @@ const { readVector } = require('./update-model.cjs')
 const { whole, tables } = require('./update-cases.cjs')
 const yjs = require('./yjs.cjs')
 const yjsDiffs = require('./yjs-diffs.cjs')
-const { limited, sized, roomOf, LONG, SHORT, hex, begin } = require('./stream.cjs')
+const { limited, sized, roomOf, LONG, SHORT, hex, first, begin } = require('./stream.cjs')
 
-const { add, stream, output, counts, refused, told } = begin()
+const { add, stream, output, counts, refused, placed, told } = begin()
 const known = form => form === 1 || form === 2
 
 // The model's answer with rows and room without end, compared with Yjs, once for each diff.
@@ -29,14 +29,14 @@ const diff = (form, written, update, vector, { blockRows = 512, rangeRows = 1024
   const r = model.diff(form, written, update, vector, { blockRows, rangeRows, room })
   const parts = [limited('form', form, 255), limited('form written', written, 255), limited('block rows', blockRows, 512), limited('range rows', rangeRows, 1024),
     roomOf(room), sized(update, LONG), sized(vector, SHORT)]
-  return add(16, parts, r.number === 0 ? [0, hex(r.bytes), ';', ...tables(r.read), 'zero'] : [r.number, 'zero'])
+  return add(16, parts, [first(r), ...(r.number === 0 ? [hex(r.bytes), ';', ...tables(r.read)] : []), 'zero'])
 }
 
 module.exports = {
   diff, answer, stream, output, counts, refused,
   told: () => [
     `cases of an operation: ${told(counts)}`,
-    `the number of a line: ${told(refused)}`,
+    `the number of a line: ${told(refused)}; at another place than 0: ${told(placed)}`,
     `${answers.size} diffs, with Yjs ${yjs.version}: ${yjsDiffs.told()}`
   ].join('\n')
 }

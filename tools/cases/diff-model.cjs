@@ -2,7 +2,7 @@
 // it, and the bytes of that in either form. Made without our Rattle code and without Yjs.
 'use strict'
 const { readUpdate, readVector } = require('./update-model.cjs')
-const { writeDifferences } = require('./model.cjs')
+const { nowhere, writeDifferences } = require('./model.cjs')
 const spelling = require('./spelling.cjs')
 
 const CONTENT = { deleted: 1, binary: 3, text: 4 }
@@ -59,17 +59,17 @@ const far = blocks => {
 }
 
 const diff = (form, written, update, vector, { blockRows, rangeRows, room = Infinity } = {}) => {
-  if (written !== 1 && written !== 2) return { number: 12 }
+  if (written !== 1 && written !== 2) return nowhere(12)
   const read = readUpdate(form, update, blockRows, rangeRows)
   if (read.number !== 0) return read
   const remote = readVector(vector)
   if (remote.number !== 0) return remote
   const sections = kept(update, read.blocks, remote.entries)
   const blocks = sections.flatMap(s => s.blocks)
-  if (blocks.includes(null)) return { number: 9 }
-  if (written === 2 && far(blocks)) return { number: 13 }
+  if (blocks.includes(null)) return nowhere(9)
+  if (written === 2 && far(blocks)) return nowhere(13)
   const bytes = spelling.update(written, { sections, deletes: grouped(read.ranges) })
-  return bytes.length > room ? { number: 10 } : { number: 0, bytes, read, sections }
+  return bytes.length > room ? nowhere(10) : { number: 0, bytes, read, sections }
 }
 
 module.exports = { diff }

@@ -23,78 +23,78 @@ const anyLength = most => wide(1 + random(most))
 const w = c.worked
 // F: 40 is minus zero, so 03 is a count: 0 stands five times. The sixth read finds the end.
 w(c.readNumbers(bytes('40 03'), 5), '0 0 0 0 0 0')
-w(c.readNumbers(bytes('40 03'), 6), '1 0 0 0 0 0')
+w(c.readNumbers(bytes('40 03'), 6), '1@2 0 0 0 0 0')
 // G: minus 5 and count 0: 5 twice.
 w(c.readNumbers(bytes('45 00'), 2), '0 5 5')
-w(c.readNumbers(bytes('45 00'), 3), '1 5 5')
+w(c.readNumbers(bytes('45 00'), 3), '1@2 5 5')
 // H: e is 3, odd: difference 1, count 1, so three times from 0.
 w(c.readDifferences(bytes('03 01'), 3), '0 1 2 3')
 // I: e is 10: difference 5, once. e is -1, odd: -1/2 rounded down is -1, twice. Each from the value before.
 w(c.readDifferences(bytes('0a 41 00'), 3), '0 5 4 3')
 // J: e is -4: difference -2 from 0 is no clock.
-w(c.readDifferences(bytes('44'), 1), '3')
+w(c.readDifferences(bytes('44'), 1), '3@0')
 // K: 4 with count 1: twice. Nothing is left after 0: without end.
 w(c.readBytes(bytes('04 01 00'), 6), '0 4 4 0 0 0 0')
 // L: one character of two units. Unit length 1 ends in the pair, 2 takes it, 3 runs past it.
-w(c.readTexts(bytes('04 f09f9880 01'), 1), '7')
+w(c.readTexts(bytes('04 f09f9880 01'), 1), '7@1')
 w(c.readTexts(bytes('04 f09f9880 02'), 1), '0 f09f9880')
-w(c.readTexts(bytes('04 f09f9880 03'), 1), '7')
+w(c.readTexts(bytes('04 f09f9880 03'), 1), '7@1')
 // The same, written: F to L's columns come back.
 w(c.writeNumbers([0, 0, 0, 0, 0], 2), '0 4003 zero')
 w(c.writeNumbers([5, 5], 65536), '0 4500 zero')
 w(c.writeDifferences([1, 2, 3], 2), '0 0301 zero')
-w(c.writeDifferences([5, 4, 3], 2), '10 zero')
+w(c.writeDifferences([5, 4, 3], 2), '10@0 zero')
 w(c.writeBytes([4, 4, 0, 0, 0, 0], 3), '0 040100 zero')
-w(c.writeTexts(bytes('f09f9880'), [1], 9), '7 zero')
+w(c.writeTexts(bytes('f09f9880'), [1], 9), '7@0 zero')
 w(c.writeTexts(bytes('f09f9880'), [2], 9), '0 04f09f988002 zero')
-w(c.writeTexts(bytes('f09f9880'), [3], 9), '7 zero')
+w(c.writeTexts(bytes('f09f9880'), [3], 9), '7@0 zero')
 // A run's count is read before its value's limit is looked at (c0 80 .. 20 is minus 2^53): the end first, then 3.
-w(c.readNumbers(bytes('c0 80 80 80 80 80 80 20'), 1), '1')
-w(c.readNumbers(bytes('c0 80 80 80 80 80 80 20 00'), 1), '3')
+w(c.readNumbers(bytes('c0 80 80 80 80 80 80 20'), 1), '1@8')
+w(c.readNumbers(bytes('c0 80 80 80 80 80 80 20 00'), 1), '3@0')
 // e is 2^31 + 1, over its limit, and its count is missing: e is looked at first.
-w(c.readDifferences(bytes('81 80 80 80 10'), 1), '3')
+w(c.readDifferences(bytes('81 80 80 80 10'), 1), '3@0')
 // e is 2^31 - 1, the largest: the difference is 2^30 - 1, and the third time leads past 2^31 - 1.
-w(c.readDifferences(bytes('bf ff ff ff 0f 01'), 3), '3 1073741823 2147483646')
+w(c.readDifferences(bytes('bf ff ff ff 0f 01'), 3), '3@0 1073741823 2147483646')
 // e is -2^31, the smallest: from 2^31 - 2, reached by two steps of 2^30 - 1, it leads to 2^30 - 2.
 w(c.readDifferences(bytes('bf ff ff ff 0f 00 c0 80 80 80 10'), 3), '0 1073741823 2147483646 1073741822')
 // Nine bytes that all say more are 2, eight are 1, and a tenth byte is never looked at.
-w(c.readUnsigned(bytes('80 80 80 80 80 80 80 80 80'), 0), '2')
-w(c.readUnsigned(bytes('80 80 80 80 80 80 80 80'), 0), '1')
+w(c.readUnsigned(bytes('80 80 80 80 80 80 80 80 80'), 0), '2@0')
+w(c.readUnsigned(bytes('80 80 80 80 80 80 80 80'), 0), '1@8')
 w(c.readUnsigned(bytes('ff ff ff ff ff ff ff ff 7f 05'), 0), '0 9223372036854775807 9')
 w(c.readSigned(bytes('ff ff ff ff ff ff ff ff 7f'), 0), '0 1 4611686018427387903 9')
 // Where lib0 goes on and document 01 does not (docs/DIFFERENCES.md): ten bytes, a value of 2^53, a count over its limit, e of 2^31, a difference of 2^30.
-w(c.readUnsigned(bytes('80 80 80 80 80 80 80 80 80 00'), 0), '2')
-w(c.readUnsigned(bytes('80 80 80 80 80 80 80 80 80 80 01'), 0), '2')
+w(c.readUnsigned(bytes('80 80 80 80 80 80 80 80 80 00'), 0), '2@0')
+w(c.readUnsigned(bytes('80 80 80 80 80 80 80 80 80 80 01'), 0), '2@0')
 w(c.readUnsigned(bytes('ff ff ff ff ff ff ff 1f'), 0), '0 18014398509481983 8')
-w(c.readNumbers(bytes('42 ff ff ff ff 0f 05'), 2), '3')
-w(c.readNumbers(bytes('42'), 2), '1')
-w(c.readNumbers(bytes('80 80 80 80 80 80 80 20'), 1), '3')
-w(c.readNumbers(bytes('42 fe ff ff ff 07'), 1), '3')
-w(c.readDifferences(bytes('80 80 80 80 10'), 1), '3')
-w(c.writeDifferences([0, p(30)], 9), '13 zero')
+w(c.readNumbers(bytes('42 ff ff ff ff 0f 05'), 2), '3@1')
+w(c.readNumbers(bytes('42'), 2), '1@1')
+w(c.readNumbers(bytes('80 80 80 80 80 80 80 20'), 1), '3@0')
+w(c.readNumbers(bytes('42 fe ff ff ff 07'), 1), '3@1')
+w(c.readDifferences(bytes('80 80 80 80 10'), 1), '3@0')
+w(c.writeDifferences([0, p(30)], 9), '13@0 zero')
 // Minus zero keeps its sign, in a longer spelling too.
 w(c.readSigned(bytes('40'), 0), '0 1 0 1')
 w(c.readSigned(bytes('05 c0 80 00'), 1), '0 1 0 4')
 w(c.writeSigned(true, 0, 1), '0 40 zero')
 // Ten bytes are not a number: 3, and before the room is looked at.
-w(c.writeUnsigned(p(63), 0), '3 zero')
+w(c.writeUnsigned(p(63), 0), '3@0 zero')
 w(c.writeUnsigned(p(63) - 1n, 9), '0 ffffffffffffffff7f zero')
-w(c.writeSigned(false, p(62), 9), '3 zero')
+w(c.writeSigned(false, p(62), 9), '3@0 zero')
 w(c.writeSigned(true, p(62) - 1n, 9), '0 ffffffffffffffff7f zero')
 // Column writers go by number, not by position: 2^31 is over the limit, and the 2^30 before it out of range.
-w(c.writeDifferences([p(30)], 9), '13 zero')
-w(c.writeDifferences([p(30), p(31)], 9), '3 zero')
+w(c.writeDifferences([p(30)], 9), '13@0 zero')
+w(c.writeDifferences([p(30), p(31)], 9), '3@0 zero')
 // Text: 6, 3, 7, 10. The text is not UTF-8; a length over 2^53 - 1; one over the text; a room one short.
-w(c.writeTexts(bytes('ff'), [p(53), 1], 0), '6 zero')
-w(c.writeTexts(utf8('hi'), [3, p(53)], 0), '3 zero')
-w(c.writeTexts(utf8('hi'), [3], 0), '7 zero')
-w(c.writeTexts(utf8('hi'), [1], 3), '10 zero')
+w(c.writeTexts(bytes('ff'), [p(53), 1], 0), '6@0 zero')
+w(c.writeTexts(utf8('hi'), [3, p(53)], 0), '3@0 zero')
+w(c.writeTexts(utf8('hi'), [3], 0), '7@0 zero')
+w(c.writeTexts(utf8('hi'), [1], 3), '10@0 zero')
 // Left-over text is kept.
 w(c.writeTexts(utf8('hi'), [1], 4), '0 02686901 zero')
 // A text column of no bytes has no length; one of no texts is whole.
-w(c.readTexts([], 0), '1')
+w(c.readTexts([], 0), '1@0')
 w(c.readTexts(bytes('00'), 0), '0')
-w(c.readTexts(bytes('00'), 1), '1')
+w(c.readTexts(bytes('00'), 1), '1@1')
 
 // ---- 1 and 2: every boundary in every spelling that nine bytes allow, cut short, and from other places
 

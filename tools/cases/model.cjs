@@ -1,4 +1,5 @@
 // What document 01 and docs/DECISIONS.md say of numbers and columns, in plain JavaScript with BigInt: the expectation, made without our Rattle code.
+// A refusal has its number and its place (W-201): where in the bytes that were handed over it lies; 0 for writers.
 'use strict'
 
 const LIMIT = 2n ** 53n - 1n // a client, a number column's value, a unit length
@@ -8,19 +9,20 @@ const HALF = 2n ** 30n
 
 // ---- numbers
 
-// The bytes of a number from `at`: the first has `low` value bits under its flags, the others seven; at most nine.
+// The bytes of a number from `at`: the first has `low` value bits under its flags, the others seven; at most nine. An end lies where the bytes end, also
+// for one that begins behind them; a number that is too long at its first byte.
 const spelt = (s, at, low) => {
   let value = 0n
   let weight = 0n
   for (let k = 0; k < 9; k++) {
-    if (at + BigInt(k) >= BigInt(s.length)) return { number: 1 }
+    if (at + BigInt(k) >= BigInt(s.length)) return { number: 1, place: s.length }
     const b = s[Number(at) + k]
     const bits = k === 0 ? low : 7
     value += BigInt(b & ((1 << bits) - 1)) << weight
     weight += BigInt(bits)
     if (b < 128) return { number: 0, value, next: at + BigInt(k) + 1n }
   }
-  return { number: 2 }
+  return { number: 2, place: Number(at) }
 }
 
 const readUnsigned = (s, at) => spelt(s, at, 7)
@@ -46,27 +48,33 @@ const signed = (minus, x) => {
 }
 
 // ---- what a writer answers: its refusals in their order, then the room
-const written = (bytes, room) => BigInt(bytes.length) > room ? { number: 10 } : { number: 0, bytes }
 
-const writeUnsigned = (value, room) => value >= 2n ** 63n ? { number: 3 } : written(unsigned(value), room)
-const writeSigned = (minus, x, room) => x >= 2n ** 62n ? { number: 3 } : written(signed(minus, x), room)
+// A refusal that lies nowhere in what was read.
+const nowhere = number => ({ number, place: 0 })
+const written = (bytes, room) => BigInt(bytes.length) > room ? nowhere(10) : { number: 0, bytes }
 
-// ---- columns, read: a generator-like object with `draw`, which gives { number } or { number: 0, value }; beside 3 and 7, for whoever compares, what is refused
+const writeUnsigned = (value, room) => value >= 2n ** 63n ? nowhere(3) : written(unsigned(value), room)
+const writeSigned = (minus, x, room) => x >= 2n ** 62n ? nowhere(3) : written(signed(minus, x), room)
 
+// ---- columns, read: a function that draws, which gives { number, place } or { number: 0, value, from }: `from` is the first byte of the run that the value
+// comes from, and the place of what is refused for its value. Beside 3 and 7, for whoever compares, what is refused.
+
+// A run's count that is refused lies at its own first byte.
 const readCount = (s, at) => {
   const c = readUnsigned(s, at)
-  return c.number === 0 && c.value > COUNT ? { number: 3, what: 'run count', value: c.value } : c
+  return c.number === 0 && c.value > COUNT ? { number: 3, place: Number(at), what: 'run count', value: c.value } : c
 }
 
 // A signed number, then its count if minus, and only then the value's limit.
 const numbers = (s, from = 0n) => {
   let at = from
+  let first = 0
   let left = 0n
   let value = 0n
   return () => {
     if (left === 0n) {
       const r = readSigned(s, at)
-      if (r.number !== 0) return { number: r.number }
+      if (r.number !== 0) return r
       let times = 1n
       let next = r.next
       if (r.minus) {
@@ -75,29 +83,32 @@ const numbers = (s, from = 0n) => {
         times = c.value + 2n
         next = c.next
       }
-      if (r.magnitude > LIMIT) return { number: 3, what: 'column value' }
+      if (r.magnitude > LIMIT) return { number: 3, place: Number(at), what: 'column value' }
+      first = Number(at)
       at = next
       left = times
       value = r.magnitude
     }
     left--
-    return { number: 0, value }
+    return { number: 0, value, from: first }
   }
 }
 
 // e is tested when read, before its count; the clock that it leads to when drawn.
 const differences = s => {
   let at = 0n
+  let first = 0
   let left = 0n
   let difference = 0n
   let last = 0n
   return () => {
-    let [nextAt, nextLeft, nextDifference] = [at, left, difference]
+    let [nextAt, nextFirst, nextLeft, nextDifference] = [at, first, left, difference]
     if (left === 0n) {
+      nextFirst = Number(at)
       const r = readSigned(s, at)
-      if (r.number !== 0) return { number: r.number }
+      if (r.number !== 0) return r
       const e = r.minus ? -r.magnitude : r.magnitude
-      if (e < -(2n ** 31n) || e > 2n ** 31n - 1n) return { number: 3, what: 'difference' }
+      if (e < -(2n ** 31n) || e > 2n ** 31n - 1n) return { number: 3, place: nextFirst, what: 'difference' }
       nextAt = r.next
       nextLeft = 1n
       nextDifference = e >> 1n // rounds down, also below zero
@@ -109,36 +120,40 @@ const differences = s => {
       }
     }
     const value = last + nextDifference
-    if (value < 0n || value > CLOCK) return { number: 3, what: value < 0n ? 'column clock below zero' : 'column clock' }
+    if (value < 0n || value > CLOCK) return { number: 3, place: nextFirst, what: value < 0n ? 'column clock below zero' : 'column clock' }
     at = nextAt
+    first = nextFirst
     left = nextLeft - 1n
     difference = nextDifference
     last = value
-    return { number: 0, value }
+    return { number: 0, value, from: first }
   }
 }
 
 const bytes = s => {
   let at = 0
+  let first = 0
   let left = 0n
   let value = 0n
   let endless = false
   return () => {
     if (!endless && left === 0n) {
-      if (at >= s.length) return { number: 1 }
+      if (at >= s.length) return { number: 1, place: s.length }
       if (at + 1 === s.length) {
         endless = true
+        first = at
         value = BigInt(s[at])
       } else {
         const c = readCount(s, BigInt(at) + 1n)
         if (c.number !== 0) return c
+        first = at
         value = BigInt(s[at])
         left = c.value + 1n
         at = Number(c.next)
       }
     }
     if (!endless) left--
-    return { number: 0, value }
+    return { number: 0, value, from: first }
   }
 }
 
@@ -146,7 +161,7 @@ const draws = (draw, times) => {
   const values = []
   for (let k = 0n; k < times; k++) {
     const r = draw()
-    if (r.number !== 0) return { number: r.number, what: r.what, values }
+    if (r.number !== 0) return { number: r.number, place: r.place, what: r.what, values }
     values.push(r.value)
   }
   return { number: 0, values }
@@ -190,16 +205,17 @@ const take = (chars, k, units) => {
   return k
 }
 
-// Opens a text column: its length, bytes and UTF-8 are looked at. Gives { number } or { number: 0, draw }; a drawn text has its place in the column.
+// Opens a text column: its length, bytes and UTF-8 are looked at. Gives { number, place } or { number: 0, draw }; a drawn text has its place in the column.
+// What is not UTF-8 lies at the first byte of the text. A text that its units do not fit lies where it would begin, also where no byte is left.
 const texts = s => {
   const length = readUnsigned(s, 0n)
-  if (length.number !== 0) return { number: length.number }
-  if (length.next + length.value > BigInt(s.length)) return { number: 1 }
+  if (length.number !== 0) return { number: length.number, place: length.place }
+  if (length.next + length.value > BigInt(s.length)) return { number: 1, place: s.length }
   const start = Number(length.next)
   const end = start + Number(length.value)
   const text = s.slice(start, end)
   const chars = characters(text)
-  if (chars === null) return { number: 6 }
+  if (chars === null) return { number: 6, place: start }
   const unit = numbers(s, BigInt(end))
   const placeOf = k => k < chars.length ? chars[k][0] : text.length
   let k = 0
@@ -207,8 +223,10 @@ const texts = s => {
     const u = unit()
     if (u.number !== 0) return u
     const next = take(chars, k, u.value)
-    if (next === null) return { number: 7, what: u.value > chars.slice(k).reduce((sum, [, , n]) => sum + n, 0n) ? 'past the text' : 'in a pair' }
     const place = placeOf(k)
+    if (next === null) {
+      return { number: 7, place: start + place, what: u.value > chars.slice(k).reduce((sum, [, , n]) => sum + n, 0n) ? 'past the text' : 'in a pair' }
+    }
     const value = text.slice(place, placeOf(next))
     k = next
     return { number: 0, value, place: start + place, units: u.value }
@@ -218,7 +236,7 @@ const texts = s => {
 
 const readTexts = (s, times) => {
   const column = texts(s)
-  return column.number !== 0 ? { number: column.number, values: [] } : draws(column.draw, times)
+  return column.number !== 0 ? { ...column, values: [] } : draws(column.draw, times)
 }
 
 // ---- columns, written
@@ -234,12 +252,12 @@ const runs = values => {
 
 const numberBytes = values => runs(values).flatMap(([v, n]) => n === 1n ? signed(false, v) : [...signed(true, v), ...unsigned(n - 2n)])
 
-const writeNumbers = (values, room) => values.some(v => v > LIMIT) ? { number: 3 } : written(numberBytes(values), room)
+const writeNumbers = (values, room) => values.some(v => v > LIMIT) ? nowhere(3) : written(numberBytes(values), room)
 
 const writeDifferences = (values, room) => {
-  if (values.some(v => v > CLOCK)) return { number: 3 }
+  if (values.some(v => v > CLOCK)) return nowhere(3)
   const steps = values.map((v, k) => k === 0 ? v : v - values[k - 1])
-  if (steps.some(d => d < -HALF || d > HALF - 1n)) return { number: 13 }
+  if (steps.some(d => d < -HALF || d > HALF - 1n)) return nowhere(13)
   const size = d => d < 0n ? -d : d
   return written(runs(steps).flatMap(([d, n]) => {
     const e = 2n * d + (n === 1n ? 0n : 1n)
@@ -254,17 +272,17 @@ const writeBytes = (values, room) => {
 
 const writeTexts = (text, units, room) => {
   const chars = characters(text)
-  if (chars === null) return { number: 6 }
-  if (units.some(u => u > LIMIT)) return { number: 3 }
+  if (chars === null) return nowhere(6)
+  if (units.some(u => u > LIMIT)) return nowhere(3)
   let k = 0
   for (const u of units) {
     k = take(chars, k, u)
-    if (k === null) return { number: 7 }
+    if (k === null) return nowhere(7)
   }
   return written([...unsigned(BigInt(text.length)), ...text, ...numberBytes(units)], room)
 }
 
 module.exports = {
-  readUnsigned, readSigned, unsigned, signed, writeUnsigned, writeSigned, numbers, differences, bytes, draws, characters, texts, readTexts,
+  nowhere, readUnsigned, readSigned, unsigned, signed, writeUnsigned, writeSigned, numbers, differences, bytes, draws, characters, texts, readTexts,
   writeNumbers, writeDifferences, writeBytes, writeTexts
 }

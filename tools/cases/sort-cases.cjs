@@ -5,10 +5,10 @@ const { readVector } = require('./update-model.cjs')
 const { whole, tables } = require('./update-cases.cjs')
 const yjs = require('./yjs.cjs')
 const yjsSorts = require('./yjs-sorts.cjs')
-const { limited, sized, LONG, SHORT, hex, begin } = require('./stream.cjs')
+const { limited, sized, LONG, SHORT, hex, first, begin } = require('./stream.cjs')
 const { pick } = require('./random.cjs').begin(0x6c078965)
 
-const { add, stream, output, counts, refused, told } = begin()
+const { add, stream, output, counts, refused, placed, told } = begin()
 const known = form => form === 1 || form === 2
 
 const reports = r => [
@@ -16,7 +16,7 @@ const reports = r => [
   r.reaches.map(([client, clock]) => `${client}:${clock}`),
   r.pending.map(([client, missing, clock]) => `${client}>${missing}:${clock}`)
 ]
-const line = r => r.number === 0 ? [0, ...[r.order, ...reports(r)].flatMap(words => [...words, ';']), ...tables(r.read), 'zero'] : [r.number, 'zero']
+const line = r => [first(r), ...(r.number === 0 ? [...[r.order, ...reports(r)].flatMap(words => [...words, ';']), ...tables(r.read)] : []), 'zero']
 
 // Sorting has one outcome: by other orders of steps, the lowest client first and any one, the same is taken and reported.
 const alike = (update, vector, r) => {
@@ -54,7 +54,7 @@ module.exports = {
   sort, answer, stream, output, counts, refused,
   told: () => [
     `cases of an operation: ${told(counts)}`,
-    `the number of a line: ${told(refused)}`,
+    `the number of a line: ${told(refused)}; at another place than 0: ${told(placed)}`,
     `${answers.size} sorts, with Yjs ${yjs.version}: ${yjsSorts.told()}`
   ].join('\n')
 }

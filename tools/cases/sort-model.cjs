@@ -2,6 +2,7 @@
 // taken, one after another, and what is reported. Made without our Rattle code and without Yjs.
 'use strict'
 const { readUpdate, readVector } = require('./update-model.cjs')
+const { nowhere } = require('./model.cjs')
 
 const highestFirst = clients => [...new Set(clients)].sort((a, b) => a > b ? -1 : 1)
 const ids = b => [b.left, b.right, b.parent].filter(id => id !== null)
@@ -53,7 +54,7 @@ const sort = (form, update, vector, { blockRows, rangeRows, orderRows = Infinity
   const remote = readVector(vector)
   if (remote.number !== 0) return remote
   const r = sorted(read.blocks, remote.entries)
-  return r.order.length > orderRows ? { number: 8 } : { number: 0, read, entries: remote.entries, ...r }
+  return r.order.length > orderRows ? nowhere(8) : { number: 0, read, entries: remote.entries, ...r }
 }
 
 module.exports = { sort, sorted }

@@ -13,14 +13,15 @@ const { many } = require('./random.cjs')
 const forms = [1, 2]
 const vectorOf = entries => [...s.u(entries.length), ...entries.flatMap(([client, clock]) => [...s.u(client), ...s.u(clock)])]
 const sort = (form, update, vector, lent) => c.sort(form, bytes(update), bytes(vector), lent)
-const refused = (number, form, update, vector, lent) => w(sort(form, update, vector, lent), `${number} zero`)
+// `why` is the number and the place.
+const refused = (why, form, update, vector, lent) => w(sort(form, update, vector, lent), `${why} zero`)
 
 // The four reports as they are printed, `;` between them: with order rows just enough, with one too few, and with rows in plenty.
 const line = (form, update, reports) => `0 ${reports} ; ${tables(whole(form, update)).join(' ')} zero`
 const steps = reports => reports.split(';')[0].split(' ').filter(x => x !== '').length
 const exactly = (form, update, vector, reports) => {
   w(c.sort(form, update, vector, { orderRows: steps(reports) }), line(form, update, reports))
-  if (steps(reports) > 0) w(c.sort(form, update, vector, { orderRows: steps(reports) - 1 }), '8 zero')
+  if (steps(reports) > 0) w(c.sort(form, update, vector, { orderRows: steps(reports) - 1 }), '8@0 zero')
 }
 const answers = (form, update, vector, reports) => {
   exactly(form, update, vector, reports)
@@ -70,7 +71,7 @@ const small = () => {
   w(sort(1, '020109008405000161010500840700016200', '00'), '0 ; 9:0 5:0 ; 9:0 5:0 ; 9>5:0 5>7:0 ; blocks 2 9.0.1.text.5:0.-.-.-.-.8+1 5.0.1.text.7:0.-.-.-.-.16+1 ranges 0 zero')
   w(sort(1, '01010503840900016100', '00'), '0 ; 5:0 ; 5:0 ; 5>9:0 ; blocks 1 5.3.1.text.9:0.-.-.-.-.8+1 ranges 0 zero')
   w(sort(1, '0202090084050001610001010500840900016200', '00'), '0 ; 9:0 5:0 ; 9:0 5:0 ; 9>5:0 5>9:0 ; blocks 3 9.0.1.text.5:0.-.-.-.-.8+1 9.1.1.gc.-.-.-.-.-.- 5.0.1.text.9:0.-.-.-.-.18+1 ranges 0 zero')
-  w(sort(1, '0101058080808008000100', '00'), '3 zero')
+  w(sort(1, '0101058080808008000100', '00'), '3@3 zero')
   w(sort(1, '0100050000', '010501'), '0 ; ; 5:1 ; ; blocks 0 ranges 0 zero')
   w(sort(1, '020209000401017401610a05010500840903016200', '00'), '0 0 1 ; 9:2 5:0 ; 9:1 5:0 ; 5>9:1 ; blocks 3 9.0.1.text.-.-.7+1.-.-.9+1 9.1.5.skip.-.-.-.-.-.- 5.0.1.text.9:3.-.-.-.-.19+1 ranges 0 zero')
   // C and D: the block is taken, known or not; a reach never falls.
@@ -216,8 +217,8 @@ const wide = () => {
   const mixed = rising.map(k => (k * 29) % 64)
   exactly(1, s.update(1, { sections: rising.map(k => section(k, 0, gc(1))) }), [0], `${list(falling, k => k)} ; ${one} ; ${one} ;`)
   exactly(2, s.update(2, { sections: mixed.map(k => section(k, 0, gc(1))) }), [0], `${list(falling, k => mixed.indexOf(k))} ; ${one} ; ${one} ;`)
-  w(c.sort(1, s.update(1, { sections: many(65, k => section(k, 0, gc(1))) }), [0]), '3 zero')
-  w(c.sort(1, s.update(1, { sections: rising.map(k => section(k, 0, gc(1))) }), vectorOf(many(65, k => [k, 1]))), '3 zero')
+  w(c.sort(1, s.update(1, { sections: many(65, k => section(k, 0, gc(1))) }), [0]), '3@0 zero')
+  w(c.sort(1, s.update(1, { sections: rising.map(k => section(k, 0, gc(1))) }), vectorOf(many(65, k => [k, 1]))), '3@0 zero')
   // Each waits for the next lower one, or for the next higher one; then the end of the chain waits for a client that is not there.
   const chain = (form, sections, on, end) => s.update(form, { sections: sections.map(k => section(k, 0, k === end ? gc(1) : left([on(k), 0]))) })
   const lower = k => k - 1
@@ -247,39 +248,39 @@ const wide = () => {
 const order = () => {
   // An unknown form comes first: no byte is there, rows are none, the vector is bad.
   for (const form of [0, 3, 4, 255]) {
-    refused(12, form, '', '', { blockRows: 0, rangeRows: 0, orderRows: 0 })
-    refused(12, form, C, '00')
+    refused('12@0', form, '', '', { blockRows: 0, rangeRows: 0, orderRows: 0 })
+    refused('12@0', form, C, '00')
   }
   // The update comes before the vector, its rows too; then the vector; then the order's rows.
   const bad = [['1', ''], ['1', '01 05'], ['1', '02 05 01'], ['2', '80 80 80 80 80 80 80 80 80'], ['2', '01 05 ff ff ff ff ff ff ff ff ff'],
     ['3', '41'], ['3', '01 05 80 80 80 80 08'], ['3', '01 80 80 80 80 80 80 80 10'], ['4', '02 05 01 05'], ['4', '03 05 01 09 01 05 01']]
   for (const [number, vector] of bad) {
-    refused(1, 1, '01 01 05 00 82', vector)
-    refused(5, 1, '01 01 05 00 82 09 00', vector)
-    refused(6, 2, '00 00 00 00 00 00 02 01 ff 00 00 00 00 00', vector)
-    refused(4, 1, '02 00 05 00 00 05', vector, { orderRows: 0 })
-    refused(8, 1, C, vector, { blockRows: 0 })
-    refused(8, 2, D, vector, { blockRows: 0, rangeRows: 0, orderRows: 0 })
-    refused(8, 1, '00 01 05 02 00 01 01 01', vector, { blockRows: 0, rangeRows: 1 })
-    refused(number, 1, C, vector)
-    refused(number, 2, D, vector, { blockRows: 1, rangeRows: 0, orderRows: 0 })
-    refused(number, 1, C, vector, { orderRows: 0 })
-    refused(number, 1, A, vector, { blockRows: 0, rangeRows: 0, orderRows: 0 })
+    refused('1@5', 1, '01 01 05 00 82', vector)
+    refused('5@4', 1, '01 01 05 00 82 09 00', vector)
+    refused('6@8', 2, '00 00 00 00 00 00 02 01 ff 00 00 00 00 00', vector)
+    refused('4@5', 1, '02 00 05 00 00 05', vector, { orderRows: 0 })
+    refused('8@4', 1, C, vector, { blockRows: 0 })
+    refused('8@7', 2, D, vector, { blockRows: 0, rangeRows: 0, orderRows: 0 })
+    refused('8@6', 1, '00 01 05 02 00 01 01 01', vector, { blockRows: 0, rangeRows: 1 })
+    refused(`${number}@0`, 1, C, vector)
+    refused(`${number}@0`, 2, D, vector, { blockRows: 1, rangeRows: 0, orderRows: 0 })
+    refused(`${number}@0`, 1, C, vector, { orderRows: 0 })
+    refused(`${number}@0`, 1, A, vector, { blockRows: 0, rangeRows: 0, orderRows: 0 })
   }
   // Rows of each kind, one after the other; pending blocks take no order row, Skips do; an item of length 0 takes no row at all.
-  refused(8, 1, C, '00', { blockRows: 0, orderRows: 1 })
-  refused(8, 1, C, '00', { blockRows: 1, orderRows: 0 })
-  refused(8, 1, '01 01 05 00 0a 02 00', '00', { orderRows: 0 })
+  refused('8@4', 1, C, '00', { blockRows: 0, orderRows: 1 })
+  refused('8@0', 1, C, '00', { blockRows: 1, orderRows: 0 })
+  refused('8@0', 1, '01 01 05 00 0a 02 00', '00', { orderRows: 0 })
   w(sort(1, '01 01 05 00 81 09 00 01 00', '00', { blockRows: 1, rangeRows: 0, orderRows: 0 }), '0 ; 5:0 ; 5:0 ; 5>9:0 ; blocks 1 5.0.1.deleted.9:0.-.-.-.-.- ranges 0 zero')
-  refused(8, 1, '01 01 05 00 81 09 00 01 00', '01 09 01', { blockRows: 1, rangeRows: 0, orderRows: 0 })
-  refused(8, 1, '01 01 05 00 81 09 00 01 00', '00', { blockRows: 0, rangeRows: 0, orderRows: 0 })
-  refused(8, 1, '01 01 05 00 81 09 00 01 01 05 02 00 01 01 01', '00', { blockRows: 1, rangeRows: 1, orderRows: 0 })
+  refused('8@0', 1, '01 01 05 00 81 09 00 01 00', '01 09 01', { blockRows: 1, rangeRows: 0, orderRows: 0 })
+  refused('8@4', 1, '01 01 05 00 81 09 00 01 00', '00', { blockRows: 0, rangeRows: 0, orderRows: 0 })
+  refused('8@13', 1, '01 01 05 00 81 09 00 01 01 05 02 00 01 01 01', '00', { blockRows: 1, rangeRows: 1, orderRows: 0 })
   w(sort(1, '01 01 05 00 81 09 00 01 01 05 02 00 01 01 01', '00', { blockRows: 1, rangeRows: 2, orderRows: 0 }),
     '0 ; 5:0 ; 5:0 ; 5>9:0 ; blocks 1 5.0.1.deleted.9:0.-.-.-.-.- ranges 1 5.0.2 zero')
   // As many rows as a case may lend, all used: 512 GCs and 512 steps; then 513.
   const many512 = n => s.update(2, { sections: [section(5, 0, ...many(n, () => gc(1)))] })
   exactly(2, many512(512), [0], `${many(512, k => k).join(' ')} ; 5:512 ; 5:512 ;`)
-  w(c.sort(2, many512(513), [0]), '8 zero')
+  w(c.sort(2, many512(513), [0]), '8@7 zero')
 }
 
 // A Yjs document's state and pending blocks.

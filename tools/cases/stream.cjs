@@ -28,19 +28,30 @@ const SHORT = 65536
 const hex = bytes => bytes.length === 0 ? '-' : Buffer.from(bytes).toString('hex')
 const bytes = text => [...Buffer.from(text.replace(/ /g, ''), 'hex')]
 
-// `add` gives the expected line back. `counts` has how many cases an operation has, `refused` how many lines begin with a number.
+// The first word of a line: 0, or a refusal's number and place.
+const first = ({ number, place }) => {
+  if (number === 0) return '0'
+  if (!Number.isSafeInteger(place)) throw new Error(`refused ${number} at ${place}`)
+  return `${number}@${place}`
+}
+
+// `add` gives the expected line back. `counts` has how many cases an operation has, `refused` how many lines begin with a number, `placed` how many of these
+// have a place other than 0.
 const begin = () => {
   const chunks = []
   const lines = []
   const counts = new Map()
   const refused = new Map()
+  const placed = new Map()
   const grow = (map, key) => map.set(key, (map.get(key) ?? 0) + 1)
   return {
     add: (operation, parts, words) => {
       chunks.push(Buffer.from([operation]), ...parts)
       lines.push(words.join(' '))
       grow(counts, operation)
-      grow(refused, words[0])
+      const [number, place = '0'] = words[0].split('@')
+      grow(refused, Number(number))
+      if (place !== '0') grow(placed, Number(number))
       return words.join(' ')
     },
     bad: bytes => {
@@ -51,13 +62,15 @@ const begin = () => {
     output: () => lines.join('\n') + '\n',
     counts,
     refused,
+    placed,
     told: map => [...map].sort(([a], [b]) => a - b).map(([o, n]) => `${o}: ${n}`).join('  ')
   }
 }
 
-// A case worked by hand: the line is written beside it.
+// A case worked by hand: the line is written beside it. `unplaced` leaves out its place, where the bytes are not ours.
 const worked = (line, expected) => {
   if (line !== expected) throw new Error(`worked by hand: ${expected}, by the model: ${line}`)
 }
+const unplaced = line => line.replace(/^(\d+)@\d+/, '$1')
 
-module.exports = { number, limited, sized, list, roomOf, LONG, SHORT, hex, bytes, begin, worked }
+module.exports = { number, limited, sized, list, roomOf, LONG, SHORT, hex, bytes, first, begin, worked, unplaced }

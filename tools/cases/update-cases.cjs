@@ -2,9 +2,10 @@
 'use strict'
 const model = require('./update-model.cjs')
 const yjs = require('./yjs.cjs')
-const { number, limited, sized, LONG, SHORT, hex, begin } = require('./stream.cjs')
+const { held } = require('./held.cjs')
+const { number, limited, sized, LONG, SHORT, hex, first, begin } = require('./stream.cjs')
 
-const { add, stream, output, counts, refused, told } = begin()
+const { add, stream, output, counts, refused, placed, told } = begin()
 
 const id = x => x === null ? '-' : `${x.client}:${x.clock}`
 const part = x => x === null ? '-' : `${x.place}+${x.bytes}`
@@ -12,12 +13,21 @@ const row = b => [b.client, b.clock, b.length, b.kind, id(b.left), id(b.right), 
 const range = d => [d.client, d.clock, d.length].join('.')
 const tables = r => ['blocks', r.blocks.length, ...r.blocks.map(row), 'ranges', r.ranges.length, ...r.ranges.map(range)]
 
+// What holds of every refusal is looked at, and that 5 lies at an info byte with such a content number.
+const reading = (form, update, ...rows) => {
+  const r = model.readUpdate(form, update, ...rows)
+  if (form === 1 || form === 2) held(update, r, other => model.readUpdate(form, other, ...rows))
+  const info = update[r.place]
+  if (r.number === 5 && (info === 0 || info === 10 || [1, 3, 4].includes(info & 31))) throw new Error(`no info byte at ${r.place} of ${hex(update)}`)
+  return r
+}
+
 // The model's answer with rows without end, compared with Yjs, once for each update.
 const answers = new Map()
 const whole = (form, update) => {
   const key = form + hex(update)
   if (!answers.has(key)) {
-    const r = model.readUpdate(form, update)
+    const r = reading(form, update)
     yjs.compare(form, update, r)
     answers.set(key, r)
   }
@@ -27,29 +37,29 @@ const whole = (form, update) => {
 const readVector = vector => {
   const r = model.readVector(vector)
   yjs.compareVector(vector, r)
-  return add(13, [sized(vector, SHORT)], r.number === 0 ? [0, ...r.entries.map(id), 'zero'] : [r.number, 'zero'])
+  return add(13, [sized(vector, SHORT)], [first(r), ...(r.number === 0 ? r.entries.map(id) : []), 'zero'])
 }
 
 const read = (form, update, blockRows = 512, rangeRows = 1024) => {
   if (form === 1 || form === 2) whole(form, update)
-  const r = model.readUpdate(form, update, blockRows, rangeRows)
+  const r = reading(form, update, blockRows, rangeRows)
   return add(14, [limited('form', form, 255), limited('block rows', blockRows, 512), limited('range rows', rangeRows, 1024), sized(update, LONG)],
-    r.number === 0 ? [0, ...tables(r), 'zero'] : [r.number, 'zero'])
+    [first(r), ...(r.number === 0 ? tables(r) : []), 'zero'])
 }
 
 const content = (form, n, update) => {
   if (form === 1 || form === 2) whole(form, update)
   const r = model.content(form, BigInt(n), update)
-  return add(15, [limited('form', form, 255), number(n), sized(update, LONG)], r.number === 0 ? [0, hex(r.part)] : [r.number])
+  return add(15, [limited('form', form, 255), number(n), sized(update, LONG)], [first(r), ...(r.number === 0 ? [hex(r.part)] : [])])
 }
 
-const list = input => add(18, [sized(input, LONG)], [0, hex(Buffer.from(model.listing(input), 'ascii')), 'zero'])
+const list = input => add(18, [sized(input, LONG)], ['0', hex(Buffer.from(model.listing(input), 'ascii')), 'zero'])
 
 module.exports = {
   readVector, read, content, list, whole, tables, stream, output, refused,
   told: () => [
     `cases of an operation: ${told(counts)}`,
-    `the number of a line: ${told(refused)}`,
+    `the number of a line: ${told(refused)}; at another place than 0: ${told(placed)}`,
     `${answers.size} updates, with Yjs ${yjs.version}: ${yjs.told()}`
   ].join('\n')
 }

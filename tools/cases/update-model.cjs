@@ -2,6 +2,7 @@
 // the expectation, made without our Rattle code and without Yjs.
 'use strict'
 const model = require('./model.cjs')
+const { nowhere } = model
 
 const CLIENT = 2n ** 53n - 1n
 const CLOCK = 2n ** 31n - 1n // a clock, a clock length, form 1 parent info, an end
@@ -9,44 +10,50 @@ const UPDATE = 16777215
 const CLIENTS = 64n // sections, delete-set clients, state-vector entries
 const ANNOUNCED = 65535n
 
-// Reading is one sequence of draws, and the first refused one decides: it is thrown. `column` says that a column could not answer, or was not whole;
-// `what` names what was drawn, and `value` what it was, for whoever compares.
+// Reading is one sequence of draws, and the first refused one decides: it is thrown, with its number and its place in the update (W-201). Then, for whoever
+// compares: `column` says that a column could not answer, or was not whole; `what` names what was drawn, and `value` what it was.
 class Refusal extends Error {
-  constructor (number, column, what, value) {
-    super(`refused ${number}`)
-    Object.assign(this, { number, column, what, value })
+  constructor (number, place, more) {
+    super(`refused ${number} at ${place}`)
+    this.refusal = { number, place, column: false, what: null, value: null, ...more }
   }
 }
-const refuse = (number, column = false, what = null, value = null) => {
-  throw new Refusal(number, column, what, value)
+const refuse = (number, place, more) => {
+  throw new Refusal(number, place, more)
 }
-// What a reading gives, with number 0, or just the number it was refused with.
+// What a reading gives, with number 0, or just its refusal.
 const answer = read => {
   try {
     return { number: 0, ...read() }
   } catch (e) {
     if (!(e instanceof Refusal)) throw e
-    return { number: e.number, column: e.column, what: e.what, value: e.value }
+    return e.refusal
   }
 }
-const within = (value, most, what) => value > most ? refuse(3, false, what, value) : value
+// `place` is where the value comes from: a number's first byte, or its run's.
+const within = (value, most, place, what) => value > most ? refuse(3, place, { what, value }) : value
 
 // ---- bytes with a place in them
 
 const cursor = (s, at) => {
   const unsigned = what => {
     const r = model.readUnsigned(s, BigInt(at))
-    if (r.number !== 0) refuse(r.number, false, what)
+    if (r.number !== 0) refuse(r.number, r.place, { what })
     at = Number(r.next)
     return r.value
   }
   return {
-    byte: () => at < s.length ? s[at++] : refuse(1),
+    // Where the next thing that is read has its first byte.
+    place: () => at,
+    byte: () => at < s.length ? s[at++] : refuse(1, s.length),
     unsigned,
-    limited: (most, what) => within(unsigned(), most, what),
+    limited: (most, what) => {
+      const place = at
+      return within(unsigned(), most, place, what)
+    },
     // That many bytes of any number, as { place, bytes }.
     part: size => {
-      if (BigInt(at) + size > BigInt(s.length)) refuse(1)
+      if (BigInt(at) + size > BigInt(s.length)) refuse(1, s.length)
       const part = { place: at, bytes: Number(size) }
       at += part.bytes
       return part
@@ -54,13 +61,17 @@ const cursor = (s, at) => {
   }
 }
 
-// ---- the two forms' fields, under the same names in the same order
+// ---- the two forms' fields, under the same names in the same order. A section's client and an info byte come with their place, a range with its clock's:
+// what is refused later, 4, 5, 8 and an end, lies there.
 
 const form1 = update => {
   const rest = cursor(update, 0)
-  const client = () => rest.limited(CLIENT, 'client')
+  const client = () => {
+    const place = rest.place()
+    return { value: rest.limited(CLIENT, 'client'), place }
+  }
   const id = () => {
-    const of = client()
+    const of = client().value
     return { client: of, clock: rest.limited(CLOCK, 'clock') }
   }
   return {
@@ -68,19 +79,23 @@ const form1 = update => {
     client,
     leftId: id,
     rightId: id,
-    info: rest.byte,
+    info: () => {
+      const place = rest.place()
+      return { value: rest.byte(), place }
+    },
     text: () => {
       const part = rest.part(rest.unsigned())
       const characters = model.characters(update.slice(part.place, part.place + part.bytes))
-      if (characters === null) refuse(6)
+      if (characters === null) refuse(6, part.place)
       return { part, units: characters.reduce((sum, [, , units]) => sum + units, 0n) }
     },
     parentInfo: () => rest.limited(CLOCK, 'parent info'),
     length: () => rest.limited(CLOCK, 'length'),
     newDeleteClient: () => {},
     range: () => {
+      const place = rest.place()
       const clock = rest.limited(CLOCK, 'delete clock')
-      return { clock, length: rest.limited(CLOCK, 'delete length') }
+      return { clock, length: rest.limited(CLOCK, 'delete length'), place }
     }
   }
 }
@@ -97,50 +112,63 @@ const form2 = update => {
     parts[name] = part
     columns[name] = update.slice(part.place, part.place + part.bytes)
   }
-  const drawn = draw => () => {
+  // A column's own places, from its first byte on, are so many further on in the update.
+  const drawn = (name, draw) => () => {
     const r = draw()
-    return r.number !== 0 ? refuse(r.number, true, r.what, r.value) : r
+    return r.number !== 0 ? refuse(r.number, parts[name].place + r.place, { column: true, what: r.what, value: r.value }) : r
   }
-  const value = draw => {
-    const next = drawn(draw)
-    return () => next().value
+  // Values with their place: the first byte of their run.
+  const values = (name, column) => {
+    const next = drawn(name, column(columns[name]))
+    return () => {
+      const r = next()
+      return { value: r.value, place: parts[name].place + r.from }
+    }
   }
   const texts = model.texts(columns.text)
-  if (texts.number !== 0) refuse(texts.number, true, 'text opened')
-  const text = drawn(texts.draw)
-  const client = value(model.numbers(columns.client))
-  const left = value(model.differences(columns.left))
-  const right = value(model.differences(columns.right))
-  const info = value(model.bytes(columns.info))
-  const parent = value(model.bytes(columns.parent))
-  const length = value(model.numbers(columns.length))
+  if (texts.number !== 0) refuse(texts.number, parts.text.place + texts.place, { column: true, what: 'text opened' })
+  const text = drawn('text', texts.draw)
+  const client = values('client', model.numbers)
+  const left = values('left', model.differences)
+  const right = values('right', model.differences)
+  const info = values('info', model.bytes)
+  const parent = values('parent', model.bytes)
+  const length = values('length', model.numbers)
   let end = 0n
   return {
     rest,
     client,
     leftId: () => {
-      const of = client()
-      return { client: of, clock: left() }
+      const of = client().value
+      return { client: of, clock: left().value }
     },
     rightId: () => {
-      const of = client()
-      return { client: of, clock: right() }
+      const of = client().value
+      return { client: of, clock: right().value }
     },
-    info: () => Number(info()),
+    info: () => {
+      const { value, place } = info()
+      return { value: Number(value), place }
+    },
     text: () => {
       const t = text()
       return { part: { place: parts.text.place + t.place, bytes: t.value.length }, units: t.units }
     },
-    parentInfo: parent,
-    length: () => within(length(), CLOCK, 'length'),
+    parentInfo: () => parent().value,
+    length: () => {
+      const { value, place } = length()
+      return within(value, CLOCK, place, 'length')
+    },
     newDeleteClient: () => {
       end = 0n
     },
     range: () => {
-      const clock = within(end + rest.unsigned(), CLOCK, 'delete clock')
-      const length = within(rest.unsigned() + 1n, CLOCK, 'delete length')
+      const place = rest.place()
+      const clock = within(end + rest.unsigned(), CLOCK, place, 'delete clock')
+      const lengthPlace = rest.place()
+      const length = within(rest.unsigned() + 1n, CLOCK, lengthPlace, 'delete length')
       end = clock + length
-      return { clock, length }
+      return { clock, length, place }
     }
   }
 }
@@ -150,7 +178,7 @@ const form2 = update => {
 const absent = { left: null, right: null, name: null, parent: null, key: null, part: null }
 
 // The rest of a block after its info byte: what the record keeps, without client and clock.
-const body = (f, info) => {
+const body = (f, info, place) => {
   if (info === 10) return { ...absent, kind: 'skip', length: f.rest.limited(CLOCK, 'Skip length') }
   if (info === 0) return { ...absent, kind: 'gc', length: f.length() }
   const item = { ...absent }
@@ -168,7 +196,7 @@ const body = (f, info) => {
       const { part, units } = f.text()
       return { ...item, kind: 'text', part, length: units }
     }
-    default: return refuse(5, false, 'content', info)
+    default: return refuse(5, place, { what: 'content', value: info })
   }
 }
 
@@ -192,8 +220,8 @@ const NO_LIMIT = Infinity
 const readUpdate = (form, update, blockRows = NO_LIMIT, rangeRows = NO_LIMIT) => {
   let masked = false
   const r = answer(() => {
-    if (form !== 1 && form !== 2) refuse(12)
-    if (update.length > UPDATE) refuse(3)
+    if (form !== 1 && form !== 2) refuse(12, 0)
+    if (update.length > UPDATE) refuse(3, 0)
     const f = form === 1 ? form1(update) : form2(update)
     const { rest } = f
     const blocks = []
@@ -202,18 +230,18 @@ const readUpdate = (form, update, blockRows = NO_LIMIT, rangeRows = NO_LIMIT) =>
     for (let sections = rest.limited(CLIENTS, 'sections'); sections > 0n; sections--) {
       const count = rest.limited(ANNOUNCED - announced, 'blocks')
       announced += count
-      const client = f.client()
-      if (clients.has(client)) refuse(4, false, 'section client')
+      const { value: client, place: clientPlace } = f.client()
+      if (clients.has(client)) refuse(4, clientPlace, { what: 'section client' })
       clients.add(client)
       let clock = rest.limited(CLOCK, 'clock')
       for (let k = 0n; k < count; k++) {
-        const info = f.info()
+        const { value: info, place } = f.info()
         if (info !== 0 && (info & 31) === 0) masked = true
-        const block = { client, clock, ...body(f, info) }
-        clock = within(clock + block.length, CLOCK, 'end')
+        const block = { client, clock, ...body(f, info, place) }
+        clock = within(clock + block.length, CLOCK, place, 'end')
         const dropped = block.length === 0n && block.kind !== 'gc' && block.kind !== 'skip'
         if (dropped) continue
-        if (blocks.length >= blockRows) refuse(8)
+        if (blocks.length >= blockRows) refuse(8, place)
         blocks.push(block)
       }
     }
@@ -224,11 +252,11 @@ const readUpdate = (form, update, blockRows = NO_LIMIT, rangeRows = NO_LIMIT) =>
       deleteClients.push(client)
       f.newDeleteClient()
       for (let count = rest.unsigned(); count > 0n; count--) {
-        const range = { client, ...f.range() }
-        within(range.clock + range.length, CLOCK, 'delete end')
-        if (range.length === 0n) continue
-        if (ranges.length >= rangeRows) refuse(8)
-        ranges.push(range)
+        const { clock, length, place } = f.range()
+        within(clock + length, CLOCK, place, 'delete end')
+        if (length === 0n) continue
+        if (ranges.length >= rangeRows) refuse(8, place)
+        ranges.push({ client, clock, length })
       }
     }
     return { blocks, ranges: joined(ranges), rangesRead: ranges.length, deleteClients }
@@ -241,35 +269,39 @@ const content = (form, n, update) => {
   const r = readUpdate(form, update)
   if (r.number !== 0) return r
   const block = n < BigInt(r.blocks.length) ? r.blocks[Number(n)] : undefined
-  if (block === undefined || block.part === null) return { number: 11 }
+  if (block === undefined || block.part === null) return nowhere(11)
   return { number: 0, part: update.slice(block.part.place, block.part.place + block.part.bytes) }
 }
 
-// ---- state vector: entries in reading order; a repeated client with its id
-const readVector = vector => answer(() => {
-  const rest = cursor(vector, 0)
-  const entries = []
-  for (let count = rest.limited(CLIENTS); count > 0n; count--) {
-    const client = rest.limited(CLIENT)
-    if (entries.some(e => e.client === client)) refuse(4)
-    entries.push({ client, clock: rest.limited(CLOCK) })
-  }
-  return { entries }
-})
+// ---- state vector: entries in reading order; a repeated client with its id. Its refusals have no place.
+const readVector = vector => {
+  const r = answer(() => {
+    const rest = cursor(vector, 0)
+    const entries = []
+    for (let count = rest.limited(CLIENTS); count > 0n; count--) {
+      const client = rest.limited(CLIENT)
+      if (entries.some(e => e.client === client)) refuse(4, 0)
+      entries.push({ client, clock: rest.limited(CLOCK) })
+    }
+    return { entries }
+  })
+  return r.number !== 0 ? nowhere(r.number) : r
+}
 
 // ---- the listing program
 const EMPTY = { 1: [0, 0], 2: [0, 0, 0, 0, 0, 0, 1, 0, 0, 0, 0, 0, 0] }
 const equal = (a, b) => a.length === b.length && a.every((x, k) => x === b[k])
 
 const listing = input => {
-  if (input.length > 65536) return 'refused 3\n'
-  if (input.length === 0) return 'refused 1\n'
+  const refused = ({ number, place }) => `refused ${number} at ${place}\n`
+  if (input.length > 65536) return refused(nowhere(3))
+  if (input.length === 0) return refused(nowhere(1))
   const form = input[0]
   const update = input.slice(1)
-  if (form !== 1 && form !== 2) return 'refused 12\n'
+  if (form !== 1 && form !== 2) return refused(nowhere(12))
   if (equal([...update], EMPTY[form])) return 'empty\n'
   const r = readUpdate(form, update, 512, 1024)
-  if (r.number !== 0) return `refused ${r.number}\n`
+  if (r.number !== 0) return refused(r)
   const lines = [
     `update form ${form} blocks ${r.blocks.length} ranges ${r.ranges.length}`,
     ...r.blocks.map(b => `${b.client} ${b.clock} ${b.length} ${b.kind}`),

@@ -46,42 +46,42 @@ w(read(2, D, 1, 0), '0 blocks 1 5.0.2.text.-.-.10+1.-.-.11+2 ranges 0 zero')
 // Content is the text itself. There is no block 1, and no form 3.
 w(content(1, 0, C), '0 6869')
 w(content(2, 0, D), '0 6869')
-w(content(1, 1, C), '11')
-w(content(2, p(64) - 1n, D), '11')
-w(content(3, 0, C), '12')
-w(read(3, ''), '12 zero')
-w(read(0, C, 0, 0), '12 zero')
+w(content(1, 1, C), '11@0')
+w(content(2, p(64) - 1n, D), '11@0')
+w(content(3, 0, C), '12@0')
+w(read(3, ''), '12@0 zero')
+w(read(0, C, 0, 0), '12@0 zero')
 // The whole update is read before a content is handed out: C without its delete set ends early, whatever n.
-w(content(1, 0, '01 01 05 00 04 01 01 74 02 68 69'), '1')
-w(content(1, 7, '01 01 05 00 04 01 01 74 02 68 69'), '1')
-w(content(1, p(64) - 1n, '01 01 05 00 82 09 00'), '5')
-w(content(2, p(63), '00 00 00 00 00 00 02 01 ff 00 00 00 00 00'), '6')
+w(content(1, 0, '01 01 05 00 04 01 01 74 02 68 69'), '1@11')
+w(content(1, 7, '01 01 05 00 04 01 01 74 02 68 69'), '1@11')
+w(content(1, p(64) - 1n, '01 01 05 00 82 09 00'), '5@4')
+w(content(2, p(63), '00 00 00 00 00 00 02 01 ff 00 00 00 00 00'), '6@8')
 // No byte at all, and a section count with no delete set behind it.
-w(read(1, ''), '1 zero')
-w(read(2, ''), '1 zero')
-w(read(1, '00'), '1 zero')
+w(read(1, ''), '1@0 zero')
+w(read(2, ''), '1@0 zero')
+w(read(1, '00'), '1@1 zero')
 // Content 2 is refused when it is reached: the left id is missing, then it is there.
-w(read(1, '01 01 05 00 82'), '1 zero')
-w(read(1, '01 01 05 00 82 09 00'), '5 zero')
+w(read(1, '01 01 05 00 82'), '1@5 zero')
+w(read(1, '01 01 05 00 82 09 00'), '5@4 zero')
 // So with parent and key: the name is not UTF-8, and that comes first.
-w(read(1, '01 01 05 00 28 01 01 ff'), '6 zero')
-w(read(1, '01 01 05 00 28 01 01 74 01 6b'), '5 zero')
+w(read(1, '01 01 05 00 28 01 01 ff'), '6@7 zero')
+w(read(1, '01 01 05 00 28 01 01 74 01 6b'), '5@4 zero')
 // A row is asked for when its block is complete: no row is 8 though the delete set is missing; with a row, that is 1.
-w(read(1, '01 01 05 00 04 01 01 74 02 68 69', 0, 0), '8 zero')
-w(read(1, '01 01 05 00 04 01 01 74 02 68 69', 1, 0), '1 zero')
-w(read(1, '01 01 05 00 04 01 01 74 02 68', 0, 0), '1 zero')
+w(read(1, '01 01 05 00 04 01 01 74 02 68 69', 0, 0), '8@4 zero')
+w(read(1, '01 01 05 00 04 01 01 74 02 68 69', 1, 0), '1@11 zero')
+w(read(1, '01 01 05 00 04 01 01 74 02 68', 0, 0), '1@10 zero')
 // A block's end beats its row: a GC of length 1 at 2^31 - 1. One of length 0 is kept and takes a row.
-w(read(1, '01 01 05 ff ff ff ff 07 00 01 00', 0, 0), '3 zero')
+w(read(1, '01 01 05 ff ff ff ff 07 00 01 00', 0, 0), '3@8 zero')
 w(read(1, '01 01 05 ff ff ff ff 07 00 00 00', 1, 0), '0 blocks 1 5.2147483647.0.gc.-.-.-.-.-.- ranges 0 zero')
-w(read(1, '01 01 05 ff ff ff ff 07 00 00 00', 0, 0), '8 zero')
+w(read(1, '01 01 05 ff ff ff ff 07 00 00 00', 0, 0), '8@8 zero')
 w(read(1, '01 01 05 03 0a 00 00', 1, 0), '0 blocks 1 5.3.0.skip.-.-.-.-.-.- ranges 0 zero')
 // An item of length 0 is dropped and takes no row; the block behind it is number 0.
 w(read(1, '01 02 05 00 01 01 01 74 00 04 01 01 74 01 61 00', 1, 0), '0 blocks 1 5.0.1.text.-.-.12+1.-.-.14+1 ranges 0 zero')
 w(content(1, 0, '01 02 05 00 01 01 01 74 00 04 01 01 74 01 61 00'), '0 61')
-w(content(1, 1, '01 02 05 00 01 01 01 74 00 04 01 01 74 01 61 00'), '11')
+w(content(1, 1, '01 02 05 00 01 01 01 74 00 04 01 01 74 01 61 00'), '11@0')
 // Skip of 3, then a text with left id (5, 2): each block starts where the one before ended. The Skip has no content.
 w(read(1, '01 02 05 00 0a 03 84 05 02 01 62 00'), '0 blocks 2 5.0.3.skip.-.-.-.-.-.- 5.3.1.text.5:2.-.-.-.-.10+1 ranges 0 zero')
-w(content(1, 0, '01 02 05 00 0a 03 84 05 02 01 62 00'), '11')
+w(content(1, 0, '01 02 05 00 0a 03 84 05 02 01 62 00'), '11@0')
 w(content(1, 1, '01 02 05 00 0a 03 84 05 02 01 62 00'), '0 62')
 // e4 is left id, right id, bit 32 and text: with an id there is no parent and no key, whatever bit 32 says.
 w(read(1, '01 01 05 00 e4 09 01 07 02 01 78 00'), '0 blocks 1 5.0.1.text.9:1.7:2.-.-.-.10+1 ranges 0 zero')
@@ -96,91 +96,94 @@ w(content(1, 0, '01 01 05 00 83 05 00 00 00'), '0 -')
 w(read(1, '01 03 05 00 84 05 00 02 c3 a9 84 05 00 04 f0 9f 98 80 81 05 00 01 00'),
   '0 blocks 3 5.0.1.text.5:0.-.-.-.-.8+2 5.1.2.text.5:0.-.-.-.-.14+4 5.3.1.deleted.5:0.-.-.-.-.- ranges 0 zero')
 // A text's bytes are there before they are looked at: two are announced and one, which is not UTF-8, is there.
-w(read(1, '01 01 05 00 04 01 02 ff'), '1 zero')
-w(read(1, '01 01 05 00 04 01 01 ff'), '6 zero')
+w(read(1, '01 01 05 00 04 01 02 ff'), '1@8 zero')
+w(read(1, '01 01 05 00 04 01 01 ff'), '6@7 zero')
 // Ranges (10, 2), (0, 2), (2, 3): sorted, and the last two touch. They take three rows as they are read.
 w(read(1, '00 01 05 03 0a 02 00 02 02 03', 0, 3), '0 blocks 0 ranges 2 5.0.5 5.10.2 zero')
-w(read(1, '00 01 05 03 0a 02 00 02 02 03', 0, 2), '8 zero')
-w(read(1, '00 01 05 02 00 01 01 01', 0, 1), '8 zero')
+w(read(1, '00 01 05 03 0a 02 00 02 02 03', 0, 2), '8@8 zero')
+w(read(1, '00 01 05 02 00 01 01 01', 0, 1), '8@6 zero')
 // An empty range is gone and takes no row, but it has an end.
 w(read(1, '00 01 05 01 03 00', 0, 0), '0 blocks 0 ranges 0 zero')
 w(read(1, '00 01 05 01 ff ff ff ff 07 00', 0, 0), '0 blocks 0 ranges 0 zero')
 // A range's end beats its row, and its row beats what comes after it.
-w(read(1, '00 01 05 01 ff ff ff ff 07 01', 0, 0), '3 zero')
-w(read(1, '00 01 05 02 00 01', 0, 0), '8 zero')
-w(read(1, '00 01 05 02 00 01', 0, 1), '1 zero')
+w(read(1, '00 01 05 01 ff ff ff ff 07 01', 0, 0), '3@4 zero')
+w(read(1, '00 01 05 02 00 01', 0, 0), '8@4 zero')
+w(read(1, '00 01 05 02 00 01', 0, 1), '1@6 zero')
 // Highest client first; a client named twice is one.
 w(read(1, '00 02 05 01 00 01 09 01 03 01', 0, 2), '0 blocks 0 ranges 2 9.3.1 5.0.1 zero')
 w(read(1, '00 02 05 01 00 02 05 01 01 05', 0, 2), '0 blocks 0 ranges 1 5.0.6 zero')
 // A repeated client is refused with its id, before its first clock (which is missing), though neither section has a block.
-w(read(1, '02 00 05 00 00 05'), '4 zero')
-w(read(1, '02 00 05 00 00 06'), '1 zero')
+w(read(1, '02 00 05 00 00 05'), '4@5 zero')
+w(read(1, '02 00 05 00 00 06'), '1@6 zero')
 // Counts are tested when read: 65 sections, 65,536 blocks, 65 delete-set clients, with nothing behind them.
-w(read(1, '41'), '3 zero')
-w(read(1, '40'), '1 zero')
-w(read(1, '01 80 80 04'), '3 zero')
-w(read(1, '01 ff ff 03'), '1 zero')
-w(read(1, '00 41'), '3 zero')
-w(read(1, '00 40'), '1 zero')
+w(read(1, '41'), '3@0 zero')
+w(read(1, '40'), '1@1 zero')
+w(read(1, '01 80 80 04'), '3@1 zero')
+w(read(1, '01 ff ff 03'), '1@4 zero')
+w(read(1, '00 41'), '3@1 zero')
+w(read(1, '00 40'), '1@2 zero')
 // A range count has no limit, so 2^63 - 1 ranges end early.
-w(read(1, '00 01 05 ff ff ff ff ff ff ff ff 7f 00 01'), '1 zero')
+w(read(1, '00 01 05 ff ff ff ff ff ff ff ff 7f 00 01'), '1@14 zero')
 // Nine bytes that all say more; eight.
-w(read(1, '80 80 80 80 80 80 80 80 80'), '2 zero')
-w(read(1, '80 80 80 80 80 80 80 80'), '1 zero')
+w(read(1, '80 80 80 80 80 80 80 80 80'), '2@0 zero')
+w(read(1, '80 80 80 80 80 80 80 80'), '1@8 zero')
 // A nine-byte zero is a number: C's first clock in nine bytes.
 w(read(1, '01 01 05 80 80 80 80 80 80 80 80 00 04 01 01 74 02 68 69 00'), '0 blocks 1 5.0.2.text.-.-.15+1.-.-.17+2 ranges 0 zero')
 // Form 2: the text column has no bytes, so no length. It is one byte that says one byte. It is not UTF-8, though no text is drawn, and though 65 sections follow.
-w(read(2, '00 00 00 00 00 00 00 00 00 00 00 00'), '1 zero')
-w(read(2, '00 00 00 00 00 00 01 01 00 00 00 00 00'), '1 zero')
-w(read(2, '00 00 00 00 00 00 02 01 ff 00 00 00 41'), '6 zero')
+w(read(2, '00 00 00 00 00 00 00 00 00 00 00 00'), '1@7 zero')
+w(read(2, '00 00 00 00 00 00 01 01 00 00 00 00 00'), '1@8 zero')
+w(read(2, '00 00 00 00 00 00 02 01 ff 00 00 00 41'), '6@8 zero')
 // All nine columns are cut before the text is opened: the ninth is missing.
-w(read(2, '00 00 00 00 00 00 02 01 ff 00 00'), '1 zero')
+w(read(2, '00 00 00 00 00 00 02 01 ff 00 00'), '1@11 zero')
 // Key and type column are not read: ff is no number. The flag is any byte.
 w(read(2, 'ff 01 ff 01 05 00 00 01 04 06 03 74 68 69 01 02 01 01 01 ff 00 01 01 00 00'), '0 blocks 1 5.0.2.text.-.-.11+1.-.-.12+2 ranges 0 zero')
 // Left and parent ids share the left clock column (4, then 6 by a difference of 2), right ids have their own. Clients: 5, then 9 twice, then 8.
 const ids = '00 00 04 05 49 00 08 02 08 04 01 0e 05 81 00 41 00 01 01 00 01 00 00 02 41 01 01 03 00 00'
 w(read(2, ids, 3, 0), '0 blocks 3 5.0.1.deleted.9:4.-.-.-.-.- 5.1.1.deleted.-.9:7.-.-.-.- 5.2.1.deleted.-.-.-.8:6.-.- ranges 0 zero')
-w(content(2, 2, ids), '11')
+w(content(2, 2, ids), '11@0')
 // Form 2 deletes: (3, 1), then 0 after its end and length 1 + 1: they touch. From 0 again for the second client.
 w(read(2, '00 00 00 00 00 00 01 00 00 00 00 00 02 05 02 03 00 00 01 09 01 02 00', 0, 3), '0 blocks 0 ranges 2 9.2.1 5.3.3 zero')
-w(read(2, '00 00 00 00 00 00 01 00 00 00 00 00 02 05 02 03 00 00 01 09 01 02 00', 0, 2), '8 zero')
+w(read(2, '00 00 00 00 00 00 01 00 00 00 00 00 02 05 02 03 00 00 01 09 01 02 00', 0, 2), '8@21 zero')
 // (2^31 - 2, 1) ends at 2^31 - 1; the next clock is one more; or it is that end, and its range ends over the limit.
 w(read(2, '00 00 00 00 00 00 01 00 00 00 00 00 01 05 01 fe ff ff ff 07 00'), '0 blocks 0 ranges 1 5.2147483646.1 zero')
-w(read(2, '00 00 00 00 00 00 01 00 00 00 00 00 01 05 02 fe ff ff ff 07 00 01'), '3 zero')
-w(read(2, '00 00 00 00 00 00 01 00 00 00 00 00 01 05 02 fe ff ff ff 07 00 00'), '1 zero')
-w(read(2, '00 00 00 00 00 00 01 00 00 00 00 00 01 05 02 fe ff ff ff 07 00 00 00'), '3 zero')
+w(read(2, '00 00 00 00 00 00 01 00 00 00 00 00 01 05 02 fe ff ff ff 07 00 01'), '3@21 zero')
+w(read(2, '00 00 00 00 00 00 01 00 00 00 00 00 01 05 02 fe ff ff ff 07 00 00'), '1@22 zero')
+w(read(2, '00 00 00 00 00 00 01 00 00 00 00 00 01 05 02 fe ff ff ff 07 00 00 00'), '3@21 zero')
 // A stored length of 2^31 - 2 is 2^31 - 1, one more is over the limit.
 w(read(2, '00 00 00 00 00 00 01 00 00 00 00 00 01 05 01 00 fe ff ff ff 07'), '0 blocks 0 ranges 1 5.0.2147483647 zero')
-w(read(2, '00 00 00 00 00 00 01 00 00 00 00 00 01 05 01 00 ff ff ff ff 07'), '3 zero')
+w(read(2, '00 00 00 00 00 00 01 00 00 00 00 00 01 05 01 00 ff ff ff ff 07'), '3@16 zero')
 // A Skip's length is in the rest, a GC's in the length column: 0a 00 00 is Skip, then GC without end; rest 07, length column 03.
 w(read(2, '00 00 01 05 00 00 03 0a 00 00 01 00 00 00 01 03 01 02 00 07 00'), '0 blocks 2 5.0.7.skip.-.-.-.-.-.- 5.7.3.gc.-.-.-.-.-.- ranges 0 zero')
 // An id is its client, then its clock: the client column ends (1) where the clock column would say 3, and the other way round. For left, right and parent ids.
-for (const block of [{ info: [0x81], left: [0x44] }, { info: [0x41], right: [0x44] }, { info: [1], parent: [0], left: [0x44] }]) {
-  w(c.read(2, s.two({ client: [5], ...block, rest: [1, 1, 0, 0] })), '1 zero')
-  w(c.read(2, s.two({ client: [5, 9], ...block, rest: [1, 1, 0, 0] })), '3 zero')
-  w(c.read(2, s.two({ client: [5, ...bytes('80 80 80 80 80 80 80 20')], info: block.info, parent: block.parent, rest: [1, 1, 0, 0] })), '3 zero')
-  w(c.read(2, s.two({ client: [5, 9], info: block.info, parent: block.parent, rest: [1, 1, 0, 0] })), '1 zero')
+// The client column lies at 3 and has an end at 4, or a second value; the left clocks then begin at 6, the right clocks at 7 if there is no left one.
+for (const [clocks, block] of [[6, { info: [0x81], left: [0x44] }], [7, { info: [0x41], right: [0x44] }], [6, { info: [1], parent: [0], left: [0x44] }]]) {
+  w(c.read(2, s.two({ client: [5], ...block, rest: [1, 1, 0, 0] })), '1@4 zero')
+  w(c.read(2, s.two({ client: [5, 9], ...block, rest: [1, 1, 0, 0] })), `3@${clocks} zero`)
+  w(c.read(2, s.two({ client: [5, ...bytes('80 80 80 80 80 80 80 20')], info: block.info, parent: block.parent, rest: [1, 1, 0, 0] })), '3@4 zero')
+  w(c.read(2, s.two({ client: [5, 9], info: block.info, parent: block.parent, rest: [1, 1, 0, 0] })), `1@${clocks} zero`)
 }
 // A number is tested when it is read: nothing follows it. Section client and first clock; left, right and parent id; parent info; GC, Skip and deleted
-// length, and an end; delete-set client, a range's clock, length and end.
+// length, and an end; delete-set client, a range's clock, length and end. Its place is beside it: for an end the info byte's, or the range's clock's.
 const [over53, over31, most31] = ['80 80 80 80 80 80 80 10', '80 80 80 80 08', 'ff ff ff ff 07']
-for (const text of [`01 00 ${over53}`, `01 00 05 ${over31}`, `01 01 05 00 81 ${over53}`, `01 01 05 00 81 09 ${over31}`, `01 01 05 00 41 ${over53}`, `01 01 05 00 41 09 ${over31}`,
-  `01 01 05 00 01 00 ${over53}`, `01 01 05 00 01 00 09 ${over31}`, `01 01 05 00 01 ${over31}`, `01 01 05 00 00 ${over31}`, `01 01 05 00 0a ${over31}`, `01 01 05 00 81 09 00 ${over31}`,
-  `01 01 05 ${most31} 00 01`, `01 01 05 ${most31} 0a 01`, `01 01 05 ${most31} 81 09 00 01`, `01 01 05 ${most31} 83 09 00 00`, `01 01 05 ${most31} 84 09 00 01 61`,
-  `00 01 ${over53}`, `00 01 05 01 ${over31}`, `00 01 05 01 00 ${over31}`, `00 01 05 01 01 ${most31}`]) w(read(1, text, 0, 0), '3 zero')
-for (const text of [`01 ${over53}`, `01 05 ${over31}`]) w(vector(text), '3 zero')
-// So in form 2, where the length column's value is the GC's, and ranges are tested as restored.
-for (const columns of [
-  { client: bytes('80 80 80 80 80 80 80 20'), rest: [1, 0] },
-  { client: [5], rest: bytes(`01 00 ${over31}`) },
-  { client: [5], info: [0], length: bytes('80 80 80 80 10'), rest: [1, 1, 0] },
-  { client: [5], info: [0], length: [1], rest: bytes(`01 01 ${most31}`) },
-  { client: [5], info: [10], rest: bytes(`01 01 00 ${over31}`) },
-  { rest: bytes(`00 01 ${over53}`) },
-  { rest: bytes(`00 01 05 01 ${over31}`) },
-  { rest: bytes(`00 01 05 01 00 ${most31}`) },
-  { rest: bytes(`00 01 05 01 01 fe ff ff ff 07`) }
-]) w(c.read(2, s.two(columns), 0, 0), '3 zero')
+for (const [place, text] of [[2, `01 00 ${over53}`], [3, `01 00 05 ${over31}`], [5, `01 01 05 00 81 ${over53}`], [6, `01 01 05 00 81 09 ${over31}`],
+  [5, `01 01 05 00 41 ${over53}`], [6, `01 01 05 00 41 09 ${over31}`], [6, `01 01 05 00 01 00 ${over53}`], [7, `01 01 05 00 01 00 09 ${over31}`],
+  [5, `01 01 05 00 01 ${over31}`], [5, `01 01 05 00 00 ${over31}`], [5, `01 01 05 00 0a ${over31}`], [7, `01 01 05 00 81 09 00 ${over31}`],
+  [8, `01 01 05 ${most31} 00 01`], [8, `01 01 05 ${most31} 0a 01`], [8, `01 01 05 ${most31} 81 09 00 01`], [8, `01 01 05 ${most31} 83 09 00 00`],
+  [8, `01 01 05 ${most31} 84 09 00 01 61`], [2, `00 01 ${over53}`], [4, `00 01 05 01 ${over31}`], [5, `00 01 05 01 00 ${over31}`],
+  [4, `00 01 05 01 01 ${most31}`]]) w(read(1, text, 0, 0), `3@${place} zero`)
+for (const text of [`01 ${over53}`, `01 05 ${over31}`]) w(vector(text), '3@0 zero')
+// So in form 2, where the length column's value is the GC's, and ranges are tested as restored. The rest begins at 11, a byte later for each of the columns.
+for (const [place, columns] of [
+  [3, { client: bytes('80 80 80 80 80 80 80 20'), rest: [1, 0] }],
+  [14, { client: [5], rest: bytes(`01 00 ${over31}`) }],
+  [13, { client: [5], info: [0], length: bytes('80 80 80 80 10'), rest: [1, 1, 0] }],
+  [7, { client: [5], info: [0], length: [1], rest: bytes(`01 01 ${most31}`) }],
+  [16, { client: [5], info: [10], rest: bytes(`01 01 00 ${over31}`) }],
+  [13, { rest: bytes(`00 01 ${over53}`) }],
+  [15, { rest: bytes(`00 01 05 01 ${over31}`) }],
+  [16, { rest: bytes(`00 01 05 01 00 ${most31}`) }],
+  [15, { rest: bytes(`00 01 05 01 01 fe ff ff ff 07`) }]
+]) w(c.read(2, s.two(columns), 0, 0), `3@${place} zero`)
 // Unread bytes are accepted.
 w(read(1, '00 00 ff'), '0 blocks 0 ranges 0 zero')
 w(read(2, '00 01 00 01 05 01 00 01 00 01 00 02 00 05 01 00 01 00 01 00 00 00 ff'), '0 blocks 0 ranges 0 zero')
@@ -188,33 +191,33 @@ w(read(2, '00 01 00 01 05 01 00 01 00 01 00 02 00 05 01 00 01 00 01 00 00 00 ff'
 w(vector('00'), '0 zero')
 w(vector('02 05 01 09 03'), '0 5:1 9:3 zero')
 w(vector('02 09 03 05 01 ff'), '0 9:3 5:1 zero')
-w(vector('02 05 00 05'), '4 zero')
-w(vector('02 05 00 06'), '1 zero')
-w(vector('41'), '3 zero')
-w(vector(''), '1 zero')
-w(vector('01 80 80 80 80 80 80 80 10'), '3 zero')
-w(vector('01 80 80 80 80 80 80 80 10 01'), '3 zero')
-w(vector('01 05 80 80 80 80 08'), '3 zero')
+w(vector('02 05 00 05'), '4@0 zero')
+w(vector('02 05 00 06'), '1@0 zero')
+w(vector('41'), '3@0 zero')
+w(vector(''), '1@0 zero')
+w(vector('01 80 80 80 80 80 80 80 10'), '3@0 zero')
+w(vector('01 80 80 80 80 80 80 80 10 01'), '3@0 zero')
+w(vector('01 05 80 80 80 80 08'), '3@0 zero')
 w(vector('01 ff ff ff ff ff ff ff 0f ff ff ff ff 07'), '0 9007199254740991:2147483647 zero')
-w(vector('01 80 80 80 80 80 80 80 80 80 00'), '2 zero')
+w(vector('01 80 80 80 80 80 80 80 80 80 00'), '2@0 zero')
 // The listing: document 01's example, nothing at all, no form, the constant of its own form and of the other, a constant with a byte left over.
 w(list('01' + C), prints('update form 1 blocks 1 ranges 0\n5 0 2 text\nend\n'))
 w(list('02' + D), prints('update form 2 blocks 1 ranges 0\n5 0 2 text\nend\n'))
-w(list(''), prints('refused 1\n'))
-w(list('00'), prints('refused 12\n'))
-w(list('03 00 00'), prints('refused 12\n'))
-w(list('01'), prints('refused 1\n'))
-w(list('02'), prints('refused 1\n'))
+w(list(''), prints('refused 1 at 0\n'))
+w(list('00'), prints('refused 12 at 0\n'))
+w(list('03 00 00'), prints('refused 12 at 0\n'))
+w(list('01'), prints('refused 1 at 0\n'))
+w(list('02'), prints('refused 1 at 0\n'))
 w(list('01 00 00'), prints('empty\n'))
 w(list('02 00 00 00 00 00 00 01 00 00 00 00 00 00'), prints('empty\n'))
 w(list('01 00 00 00 00 00 00 01 00 00 00 00 00 00'), prints('update form 1 blocks 0 ranges 0\nend\n'))
-w(list('02 00 00'), prints('refused 1\n'))
+w(list('02 00 00'), prints('refused 1 at 2\n'))
 w(list('01 00 00 00'), prints('update form 1 blocks 0 ranges 0\nend\n'))
 w(list('02 00 00 00 00 00 00 01 00 00 00 00 00 00 00'), prints('update form 2 blocks 0 ranges 0\nend\n'))
 w(list('02 01 00 00 00 00 00 01 00 00 00 00 00 00'), prints('update form 2 blocks 0 ranges 0\nend\n'))
 w(list('01 80 00 00'), prints('update form 1 blocks 0 ranges 0\nend\n'))
 w(list('01 01 02 05 00 0a 03 00 02 01 05 02 09 01 00 03'), prints('update form 1 blocks 2 ranges 2\n5 0 3 skip\n5 3 2 gc\n5 0 3\n5 9 1\nend\n'))
-w(list('01' + '01 01 05 00 82 09 00'), prints('refused 5\n'))
+w(list('01' + '01 01 05 00 82 09 00'), prints('refused 5 at 4\n'))
 
 // ---- document 01 against Yjs, the lines of docs/DIFFERENCES.md that can be read: our line, and what Yjs reads (null: it throws)
 
@@ -226,73 +229,73 @@ const differs = (what, form, text, line, theirs) => {
   if (found !== theirs) throw new Error(`${what}: Yjs reads ${found}`)
 }
 const none = 'none none none none none none'
-differs('low bits 0 with other bits', 1, '010105008005000300', '5 zero', `5 0 5 gc ${none}`)
-differs('low bits 10 with other bits', 1, '010105008a09000300', '5 zero', null)
+differs('low bits 0 with other bits', 1, '010105008005000300', '5@4 zero', `5 0 5 gc ${none}`)
+differs('low bits 10 with other bits', 1, '010105008a09000300', '5@4 zero', null)
 differs('flag is a number', 2, '80' + D.slice(2), '0 blocks 1 5.0.2.text.-.-.10+1.-.-.11+2 ranges 0 zero', '')
 differs('item of length 0', 1, '01020500010101740004010174016100', '0 blocks 1 5.0.1.text.-.-.12+1.-.-.14+1 ranges 0 zero',
   '5 0 0 deleted none none <74> none none none, 5 0 1 text none none <74> none none <61>')
-differs('client in two sections', 1, '02010500040101740161010501840500016200', '4 zero',
+differs('client in two sections', 1, '02010500040101740161010501840500016200', '4@11 zero',
   '5 0 1 text none none <74> none none <61>, 5 1 1 text 5:0 none none none none <62>')
 differs('delete ranges unsorted, touching', 1, '000105030a0200020203', '0 blocks 0 ranges 2 5.0.5 5.10.2 zero', '5 10 2, 5 0 2, 5 2 3')
 differs('delete range of length 0', 1, '000105010300', '0 blocks 0 ranges 0 zero', '5 3 0')
 differs('delete client twice, falling', 2, '000000000000010000000000020501010005010000', '0 blocks 0 ranges 1 5.0.2 zero', '5 1 1, 5 0 1')
-differs('column read past its end', 2, '0000010500000100010000000001010000', '1 zero', `5 0 0 gc ${none}`)
-differs('text past its column', 2, '00000000000001010000000000', '1 zero', '')
-differs('units past the text', 2, '0000010500000104060374686901030101000001010000', '7 zero', '5 0 2 text none none <74> none none <6869>')
-differs('units end in a pair', 2, '0000010500000104080574f09f988041000101000001010000', '7 zero', '5 0 1 text none none <74> none none <efbfbd>')
-differs('clock below zero', 2, '0000020509014400018101000000010201010000', '3 zero', '5 0 2 deleted 9:-2 none none none none none')
-differs('difference of 2^30', 2, '000002050905808080801000018101000000010201010000', '3 zero', '5 0 2 deleted 9:1073741824 none none none none none')
-differs('clock 2^31', 1, '0101058080808008000100', '3 zero', `5 2147483648 1 gc ${none}`)
-differs('length 2^31', 1, '0101050000808080800800', '3 zero', `5 0 2147483648 gc ${none}`)
-differs('end 2^31', 1, '010105ffffffff07000100', '3 zero', `5 2147483647 1 gc ${none}`)
-differs('client 2^53', 1, '0101808080808080801000000100', '3 zero', `9007199254740992 0 1 gc ${none}`)
-differs('parent info 2^31', 1, '0101050001808080800809000200', '3 zero', '5 0 2 deleted none none none 9:0 none none')
-differs('stored run count 2147483646', 2, '0000010500000100010000000642feffffff0701010000', '3 zero', `5 0 2 gc ${none}`)
-differs('number of ten bytes', 1, '8080808080808080800000', '2 zero', '')
-differs('content 20', 1, '0101050014010174016100', '5 zero', null)
-differs('content 17', 1, '01010500110101740100', '5 zero', null)
-differs('content 19', 1, '0101050013010174016100', '5 zero', null)
-differs('content 2', 1, '0101050082090001013100', '5 zero', '5 0 1 ContentJSON 9:0 none none none none none')
-differs('content 5', 1, '0101050005010174027b7d00', '5 zero', '5 0 1 ContentEmbed none none <74> none none none')
-differs('content 6', 1, '01010500060101740162047472756500', '5 zero', '5 0 1 ContentFormat none none <74> none none none')
-differs('content 7', 1, '010105002701016d016b0100', '5 zero', '5 0 1 ContentType none none <6d> none <6b> none')
-differs('content 9', 1, '010105002901016d016b0167760000', '5 zero', '5 0 1 ContentDoc none none <6d> none <6b> none')
-differs('sections announced', 1, '80808008', '3 zero', null)
-differs('blocks announced', 1, '01ffffffff0f0500', '3 zero', null)
-differs('end over 2^32 - 1', 1, '010205ffffffff0f0001000100', '3 zero', `5 4294967295 1 gc ${none}, 5 4294967296 1 gc ${none}`)
-differs('column length cut', 2, '0080', '1 zero', null)
-differs('text length cut', 2, '00000000000001800000000000', '1 zero', null)
-differs('column length in ten bytes', 2, '00808080808080808080000000000001000000000000', '2 zero', '')
-differs('column length in eleven bytes', 2, '008080808080808080808001', '2 zero', null)
-differs('column length 2^64 - 1', 2, '00ffffffffffffffffff01', '2 zero', null)
-differs('client column read past its end', 2, '0000000000010001000000010101010000', '1 zero', `0 0 1 gc ${none}`)
-differs('unit lengths read past their end', 2, '0000010500000104030274740101000001010000', '1 zero', '5 0 0 text none none <> none none <>')
-differs('length 2^32 + 1', 2, '00000105000001000100000005818080802001010000', '3 zero', `5 0 4294967297 gc ${none}`)
-differs('delete clock over 2^32 - 1', 2, '0000000000000100000000000105020100ffffffff0f00', '3 zero', '5 1 1, 5 4294967297 1')
+differs('column read past its end', 2, '0000010500000100010000000001010000', '1@13 zero', `5 0 0 gc ${none}`)
+differs('text past its column', 2, '00000000000001010000000000', '1@8 zero', '')
+differs('units past the text', 2, '0000010500000104060374686901030101000001010000', '7@11 zero', '5 0 2 text none none <74> none none <6869>')
+differs('units end in a pair', 2, '0000010500000104080574f09f988041000101000001010000', '7@11 zero', '5 0 1 text none none <74> none none <efbfbd>')
+differs('clock below zero', 2, '0000020509014400018101000000010201010000', '3@6 zero', '5 0 2 deleted 9:-2 none none none none none')
+differs('difference of 2^30', 2, '000002050905808080801000018101000000010201010000', '3@6 zero', '5 0 2 deleted 9:1073741824 none none none none none')
+differs('clock 2^31', 1, '0101058080808008000100', '3@3 zero', `5 2147483648 1 gc ${none}`)
+differs('length 2^31', 1, '0101050000808080800800', '3@5 zero', `5 0 2147483648 gc ${none}`)
+differs('end 2^31', 1, '010105ffffffff07000100', '3@8 zero', `5 2147483647 1 gc ${none}`)
+differs('client 2^53', 1, '0101808080808080801000000100', '3@2 zero', `9007199254740992 0 1 gc ${none}`)
+differs('parent info 2^31', 1, '0101050001808080800809000200', '3@5 zero', '5 0 2 deleted none none none 9:0 none none')
+differs('stored run count 2147483646', 2, '0000010500000100010000000642feffffff0701010000', '3@14 zero', `5 0 2 gc ${none}`)
+differs('number of ten bytes', 1, '8080808080808080800000', '2@0 zero', '')
+differs('content 20', 1, '0101050014010174016100', '5@4 zero', null)
+differs('content 17', 1, '01010500110101740100', '5@4 zero', null)
+differs('content 19', 1, '0101050013010174016100', '5@4 zero', null)
+differs('content 2', 1, '0101050082090001013100', '5@4 zero', '5 0 1 ContentJSON 9:0 none none none none none')
+differs('content 5', 1, '0101050005010174027b7d00', '5@4 zero', '5 0 1 ContentEmbed none none <74> none none none')
+differs('content 6', 1, '01010500060101740162047472756500', '5@4 zero', '5 0 1 ContentFormat none none <74> none none none')
+differs('content 7', 1, '010105002701016d016b0100', '5@4 zero', '5 0 1 ContentType none none <6d> none <6b> none')
+differs('content 9', 1, '010105002901016d016b0167760000', '5@4 zero', '5 0 1 ContentDoc none none <6d> none <6b> none')
+differs('sections announced', 1, '80808008', '3@0 zero', null)
+differs('blocks announced', 1, '01ffffffff0f0500', '3@1 zero', null)
+differs('end over 2^32 - 1', 1, '010205ffffffff0f0001000100', '3@3 zero', `5 4294967295 1 gc ${none}, 5 4294967296 1 gc ${none}`)
+differs('column length cut', 2, '0080', '1@2 zero', null)
+differs('text length cut', 2, '00000000000001800000000000', '1@8 zero', null)
+differs('column length in ten bytes', 2, '00808080808080808080000000000001000000000000', '2@1 zero', '')
+differs('column length in eleven bytes', 2, '008080808080808080808001', '2@1 zero', null)
+differs('column length 2^64 - 1', 2, '00ffffffffffffffffff01', '2@1 zero', null)
+differs('client column read past its end', 2, '0000000000010001000000010101010000', '1@3 zero', `0 0 1 gc ${none}`)
+differs('unit lengths read past their end', 2, '0000010500000104030274740101000001010000', '1@12 zero', '5 0 0 text none none <> none none <>')
+differs('length 2^32 + 1', 2, '00000105000001000100000005818080802001010000', '3@13 zero', `5 0 4294967297 gc ${none}`)
+differs('delete clock over 2^32 - 1', 2, '0000000000000100000000000105020100ffffffff0f00', '3@17 zero', '5 1 1, 5 4294967297 1')
 differs('delete client without ranges', 1, '00010500', '0 blocks 0 ranges 0 zero', '')
 // 65,536 blocks, which Yjs reads, and 2^31 - 1, which it is not asked.
-w(read(2, '0000010500000100010000000441feff03018080040000'), '3 zero')
-w(read(2, '0000010500000100010000000640fdffffff0701ffffffff070000'), '3 zero')
-w(vector('010580808080808080808000'), '2 zero')
-differs('65 sections', 1, '41' + many(65, k => '00' + (0x3f + k).toString(16).padStart(2, '0') + '00').join('') + '00', '3 zero', '')
-differs('65 delete-set clients', 1, '0041' + many(65, k => (0x3f + k).toString(16).padStart(2, '0') + '00').join(''), '3 zero', '')
+w(read(2, '0000010500000100010000000441feff03018080040000'), '3@18 zero')
+w(read(2, '0000010500000100010000000640fdffffff0701ffffffff070000'), '3@20 zero')
+w(vector('010580808080808080808000'), '2@0 zero')
+differs('65 sections', 1, '41' + many(65, k => '00' + (0x3f + k).toString(16).padStart(2, '0') + '00').join('') + '00', '3@0 zero', '')
+differs('65 delete-set clients', 1, '0041' + many(65, k => (0x3f + k).toString(16).padStart(2, '0') + '00').join(''), '3@1 zero', '')
 // 2^31 blocks are announced, info 0 stands without end, and the length column has no byte: Yjs makes blocks of nothing until its memory ends, so it is not asked.
-w(read(2, '00 00 00 00 00 01 00 01 00 00 00 00 01 80 80 80 80 08 00 00'), '3 zero')
+w(read(2, '00 00 00 00 00 01 00 01 00 00 00 00 01 80 80 80 80 08 00 00'), '3@13 zero')
 // These part in a diff or in the sorter; both read them, and read the same.
 for (const text of ['0201050004010174016101090004010174016200', '010105000401017404f09f988000', '0101050304010174016100']) read(1, text)
-w(vector('0205000501'), '4 zero')
+w(vector('0205000501'), '4@0 zero')
 {
   // A string in a map is content 8.
   const doc = documents.document(5, true)
   doc.getMap('m').set('k', 'v')
-  w(c.read(1, [...Y.encodeStateAsUpdate(doc)]), '5 zero')
-  w(c.read(2, [...Y.encodeStateAsUpdateV2(doc)]), '5 zero')
+  w(c.read(1, [...Y.encodeStateAsUpdate(doc)]), '5@4 zero')
+  w(c.read(2, [...Y.encodeStateAsUpdateV2(doc)]), '5@7 zero')
   // Two halves of a pair, inserted apart: in form 2 Yjs joins its texts and writes one character, with unit lengths that end inside it.
   const halves = documents.document(5, true)
   halves.getText('a').insert(0, '\ud83d')
   halves.getText('a').insert(0, '\ude00')
   w(c.read(1, [...Y.encodeStateAsUpdate(halves)]), '0 blocks 2 5.0.1.text.-.-.7+1.-.-.9+3 5.1.1.text.-.5:0.-.-.-.16+3 ranges 0 zero')
-  w(c.read(2, [...Y.encodeStateAsUpdateV2(halves)]), '7 zero')
+  w(c.read(2, [...Y.encodeStateAsUpdateV2(halves)]), '7@15 zero')
 }
 
 // ---- updates by Yjs
@@ -342,18 +345,18 @@ for (const v of vectors) c.readVector(v)
 // Yjs's own fixtures hold other contents. With all content deleted they read; the map has 513 blocks, one more than are ever lent.
 for (const f of fixtures) {
   const update = [...Buffer.from(f.base64, 'base64')]
-  w(c.read(1, update), '5 zero')
-  w(c.read(2, [...Y.convertUpdateFormatV1ToV2(Uint8Array.from(update))]), '5 zero')
-  w(c.content(1, 0, update), '5')
+  w(stream.unplaced(c.read(1, update)), '5 zero')
+  w(stream.unplaced(c.read(2, [...Y.convertUpdateFormatV1ToV2(Uint8Array.from(update))])), '5 zero')
+  w(stream.unplaced(c.content(1, 0, update)), '5')
   c.list([1, ...update])
   const type = /Array/.test(f.name) ? 'array' : /Map/.test(f.name) ? 'map' : 'text'
   for (const e of documents.emptied(update, type)) {
     const r = c.whole(e.form, e.update)
     if (r.number !== 0) throw new Error(`${f.name}, emptied, is refused ${r.number}`)
-    if (r.blocks.length > 512) w(c.read(e.form, e.update), '8 zero')
+    if (r.blocks.length > 512) w(stream.unplaced(c.read(e.form, e.update)), '8 zero')
     else c.read(e.form, e.update, r.blocks.length, r.rangesRead)
-    w(c.content(e.form, 0, e.update), '11')
-    w(c.content(e.form, r.blocks.length, e.update), '11')
+    w(c.content(e.form, 0, e.update), '11@0')
+    w(c.content(e.form, r.blocks.length, e.update), '11@0')
     c.list([e.form, ...e.update])
   }
 }
@@ -729,7 +732,7 @@ for (const form of forms) {
 }
 // The listing takes 65,536 bytes together, and no more, before it looks at the form.
 w(c.list([1, 0, 0, ...Array(65533).fill(255)]), prints('update form 1 blocks 0 ranges 0\nend\n'))
-w(c.list([9, 0, 0, ...Array(65534).fill(255)]), prints('refused 3\n'))
+w(c.list([9, 0, 0, ...Array(65534).fill(255)]), prints('refused 3 at 0\n'))
 
 fs.writeFileSync(path.join(folder, 'updates.stdin'), c.stream())
 fs.writeFileSync(path.join(folder, 'updates.stdout'), c.output())

@@ -1,8 +1,9 @@
 //! The four columns of form 2. They are read from a place to the next: a place is a plain value, to be kept, copied and read from again, so a refused
-//! read changes nothing. Only `open_..` and `next_..` make one; any other is answered too, by what its fields say.
+//! read changes nothing. Only `open_..` and `next_..` make one; any other is answered too, by what its fields say. The byte that a refusal blames is
+//! counted from the first one of the column that was lent.
 use crate::numbers::written;
 use crate::raw::{self, BytePlace, DifferencePlace, NumberPlace, StringPlace};
-use crate::refused::{done, Refused};
+use crate::refused::{done_at, Refused};
 
 /// The place before the first value of a number column that begins at `at`.
 pub fn open_numbers(at: usize) -> NumberPlace {
@@ -11,7 +12,7 @@ pub fn open_numbers(at: usize) -> NumberPlace {
 
 /// The next value of a number column, and the place after it. Refused by 1, 2, 3.
 ///
-/// Case F, 40 03: five zeros, a sixth read gives 1.
+/// Case F, 40 03: five zeros, a sixth read gives 1, at the column's end.
 ///
 /// ```
 /// use wairokabi::{next_number, open_numbers};
@@ -21,12 +22,13 @@ pub fn open_numbers(at: usize) -> NumberPlace {
 ///     assert_eq!(value, 0);
 ///     place = after;
 /// }
-/// assert_eq!(next_number(&[0x40, 0x03], place).unwrap_err().number(), 1);
+/// let refused = next_number(&[0x40, 0x03], place).unwrap_err();
+/// assert_eq!((refused.number(), refused.at()), (1, Some(2)));
 /// # Ok::<(), wairokabi::Refused>(())
 /// ```
 pub fn next_number(column: &[u8], place: NumberPlace) -> Result<(u64, NumberPlace), Refused> {
     let answer = unsafe { raw::wairokabi_next_number(column.as_ptr(), column.len(), place) };
-    done(answer.number)?;
+    done_at(answer.refusal)?;
     Ok((answer.value, answer.place))
 }
 
@@ -37,21 +39,23 @@ pub fn open_differences(at: usize) -> DifferencePlace {
 
 /// The next value of a difference column, and the place after it. Refused by 1, 2, 3.
 ///
-/// Case H, 03 01: 1, 2, 3.
+/// Case H, 03 01: 1, 2, 3. A run behind it that leads below 0 is blamed as a whole, by its first byte: 43 01, twice less 2, a third time.
 ///
 /// ```
 /// use wairokabi::{next_difference, open_differences};
 /// let mut place = open_differences(0);
-/// for expected in 1..=3 {
-///     let (value, after) = next_difference(&[0x03, 0x01], place)?;
+/// for expected in [1, 2, 3, 1] {
+///     let (value, after) = next_difference(&[0x03, 0x01, 0x43, 0x01], place)?;
 ///     assert_eq!(value, expected);
 ///     place = after;
 /// }
+/// let refused = next_difference(&[0x03, 0x01, 0x43, 0x01], place).unwrap_err();
+/// assert_eq!((refused.number(), refused.at()), (3, Some(2)));
 /// # Ok::<(), wairokabi::Refused>(())
 /// ```
 pub fn next_difference(column: &[u8], place: DifferencePlace) -> Result<(u32, DifferencePlace), Refused> {
     let answer = unsafe { raw::wairokabi_next_difference(column.as_ptr(), column.len(), place) };
-    done(answer.number)?;
+    done_at(answer.refusal)?;
     Ok((answer.value, answer.place))
 }
 
@@ -76,14 +80,14 @@ pub fn open_bytes(at: usize) -> BytePlace {
 /// ```
 pub fn next_byte(column: &[u8], place: BytePlace) -> Result<(u8, BytePlace), Refused> {
     let answer = unsafe { raw::wairokabi_next_byte(column.as_ptr(), column.len(), place) };
-    done(answer.number)?;
+    done_at(answer.refusal)?;
     Ok((answer.value, answer.place))
 }
 
 /// The place before the first text of a text column that begins at `at`. Refused by 1, 2, 6.
 pub fn open_text(column: &[u8], at: usize) -> Result<StringPlace, Refused> {
     let answer = unsafe { raw::wairokabi_open_text(column.as_ptr(), column.len(), at) };
-    done(answer.number)?;
+    done_at(answer.refusal)?;
     Ok(answer.place)
 }
 
@@ -101,7 +105,7 @@ pub fn open_text(column: &[u8], at: usize) -> Result<StringPlace, Refused> {
 /// ```
 pub fn next_text(column: &[u8], place: StringPlace) -> Result<(&[u8], StringPlace), Refused> {
     let answer = unsafe { raw::wairokabi_next_text(column.as_ptr(), column.len(), place) };
-    done(answer.number)?;
+    done_at(answer.refusal)?;
     // from a place past the column, which no reading made, only a text of no units comes: an empty one
     let text = answer.part.of(column).unwrap_or_default();
     Ok((text, answer.place))

@@ -12,10 +12,10 @@
 //! # Ok::<(), wairokabi::Refused>(())
 //! ```
 //!
-//! Every call answers every input, in the same way each time: it keeps no state, allocates nothing and ends. A refusal is a [`Refused`] with its number,
-//! and all that was lent to be written is zero then; where the call is done, what was lent and is not used is zero. What is promised of each call, and
-//! proved, is in `docs/PROMISES.md`; what is trusted here is that this crate declares the header as it is (`tests/header.rs`) and that slices are what
-//! the header asks for (`src/lent.rs`).
+//! Every call answers every input, in the same way each time: it keeps no state, allocates nothing and ends. A refusal is a [`Refused`] with its number
+//! and the byte that it blames, and all that was lent to be written is zero then; where the call is done, what was lent and is not used is zero. What is
+//! promised of each call, and proved, is in `docs/PROMISES.md`; what is trusted here is that this crate declares the header as it is (`tests/header.rs`),
+//! that slices are what the header asks for (`src/lent.rs`), and that place 0 is told apart as first byte and as none (`src/updates.rs`).
 //!
 //! What is written has to be apart from all else that is lent, and Rust sees to that:
 //!

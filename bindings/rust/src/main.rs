@@ -1,4 +1,6 @@
 //! The command `wairokabi`: checks, lists, diffs and sorts updates; `help.txt` says how it is called. Its answers are the library's, put into words.
+mod place;
+
 use std::fmt::{Display, Write as _};
 use std::io::{Read, Write};
 use std::process::ExitCode;
@@ -120,7 +122,7 @@ impl Asked {
         })
     }
 
-    /// A refusal in words, with the name of what was refused.
+    /// A refusal in words, with the name of what was refused, and under it where the byte lies that it blames.
     fn refused(&self, refused: Refused) -> Stop {
         let (mut rows, mut ranges) = self.tables();
         let whose = if read_update(self.form, &self.update.bytes, &mut rows, &mut ranges).err() == Some(refused) {
@@ -130,7 +132,11 @@ impl Asked {
         } else {
             String::new()
         };
-        Stop { status: REFUSED, words: format!("{whose}{refused}") }
+        let mut words = format!("{whose}{refused}");
+        if let Some(at) = refused.at() {
+            let _ = write!(words, "\n{}", place::lines(self.form, &self.update.bytes, refused.number(), at));
+        }
+        Stop { status: REFUSED, words }
     }
 
     /// Tables that no update of this length overflows.
@@ -362,4 +368,26 @@ fn lines_are_the_librarys() {
         let update = read_update(1, bytes, &mut rows, &mut ranges).unwrap();
         assert_eq!(list(&[&[1], bytes].concat(), &mut out), Ok(&lines(1, &update)[..]));
     }
+}
+
+/// Case D with any byte changed to any other: whatever refuses it, the byte that is blamed has its words, and a column that ends early is named.
+#[test]
+fn places_are_named() {
+    const D: [u8; 23] = [0, 0, 1, 5, 0, 0, 1, 4, 6, 3, 0x74, 0x68, 0x69, 1, 2, 1, 1, 0, 0, 1, 1, 0, 0];
+    let (mut rows, mut ranges, mut columns) = (vec![Block::default(); 64], vec![Range::default(); 64], 0);
+    for (at, byte) in (0..D.len()).flat_map(|at| (0..=u8::MAX).map(move |byte| (at, byte))) {
+        let mut update = D;
+        update[at] = byte;
+        let Err(refused) = read_update(2, &update, &mut rows, &mut ranges) else { continue };
+        let place = refused.at().unwrap();
+        let shown = place::lines(2, &update, refused.number(), place);
+        if refused.number() == 1 {
+            let end = if place == update.len() { "the end of the file" } else { "the end of the column " };
+            assert!(shown.contains(end), "{update:02x?}: {shown}");
+            columns += usize::from(place < update.len());
+        } else {
+            assert!(shown.contains(": in the ") && !shown.contains("in the update"), "{update:02x?}: {shown}");
+        }
+    }
+    assert!(columns > 100);
 }

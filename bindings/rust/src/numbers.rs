@@ -1,6 +1,6 @@
 //! lib0's variable-length numbers.
 use crate::raw;
-use crate::refused::{done, Refused};
+use crate::refused::{done, done_at, Refused};
 
 /// The greatest number that `write_unsigned` takes.
 pub const MAX_UNSIGNED: u64 = 9223372036854775807;
@@ -22,11 +22,12 @@ pub struct Signed {
 ///
 /// ```
 /// assert_eq!(wairokabi::read_unsigned(&[0x80, 0x01], 0), Ok((128, 2)));
-/// assert_eq!(wairokabi::read_unsigned(&[0x80], 0).unwrap_err().number(), 1);
+/// let refused = wairokabi::read_unsigned(&[0x80], 0).unwrap_err();
+/// assert_eq!((refused.number(), refused.at()), (1, Some(1)));
 /// ```
 pub fn read_unsigned(s: &[u8], at: usize) -> Result<(u64, usize), Refused> {
     let answer = unsafe { raw::wairokabi_read_unsigned(s.as_ptr(), s.len(), at) };
-    done(answer.number)?;
+    done_at(answer.refusal)?;
     Ok((answer.value, answer.next))
 }
 
@@ -38,7 +39,7 @@ pub fn read_unsigned(s: &[u8], at: usize) -> Result<(u64, usize), Refused> {
 /// ```
 pub fn read_signed(s: &[u8], at: usize) -> Result<(Signed, usize), Refused> {
     let answer = unsafe { raw::wairokabi_read_signed(s.as_ptr(), s.len(), at) };
-    done(answer.number)?;
+    done_at(answer.refusal)?;
     Ok((Signed { minus: answer.minus, magnitude: answer.magnitude }, answer.next))
 }
 

@@ -19,6 +19,13 @@ pub struct Part {
     pub bytes: Bytes,
 }
 
+#[repr(C)]
+#[derive(Clone, Copy)]
+pub struct Refusal {
+    pub number: u8,
+    pub place: usize,
+}
+
 /// What names a block's unit: its client and its clock.
 #[repr(C)]
 #[derive(Clone, Copy, Debug, Default, PartialEq, Eq, Hash)]
@@ -59,20 +66,20 @@ pub struct Written {
 
 #[repr(C)]
 pub struct Update {
-    pub number: u8,
+    pub refusal: Refusal,
     pub blocks: usize,
     pub ranges: usize,
 }
 
 #[repr(C)]
 pub struct Where {
-    pub number: u8,
+    pub refusal: Refusal,
     pub part: Part,
 }
 
 #[repr(C)]
 pub struct Diff {
-    pub number: u8,
+    pub refusal: Refusal,
     pub bytes: usize,
     pub blocks: usize,
     pub ranges: usize,
@@ -80,7 +87,7 @@ pub struct Diff {
 
 #[repr(C)]
 pub struct Sorted {
-    pub number: u8,
+    pub refusal: Refusal,
     pub steps: usize,
     pub counts: usize,
     pub reaches: usize,
@@ -91,20 +98,20 @@ pub struct Sorted {
 
 #[repr(C)]
 pub struct Vector {
-    pub number: u8,
+    pub refusal: Refusal,
     pub count: usize,
 }
 
 #[repr(C)]
 pub struct Unsigned {
-    pub number: u8,
+    pub refusal: Refusal,
     pub value: u64,
     pub next: usize,
 }
 
 #[repr(C)]
 pub struct Signed {
-    pub number: u8,
+    pub refusal: Refusal,
     pub minus: bool,
     pub magnitude: u64,
     pub next: usize,
@@ -134,7 +141,7 @@ pub struct NumberPlace {
 
 #[repr(C)]
 pub struct NumberNext {
-    pub number: u8,
+    pub refusal: Refusal,
     pub value: u64,
     pub place: NumberPlace,
 }
@@ -152,7 +159,7 @@ pub struct DifferencePlace {
 
 #[repr(C)]
 pub struct DifferenceNext {
-    pub number: u8,
+    pub refusal: Refusal,
     pub value: u32,
     pub place: DifferencePlace,
 }
@@ -170,7 +177,7 @@ pub struct BytePlace {
 
 #[repr(C)]
 pub struct ByteNext {
-    pub number: u8,
+    pub refusal: Refusal,
     pub value: u8,
     pub place: BytePlace,
 }
@@ -186,13 +193,13 @@ pub struct StringPlace {
 
 #[repr(C)]
 pub struct TextOpened {
-    pub number: u8,
+    pub refusal: Refusal,
     pub place: StringPlace,
 }
 
 #[repr(C)]
 pub struct TextNext {
-    pub number: u8,
+    pub refusal: Refusal,
     pub part: Part,
     pub place: StringPlace,
 }

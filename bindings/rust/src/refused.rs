@@ -1,23 +1,45 @@
-//! Why a call was refused.
+//! Why a call was refused, and which byte it blames.
+use crate::raw::Refusal;
 use std::error::Error;
 use std::fmt;
 
-/// A refusal's number, with document 01's words for it ("Numbers a refusal gives").
+/// A refusal: its number, with document 01's words for it ("Numbers a refusal gives"), and the byte that it blames.
 ///
 /// ```
-/// let refused = wairokabi::content(3, &[0, 0], 0).unwrap_err();
-/// assert_eq!(refused.number(), 12);
+/// // form 1: a section of one block, client 5, clock 0, and then nothing
+/// let refused = wairokabi::content(1, &[0x01, 0x01, 0x05, 0x00], 0).unwrap_err();
+/// assert_eq!((refused.number(), refused.at()), (1, Some(4)));
+/// assert_eq!(refused.to_string(), "refused 1 at byte 4: bytes or a column end early");
+///
+/// let refused = wairokabi::content(3, &[0x00, 0x00], 0).unwrap_err();
+/// assert_eq!((refused.number(), refused.at()), (12, None));
 /// assert_eq!(refused.to_string(), "refused 12: form not 1 or 2");
 /// ```
 #[derive(Clone, Copy, Debug, PartialEq, Eq, Hash)]
 pub struct Refused {
     number: u8,
+    at: Option<usize>,
 }
 
 impl Refused {
     /// The number: 1 to 13.
     pub fn number(self) -> u8 {
         self.number
+    }
+
+    /// The place of the byte that is blamed, counted from 0 in the update, or in the bytes that a number or a column is read from:
+    ///
+    /// - 1: the end of the column that ends early, which is the place after its last byte; else the end of the update, or of the bytes.
+    /// - 2, 3: the first byte of the number, a run's count too. A number that is drawn from a run blames the run's first byte, and so does the clock that
+    ///   a difference leads to.
+    /// - 4: the section's client.
+    /// - 5, 8 for a block's row, 3 for a block's end: the block's info byte. 8 for a range's row, 3 for a range's end: the first byte of the range's clock.
+    /// - 6, 7: the first byte of the text, not of its length.
+    ///
+    /// In form 2 a section's client and an info byte are drawn from runs too. `None` where no byte is blamed: 9 to 13, 8 for the order, an update over
+    /// [`MAX_UPDATE`](crate::MAX_UPDATE), a state vector, a text that is counted or cut, and what is to be written.
+    pub fn at(self) -> Option<usize> {
+        self.at
     }
 
     /// When this number is given.
@@ -43,16 +65,28 @@ impl Refused {
 
 impl fmt::Display for Refused {
     fn fmt(&self, f: &mut fmt::Formatter<'_>) -> fmt::Result {
-        write!(f, "refused {}: {}", self.number, self.words())
+        let (number, words) = (self.number, self.words());
+        match self.at {
+            Some(at) => write!(f, "refused {number} at byte {at}: {words}"),
+            None => write!(f, "refused {number}: {words}"),
+        }
     }
 }
 
 impl Error for Refused {}
 
-/// The number that an answer begins with: 0 is done.
+/// The number that an answer begins with, 0 for done, where no byte is blamed.
 pub(crate) fn done(number: u8) -> Result<(), Refused> {
     match number {
         0 => Ok(()),
-        number => Err(Refused { number }),
+        number => Err(Refused { number, at: None }),
+    }
+}
+
+/// The refusal that an answer begins with, zeros for done, where a byte is blamed.
+pub(crate) fn done_at(refusal: Refusal) -> Result<(), Refused> {
+    match refusal.number {
+        0 => Ok(()),
+        number => Err(Refused { number, at: Some(refusal.place) }),
     }
 }

@@ -1,7 +1,7 @@
 //! The calls on updates and state vectors.
 use crate::lent::{count, words, Row};
 use crate::raw::{self, Block};
-use crate::refused::{done, Refused};
+use crate::refused::{done, done_at, Refused};
 
 /// An update has at most so many bytes.
 pub const MAX_UPDATE: usize = 16777215;
@@ -70,6 +70,23 @@ pub fn ranges_for(update: &[u8]) -> Vec<Range> {
     vec![Range::default(); update.len().min(MAX_UPDATE) / 2]
 }
 
+/// The refusal that the answer of a call on an update begins with. Place 0 blames the first byte where reading the update is refused there, and no byte
+/// otherwise: where its length is refused, or its vector, and by what follows reading.
+fn done_reading(refusal: raw::Refusal, form: u8, update: &[u8]) -> Result<(), Refused> {
+    if refusal.number == 0 || refusal.place > 0 {
+        return done_at(refusal);
+    }
+    if refusal.number > 8 || update.len() > MAX_UPDATE {
+        return done(refusal.number);
+    }
+    // reads all of the update, and nothing else
+    let alone = unsafe { raw::wairokabi_content(form, update.as_ptr(), update.len(), 0) }.refusal;
+    if (alone.number, alone.place) == (refusal.number, 0) {
+        return done_at(refusal);
+    }
+    done(refusal.number)
+}
+
 /// What an update has. Both are the first rows of what was lent; the other rows are zero.
 #[derive(Clone, Copy, Debug, PartialEq, Eq)]
 pub struct Update<'t> {
@@ -106,7 +123,7 @@ pub struct Update<'t> {
 pub fn read_update<'t>(form: u8, update: &[u8], rows: &'t mut [Block], ranges: &'t mut [Range]) -> Result<Update<'t>, Refused> {
     let answer =
         unsafe { raw::wairokabi_read_update(form, update.as_ptr(), update.len(), rows.as_mut_ptr(), rows.len(), words(ranges), count(ranges)) };
-    done(answer.number)?;
+    done_reading(answer.refusal, form, update)?;
     Ok(Update { blocks: &rows[..answer.blocks], ranges: &ranges[..answer.ranges] })
 }
 
@@ -122,7 +139,7 @@ pub fn read_update<'t>(form: u8, update: &[u8], rows: &'t mut [Block], ranges: &
 /// ```
 pub fn content(form: u8, update: &[u8], n: usize) -> Result<&[u8], Refused> {
     let answer = unsafe { raw::wairokabi_content(form, update.as_ptr(), update.len(), n) };
-    done(answer.number)?;
+    done_reading(answer.refusal, form, update)?;
     Ok(answer.part.of(update).expect("a stored part lies inside its update"))
 }
 
@@ -175,7 +192,8 @@ pub fn encode_diff<'t>(
             out.len(),
         )
     };
-    diff(answer, rows, ranges, out)
+    done_reading(answer.refusal, form, update)?;
+    Ok(diff(answer, rows, ranges, out))
 }
 
 /// Writes an update whole in the form `to`: the diff against a vector that names no client.
@@ -217,13 +235,13 @@ pub fn encode_update<'t>(
             out.len(),
         )
     };
-    diff(answer, rows, ranges, out)
+    done_reading(answer.refusal, form, update)?;
+    Ok(diff(answer, rows, ranges, out))
 }
 
-fn diff<'t>(answer: raw::Diff, rows: &'t [Block], ranges: &'t [Range], out: &'t [u8]) -> Result<Diff<'t>, Refused> {
-    done(answer.number)?;
+fn diff<'t>(answer: raw::Diff, rows: &'t [Block], ranges: &'t [Range], out: &'t [u8]) -> Diff<'t> {
     let update = Update { blocks: &rows[..answer.blocks], ranges: &ranges[..answer.ranges] };
-    Ok(Diff { bytes: &out[..answer.bytes], update })
+    Diff { bytes: &out[..answer.bytes], update }
 }
 
 /// The blocks of an update, sorted, and the update that was read for it. Each is the first rows of what was lent; the others are zero.
@@ -302,7 +320,7 @@ pub fn sort<'t>(
             count(pending),
         )
     };
-    done(answer.number)?;
+    done_reading(answer.refusal, form, update)?;
     Ok(Sorted {
         order: &order[..answer.steps],
         counts: &counts[..answer.counts],
@@ -312,13 +330,14 @@ pub fn sort<'t>(
     })
 }
 
-/// Writes the listing of an update as text. `input` is a form byte, then the update. A refusal of reading is text too (`refused N`); 10 where the text
-/// does not fit, which never happens with [`MAX_TEXT`] bytes.
+/// Writes the listing of an update as text. `input` is a form byte, then the update. A refusal of reading is text too (`refused 3 at 17`,
+/// the place counted in the update, and 0 where no byte is blamed); 10 where the text does not fit, which never happens with [`MAX_TEXT`] bytes.
 ///
 /// ```
 /// let input = [0x01, 0x01, 0x01, 0x05, 0x00, 0x04, 0x01, 0x01, 0x74, 0x02, 0x68, 0x69, 0x00];
 /// let mut out = [0; 64];
 /// assert_eq!(wairokabi::list(&input, &mut out)?, "update form 1 blocks 1 ranges 0\n5 0 2 text\nend\n");
+/// assert_eq!(wairokabi::list(&input[..12], &mut out)?, "refused 1 at 11\n");
 /// # Ok::<(), wairokabi::Refused>(())
 /// ```
 pub fn list<'t>(input: &[u8], out: &'t mut [u8]) -> Result<&'t str, Refused> {
@@ -327,7 +346,7 @@ pub fn list<'t>(input: &[u8], out: &'t mut [u8]) -> Result<&'t str, Refused> {
     Ok(std::str::from_utf8(&out[..answer.bytes]).expect("a listing is ASCII"))
 }
 
-/// Reads a state vector: its entries in reading order. Refused by 1, 2, 3, 4, then 10; never by 10 with [`MAX_CLIENTS`] rows.
+/// Reads a state vector: its entries in reading order. Refused by 1, 2, 3, 4, then 10; never by 10 with [`MAX_CLIENTS`] rows. No refusal blames a byte.
 ///
 /// ```
 /// use wairokabi::{read_state_vector, Entry, MAX_CLIENTS};
@@ -338,6 +357,6 @@ pub fn list<'t>(input: &[u8], out: &'t mut [u8]) -> Result<&'t str, Refused> {
 /// ```
 pub fn read_state_vector<'t>(vector: &[u8], out: &'t mut [Entry]) -> Result<&'t [Entry], Refused> {
     let answer = unsafe { raw::wairokabi_read_state_vector(vector.as_ptr(), vector.len(), words(out), count(out)) };
-    done(answer.number)?;
+    done(answer.refusal.number)?;
     Ok(&out[..answer.count])
 }

@@ -84,7 +84,9 @@ fn case_c_is_listed() {
     assert_eq!(text, "update form 1 blocks 1 ranges 0\n5 0 2 text\nend\n");
     let length = text.len();
     assert!(zero(&out[length..]));
-    assert_eq!(list(&[], &mut out), Ok("refused 1\n"));
+    assert_eq!(list(&[], &mut out), Ok("refused 1 at 0\n"));
+    assert_eq!(list(&input[..5], &mut out), Ok("refused 1 at 4\n"));
+    assert_eq!(list(&[3], &mut out), Ok("refused 12 at 0\n"));
     assert_eq!(list(&[1, 0, 0], &mut out), Ok("empty\n"));
 }
 

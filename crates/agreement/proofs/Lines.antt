@@ -1,7 +1,6 @@
--- What stands in line: for every grammar, bytes that are not read change nothing, and what is refused has a number from 1 to 8.
+-- What stands in line: what is refused, for every grammar, has a number from 1 to 8.
 use Prim.Native.Nat.{ℕ, _+_, _-_}
-use mathlib.Core.Path.{_≡_}
-use mathlib.Core.List.{List, _++_}
+use mathlib.Core.List.{List}
 use lib.Dec.{ltb, leb, eqb}
 use lib.ListN.{length}
 use lib.Seq.{slice}
@@ -14,37 +13,17 @@ use Rattle.text.specs.Utf8.{wellFormed}
 use Rattle.grammar.specs.Grammar as grammar
 use Rattle.grammar.specs.Grammar.{Number, Field, Grammar}
 use Rattle.grammar.specs.Course.{Drawn, got, not, run}
-use Rattle.grammar.specs.Whole.{Ends}
 use Rattle.grammar.specs.Numbered.{Refuses, Owns}
-use Rattle.grammar.proofs.Fragments.{Firm}
 use Rattle.grammar.proofs.Numbered.{stops}
 use Rattle.decoder.specs.Line.{numberAt, varAt, bounded, upTo, byteAt, restored, deleteAt, numberOf, soMany, bytesAt, checked, line}
-use Rattle.pieces.proofs.Firm.{line-firm}
 use Rattle.pieces.proofs.Forgets.{chosen}
 use Rattle.agreement.specs.Numbered.{Low, Stops}
-use Rattle.agreement.proofs.Courses.{Stays, unread-by}
 use Rattle.agreement.proofs.NumberedColumns.{low1, low3, low6, NumberedRead, unsigned-numbered}
-
--- ---- unread bytes
-
--- a state is a place, of which nothing is to be said
-abbrev Any : ℕ → Type 0
-Any at = Unit {0}
-
-firm-stays : {X : Type 0} (x y : Drawn ℕ X) → Firm x y → Stays Any x y
-firm-stays (got x e) y h = (h, tt)
-firm-stays (not why) y h = tt
-
-module _ {E A : Type 0} (form : ℕ) (u w : List ℕ) (x : Grammar E A) where
-  pub unread-line : (at e : ℕ) → Ends (run (line form u) x at) e → run (line form (u ++ w)) x at ≡ run (line form u) x at
-  unread-line at e h = unread-by Any (line form u) (line form (u ++ w)) (λ f s i. firm-stays (line form u f s) (line form (u ++ w) f s) (line-firm u w s form f)) x at e tt h
-
--- ---- what is refused has a number from 1 to 8
 
 abbrev pub Right : {S X : Type 0} → Drawn S X → Type 0
 Right d = Refuses Low d
 
-bounded-right : {S : Type 0} (most : ℕ) (d : Drawn S (ℕ × ℕ)) → Right d → Right (bounded most d)
+pub bounded-right : {S : Type 0} (most : ℕ) (d : Drawn S (ℕ × ℕ)) → Right d → Right (bounded most d)
 unfolding bounded Refuses
 bounded-right most (got a s) h = chosen Right (ltb most (a .0)) low3 tt
 bounded-right most (not why) h = h

@@ -13,12 +13,12 @@ use Rattle.grammar.proofs.Numbered.{stops, all-blocks-own, all-ranges-own}
 use Rattle.decoder.specs.Line.{line}
 use Rattle.decoder.specs.States.{State}
 use Rattle.decoder.specs.Columned.{columned}
-use Rattle.decoder.specs.Opening.{cut, heads, standing, textOpened, onHeads, openedOf}
+use Rattle.decoder.specs.Opening.{cut, heads, standing, onHeads, openedOf}
 use Rattle.decoder.specs.Update.{placed, inColumns, blocksOf, deleteSet}
 use Rattle.pieces.proofs.Forgets.{chosen}
 use Rattle.agreement.specs.Numbered.{Low, Stops}
 use Rattle.agreement.proofs.Lines.{Right, line-numbered}
-use Rattle.agreement.proofs.Columns.{gives-right, columned-gives, opened-gives}
+use Rattle.agreement.proofs.Columns as columns
 
 -- ---- opening
 
@@ -37,7 +37,7 @@ opened-right u = go (run (line 2 u) heads 0) (line-numbered 2 u heads heads-own 
   where
     go : (c : Run ℕ (Unit {0}) (List Part)) → Stops c → Right (onHeads u c)
     go (item e p c) h = go c h
-    go (over ps at) h = gives-right (standing ps at) (textOpened u (standing ps at)) (opened-gives u (standing ps at))
+    go (over ps at) h = columns.opened-right u (standing ps at)
     go (stopped why) h = h
 
 -- ---- blocks and ranges
@@ -53,7 +53,7 @@ unfolding inColumns onDrawn Refuses numbered.Stops
 columns-numbered u = go (openedOf u) (opened-right u)
   where
     go : (d : Drawn State (Unit {0})) → Right d → Stops (onDrawn d (λ x s. run (columned u) allBlocks s))
-    go (got x s) h = stops Low (columned u) (λ f t. gives-right t (columned u f t) (columned-gives u t f)) allBlocks all-blocks-own s
+    go (got x s) h = stops Low (columned u) (λ f t. columns.columned-right u t f) allBlocks all-blocks-own s
     go (not why) h = h
 
 pub blocks-numbered : (u : List ℕ) (form : ℕ) → Stops (blocksOf form u)

@@ -8,12 +8,14 @@ use Rattle.grammar.specs.Whole.{Ends}
 use Rattle.grammar.specs.Numbered.{Owns}
 use Rattle.vector.specs.Vector.{Entry, entry, holds, entries, aVector, vectorOf}
 use Rattle.pieces.proofs.Forgets.{chosen}
+use Rattle.places.proofs.AppendedRuns.{line-stays}
 use Rattle.agreement.specs.Numbered.{Low, Stops}
-use Rattle.agreement.proofs.Lines.{unread-line, line-numbered}
+use Rattle.agreement.proofs.Courses.{same-to-end}
+use Rattle.agreement.proofs.Lines.{line-numbered}
 
 pub unread-vector : (v w : List ℕ) (at : ℕ) → Ends (vectorOf v) at → vectorOf (v ++ w) ≡ vectorOf v
 unfolding vectorOf
-unread-vector v w at e = unread-line 1 v w aVector 0 at e
+unread-vector v w at e = same-to-end (vectorOf v) (vectorOf (v ++ w)) at (line-stays 1 v w aVector 0) e
 
 low4 : Low 4
 low4 = (omega arith, omega arith)

@@ -5,6 +5,7 @@ use crate::lent::Writer;
 use columns::byte;
 use columns::difference;
 use columns::number;
+use numbers::Refusal;
 use stream::Done;
 use stream::input;
 use stream::input::Place;
@@ -25,7 +26,7 @@ enum Reader {
 }
 
 struct Step {
-    number: u8,
+    refusal: Refusal,
     value: u64,
     reader: Reader,
 }
@@ -42,30 +43,33 @@ fn next(column: &[u8], reader: Reader) -> Step {
     match reader {
         Reader::Numbers(place) => {
             let next = wairokabi::next_number(column, place);
+            let refusal = next.refusal;
             let place = next.place;
             let reader = Reader::Numbers(place);
             Step {
-                number: next.number,
+                refusal,
                 value: next.value,
                 reader,
             }
         }
         Reader::Differences(place) => {
             let next = wairokabi::next_difference(column, place);
+            let refusal = next.refusal;
             let place = next.place;
             let reader = Reader::Differences(place);
             Step {
-                number: next.number,
+                refusal,
                 value: next.value as u64,
                 reader,
             }
         }
         Reader::Bytes(place) => {
             let next = wairokabi::next_byte(column, place);
+            let refusal = next.refusal;
             let place = next.place;
             let reader = Reader::Bytes(place);
             Step {
-                number: next.number,
+                refusal,
                 value: next.value as u64,
                 reader,
             }
@@ -73,9 +77,9 @@ fn next(column: &[u8], reader: Reader) -> Step {
     }
 }
 
-// A reading: the number that ended it, 0 if every value asked came, and how many came.
+// A reading: the refusal that ended it, zeros if every value asked came, and how many came.
 struct Drawn {
-    number: u8,
+    refusal: Refusal,
     count: usize,
 }
 
@@ -86,22 +90,27 @@ fn draw(column: &[u8], reader: Reader, times: usize, values: &mut [u64]) -> Draw
     let mut count = 0;
     while count < values.len() && count < times {
         let step = next(column, reader);
-        let number = step.number;
-        if number != 0 {
-            return Drawn { number, count };
+        let refusal = step.refusal;
+        if refusal.number != 0 {
+            return Drawn { refusal, count };
         }
         values[count] = step.value;
         reader = step.reader;
         count += 1;
     }
-    Drawn { number: 0, count }
+    let refusal = Refusal {
+        number: 0,
+        place: 0,
+    };
+    Drawn { refusal, count }
 }
 
 fn values(sink: &mut [u8], used: usize, column: &[u8], reader: Reader, times: usize) -> usize {
     let mut list = [0u64; 4096];
     let drawn = draw(column, reader, times, &mut list);
     let count = drawn.count;
-    let begun = line::decimal(sink, used, drawn.number as u64);
+    let why = drawn.refusal;
+    let begun = line::verdict(sink, used, why.number, why.place);
     let told = line::numbers(sink, begun, &list[..count]);
     line::put(sink, told, b'\n')
 }
@@ -121,20 +130,24 @@ pub fn read(column: Column, source: &mut [u8], place: Place, sink: &mut [u8], us
     Done { place, used }
 }
 
-// Texts are drawn twice, first to learn the number that the line begins with.
+// Texts are drawn twice, first to learn the refusal that the line begins with.
 fn draw_texts(column: &[u8], place: string::Place, times: usize) -> Drawn {
     let mut place = place;
     let mut count = 0;
     while count < times {
         let next = wairokabi::next_text(column, place);
-        let number = next.number;
-        if number != 0 {
-            return Drawn { number, count };
+        let refusal = next.refusal;
+        if refusal.number != 0 {
+            return Drawn { refusal, count };
         }
         place = next.place;
         count += 1;
     }
-    Drawn { number: 0, count }
+    let refusal = Refusal {
+        number: 0,
+        place: 0,
+    };
+    Drawn { refusal, count }
 }
 
 fn print_texts(
@@ -160,12 +173,14 @@ fn print_texts(
 
 fn texts(sink: &mut [u8], used: usize, column: &[u8], times: usize) -> usize {
     let opened = wairokabi::open_text(column, 0);
-    if opened.number != 0 {
-        let begun = line::decimal(sink, used, opened.number as u64);
+    let not = opened.refusal;
+    if not.number != 0 {
+        let begun = line::verdict(sink, used, not.number, not.place);
         return line::put(sink, begun, b'\n');
     }
     let drawn = draw_texts(column, opened.place, times);
-    let begun = line::decimal(sink, used, drawn.number as u64);
+    let why = drawn.refusal;
+    let begun = line::verdict(sink, used, why.number, why.place);
     let told = print_texts(sink, begun, column, opened.place, drawn.count);
     line::put(sink, told, b'\n')
 }

@@ -47,7 +47,7 @@ fn last(sink: &mut [u8], used: usize, out: &[u8], from: usize) -> usize {
     line::text(sink, used, b" dirty\n")
 }
 
-// A writer's line: its number, on 0 the bytes written, and the last word.
+// A writer's line: its number, which blames no byte, on 0 the bytes written, and the last word.
 fn ask(
     writer: Writer,
     bytes: &[u8],
@@ -57,7 +57,7 @@ fn ask(
     used: usize,
 ) -> usize {
     let answer = call(writer, bytes, list, out);
-    let begun = line::decimal(sink, used, answer.number as u64);
+    let begun = line::verdict(sink, used, answer.number, 0);
     if answer.number != 0 {
         return last(sink, begun, out, 0);
     }

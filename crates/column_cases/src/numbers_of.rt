@@ -13,8 +13,9 @@ fn call(is_signed: bool, bytes: &[u8], at: usize) -> Signed {
         return wairokabi::read_signed(bytes, at);
     }
     let answer = wairokabi::read_unsigned(bytes, at);
+    let refusal = answer.refusal;
     Signed {
-        number: answer.number,
+        refusal,
         minus: false,
         magnitude: answer.value,
         next: answer.next,
@@ -29,8 +30,9 @@ fn sign(is_signed: bool, sink: &mut [u8], used: usize, minus: bool) -> usize {
 }
 
 fn tell(is_signed: bool, sink: &mut [u8], used: usize, answer: Signed) -> usize {
-    let begun = line::decimal(sink, used, answer.number as u64);
-    if answer.number != 0 {
+    let why = answer.refusal;
+    let begun = line::verdict(sink, used, why.number, why.place);
+    if why.number != 0 {
         return line::put(sink, begun, b'\n');
     }
     let signed = sign(is_signed, sink, begun, answer.minus);

@@ -8,7 +8,8 @@ use native.Mathlib.Omega.{arith}
 use lib.Dec.{eqb, leb}
 use lib.ListN.{length, getD}
 use borrow.Author.Tests.{leb-true, eqb-true}
-use Rattle.numbers.specs.Number.{pick}
+use Rattle.numbers.specs.declared.Refusal.{Refusal}
+use Rattle.numbers.specs.Number.{pick, none}
 use Rattle.runs.specs.Runs.{Coding, over, opened, column, within, overFits, storable, spellable, why}
 use Rattle.columns.specs.Reading.{Draw, drew, stop, Reading, andThen, reads}
 
@@ -40,7 +41,11 @@ pub record Reader (c : Coding) {P : Type 0} (next : List ℕ → P → Draw P) :
 
 -- values before what is read
 abbrev pub onto : List ℕ → Reading → Reading
-onto vs r = record { values = vs ++ r .values; number = r .number }
+onto vs r = record { values = vs ++ r .values; refusal = r .refusal }
+
+-- refused where the bytes end
+abbrev pub atEnd : List ℕ → Refusal
+atEnd s = record { number = 1; place = length s }
 
 pub both : (a b : Bool) → pick a b false ≡ true → (a ≡ true) × (b ≡ true)
 both true b h = (refl, h)
@@ -57,9 +62,9 @@ why-says c vs h = go (within (c .most) vs) (storable c 0 vs) (spellable c 0 vs) 
     go true false d h = absurd (omega arith)
     go false b d h = absurd (omega arith)
 
--- After the values, m draws more give what R makes of the last value.
-module _ {c : Coding} {P : Type 0} {next : List ℕ → P → Draw P} (r : Reader c next) (m : ℕ) (R : ℕ → Reading)
-    (end : (s : List ℕ) (from b p k : ℕ) → Step c b p k → reads (next s) m (r .place true (length s) from p k 0) ≡ R p) where
+-- After the values, m draws more give what R makes of where the bytes end and of the last value.
+module _ {c : Coding} {P : Type 0} {next : List ℕ → P → Draw P} (r : Reader c next) (m : ℕ) (R : ℕ → ℕ → Reading)
+    (end : (s : List ℕ) (from b p k : ℕ) → Step c b p k → reads (next s) m (r .place true (length s) from p k 0) ≡ R (length s) p) where
   -- after the value p, whose key k stood n + 1 times so far: how often it still stands, whether its run is the last, and the bytes after the run
   record Ahead (p k n : ℕ) (vs : List ℕ) : Type 0 where
     more : ℕ
@@ -69,12 +74,12 @@ module _ {c : Coding} {P : Type 0} {next : List ℕ → P → Draw P} (r : Reade
     bytes : over c p k n vs ≡ spelled c ends k (n + more) ++ rest
     fits : stored c ends (n + more) ≡ true
     gives : (done : List ℕ) (from : ℕ)
-        → reads (next (done ++ rest)) (length vs + m) (r .place ends (length done) from p k more) ≡ onto vs (R (getD (p ∷ vs) (length vs) 0))
+        → reads (next (done ++ rest)) (length vs + m) (r .place ends (length done) from p k more) ≡ onto vs (R (length (done ++ rest)) (getD (p ∷ vs) (length vs) 0))
 
   -- a run begins
   first : (pre vs : List ℕ) (from p l v : ℕ) → Step c p v (c .keyOf p v) → c .near (c .keyOf p v) ≡ true → Ahead v (c .keyOf p v) 0 vs
       → reads (next (pre ++ over c v (c .keyOf p v) 0 vs)) (suc (length vs) + m) (r .place false (length pre) from p l 0)
-      ≡ onto (v ∷ vs) (R (getD (v ∷ vs) (length vs) 0))
+      ≡ onto (v ∷ vs) (R (length (pre ++ over c v (c .keyOf p v) 0 vs)) (getD (v ∷ vs) (length vs) 0))
   unfolding reads andThen
   first pre vs from p l v st near a =
       let k : ℕ = c .keyOf p v in
@@ -140,7 +145,7 @@ module _ {c : Coding} {P : Type 0} {next : List ℕ → P → Draw P} (r : Reade
   -- a column with a value
   pub some : (pre vs : List ℕ) (from l v : ℕ) → why c (v ∷ vs) ≡ 0
       → reads (next (pre ++ column c (v ∷ vs))) (length (v ∷ vs) + m) (r .place false (length pre) from 0 l 0)
-      ≡ onto (v ∷ vs) (R (getD (v ∷ vs) (length vs) 0))
+      ≡ onto (v ∷ vs) (R (length (pre ++ column c (v ∷ vs))) (getD (v ∷ vs) (length vs) 0))
   unfolding column opened within storable spellable
   some pre vs from l v h =
       let y = why-says c (v ∷ vs) h in
@@ -152,23 +157,23 @@ module _ {c : Coding} {P : Type 0} {next : List ℕ → P → Draw P} (r : Reade
 module _ {c : Coding} {P : Type 0} {next : List ℕ → P → Draw P} (r : Reader c next) (pre : List ℕ) (from l : ℕ) where
   -- the values are read
   pub reads-back : (vs : List ℕ) → why c vs ≡ 0
-      → reads (next (pre ++ column c vs)) (length vs) (r .place false (length pre) from 0 l 0) ≡ record { values = vs; number = 0 }
+      → reads (next (pre ++ column c vs)) (length vs) (r .place false (length pre) from 0 l 0) ≡ record { values = vs; refusal = none }
   unfolding reads
   reads-back [] h = refl
   reads-back (v ∷ vs) h =
-      rw (add-zero, append-nil) at (some r 0 (λ _. record { values = []; number = 0 }) (λ s from b p k st. refl) pre vs from l v h)
+      rw (add-zero, append-nil) at (some r 0 (λ _ _. record { values = []; refusal = none }) (λ s from b p k st. refl) pre vs from l v h)
 
   -- a column of no values gives none
-  pub reads-none : (m : ℕ) → next pre (r .place false (length pre) from 0 l 0) ≡ stop (record { number = 1; place = length pre })
-      → reads (next (pre ++ column c [])) (suc m) (r .place false (length pre) from 0 l 0) ≡ record { values = []; number = 1 }
+  pub reads-none : (m : ℕ) → next pre (r .place false (length pre) from 0 l 0) ≡ stop (atEnd pre)
+      → reads (next (pre ++ column c [])) (suc m) (r .place false (length pre) from 0 l 0) ≡ record { values = []; refusal = atEnd (pre ++ column c []) }
   unfolding reads andThen column opened
   reads-none m h = rw (append-nil, h)
 
   -- where the reader refuses at the end, nothing is left after the values
-  pub reads-end : ((s : List ℕ) (e : Bool) (from p k : ℕ) → next s (r .place e (length s) from p k 0) ≡ stop (record { number = 1; place = length s }))
+  pub reads-end : ((s : List ℕ) (e : Bool) (from p k : ℕ) → next s (r .place e (length s) from p k 0) ≡ stop (atEnd s))
       → (vs : List ℕ) (m : ℕ) → why c vs ≡ 0
-      → reads (next (pre ++ column c vs)) (length vs + suc m) (r .place false (length pre) from 0 l 0) ≡ record { values = vs; number = 1 }
+      → reads (next (pre ++ column c vs)) (length vs + suc m) (r .place false (length pre) from 0 l 0) ≡ record { values = vs; refusal = atEnd (pre ++ column c vs) }
   unfolding reads andThen
   reads-end stops [] m h = rw zero-add (reads-none m (stops pre false from 0 l))
   reads-end stops (v ∷ vs) m h =
-      rw append-nil at (some r (suc m) (λ _. record { values = []; number = 1 }) (λ s from b p k st. rw (stops s true from p k)) pre vs from l v h)
+      rw append-nil at (some r (suc m) (λ n _. record { values = []; refusal = record { number = 1; place = n } }) (λ s from b p k st. rw (stops s true from p k)) pre vs from l v h)

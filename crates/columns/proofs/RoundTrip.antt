@@ -11,7 +11,7 @@ use lib.Seq.{drop-length, getD-append-seam}
 use borrow.Author.Tests.{lt-ltb, le-ltb, le-leb, lt-leb, leb-true, ltb-true, eq-eqb, ne-eqb}
 use Rattle.numbers.specs.declared.Read.the-variants.{Number}
 use Rattle.numbers.specs.declared.Signed.the-variants.{Wrong}
-use Rattle.numbers.specs.Number.{pick, unsigned, signed, readUnsigned, readSigned, speltSigned, minusOf, withSign, placed}
+use Rattle.numbers.specs.Number.{pick, none, unsigned, signed, readUnsigned, readSigned, speltSigned, minusOf, withSign, placed}
 use Rattle.numbers.specs.Limits.{maxValue, maxClock, maxCount}
 use Rattle.numbers.proofs.Laws.{below-or, unsigned-pos}
 use Rattle.numbers.proofs.RoundTrip.{read-unsigned-back, read-signed-back}
@@ -31,7 +31,7 @@ use Rattle.columns.specs.Byte as byte
 use Rattle.runs.specs.Byte as byte-run
 use Rattle.runs.specs.Runs.{column, why, coding, fitsLessTwo, fitsLessOne, nearKey}
 use Rattle.columns.specs.Reading.{Draw, drew, stop, andThen, reads, numberDraw, differenceDraw, byteDraw, readNumbers, readDifferences, readBytes}
-use Rattle.columns.proofs.Back.{both, Step, Follows, nothing, others, spelled, stored, Reader, some, reads-back, reads-none, reads-end}
+use Rattle.columns.proofs.Back.{both, atEnd, Step, Follows, nothing, others, spelled, stored, Reader, some, reads-back, reads-none, reads-end}
 
 -- the count after a signed number or a byte
 count-back : (p s q : List ℕ) (x : ℕ) → x < 2 ^ 63
@@ -105,16 +105,17 @@ number-reader = record {
       rw (alike e b, number-first pre q from l k n h (less-two e n fits), number-drawn (length (pre ++ b)) (length pre) p v k n st);
 }
 
-number-stops : (s : List ℕ) (e : Bool) (from p k : ℕ) → number-next s (number.placeAt (length s) from k 0) ≡ stop (record { number = 1; place = length s })
+number-stops : (s : List ℕ) (e : Bool) (from p k : ℕ) → number-next s (number.placeAt (length s) from k 0) ≡ stop (atEnd s)
 unfolding numberDraw number.nextNumber number.begun
 number-stops s e from p k = rw (signed-end s)
 
 module _ (p vs : List ℕ) (h : why (coding columns.Number) vs ≡ 0) where
-  pub number-back : readNumbers (length vs) (p ++ column (coding columns.Number) vs) (number.startAt (length p)) ≡ record { values = vs; number = 0 }
+  pub number-back : readNumbers (length vs) (p ++ column (coding columns.Number) vs) (number.startAt (length p)) ≡ record { values = vs; refusal = none }
   unfolding number-reader
   number-back = reads-back number-reader p (length p) 0 vs h
 
-  pub number-end : (m : ℕ) → readNumbers (length vs + suc m) (p ++ column (coding columns.Number) vs) (number.startAt (length p)) ≡ record { values = vs; number = 1 }
+  pub number-end : (m : ℕ) → readNumbers (length vs + suc m) (p ++ column (coding columns.Number) vs) (number.startAt (length p))
+      ≡ record { values = vs; refusal = atEnd (p ++ column (coding columns.Number) vs) }
   unfolding number-reader
   number-end m = reads-end number-reader p (length p) 0 number-stops vs m h
 
@@ -207,17 +208,18 @@ difference-reader = record {
 }
 
 difference-stops : (s : List ℕ) (e : Bool) (from p k : ℕ)
-    → difference-next s (difference.placeAt (length s) from p k 0) ≡ stop (record { number = 1; place = length s })
+    → difference-next s (difference.placeAt (length s) from p k 0) ≡ stop (atEnd s)
 unfolding differenceDraw difference.nextDifference difference.begun
 difference-stops s e from p k = rw (signed-end s)
 
 module _ (p vs : List ℕ) (h : why (coding columns.Difference) vs ≡ 0) where
-  pub difference-back : readDifferences (length vs) (p ++ column (coding columns.Difference) vs) (difference.startAt (length p)) ≡ record { values = vs; number = 0 }
+  pub difference-back : readDifferences (length vs) (p ++ column (coding columns.Difference) vs) (difference.startAt (length p)) ≡ record { values = vs; refusal = none }
   unfolding difference-reader
   difference-back = reads-back difference-reader p (length p) zeroKey vs h
 
   pub difference-end : (m : ℕ)
-      → readDifferences (length vs + suc m) (p ++ column (coding columns.Difference) vs) (difference.startAt (length p)) ≡ record { values = vs; number = 1 }
+      → readDifferences (length vs + suc m) (p ++ column (coding columns.Difference) vs) (difference.startAt (length p))
+      ≡ record { values = vs; refusal = atEnd (p ++ column (coding columns.Difference) vs) }
   unfolding difference-reader
   difference-end m = reads-end difference-reader p (length p) zeroKey difference-stops vs m h
 
@@ -278,29 +280,29 @@ byte-reader = record {
   begins = λ pre q e from p l v k n f st near fits. byte-begins pre q e from p l v k n f st fits;
 }
 
-byte-stops : (s : List ℕ) (from l : ℕ) → byte-next s (byte.placeAt (length s) from l 0) ≡ stop (record { number = 1; place = length s })
+byte-stops : (s : List ℕ) (from l : ℕ) → byte-next s (byte.placeAt (length s) from l 0) ≡ stop (atEnd s)
 unfolding byteDraw byte.nextByte byte.begun
 byte-stops s from l = rw (le-leb (length s) (length s) (omega arith))
 
 -- the last value without end
-endless : (s : List ℕ) (at from k m : ℕ) → reads (byte-next s) m (byte.endlessAt at from k) ≡ record { values = replicate m k; number = 0 }
+endless : (s : List ℕ) (at from k m : ℕ) → reads (byte-next s) m (byte.endlessAt at from k) ≡ record { values = replicate m k; refusal = none }
 unfolding reads andThen byteDraw byte.nextByte
 endless s at from k zero = refl
 endless s at from k (suc m) = rw (endless s at from k m)
 
 pub byte-back : (p vs : List ℕ) → why (coding columns.Byte) vs ≡ 0
-    → readBytes (length vs) (p ++ column (coding columns.Byte) vs) (byte.startAt (length p)) ≡ record { values = vs; number = 0 }
+    → readBytes (length vs) (p ++ column (coding columns.Byte) vs) (byte.startAt (length p)) ≡ record { values = vs; refusal = none }
 unfolding byte-reader
 byte-back p vs h = reads-back byte-reader p (length p) 0 vs h
 
 pub byte-on : (p vs : List ℕ) (v m : ℕ) → why (coding columns.Byte) (v ∷ vs) ≡ 0
     → readBytes (length (v ∷ vs) + m) (p ++ column (coding columns.Byte) (v ∷ vs)) (byte.startAt (length p))
-    ≡ record { values = (v ∷ vs) ++ replicate m (getD (v ∷ vs) (length vs) 0); number = 0 }
+    ≡ record { values = (v ∷ vs) ++ replicate m (getD (v ∷ vs) (length vs) 0); refusal = none }
 unfolding byte-reader coding
 byte-on p vs v m h =
-    some byte-reader m (λ x. record { values = replicate m x; number = 0 }) (λ s from b x k st. rw (st .key) (endless s (length s) from k m)) p vs (length p) 0 v h
+    some byte-reader m (λ _ x. record { values = replicate m x; refusal = none }) (λ s from b x k st. rw (st .key) (endless s (length s) from k m)) p vs (length p) 0 v h
 
 pub byte-none : (p : List ℕ) (m : ℕ)
-    → readBytes (suc m) (p ++ column (coding columns.Byte) []) (byte.startAt (length p)) ≡ record { values = []; number = 1 }
+    → readBytes (suc m) (p ++ column (coding columns.Byte) []) (byte.startAt (length p)) ≡ record { values = []; refusal = atEnd (p ++ column (coding columns.Byte) []) }
 unfolding byte-reader
 byte-none p m = reads-none byte-reader p (length p) 0 m (byte-stops p (length p) 0)

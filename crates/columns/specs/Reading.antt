@@ -2,6 +2,7 @@
 use Prim.Native.Nat.{ℕ, zero, suc}
 use mathlib.Core.List.{List, [], _∷_}
 use Rattle.numbers.specs.declared.Refusal.{Refusal}
+use Rattle.numbers.specs.Number.{none}
 use Rattle.columns.specs.declared.number.Answer.the-variants as number-answer
 use Rattle.columns.specs.declared.difference.Answer.the-variants as difference-answer
 use Rattle.columns.specs.declared.byte.Answer.the-variants as byte-answer
@@ -20,18 +21,18 @@ pub data Draw (P : Type 0) : Type 0 where
   drew : ℕ → P → Draw P
   stop : Refusal → Draw P
 
--- the values drawn, and the number of the refusal that ended them; 0 where none did
+-- the values drawn, and the refusal that ended them; `none` where none did
 pub record Reading : Type 0 where
   pub values : List ℕ
-  pub number : ℕ
+  pub refusal : Refusal
 
 unfoldable pub andThen : {P : Type 0} → Draw P → (P → Reading) → Reading
-andThen (drew v c) f = record { values = v ∷ (f c .values); number = f c .number }
-andThen (stop why) f = record { values = []; number = why .number }
+andThen (drew v c) f = record { values = v ∷ (f c .values); refusal = f c .refusal }
+andThen (stop why) f = record { values = []; refusal = why }
 
 -- at most k draws from a place on
 unfoldable pub reads : {P : Type 0} → (P → Draw P) → ℕ → P → Reading
-reads next zero c = record { values = []; number = 0 }
+reads next zero c = record { values = []; refusal = none }
 reads next (suc k) c = andThen (next c) (λ d. reads next k d)
 
 -- a draw of each column

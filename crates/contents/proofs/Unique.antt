@@ -1,10 +1,11 @@
--- No other answer fits: two answers that keep the promise of `content` for the same inputs have one number and one part, which points to one place.
+-- No other answer fits: two answers that keep the promise of `content` for the same inputs have one refusal and one part, which points to one place.
 use Prim.Native.Nat.{ℕ}
 use mathlib.Core.Path.{_≡_, sym, _∙_}
 use mathlib.Core.List.{List}
 use denote.Ref.{RefT, ptr, now}
+use Rattle.numbers.specs.declared.Refusal.{Refusal}
 use Rattle.contents.specs.Promises.{Contents}
 
-pub only-content : (form : ℕ) (u : RefT (List ℕ)) (n number number′ : ℕ) (part part′ : RefT (List ℕ)) → Contents form u n number part → Contents form u n number′ part′
-    → (number ≡ number′) × (now part ≡ now part′) × (ptr part ≡ ptr part′)
-only-content form u n number number′ part part′ p q = (p .0 ∙ sym (q .0), p .1 .0 ∙ sym (q .1 .0), p .1 .1 ∙ sym (q .1 .1))
+pub only-content : (form : ℕ) (u : RefT (List ℕ)) (n : ℕ) (why why′ : Refusal) (part part′ : RefT (List ℕ))
+    → Contents form u n why part → Contents form u n why′ part′ → (why ≡ why′) × (now part ≡ now part′) × (ptr part ≡ ptr part′)
+only-content form u n why why′ part part′ p q = (p .0 ∙ sym (q .0), p .1 .0 ∙ sym (q .1 .0), p .1 .1 ∙ sym (q .1 .1))

@@ -3,23 +3,24 @@ pub mod answer;
 
 use answer::Content;
 use content::Found;
+use numbers::Refusal;
 use text::Bytes;
 use text::Part;
 ghost use mathlib.Core.Path.{_≡_};
 ghost use Rattle.contents.specs.Promises.{refusedWhere, whereOf, In, PartOf, Contents};
 
-// A number, and where the part lies that is handed back with it.
+// A refusal, zeros for done, and where the part lies that is handed back with it.
 #[repr(C)]
 pub struct Where {
-    pub number: u8,
+    pub refusal: Refusal,
     pub part: Part,
 }
 
-fn refused_where(number: u8) -> Where
-    ensures { λ r. ⌜ r ≡ refusedWhere number ⌝ }
+fn refused_where(why: Refusal) -> Where
+    ensures { λ r. ⌜ r ≡ refusedWhere why ⌝ }
 {
     Where {
-        number,
+        refusal: why,
         part: Part {
             place: 0,
             bytes: Bytes(0),
@@ -32,17 +33,32 @@ pub fn look(form: u8, update: &[u8], n: usize) -> Where
     ensures { λ r. ⌜ r ≡ whereOf form (now (update .entry)) n ⌝ }
 {
     if form < 1 {
-        return refused_where(12);
+        return refused_where(Refusal {
+            number: 12,
+            place: 0,
+        });
     }
     if 2 < form {
-        return refused_where(12);
+        return refused_where(Refusal {
+            number: 12,
+            place: 0,
+        });
     }
     if numbers::MAX_UPDATE < update.len() {
-        return refused_where(3);
+        return refused_where(Refusal {
+            number: 3,
+            place: 0,
+        });
     }
     match content::find(form, update, n) {
-        Found::Part(part) => Where { number: 0, part },
-        Found::Refused(why) => refused_where(why.number),
+        Found::Part(part) => Where {
+            refusal: Refusal {
+                number: 0,
+                place: 0,
+            },
+            part,
+        },
+        Found::Refused(why) => refused_where(why),
     }
 }
 
@@ -59,12 +75,12 @@ fn cut(update: &[u8], p: Part) -> &[u8]
 
 // Block n's text or binary, where it lies in the update; an empty part after a refusal.
 pub fn content<'a>(form: u8, update: &'a [u8], n: usize) -> Content<'a>
-    ensures { λ r. ⌜ Contents form (update .entry) n (r .number) (r .part) ⌝ }
+    ensures { λ r. ⌜ Contents form (update .entry) n (r .refusal) (r .part) ⌝ }
 {
     let w = look(form, update, n);
     let part = cut(update, w.part);
     Content {
-        number: w.number,
+        refusal: w.refusal,
         part,
     }
 }

@@ -13,8 +13,9 @@ use updates::Update;
 
 // The line up to the rows.
 fn begin(sink: &mut [u8], used: usize, answer: Diff, out: &[u8]) -> usize {
-    let begun = line::decimal(sink, used, answer.number as u64);
-    if answer.number != 0 {
+    let why = answer.refusal;
+    let begun = line::verdict(sink, used, why.number, why.place);
+    if why.number != 0 {
         return begun;
     }
     let written = line::part(sink, begun, out, 0, answer.bytes);
@@ -24,7 +25,8 @@ fn begin(sink: &mut [u8], used: usize, answer: Diff, out: &[u8]) -> usize {
 
 // How many of the bytes lent are the diff's; a refusal has none, whatever it says.
 fn size(answer: Diff) -> usize {
-    if answer.number != 0 {
+    let why = answer.refusal;
+    if why.number != 0 {
         return 0;
     }
     answer.bytes
@@ -38,7 +40,7 @@ fn end(sink: &mut [u8], told: Told, answer: Diff, words: &[u64], out: &[u8]) -> 
         zero: told.zero && clean,
     };
     let read = Update {
-        number: answer.number,
+        refusal: answer.refusal,
         blocks: answer.blocks,
         ranges: answer.ranges,
     };

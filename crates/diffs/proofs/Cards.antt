@@ -16,6 +16,7 @@ use denote.Triple.Clauses.{atExit}
 use Rattle.walks.proofs.Rows.{Has, byte, word, bool-kind, unit-kind}
 use Rattle.walks.proofs.Refs.{Seat, val, mut, read, pass, Card, since}
 use Rattle.block.specs.declared.Block.{Block}
+use Rattle.numbers.specs.declared.Refusal.{Refusal}
 use Prim.Native.Nat.{_/_}
 use Rattle.diffs.specs.Promises.{answered, diffOf, refusedWith}
 use Rattle.numbers.specs.Output.{padded}
@@ -24,6 +25,7 @@ use Rattle.updates.specs.Promises.{known, reading, refused, rowsOf, wordsOf}
 use Rattle.vector.specs.Vector.{vectorOf}
 use Rattle.writing.specs.Writing.{readAnswer, readOut}
 use Rattle.diffs.proofs.Sorts.{diff}
+use Rattle.reader.proofs.Sorts.{refusal}
 use Rattle.table.proofs.Sorts.{block}
 use Rattle.writing.proofs.Sorts.{written}
 use Rattle.diffs.proofs.none as diffs·none-fn
@@ -59,8 +61,8 @@ module _ {M : Type 1} (𝓤 : URA M) (H : Heap 𝓤) (A : Atoms 𝓤) (mem : Mem
   Diffs·encode-diff = tripleOf 𝓤 H A diffs·encode-diff-fn.signature (diffs·encode-diff-fn.spec 𝓤 H A mem run)
 
   module _ (C : Calls 𝓤 H) where
-    pub diffs·none! : Triple 𝓤 (C #diffs·none) Diffs·none → (number₀ : ℕ) (g-number : Has byte number₀) → Card 𝓤 H A C #diffs·none (val byte number₀ g-number ∷ []) diff (answered (refusedWith number₀))
-    diffs·none! known number₀ g-number = record {
+    pub diffs·none! : Triple 𝓤 (C #diffs·none) Diffs·none → (why₀ : Refusal) (g-why : Has refusal why₀) → Card 𝓤 H A C #diffs·none (val refusal why₀ g-why ∷ []) diff (answered (refusedWith why₀))
+    diffs·none! known why₀ g-why = record {
       contract = Diffs·none;
       known = known;
       ghost = λ x. (x, tt);
@@ -87,8 +89,8 @@ module _ {M : Type 1} (𝓤 : URA M) (H : Heap 𝓤) (A : Atoms 𝓤) (mem : Mem
       said = λ ns r ws. since 𝓤 (λ e. (refl, (e, tt)));
     }
 
-    pub diffs·refuse! : Triple 𝓤 (C #diffs·refuse) Diffs·refuse → (at-rows : Seat) (rows₀ : List Block) (at-ranges : Seat) (ranges₀ : List ℕ) (at-out : Seat) (out₀ : List ℕ) (number₀ : ℕ) (g-number : Has byte number₀) → Card 𝓤 H A C #diffs·refuse (mut block at-rows rows₀ (rowsOf (length rows₀) (refused number₀)) ∷ mut word at-ranges ranges₀ (wordsOf (length ranges₀) (refused number₀)) ∷ mut byte at-out out₀ (padded (length out₀) []) ∷ val byte number₀ g-number ∷ []) diff (answered (refusedWith number₀))
-    diffs·refuse! known at-rows rows₀ at-ranges ranges₀ at-out out₀ number₀ g-number = record {
+    pub diffs·refuse! : Triple 𝓤 (C #diffs·refuse) Diffs·refuse → (at-rows : Seat) (rows₀ : List Block) (at-ranges : Seat) (ranges₀ : List ℕ) (at-out : Seat) (out₀ : List ℕ) (why₀ : Refusal) (g-why : Has refusal why₀) → Card 𝓤 H A C #diffs·refuse (mut block at-rows rows₀ (rowsOf (length rows₀) (refused why₀)) ∷ mut word at-ranges ranges₀ (wordsOf (length ranges₀) (refused why₀)) ∷ mut byte at-out out₀ (padded (length out₀) []) ∷ val refusal why₀ g-why ∷ []) diff (answered (refusedWith why₀))
+    diffs·refuse! known at-rows rows₀ at-ranges ranges₀ at-out out₀ why₀ g-why = record {
       contract = Diffs·refuse;
       known = known;
       ghost = λ x. (x, tt);
@@ -129,7 +131,7 @@ module _ {M : Type 1} (𝓤 : URA M) (H : Heap 𝓤) (A : Atoms 𝓤) (mem : Mem
       said = λ ns r ws. since 𝓤 (λ e. (e .0, (e .1, tt)));
     }
 
-    pub diffs·encode-diff-vector! : Triple 𝓤 (C #diffs·encode-diff) Diffs·encode-diff → (form₀ : ℕ) (g-form : Has byte form₀) (at-update : Seat) (update₀ : List ℕ) (at-vector : Seat) (vector₀ : List ℕ) (to₀ : ℕ) (g-to : Has byte to₀) (at-rows : Seat) (rows₀ : List Block) (at-ranges : Seat) (ranges₀ : List ℕ) (at-out : Seat) (out₀ : List ℕ) → Card 𝓤 H A C #diffs·encode-diff (val byte form₀ g-form ∷ pass byte at-update update₀ ∷ read byte at-vector vector₀ ∷ val byte to₀ g-to ∷ mut block at-rows rows₀ (rowsOf (length rows₀) (diffOf form₀ update₀ vector₀ to₀ (length rows₀) (length ranges₀ / 3) (length out₀) .reading)) ∷ mut word at-ranges ranges₀ (wordsOf (length ranges₀) (diffOf form₀ update₀ vector₀ to₀ (length rows₀) (length ranges₀ / 3) (length out₀) .reading)) ∷ mut byte at-out out₀ (padded (length out₀) (diffOf form₀ update₀ vector₀ to₀ (length rows₀) (length ranges₀ / 3) (length out₀) .bytes)) ∷ []) diff (answered (diffOf form₀ update₀ vector₀ to₀ (length rows₀) (length ranges₀ / 3) (length out₀)))
+    pub diffs·encode-diff-vector! : Triple 𝓤 (C #diffs·encode-diff) Diffs·encode-diff → (form₀ : ℕ) (g-form : Has byte form₀) (at-update : Seat) (update₀ : List ℕ) (at-vector : Seat) (vector₀ : List ℕ) (to₀ : ℕ) (g-to : Has byte to₀) (at-rows : Seat) (rows₀ : List Block) (at-ranges : Seat) (ranges₀ : List ℕ) (at-out : Seat) (out₀ : List ℕ) → Card 𝓤 H A C #diffs·encode-diff (val byte form₀ g-form ∷ pass byte at-update update₀ ∷ read byte at-vector vector₀ ∷ val byte to₀ g-to ∷ mut block at-rows rows₀ (rowsOf (length rows₀) ((diffOf form₀ update₀ vector₀ to₀ (length rows₀) (length ranges₀ / 3) (length out₀)) .reading)) ∷ mut word at-ranges ranges₀ (wordsOf (length ranges₀) ((diffOf form₀ update₀ vector₀ to₀ (length rows₀) (length ranges₀ / 3) (length out₀)) .reading)) ∷ mut byte at-out out₀ (padded (length out₀) ((diffOf form₀ update₀ vector₀ to₀ (length rows₀) (length ranges₀ / 3) (length out₀)) .bytes)) ∷ []) diff (answered (diffOf form₀ update₀ vector₀ to₀ (length rows₀) (length ranges₀ / 3) (length out₀)))
     diffs·encode-diff-vector! known form₀ g-form at-update update₀ at-vector vector₀ to₀ g-to at-rows rows₀ at-ranges ranges₀ at-out out₀ = record {
       contract = Diffs·encode-diff;
       known = known;

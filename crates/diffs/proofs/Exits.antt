@@ -8,8 +8,9 @@ use native.Mathlib.Omega.{arith}
 use lib.Dec.{eqb, leb}
 use lib.ListN.{length}
 use borrow.Author.Tests.{eqb-true, eqb-false, eq-eqb, ne-eqb, leb-true}
+use Rattle.numbers.specs.declared.Refusal.{Refusal}
 use Rattle.numbers.specs.declared.Written.{Written}
-use Rattle.numbers.specs.Number.{pick}
+use Rattle.numbers.specs.Number.{pick, none, nowhere}
 use Rattle.numbers.specs.Output.{padded, verdict, refusal, done, written, put}
 use Rattle.numbers.proofs.Output.{refused-answer, refused-bytes, done-answer, done-bytes}
 use Rattle.block.specs.declared.Block.{Block}
@@ -93,35 +94,38 @@ module _ (form : ℕ) (u v : List ℕ) (to : ℕ) (rows₀ : List Block) (ranges
   Right r rows ranges out = Diffs form u v to rows₀ ranges₀ out₀ r rows ranges out
 
   -- a refusal leaves nothing
-  by-refusal : (n m k l : ℕ) → d ≡ refusedWith n → m ≡ M → k ≡ N → l ≡ room
-      → Right (answered (refusedWith n)) (rowsOf m (refused n)) (wordsOf k (refused n)) (padded l [])
-  by-refusal n m k l e p q r = (
+  by-refusal : (why : Refusal) (m k l : ℕ) → d ≡ refusedWith why → m ≡ M → k ≡ N → l ≡ room
+      → Right (answered (refusedWith why)) (rowsOf m (refused why)) (wordsOf k (refused why)) (padded l [])
+  by-refusal why m k l e p q r = (
     ap answered (sym e),
-    ap (λ (x : ℕ). rowsOf x (refused n)) p ∙ ap (λ (x : Diffed). rowsOf M (x .reading)) (sym e),
-    ap (λ (x : ℕ). wordsOf x (refused n)) q ∙ ap (λ (x : Diffed). wordsOf N (x .reading)) (sym e),
+    ap (λ (x : ℕ). rowsOf x (refused why)) p ∙ ap (λ (x : Diffed). rowsOf M (x .reading)) (sym e),
+    ap (λ (x : ℕ). wordsOf x (refused why)) q ∙ ap (λ (x : Diffed). wordsOf N (x .reading)) (sym e),
     ap (λ (x : ℕ). padded x []) r ∙ ap (λ (x : Diffed). padded room (x .bytes)) (sym e),
   )
 
   pub exit-unknown : known to ≡ false
-      → Right (answered (refusedWith 12)) (rowsOf M (refused 12)) (wordsOf N (refused 12)) (padded room [])
+      → Right (answered (refusedWith (nowhere 12))) (rowsOf M (refused (nowhere 12))) (wordsOf N (refused (nowhere 12))) (padded room [])
   unfolding diffOf
-  exit-unknown k = by-refusal 12 M N room (ap (λ (x : Bool). pick x (afterReading u (vectorOf v) to room R) (refusedWith 12)) k) refl refl refl
+  exit-unknown k =
+      by-refusal (nowhere 12) M N room
+      (ap (λ (x : Bool). pick x (afterReading u (vectorOf v) to room R) (refusedWith (nowhere 12))) k) refl refl refl
 
   read-first : known to ≡ true → d ≡ afterReading u (vectorOf v) to room R
   unfolding diffOf
-  read-first k = ap (λ (x : Bool). pick x (afterReading u (vectorOf v) to room R) (refusedWith 12)) k
+  read-first k = ap (λ (x : Bool). pick x (afterReading u (vectorOf v) to room R) (refusedWith (nowhere 12))) k
 
-  pub exit-unread : known to ≡ true → (R .number ≡ 0 → ⊥)
-      → Right (answered (refusedWith (R .number))) (rowsOf (length (rowsOf M R)) (refused (R .number))) (wordsOf (length (wordsOf N R)) (refused (R .number))) (padded room [])
+  pub exit-unread : known to ≡ true → (R .refusal .number ≡ 0 → ⊥)
+      → Right (answered (refusedWith (R .refusal))) (rowsOf (length (rowsOf M R)) (refused (R .refusal)))
+      (wordsOf (length (wordsOf N R)) (refused (R .refusal))) (padded room [])
   unfolding afterReading
   exit-unread k z =
-      by-refusal (R .number) (length (rowsOf M R)) (length (wordsOf N R)) room
-      (read-first k ∙ ap (λ (x : Bool). pick x (against u (vectorOf v) to room R) (refusedWith (R .number))) (ne-eqb (R .number) 0 z))
+      by-refusal (R .refusal) (length (rowsOf M R)) (length (wordsOf N R)) room
+      (read-first k ∙ ap (λ (x : Bool). pick x (against u (vectorOf v) to room R) (refusedWith (R .refusal))) (ne-eqb (R .refusal .number) 0 z))
       (rows-length form u M N) (words-length form u M N) refl
 
   -- ---- the update was read
 
-  module _ (k : known to ≡ true) (z : R .number ≡ 0) where
+  module _ (k : known to ≡ true) (z : R .refusal .number ≡ 0) where
     abbrev es : List Entry
     es = items (vectorOf v)
 
@@ -179,16 +183,20 @@ module _ (form : ℕ) (u v : List ℕ) (to : ℕ) (rows₀ : List Block) (ranges
         go false e = rw e refl
 
     abbrev whole : Diffed
-    whole = record { number = 0; bytes = bytes; reading = R }
+    whole = record { refusal = none; bytes = bytes; reading = R }
 
-    diff-at : d ≡ pick (eqb all 0) whole (refusedWith all)
+    -- what is refused of a diff blames no byte
+    abbrev refusedBy : ℕ → Diffed
+    refusedBy n = refusedWith (nowhere n)
+
+    diff-at : d ≡ pick (eqb all 0) whole (refusedBy all)
     unfolding afterReading against kept whyNot
     diff-at =
-        read-first k ∙ ap (λ (x : Bool). pick x (against u (vectorOf v) to room R) (refusedWith (R .number))) (eq-eqb (R .number) 0 z)
-        ∙ by-number v (pick (eqb last 0) whole (refusedWith last)) refusedWith ∙ go (eqb w 0) refl
+        read-first k ∙ ap (λ (x : Bool). pick x (against u (vectorOf v) to room R) (refusedWith (R .refusal))) (eq-eqb (R .refusal .number) 0 z)
+        ∙ by-number v (pick (eqb last 0) whole (refusedBy last)) refusedBy ∙ go (eqb w 0) refl
       where
         go : (x : Bool) → eqb w 0 ≡ x
-            → pick x (pick (eqb last 0) whole (refusedWith last)) (refusedWith w) ≡ pick (eqb (pick x last w) 0) whole (refusedWith (pick x last w))
+            → pick x (pick (eqb last 0) whole (refusedBy last)) (refusedBy w) ≡ pick (eqb (pick x last w) 0) whole (refusedBy (pick x last w))
         go true e = refl
         go false e = rw e refl
 
@@ -214,23 +222,24 @@ module _ (form : ℕ) (u v : List ℕ) (to : ℕ) (rows₀ : List Block) (ranges
         go false e = omega arith
 
     pub exit-refused : (W .number ≡ 0 → ⊥)
-        → Right (answered (refusedWith (W .number))) (rowsOf (length (rowsOf M R)) (refused (W .number))) (wordsOf (length (wordsOf N R)) (refused (W .number)))
-        (padded (length O) [])
+        → Right (answered (refusedBy (W .number))) (rowsOf (length (rowsOf M R)) (refused (nowhere (W .number))))
+        (wordsOf (length (wordsOf N R)) (refused (nowhere (W .number)))) (padded (length O) [])
     exit-refused h =
-        by-refusal (W .number) (length (rowsOf M R)) (length (wordsOf N R)) (length O) (diff-at ∙ named)
+        by-refusal (nowhere (W .number)) (length (rowsOf M R)) (length (wordsOf N R)) (length O) (diff-at ∙ named)
         (rows-length form u M N) (words-length form u M N) out-size
       where
         some : all ≡ 0 → ⊥
         some e = h (number-at ∙ e)
 
-        named : pick (eqb all 0) whole (refusedWith all) ≡ refusedWith (W .number)
-        named = ap (λ (x : Bool). pick x whole (refusedWith all)) (ne-eqb all 0 some) ∙ ap refusedWith (sym number-at)
+        named : pick (eqb all 0) whole (refusedBy all) ≡ refusedBy (W .number)
+        named = ap (λ (x : Bool). pick x whole (refusedBy all)) (ne-eqb all 0 some) ∙ ap refusedBy (sym number-at)
 
     pub exit-done : W .number ≡ 0
-        → Right (record { number = 0; bytes = W .bytes; blocks = length (R .blocks); ranges = length (R .ranges) }) (rowsOf M R) (wordsOf N R) O
+        → Right (record { refusal = none; bytes = W .bytes; blocks = length (R .blocks); ranges = length (R .ranges) }) (rowsOf M R) (wordsOf N R) O
     unfolding answered
     exit-done h = (
-      ap (λ (x : ℕ). record { number = 0; bytes = x; blocks = length (R .blocks); ranges = length (R .ranges) }) size ∙ ap answered (sym done-is),
+      ap (λ (x : ℕ). record { refusal = none; bytes = x; blocks = length (R .blocks); ranges = length (R .ranges) }) size
+          ∙ ap answered (sym done-is),
       ap (λ (x : Diffed). rowsOf M (x .reading)) (sym done-is),
       ap (λ (x : Diffed). wordsOf N (x .reading)) (sym done-is),
       out-at ∙ ap (λ (x : Bool). padded room (pick x bytes [])) zero-is ∙ ap (λ (x : Diffed). padded room (x .bytes)) (sym done-is),
@@ -240,7 +249,7 @@ module _ (form : ℕ) (u v : List ℕ) (to : ℕ) (rows₀ : List Block) (ranges
         zero-is = eq-eqb all 0 (sym number-at ∙ h)
 
         done-is : d ≡ whole
-        done-is = diff-at ∙ ap (λ (x : Bool). pick x whole (refusedWith all)) zero-is
+        done-is = diff-at ∙ ap (λ (x : Bool). pick x whole (refusedBy all)) zero-is
 
         size : W .bytes ≡ length bytes
         size = ap (λ (x : Written). x .bytes) (answer-at ∙ ap (λ (x : Bool). pick x (done (length bytes)) (refusal all)) zero-is)

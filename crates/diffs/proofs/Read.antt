@@ -5,7 +5,8 @@ use mathlib.Core.List.{List}
 use native.Mathlib.Omega.{arith}
 use lib.Dec.{eqb}
 use lib.ListN.{length}
-use Rattle.numbers.specs.Number.{pick}
+use Rattle.numbers.specs.declared.Refusal.{Refusal}
+use Rattle.numbers.specs.Number.{pick, nowhere}
 use Rattle.grammar.specs.Course.{fit}
 use Rattle.decoder.specs.Update.{deleteSet}
 use Rattle.decoder.specs.Update.{blocksOf}
@@ -17,8 +18,8 @@ module _ (form : ℕ) (u : List ℕ) (n m : ℕ) where
   abbrev Few : Reading → Type 0
   Few r = length (r .ranges) ≤ length u
 
-  refused-few : (k : ℕ) → Few (refused k)
-  refused-few k = omega arith
+  refused-few : (why : Refusal) → Few (refused why)
+  refused-few why = omega arith
 
   with-few : Few (withBlocks form u m (fit n (blocksOf form u)))
   unfolding withBlocks withRanges
@@ -29,6 +30,6 @@ module _ (form : ℕ) (u : List ℕ) (n m : ℕ) where
   unfolding reading
   reading-few = go (eqb (early form u) 0)
     where
-      go : (x : Bool) → Few (pick x (withBlocks form u m (fit n (blocksOf form u))) (refused (early form u)))
+      go : (x : Bool) → Few (pick x (withBlocks form u m (fit n (blocksOf form u))) (refused (nowhere (early form u))))
       go true = with-few
-      go false = refused-few (early form u)
+      go false = refused-few (nowhere (early form u))

@@ -2,8 +2,10 @@
 use mathlib.Core.Path.{refl}
 use Prim.Native.Nat.{ℕ}
 use denote.Struct.Laws as LL
-use Rattle.walks.proofs.Rows.{Kind, Has, byte, word}
+use Rattle.walks.proofs.Rows.{Kind, Has, word}
 use Rattle.diffs.specs.declared.Diff.{Diff}
+use Rattle.numbers.specs.declared.Refusal.{Refusal}
+use Rattle.reader.proofs.Sorts.{refusal}
 use Rattle.diffs.proofs.Diff as Diff₁
 use Rattle.diffs.proofs.Diff.Laws as Diff₂
 
@@ -19,11 +21,11 @@ diff = record {
   silent = λ x w. refl;
 }
 
-pub diff-has : (number₀ : ℕ) (g-number : Has byte number₀) (bytes₀ : ℕ) (g-bytes : Has word bytes₀) (blocks₀ : ℕ) (g-blocks : Has word blocks₀) (ranges₀ : ℕ) (g-ranges : Has word ranges₀) → Has diff (record { number = number₀; bytes = bytes₀; blocks = blocks₀; ranges = ranges₀ })
-diff-has number₀ g-number bytes₀ g-bytes blocks₀ g-blocks ranges₀ g-ranges = LL.owes Diff₁.the-type Diff₂.the-laws (record { number = number₀; bytes = bytes₀; blocks = blocks₀; ranges = ranges₀ }) (g-number, (g-bytes, (g-blocks, (g-ranges, tt))))
+pub diff-has : (refusal₀ : Refusal) (g-refusal : Has refusal refusal₀) (bytes₀ : ℕ) (g-bytes : Has word bytes₀) (blocks₀ : ℕ) (g-blocks : Has word blocks₀) (ranges₀ : ℕ) (g-ranges : Has word ranges₀) → Has diff (record { refusal = refusal₀; bytes = bytes₀; blocks = blocks₀; ranges = ranges₀ })
+diff-has refusal₀ g-refusal bytes₀ g-bytes blocks₀ g-blocks ranges₀ g-ranges = LL.owes Diff₁.the-type Diff₂.the-laws (record { refusal = refusal₀; bytes = bytes₀; blocks = blocks₀; ranges = ranges₀ }) (g-refusal, (g-bytes, (g-blocks, (g-ranges, tt))))
 
-pub diff-number : (x : Diff) → Has diff x → Has byte (x .number)
-diff-number x g = LL.owed Diff₁.the-type Diff₂.the-laws x _ g .0
+pub diff-refusal : (x : Diff) → Has diff x → Has refusal (x .refusal)
+diff-refusal x g = LL.owed Diff₁.the-type Diff₂.the-laws x _ g .0
 
 pub diff-bytes : (x : Diff) → Has diff x → Has word (x .bytes)
 diff-bytes x g = LL.owed Diff₁.the-type Diff₂.the-laws x _ g .1 .0

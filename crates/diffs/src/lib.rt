@@ -1,6 +1,7 @@
-// The public calls that write updates. None asks anything of its caller. An answer begins with its number in document 01, 0 for done; a refusal has
-// zeros for counts and leaves zeros in what was lent.
+// The public calls that write updates. None asks anything of its caller. An answer begins with its refusal, zeros for done; a refusal has zeros for
+// counts and leaves zeros in what was lent.
 use block::Block;
+use numbers::Refusal;
 ghost use mathlib.Core.Path.{_≡_};
 ghost use mathlib.Core.List.{[]};
 ghost use lib.ListN.{length};
@@ -11,7 +12,7 @@ ghost use Rattle.diffs.specs.Promises.{refusedWith, answered, Diffs, emp
 // How many bytes were written, and how many blocks and delete ranges were read.
 #[repr(C)]
 pub struct Diff {
-    pub number: u8,
+    pub refusal: Refusal,
     pub bytes: usize,
     pub blocks: usize,
     pub ranges: usize,
@@ -26,12 +27,12 @@ fn is_known(form: u8) -> bool
     form == 2
 }
 
-// A refusal: its number, and counts of 0.
-fn none(number: u8) -> Diff
-    ensures { λ r. ⌜ r ≡ answered (refusedWith number) ⌝ }
+// A refusal, and counts of 0.
+fn none(why: Refusal) -> Diff
+    ensures { λ r. ⌜ r ≡ answered (refusedWith why) ⌝ }
 {
     Diff {
-        number,
+        refusal: why,
         bytes: 0,
         blocks: 0,
         ranges: 0,
@@ -39,14 +40,14 @@ fn none(number: u8) -> Diff
 }
 
 // A refusal, and zeros in all that was lent.
-fn refuse(rows: &mut [Block], ranges: &mut [u64], out: &mut [u8], number: u8) -> Diff
-    ensures { λ r. ⌜ (r ≡ answered (refusedWith number)) × (now (rows .exit) ≡ rowsOf (length (now (rows .entry))) (refused number))
-        × (now (ranges .exit) ≡ wordsOf (length (now (ranges .entry))) (refused number)) × (now (out .exit) ≡ padded (length (now (out .entry))) []) ⌝ }
+fn refuse(rows: &mut [Block], ranges: &mut [u64], out: &mut [u8], why: Refusal) -> Diff
+    ensures { λ r. ⌜ (r ≡ answered (refusedWith why)) × (now (rows .exit) ≡ rowsOf (length (now (rows .entry))) (refused why))
+        × (now (ranges .exit) ≡ wordsOf (length (now (ranges .entry))) (refused why)) × (now (out .exit) ≡ padded (length (now (out .entry))) []) ⌝ }
 {
     table::clear(rows, 0);
     numbers::words::clear(ranges, 0);
     numbers::clear(out, 0);
-    none(number)
+    none(why)
 }
 
 // An update of one form, less what a state vector says that the other side has, written in the form `to`; both tables are filled with what was read.
@@ -62,11 +63,19 @@ pub fn encode_diff(
     ensures { λ r. ⌜ Diffs form (now (update .entry)) (now (vector .entry)) to (now (rows .entry)) (now (ranges .entry)) (now (out .entry)) r (now (rows .exit)) (now (ranges .exit)) (now (out .exit)) ⌝ }
 {
     if !is_known(to) {
-        return refuse(rows, ranges, out, 12);
+        return refuse(
+            rows,
+            ranges,
+            out,
+            Refusal {
+                number: 12,
+                place: 0,
+            },
+        );
     }
     let read = updates::read_update(form, update, rows, ranges);
-    if read.number != 0 {
-        return refuse(rows, ranges, out, read.number);
+    if read.refusal.number != 0 {
+        return refuse(rows, ranges, out, read.refusal);
     }
     let written = writing::encode_read(
         update,
@@ -79,10 +88,21 @@ pub fn encode_diff(
         out,
     );
     if written.number != 0 {
-        return refuse(rows, ranges, out, written.number);
+        return refuse(
+            rows,
+            ranges,
+            out,
+            Refusal {
+                number: written.number,
+                place: 0,
+            },
+        );
     }
     Diff {
-        number: 0,
+        refusal: Refusal {
+            number: 0,
+            place: 0,
+        },
         bytes: written.bytes,
         blocks: read.blocks,
         ranges: read.ranges,

@@ -16,9 +16,11 @@ use denote.Triple.Clauses.{atExit}
 use Rattle.walks.proofs.Rows.{Has, byte, word}
 use Rattle.walks.proofs.Refs.{Seat, val, mut, read, pass, Card, since}
 use Rattle.block.specs.declared.Block.{Block}
+use Rattle.numbers.specs.declared.Refusal.{Refusal}
 use Rattle.lines.specs.Lines.{overlay}
 use Rattle.listing_text.specs.Listing.{blockLines, endLine, header, listing, rangeLines, refusedLine}
 use Rattle.ranges.specs.Table.{rowsFrom}
+use Rattle.reader.proofs.Sorts.{refusal}
 use Rattle.table.proofs.Sorts.{block}
 use Rattle.listing_text.proofs.put_refused as listing-text·put-refused-fn
 use Rattle.listing_text.proofs.put_refused.Symbol.{name as #listing-text·put-refused}
@@ -53,14 +55,14 @@ module _ {M : Type 1} (𝓤 : URA M) (H : Heap 𝓤) (A : Atoms 𝓤) (mem : Mem
   Listed·put-tables = tripleOf 𝓤 H A listed·put-tables-fn.signature (listed·put-tables-fn.spec 𝓤 H A mem run)
 
   module _ (C : Calls 𝓤 H) where
-    pub listing-text·put-refused! : Triple 𝓤 (C #listing-text·put-refused) Listing-text·put-refused → (at-out : Seat) (out₀ : List ℕ) (used₀ : ℕ) (g-used : Has word used₀) (why₀ : ℕ) (g-why : Has byte why₀) → (used₀ + 29 < 2 ^ 63) → Card 𝓤 H A C #listing-text·put-refused (mut byte at-out out₀ (overlay out₀ used₀ (refusedLine why₀)) ∷ val word used₀ g-used ∷ val byte why₀ g-why ∷ []) word (used₀ + length (refusedLine why₀))
+    pub listing-text·put-refused! : Triple 𝓤 (C #listing-text·put-refused) Listing-text·put-refused → (at-out : Seat) (out₀ : List ℕ) (used₀ : ℕ) (g-used : Has word used₀) (why₀ : Refusal) (g-why : Has refusal why₀) → (used₀ + 53 < 2 ^ 63) → Card 𝓤 H A C #listing-text·put-refused (mut byte at-out out₀ (overlay out₀ used₀ (refusedLine why₀)) ∷ val word used₀ g-used ∷ val refusal why₀ g-why ∷ []) word (used₀ + length (refusedLine why₀))
     listing-text·put-refused! known at-out out₀ used₀ g-used why₀ g-why h = record {
       contract = Listing-text·put-refused;
       known = known;
       ghost = λ x. (x, tt);
       args = λ ns. refl;
-      asked = fact 𝓤 (used₀ + 29 < 2 ^ 63);
-      asks = factI 𝓤 (used₀ + 29 < 2 ^ 63) (emp 𝓤) h;
+      asked = fact 𝓤 (used₀ + 53 < 2 ^ 63);
+      asks = factI 𝓤 (used₀ + 53 < 2 ^ 63) (emp 𝓤) h;
       into = λ ns. id⊢ 𝓤 _;
       ensured = λ x r ws. listing-text·put-refused-fn.clauses 𝓤 H A mem run (x .0) (x .3) .ensures tt r (atExit listing-text·put-refused-fn.ended (x .0) (x .3) ws);
       out = λ ns v. id⊢ 𝓤 _;

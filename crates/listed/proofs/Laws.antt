@@ -10,7 +10,7 @@ use borrow.Author.Tests.{eq-eqb, ne-eqb}
 use lib.Dec.{eqb, ltb}
 use lib.ListN.{length, take, drop, getD, replicate, length-append, drop-of-length-le}
 use lib.Seq.{drop-cons, length-take-le, take-all, take-at}
-use Rattle.numbers.specs.Number.{pick}
+use Rattle.numbers.specs.Number.{pick, nowhere}
 use Rattle.numbers.specs.Output.{padded}
 use Rattle.block.specs.declared.Block.{Block}
 use Rattle.block.specs.Row.{noBlock}
@@ -107,11 +107,11 @@ module _ (R : Reading) (n m : ℕ) where
   unfolding answer rowsOf wordsOf padded
   shown-all form = ap₂ (listing form) (take-at (R .blocks) (replicate (n - length (R .blocks)) noBlock) (length (R .blocks)) refl) (rows-flat (R .ranges) (replicate (m - length (flat (R .ranges))) 0))
 
-  pub lines-done : (form : ℕ) → eqb (answer R .number) 0 ≡ true → shown form ≡ linesOf form R
+  pub lines-done : (form : ℕ) → eqb (answer R .refusal .number) 0 ≡ true → shown form ≡ linesOf form R
   unfolding linesOf answer
   lines-done form e = rw e (shown-all form)
 
-  pub lines-refused : (form : ℕ) → eqb (answer R .number) 0 ≡ false → refusedLine (answer R .number) ≡ linesOf form R
+  pub lines-refused : (form : ℕ) → eqb (answer R .refusal .number) 0 ≡ false → refusedLine (answer R .refusal) ≡ linesOf form R
   unfolding linesOf answer
   lines-refused form e = rw e refl
 
@@ -151,11 +151,11 @@ module _ (form : ℕ) (u : List ℕ) where
   unfolding listedUpdate
   text-reading e = rw e refl
 
-pub text-long : (input : List ℕ) → ltb maxInput (length input) ≡ true → refusedLine 3 ≡ listed input
+pub text-long : (input : List ℕ) → ltb maxInput (length input) ≡ true → refusedLine (nowhere 3) ≡ listed input
 unfolding listed
 text-long input e = rw e refl
 
-pub text-none : (input : List ℕ) → length input ≡ 0 → refusedLine 1 ≡ listed input
+pub text-none : (input : List ℕ) → length input ≡ 0 → refusedLine (nowhere 1) ≡ listed input
 unfolding listed listedParts
 text-none [] e = refl
 text-none (x ∷ xs) e = absurd (let z : _≡_ {A = ℕ} (suc (length xs)) 0 = e in omega arith)

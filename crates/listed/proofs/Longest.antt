@@ -5,10 +5,10 @@ use mathlib.Core.Bool.{Bool, true, false}
 use mathlib.Core.List.{List, [], _∷_}
 use native.Mathlib.Omega.{arith}
 use lib.Dec.{eqb, ltb}
-use lib.ListN.{length}
+use lib.ListN.{length, length-append}
 use Rattle.numbers.specs.declared.Refusal.{Refusal}
 use Rattle.numbers.specs.declared.Written.{Written}
-use Rattle.numbers.specs.Number.{pick}
+use Rattle.numbers.specs.Number.{pick, none, nowhere}
 use Rattle.numbers.specs.Output.{written}
 use Rattle.numbers.proofs.Output.{verdict-done}
 use Rattle.grammar.specs.Course.{Course, item, over, stopped, fit, items, ending}
@@ -18,7 +18,7 @@ use Rattle.ranges.proofs.Theory.{normal-length}
 use Rattle.decoder.specs.Update.{deleteSet}
 use Rattle.updates.specs.Promises.{Reading, refused, withRanges, withBlocks, early, reading}
 use Rattle.listing_text.specs.Listing.{emptyLine, refusedLine}
-use Rattle.listing_text.specs.Words.{wordRefused}
+use Rattle.listing_text.specs.Words.{wordRefused, wordAt}
 use Rattle.listing_text.proofs.Laws.{named-short, listing-short}
 use Rattle.listed.specs.Listed.{maxInput, maxText, blockRows, rangeRows, isEmpty, linesOf, listedReading, listedUpdate, listedParts, listed, Lists}
 
@@ -47,29 +47,29 @@ picks P false a b h k = k
 abbrev Within : ℕ → ℕ → Reading → Type 0
 Within n m r = (length (r .blocks) ≤ n) × (length (r .ranges) ≤ m)
 
-none-within : (n m why : ℕ) → Within n m (refused why)
+none-within : (n m : ℕ) (why : Refusal) → Within n m (refused why)
 none-within n m why = (omega arith, omega arith)
 
 reading-within : (form : ℕ) (u : List ℕ) (n m : ℕ) → Within n m (reading form u n m)
 unfolding reading withBlocks withRanges
 reading-within form u n m =
     let c = fit n (blocksOf form u) in
-    picks (Within n m) (eqb (early form u) 0) (withBlocks form u m c) (refused (early form u))
-    (ends-in (Within n m) c (λ s. withRanges (items c) (fit m (deleteSet form u s))) (λ why. refused (why .number))
-    (λ s. let d = fit m (deleteSet form u s) in ends-in (Within n m) d (λ e. record { number = 0; blocks = items c; ranges = normal (items d) }) (λ why. refused (why .number))
+    picks (Within n m) (eqb (early form u) 0) (withBlocks form u m c) (refused (nowhere (early form u)))
+    (ends-in (Within n m) c (λ s. withRanges (items c) (fit m (deleteSet form u s))) (λ why. refused why)
+    (λ s. let d = fit m (deleteSet form u s) in ends-in (Within n m) d (λ e. record { refusal = none; blocks = items c; ranges = normal (items d) }) (λ why. refused why)
     (λ e. (fit-short n (blocksOf form u), omega (arith, normal-length (items d), fit-short m (deleteSet form u s))))
-    (λ why. none-within n m (why .number)))
-    (λ why. none-within n m (why .number)))
-    (none-within n m (early form u))
+    (none-within n m))
+    (none-within n m))
+    (none-within n m (nowhere (early form u)))
 
 -- ---- each text
 
 abbrev Short : List ℕ → Type 0
 Short t = length t ≤ maxText
 
-refused-short : (why : ℕ) → Short (refusedLine why)
+refused-short : (why : Refusal) → Short (refusedLine why)
 unfolding refusedLine
-refused-short why = omega (arith, named-short wordRefused why 10)
+refused-short why = simp length-append (omega (arith, named-short wordRefused (why .number) 32, named-short wordAt (why .place) 10))
 
 empty-short : Short emptyLine
 unfolding emptyLine
@@ -80,7 +80,7 @@ unfolding listedReading linesOf
 reading-short form u =
     let r = reading form u blockRows rangeRows in
     let w = reading-within form u blockRows rangeRows in
-    picks Short (eqb (r .number) 0) _ (refusedLine (r .number)) (omega (arith, listing-short form (r .blocks) (r .ranges), w .0, w .1)) (refused-short (r .number))
+    picks Short (eqb (r .refusal .number) 0) _ (refusedLine (r .refusal)) (omega (arith, listing-short form (r .blocks) (r .ranges), w .0, w .1)) (refused-short (r .refusal))
 
 update-short : (form : ℕ) (u : List ℕ) → Short (listedUpdate form u)
 unfolding listedUpdate
@@ -88,12 +88,12 @@ update-short form u = picks Short (isEmpty form u) emptyLine (listedReading form
 
 parts-short : (input : List ℕ) → Short (listedParts input)
 unfolding listedParts
-parts-short [] = refused-short 1
+parts-short [] = refused-short (nowhere 1)
 parts-short (form ∷ u) = update-short form u
 
 pub listed-short : (input : List ℕ) → length (listed input) ≤ maxText
 unfolding listed
-listed-short input = picks Short (ltb maxInput (length input)) (refusedLine 3) (listedParts input) (refused-short 3) (parts-short input)
+listed-short input = picks Short (ltb maxInput (length input)) (refusedLine (nowhere 3)) (listedParts input) (refused-short (nowhere 3)) (parts-short input)
 
 pub always-done : (input lent : List ℕ) (r : Written) (x : List ℕ) → maxText ≤ length lent → Lists input lent r x → r .number ≡ 0
 unfolding written

@@ -6,7 +6,7 @@ use mathlib.Core.List.{List, [], _∷_}
 use lib.ListN.{length}
 use lib.Dec.{ltb, eqb}
 use Rattle.numbers.specs.declared.Written.{Written}
-use Rattle.numbers.specs.Number.{pick}
+use Rattle.numbers.specs.Number.{pick, nowhere}
 use Rattle.numbers.specs.Output.{written, put}
 use Rattle.updates.specs.Promises.{Reading, reading}
 use Rattle.listing_text.specs.Listing.{listing, emptyLine, refusedLine}
@@ -45,7 +45,7 @@ isEmpty form u = pick (eqb form 1) (same u emptyV1) (pick (eqb form 2) (same u e
 -- ---- the text: the first of these that applies
 
 unfoldable pub linesOf : ℕ → Reading → List ℕ
-linesOf form r = pick (eqb (r .number) 0) (listing form (r .blocks) (r .ranges)) (refusedLine (r .number))
+linesOf form r = pick (eqb (r .refusal .number) 0) (listing form (r .blocks) (r .ranges)) (refusedLine (r .refusal))
 
 unfoldable pub listedReading : ℕ → List ℕ → List ℕ
 listedReading form u = linesOf form (reading form u blockRows rangeRows)
@@ -54,11 +54,11 @@ unfoldable pub listedUpdate : ℕ → List ℕ → List ℕ
 listedUpdate form u = pick (isEmpty form u) emptyLine (listedReading form u)
 
 unfoldable pub listedParts : List ℕ → List ℕ
-listedParts [] = refusedLine 1
+listedParts [] = refusedLine (nowhere 1)
 listedParts (form ∷ u) = listedUpdate form u
 
 unfoldable pub listed : List ℕ → List ℕ
-listed input = pick (ltb maxInput (length input)) (refusedLine 3) (listedParts input)
+listed input = pick (ltb maxInput (length input)) (refusedLine (nowhere 3)) (listedParts input)
 
 -- ---- what `list` answers into what is lent, and what x is then lent back
 

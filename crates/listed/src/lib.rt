@@ -1,5 +1,6 @@
 // The listing of an update, as text in lent bytes: what the program `listing` prints.
 use block::Block;
+use numbers::Refusal;
 use numbers::Written;
 ghost use mathlib.Core.Path.{_≡_};
 ghost use Prim.Native.Nat.{_+_, _*_, _^_, _≤_, _<_};
@@ -83,11 +84,11 @@ fn put_reading(form: u8, update: &[u8], out: &mut [u8]) -> usize
     let mut words = [0u64; 3072];
     let ranges = &mut words[..];
     let read = updates::read_update(form, update, rows, ranges);
-    let number = read.number;
-    if number == 0 {
+    let why = read.refusal;
+    if why.number == 0 {
         return put_tables(out, form, rows, read.blocks, ranges, read.ranges);
     }
-    listing_text::put_refused(out, 0, number)
+    listing_text::put_refused(out, 0, why)
 }
 
 fn put_update(form: u8, update: &[u8], out: &mut [u8]) -> usize
@@ -103,10 +104,24 @@ fn put_listed(input: &[u8], out: &mut [u8]) -> usize
     ensures { λ r. ⌜ (r ≡ length (listed (now (input .entry)))) × (now (out .exit) ≡ overlay (now (out .entry)) 0 (listed (now (input .entry)))) ⌝ }
 {
     if MAX_INPUT < input.len() {
-        return listing_text::put_refused(out, 0, 3);
+        return listing_text::put_refused(
+            out,
+            0,
+            Refusal {
+                number: 3,
+                place: 0,
+            },
+        );
     }
     if input.len() == 0 {
-        return listing_text::put_refused(out, 0, 1);
+        return listing_text::put_refused(
+            out,
+            0,
+            Refusal {
+                number: 1,
+                place: 0,
+            },
+        );
     }
     let form = input[0];
     put_update(form, &input[1..], out)

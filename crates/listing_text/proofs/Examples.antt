@@ -19,7 +19,7 @@ pub examples :
     × (rangeLine (range 9007199254740991 7 10) ≡ 57 ∷ 48 ∷ 48 ∷ 55 ∷ 49 ∷ 57 ∷ 57 ∷ 50 ∷ 53 ∷ 52 ∷ 55 ∷ 52 ∷ 48 ∷ 57 ∷ 57 ∷ 49 ∷ 32 ∷ 55 ∷ 32 ∷ 49 ∷ 48 ∷ 10 ∷ [])
     -- empty
     × (emptyLine ≡ 101 ∷ 109 ∷ 112 ∷ 116 ∷ 121 ∷ 10 ∷ [])
-    -- refused 13
-    × (refusedLine 13 ≡ 114 ∷ 101 ∷ 102 ∷ 117 ∷ 115 ∷ 101 ∷ 100 ∷ 32 ∷ 49 ∷ 51 ∷ 10 ∷ [])
+    -- refused 13 at 207
+    × (refusedLine (record { number = 13; place = 207 }) ≡ 114 ∷ 101 ∷ 102 ∷ 117 ∷ 115 ∷ 101 ∷ 100 ∷ 32 ∷ 49 ∷ 51 ∷ 32 ∷ 97 ∷ 116 ∷ 32 ∷ 50 ∷ 48 ∷ 55 ∷ 10 ∷ [])
 unfolding digits decimal number named kindName blockLine blockLines rangeLine rangeLines header endLine listing emptyLine refusedLine
 examples = (refl, refl, refl, refl)

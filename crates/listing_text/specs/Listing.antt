@@ -4,11 +4,12 @@ use mathlib.Core.Bool.{cond}
 use mathlib.Core.List.{List, [], _∷_, _++_}
 use lib.ListN.{length}
 use lib.Dec.{eqb}
+use Rattle.numbers.specs.declared.Refusal.{Refusal}
 use Rattle.block.specs.declared.Block.{Block}
 use Rattle.block.specs.Kinds.{GC, SKIP, DELETED, BINARY, TEXT}
 use Rattle.ranges.specs.Ranges.{Range}
 use Rattle.lines.specs.Lines.{decimal}
-use Rattle.listing_text.specs.Words.{wordForm, wordBlocks, wordRanges, wordRefused, wordEmpty, wordEnd, wordGc, wordSkip, wordDeleted, wordBinary, wordText}
+use Rattle.listing_text.specs.Words.{wordForm, wordBlocks, wordRanges, wordRefused, wordAt, wordEmpty, wordEnd, wordGc, wordSkip, wordDeleted, wordBinary, wordText}
 
 -- a number with the byte that ends it
 unfoldable pub number : ℕ → ℕ → List ℕ
@@ -55,5 +56,5 @@ listing form blocks ranges = header form (length blocks) (length ranges) ++ bloc
 unfoldable pub emptyLine : List ℕ
 emptyLine = wordEmpty ++ (10 ∷ [])
 
-unfoldable pub refusedLine : ℕ → List ℕ
-refusedLine why = named wordRefused why 10
+unfoldable pub refusedLine : Refusal → List ℕ
+refusedLine why = named wordRefused (why .number) 32 ++ named wordAt (why .place) 10

@@ -18,6 +18,10 @@ wordRanges = 114 ∷ 97 ∷ 110 ∷ 103 ∷ 101 ∷ 115 ∷ 32 ∷ []
 abbrev pub wordRefused : List ℕ
 wordRefused = 114 ∷ 101 ∷ 102 ∷ 117 ∷ 115 ∷ 101 ∷ 100 ∷ 32 ∷ []
 
+-- `at `
+abbrev pub wordAt : List ℕ
+wordAt = 97 ∷ 116 ∷ 32 ∷ []
+
 -- `empty`
 abbrev pub wordEmpty : List ℕ
 wordEmpty = 101 ∷ 109 ∷ 112 ∷ 116 ∷ 121 ∷ []

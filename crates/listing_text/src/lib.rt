@@ -9,6 +9,7 @@ use block::Block;
 use lines::put_byte;
 use lines::put_decimal;
 use lines::put_text;
+use numbers::Refusal;
 
 // A number with the byte that ends it.
 fn put_number(out: &mut [u8], used: usize, v: u64, end: u8) -> usize
@@ -112,11 +113,13 @@ pub fn put_empty(out: &mut [u8], used: usize) -> usize
     put_text(out, used, b"empty\n")
 }
 
-pub fn put_refused(out: &mut [u8], used: usize, why: u8) -> usize
-    requires { ⌜ used + 29 < 2 ^ 63 ⌝ }
+// The number and the byte that is blamed.
+pub fn put_refused(out: &mut [u8], used: usize, why: Refusal) -> usize
+    requires { ⌜ used + 53 < 2 ^ 63 ⌝ }
     ensures { λ r. ⌜ (r ≡ used + length (refusedLine why)) × (now (out .exit) ≡ overlay (now (out .entry)) used (refusedLine why)) ⌝ }
 {
-    put_named(out, used, b"refused ", why as u64, b'\n')
+    let past_number = put_named(out, used, b"refused ", why.number as u64, b' ');
+    put_named(out, past_number, b"at ", why.place as u64, b'\n')
 }
 
 // The first n rows.

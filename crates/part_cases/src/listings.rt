@@ -20,7 +20,7 @@ pub fn bytes_zero(bytes: &[u8], from: usize) -> bool {
 fn ask(input: &[u8], sink: &mut [u8], used: usize) -> usize {
     let mut out = [0xA5u8; 65536];
     let answer = listed::list(input, &mut out);
-    let begun = line::decimal(sink, used, answer.number as u64);
+    let begun = line::verdict(sink, used, answer.number, 0);
     if answer.number != 0 {
         let zero = bytes_zero(&out, 0);
         return lines::last(sink, begun, zero);

@@ -1,12 +1,13 @@
 // Operation 15: the content of a block. What the call hands out holds a part of the update, so its two halves are taken out one at a time.
+use numbers::Refusal;
 use stream::Done;
 use stream::input;
 use stream::input::Place;
 use stream::line;
 
-fn number_of(form: u8, update: &[u8], n: usize) -> u8 {
+fn refusal_of(form: u8, update: &[u8], n: usize) -> Refusal {
     let answer = contents::content(form, update, n);
-    answer.number
+    answer.refusal
 }
 
 fn part_of(form: u8, update: &[u8], n: usize) -> &[u8] {
@@ -15,9 +16,9 @@ fn part_of(form: u8, update: &[u8], n: usize) -> &[u8] {
 }
 
 fn ask(form: u8, update: &[u8], n: usize, sink: &mut [u8], used: usize) -> usize {
-    let number = number_of(form, update, n);
-    let begun = line::decimal(sink, used, number as u64);
-    if number != 0 {
+    let why = refusal_of(form, update, n);
+    let begun = line::verdict(sink, used, why.number, why.place);
+    if why.number != 0 {
         return line::put(sink, begun, b'\n');
     }
     let part = part_of(form, update, n);

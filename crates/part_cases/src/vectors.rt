@@ -32,7 +32,8 @@ pub fn read(source: &mut [u8], place: Place, sink: &mut [u8], used: usize) -> Do
     let size = taken.count;
     let mut words = [0xA5A5A5A5A5A5A5A5u64; 128];
     let answer = vector::read_state_vector(&bytes[..size], &mut words);
-    let begun = line::decimal(sink, used, answer.number as u64);
+    let why = answer.refusal;
+    let begun = line::verdict(sink, used, why.number, why.place);
     let listed = entries(sink, begun, answer.count, &words);
     let zero = lines::are_zero(&words, listed.at);
     let used = lines::last(sink, listed.used, zero);

@@ -5,6 +5,8 @@ use mathlib.Core.Path.{_≡_, refl, sym, ap, _∙_, subst}
 use mathlib.Core.List.{List, [], _∷_, map}
 use lib.Seq.{slice}
 use denote.Ref.{RefT, now}
+use Rattle.numbers.specs.declared.Refusal.{Refusal}
+use Rattle.numbers.specs.Number.{none}
 use Rattle.columns.specs.declared.number.Place as number-place
 use Rattle.columns.specs.declared.number.Answer as number-answer
 use Rattle.columns.specs.declared.number.Answer.the-variants as number
@@ -35,7 +37,7 @@ use Rattle.readers.specs.Answers.{answers, onwards, told, worded, toldTe
 
 abbrev stepped : {P : Type 0} → (P → Place) → P → Draw P → Step
 stepped make p (drew v d) = record { place = make d; answer = valued v }
-stepped make p (stop why) = record { place = make p; answer = refused (why .number) }
+stepped make p (stop why) = record { place = make p; answer = refused why }
 
 number-step : (s : List ℕ) (p : number-place.Place) → stepOf s (Number p) ≡ stepped Number p (numberDraw (nextNumber s p))
 unfolding stepOf numberStep numberDraw
@@ -64,7 +66,7 @@ byte-step s p = go (nextByte s p)
 -- ---- a refused read changes nothing
 
 abbrev Stays : Place → Step → Type 0
-Stays c t = (t .answer .number ≡ 0 → ⊥) → t .place ≡ c
+Stays c t = (t .answer .refusal .number ≡ 0 → ⊥) → t .place ≡ c
 
 stepped-stays : {P : Type 0} (make : P → Place) (p : P) (x : Draw P) → Stays (make p) (stepped make p x)
 stepped-stays make p (drew v d) not = absurd (not refl)
@@ -82,10 +84,10 @@ stays s (Difference p) = subst (Stays (Difference p)) (sym (difference-step s p)
 stays s (Byte p) = subst (Stays (Byte p)) (sym (byte-step s p)) (stepped-stays Byte p (byteDraw (nextByte s p)))
 stays s (Text p) = text-stays p _
 
-pub refused-stays : (c d : Column) (r : Answer) → Next c r d → (r .number ≡ 0 → ⊥) → d ≡ c
+pub refused-stays : (c d : Column) (r : Answer) → Next c r d → (r .refusal .number ≡ 0 → ⊥) → d ≡ c
 unfolding answerOf after
 refused-stays c d r p not =
-    p .1 ∙ ap (reader (c .bytes)) (stays (now (c .bytes)) (c .place) (λ z. not (ap (λ (a : Answer). a .number) (p .0) ∙ z)))
+    p .1 ∙ ap (reader (c .bytes)) (stays (now (c .bytes)) (c .place) (λ z. not (ap (λ (a : Answer). a .refusal .number) (p .0) ∙ z)))
 
 -- ---- reading on
 
@@ -122,15 +124,15 @@ bytes-read k s p = read-on s Byte (λ d. byteDraw (nextByte (now s) d)) (byte-st
 worded-onwards : (s : List ℕ) (k : ℕ) (a : Answer) → map (worded s) (onwards k [] a) ≡ onwards k [] (worded s a)
 unfolding onwards
 worded-onwards s zero a = refl
-worded-onwards s (suc k) a = ap (λ (l : List (ℕ × List ℕ)). worded s a ∷ l) (worded-onwards s k a)
+worded-onwards s (suc k) a = ap (λ (l : List (Refusal × List ℕ)). worded s a ∷ l) (worded-onwards s k a)
 
 text-turn : (k : ℕ) (s : RefT (List ℕ)) (p : string-place.Place) (r : string-answer.Answer) → stepOf (now s) (Text p) ≡ textStep p r
     → ((d : string-place.Place) → map (worded (now s)) (answers k (reader s (Text d))) ≡ toldTexts k (strings.readTexts k (now s) d))
     → map (worded (now s)) (answers (suc k) (reader s (Text p))) ≡ toldTexts (suc k) (strings.andThen (now s) r (λ d. strings.readTexts k (now s) d))
 unfolding onwards strings.andThen textStep
 text-turn k s p (string.Next w d) e on =
-    ap (map (worded (now s))) (one k s (Text p) _ e) ∙ ap (λ (l : List (ℕ × List ℕ)). (0, slice (w .place) (w .place + w .bytes .0) (now s)) ∷ l) (on d)
-text-turn k s p (string.Bad why) e on = ap (map (worded (now s))) (stuck (suc k) s (Text p) _ e) ∙ worded-onwards (now s) (suc k) (refused (why .number))
+    ap (map (worded (now s))) (one k s (Text p) _ e) ∙ ap (λ (l : List (Refusal × List ℕ)). (none, slice (w .place) (w .place + w .bytes .0) (now s)) ∷ l) (on d)
+text-turn k s p (string.Bad why) e on = ap (map (worded (now s))) (stuck (suc k) s (Text p) _ e) ∙ worded-onwards (now s) (suc k) (refused why)
 
 pub texts-read : (k : ℕ) (s : RefT (List ℕ)) (p : string-place.Place)
     → map (worded (now s)) (answers k (reader s (Text p))) ≡ toldTexts k (strings.readTexts k (now s) p)

@@ -1,13 +1,15 @@
 -- The types that walks meet, as kinds of plain data, and the facts on their parts (tools/walkgen.py sorts). Assumes nothing.
 use mathlib.Core.Path.{refl}
-use Prim.Native.Nat.{ℕ}
 use denote.Struct.Laws as LL
 use denote.Enum.Laws as EL
-use Rattle.walks.proofs.Rows.{Kind, Has, byte}
+use Rattle.walks.proofs.Rows.{Kind, Has}
+use Rattle.numbers.specs.declared.Refusal.{Refusal}
 use Rattle.readers.specs.declared.Place.{Place as readers·Place}
 use Rattle.readers.specs.declared.Answer.{Answer as readers·Answer}
 use Rattle.readers.specs.declared.Start.{Start}
 use Rattle.readers.specs.declared.Step.{Step as readers·Step}
+use Rattle.numbers.proofs.Refusal as Refusal₁
+use Rattle.numbers.proofs.Refusal.Laws as Refusal₂
 use Rattle.readers.proofs.Kind as readers·Kind₁
 use Rattle.readers.proofs.Kind.Laws as readers·Kind₂
 use Rattle.readers.proofs.Place as readers·Place₁
@@ -76,6 +78,18 @@ readers·step-place x g = LL.owed readers·Step₁.the-type readers·Step₂.the
 pub readers·step-answer : (x : readers·Step) → Has readers·step x → Has readers·answer (x .answer)
 readers·step-answer x g = LL.owed readers·Step₁.the-type readers·Step₂.the-laws x _ g .1 .0
 
+abbrev pub refusal : Kind
+refusal = record {
+  row = Refusal₁.the-row;
+  val = LL.val Refusal₁.the-type Refusal₂.the-laws;
+  tells = LL.tells Refusal₁.the-type Refusal₂.the-laws;
+  copy = λ M 𝓤 H A W. LL.copy Refusal₁.the-type Refusal₂.the-copy 𝓤 H A W;
+  makes = λ M 𝓤 H A W. LL.makes Refusal₁.the-type Refusal₂.the-plain 𝓤 H A;
+  lawful = λ M 𝓤 H A W. LL.lawful Refusal₁.the-type Refusal₂.the-laws 𝓤 H A W;
+  last = λ x. tt;
+  silent = λ x w. refl;
+}
+
 abbrev pub start : Kind
 start = record {
   row = Start₁.the-row;
@@ -88,11 +102,11 @@ start = record {
   silent = λ x w. refl;
 }
 
-pub start-has : (number₀ : ℕ) (g-number : Has byte number₀) (place₀ : readers·Place) (g-place : Has readers·place place₀) → Has start (record { number = number₀; place = place₀ })
-start-has number₀ g-number place₀ g-place = LL.owes Start₁.the-type Start₂.the-laws (record { number = number₀; place = place₀ }) (g-number, (g-place, tt))
+pub start-has : (refusal₀ : Refusal) (g-refusal : Has refusal refusal₀) (place₀ : readers·Place) (g-place : Has readers·place place₀) → Has start (record { refusal = refusal₀; place = place₀ })
+start-has refusal₀ g-refusal place₀ g-place = LL.owes Start₁.the-type Start₂.the-laws (record { refusal = refusal₀; place = place₀ }) (g-refusal, (g-place, tt))
 
-pub start-number : (x : Start) → Has start x → Has byte (x .number)
-start-number x g = LL.owed Start₁.the-type Start₂.the-laws x _ g .0
+pub start-refusal : (x : Start) → Has start x → Has refusal (x .refusal)
+start-refusal x g = LL.owed Start₁.the-type Start₂.the-laws x _ g .0
 
 pub start-place : (x : Start) → Has start x → Has readers·place (x .place)
 start-place x g = LL.owed Start₁.the-type Start₂.the-laws x _ g .1 .0

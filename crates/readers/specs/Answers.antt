@@ -2,6 +2,8 @@
 use Prim.Native.Nat.{ℕ, zero, suc, _+_}
 use mathlib.Core.List.{List, [], _∷_, map}
 use lib.Seq.{slice}
+use Rattle.numbers.specs.declared.Refusal.{Refusal}
+use Rattle.numbers.specs.Number.{none}
 use Rattle.columns.specs.Reading.{Reading}
 use Rattle.string.specs.String.{Texts}
 use Rattle.readers.specs.declared.Column.{Column}
@@ -20,11 +22,11 @@ onwards (suc k) (x ∷ xs) y = x ∷ onwards k xs y
 
 -- the values that were drawn, and then the refusal that ended them
 abbrev pub told : ℕ → Reading → List Answer
-told k r = onwards k (map valued (r .values)) (refused (r .number))
+told k r = onwards k (map valued (r .values)) (refused (r .refusal))
 
--- of texts, each answer as its number and its text: where the part lies in the column's bytes s is left out
-abbrev pub worded : List ℕ → Answer → ℕ × List ℕ
-worded s a = (a .number, slice (a .part .place) (a .part .place + a .part .bytes .0) s)
+-- of texts, each answer as its refusal and its text: where the part lies in the column's bytes s is left out
+abbrev pub worded : List ℕ → Answer → Refusal × List ℕ
+worded s a = (a .refusal, slice (a .part .place) (a .part .place + a .part .bytes .0) s)
 
-abbrev pub toldTexts : ℕ → Texts → List (ℕ × List ℕ)
-toldTexts k r = onwards k (map (λ t. (0, t)) (r .texts)) (r .number, [])
+abbrev pub toldTexts : ℕ → Texts → List (Refusal × List ℕ)
+toldTexts k r = onwards k (map (λ t. (none, t)) (r .texts)) (r .refusal, [])

@@ -11,7 +11,7 @@ use Rattle.readers.specs.Readers.{startOf, reader, answerOf, after}
 
 -- the reader holds the bytes that were lent, themselves
 unfoldable pub opened : RefT (List ℕ) → Kind → Opened
-opened s k = record { number = startOf (now s) k .number; column = reader s (startOf (now s) k .place) }
+opened s k = record { refusal = startOf (now s) k .refusal; column = reader s (startOf (now s) k .place) }
 
 abbrev pub Open : RefT (List ℕ) → Kind → Opened → Type 0
 Open s k r = r ≡ opened s k

@@ -2,6 +2,8 @@
 use Prim.Native.Nat.{ℕ}
 use mathlib.Core.List.{List}
 use denote.Ref.{RefT, now}
+use Rattle.numbers.specs.declared.Refusal.{Refusal}
+use Rattle.numbers.specs.Number.{none}
 use Rattle.text.specs.declared.Part.{Part}
 use Rattle.columns.specs.declared.number.Place as number-place
 use Rattle.columns.specs.declared.number.Answer as number-answer
@@ -33,44 +35,44 @@ use Rattle.readers.specs.declared.Step.{Step}
 -- ---- opening: before the column's first value; a text column is opened first, and refused it has a place of zeros
 
 unfoldable pub textStart : string-opened.Opened → Start
-textStart (opening.At c) = record { number = 0; place = Text c }
-textStart (opening.Not why) = record { number = why .number; place = Text (strings.placeAt 0 0 (numbers.startAt 0)) }
+textStart (opening.At c) = record { refusal = none; place = Text c }
+textStart (opening.Not why) = record { refusal = why; place = Text (strings.placeAt 0 0 (numbers.startAt 0)) }
 
 unfoldable pub startOf : List ℕ → Kind → Start
-startOf s kind.Number = record { number = 0; place = Number (numbers.startAt 0) }
-startOf s kind.Difference = record { number = 0; place = Difference (differences.startAt 0) }
-startOf s kind.Byte = record { number = 0; place = Byte (bytes.startAt 0) }
+startOf s kind.Number = record { refusal = none; place = Number (numbers.startAt 0) }
+startOf s kind.Difference = record { refusal = none; place = Difference (differences.startAt 0) }
+startOf s kind.Byte = record { refusal = none; place = Byte (bytes.startAt 0) }
 startOf s kind.Text = textStart (strings.openText s 0)
 
--- ---- reading: of each case of a column's answer, document 01's number and values, and the place after; refused, the place before
+-- ---- reading: of each case of a column's answer, its refusal and values, and the place after; refused, the place before
 
 abbrev pub noPart : Part
 noPart = record { place = 0; bytes = record { 0 = 0 } }
 
 abbrev pub valued : ℕ → Answer
-valued v = record { number = 0; value = v; part = noPart }
+valued v = record { refusal = none; value = v; part = noPart }
 
 abbrev pub texted : Part → Answer
-texted p = record { number = 0; value = 0; part = p }
+texted p = record { refusal = none; value = 0; part = p }
 
-abbrev pub refused : ℕ → Answer
-refused n = record { number = n; value = 0; part = noPart }
+abbrev pub refused : Refusal → Answer
+refused why = record { refusal = why; value = 0; part = noPart }
 
 unfoldable pub numberStep : number-place.Place → number-answer.Answer → Step
 numberStep c (number.Next v d) = record { place = Number d; answer = valued v }
-numberStep c (number.Bad why) = record { place = Number c; answer = refused (why .number) }
+numberStep c (number.Bad why) = record { place = Number c; answer = refused why }
 
 unfoldable pub differenceStep : difference-place.Place → difference-answer.Answer → Step
 differenceStep c (difference.Next v d) = record { place = Difference d; answer = valued v }
-differenceStep c (difference.Bad why) = record { place = Difference c; answer = refused (why .number) }
+differenceStep c (difference.Bad why) = record { place = Difference c; answer = refused why }
 
 unfoldable pub byteStep : byte-place.Place → byte-answer.Answer → Step
 byteStep c (byte.Next v d) = record { place = Byte d; answer = valued v }
-byteStep c (byte.Bad why) = record { place = Byte c; answer = refused (why .number) }
+byteStep c (byte.Bad why) = record { place = Byte c; answer = refused why }
 
 unfoldable pub textStep : string-place.Place → string-answer.Answer → Step
 textStep c (string.Next p d) = record { place = Text d; answer = texted p }
-textStep c (string.Bad why) = record { place = Text c; answer = refused (why .number) }
+textStep c (string.Bad why) = record { place = Text c; answer = refused why }
 
 unfoldable pub stepOf : List ℕ → Place → Step
 stepOf s (Number c) = numberStep c (numbers.nextNumber s c)

@@ -3,6 +3,7 @@
 use columns::byte;
 use columns::difference;
 use columns::number;
+use numbers::Refusal;
 use text::Bytes;
 use text::Part;
 ghost use mathlib.Core.Path.{_≡_};
@@ -34,13 +35,13 @@ pub struct Column<'a> {
 }
 
 pub struct Opened<'a> {
-    pub number: u8,
+    pub refusal: Refusal,
     pub column: Column<'a>,
 }
 
 // The value that was read, or where in the column the text lies that was read; the other is zero.
 pub struct Answer {
-    pub number: u8,
+    pub refusal: Refusal,
     pub value: u64,
     pub part: Part,
 }
@@ -51,7 +52,10 @@ fn value_of(value: u64) -> Answer
     ensures { λ r. ⌜ r ≡ valued value ⌝ }
 {
     Answer {
-        number: 0,
+        refusal: Refusal {
+            number: 0,
+            place: 0,
+        },
         value,
         part: Part {
             place: 0,
@@ -60,11 +64,11 @@ fn value_of(value: u64) -> Answer
     }
 }
 
-fn refuse(number: u8) -> Answer
-    ensures { λ r. ⌜ r ≡ refused number ⌝ }
+fn refuse(why: Refusal) -> Answer
+    ensures { λ r. ⌜ r ≡ refused why ⌝ }
 {
     Answer {
-        number,
+        refusal: why,
         value: 0,
         part: Part {
             place: 0,
@@ -74,7 +78,7 @@ fn refuse(number: u8) -> Answer
 }
 
 struct Start {
-    pub number: u8,
+    pub refusal: Refusal,
     pub place: Place,
 }
 
@@ -84,7 +88,10 @@ fn begin_text(column: &[u8]) -> Start
 {
     match string::open(column, 0) {
         string::Opened::At(first) => Start {
-            number: 0,
+            refusal: Refusal {
+                number: 0,
+                place: 0,
+            },
             place: Place::Text(first),
         },
         string::Opened::Not(why) => {
@@ -95,7 +102,7 @@ fn begin_text(column: &[u8]) -> Start
                 units,
             };
             Start {
-                number: why.number,
+                refusal: why,
                 place: Place::Text(none),
             }
         }
@@ -110,21 +117,30 @@ fn begin(column: &[u8], kind: Kind) -> Start
         Kind::Number => {
             let first = number::start(0);
             Start {
-                number: 0,
+                refusal: Refusal {
+                    number: 0,
+                    place: 0,
+                },
                 place: Place::Number(first),
             }
         }
         Kind::Difference => {
             let first = difference::start(0);
             Start {
-                number: 0,
+                refusal: Refusal {
+                    number: 0,
+                    place: 0,
+                },
                 place: Place::Difference(first),
             }
         }
         Kind::Byte => {
             let first = byte::start(0);
             Start {
-                number: 0,
+                refusal: Refusal {
+                    number: 0,
+                    place: 0,
+                },
                 place: Place::Byte(first),
             }
         }
@@ -150,7 +166,7 @@ fn number_step(column: &[u8], place: number::Place) -> Step
             }
         }
         number::Answer::Bad(why) => {
-            let answer = refuse(why.number);
+            let answer = refuse(why);
             Step {
                 place: Place::Number(place),
                 answer,
@@ -171,7 +187,7 @@ fn difference_step(column: &[u8], place: difference::Place) -> Step
             }
         }
         difference::Answer::Bad(why) => {
-            let answer = refuse(why.number);
+            let answer = refuse(why);
             Step {
                 place: Place::Difference(place),
                 answer,
@@ -192,7 +208,7 @@ fn byte_step(column: &[u8], place: byte::Place) -> Step
             }
         }
         byte::Answer::Bad(why) => {
-            let answer = refuse(why.number);
+            let answer = refuse(why);
             Step {
                 place: Place::Byte(place),
                 answer,
@@ -208,13 +224,16 @@ fn text_step(column: &[u8], place: string::Place) -> Step
         string::Answer::Next(part, after) => Step {
             place: Place::Text(after),
             answer: Answer {
-                number: 0,
+                refusal: Refusal {
+                    number: 0,
+                    place: 0,
+                },
                 value: 0,
                 part,
             },
         },
         string::Answer::Bad(why) => {
-            let answer = refuse(why.number);
+            let answer = refuse(why);
             Step {
                 place: Place::Text(place),
                 answer,
@@ -242,7 +261,7 @@ pub fn open<'a>(bytes: &'a [u8], kind: Kind) -> Opened<'a>
 {
     let s = begin(bytes, kind);
     Opened {
-        number: s.number,
+        refusal: s.refusal,
         column: Column {
             bytes,
             place: s.place,

@@ -4,10 +4,9 @@ use mathlib.Core.Path.{_≡_, refl, ap, _∙_}
 use mathlib.Core.List.{List, [], _∷_}
 use Rattle.numbers.specs.Number as spelling
 use Rattle.numbers.specs.Words as words
-use Rattle.numbers.specs.Number.{spelt, placed, readUnsigned, spell, unsigned}
+use Rattle.numbers.specs.Number.{spelt, placed, readUnsigned, spell, unsigned, none}
 use Rattle.numbers.specs.Output.{verdict}
 use Rattle.text.specs.Utf8 as utf8
-use Rattle.block.specs.declared.Block.{Block}
 use Rattle.grammar.specs.Grammar as grammar
 use Rattle.grammar.specs.Course as course
 use Rattle.grammar.specs.Blocks as blocks
@@ -20,7 +19,7 @@ use Rattle.ranges.specs.Ranges as ranges
 use Rattle.vector.specs.Vector as vector
 use Rattle.vector.specs.Vector.{vectorOf}
 use Rattle.updates.specs.Promises as promises
-use Rattle.updates.specs.Promises.{Reading, reading}
+use Rattle.updates.specs.Promises.{reading}
 use Rattle.readings.specs.Sound.{bytesIn, linked}
 use Rattle.readings.specs.Groups as groups
 use Rattle.tokens.specs.Tokens as tokens
@@ -35,7 +34,7 @@ use Rattle.rereading.specs.CaseE.{updateC, hi, done, CaseE}
 
 -- ---- C is read
 
-read : (n m : ℕ) → reading 1 updateC (suc n) m ≡ record { number = 0; blocks = hi ∷ []; ranges = [] }
+read : (n m : ℕ) → reading 1 updateC (suc n) m ≡ record { refusal = none; blocks = hi ∷ []; ranges = [] }
 unfolding words.among ranges.normal promises.withRanges promises.withBlocks promises.known promises.early promises.reading utf8.charsFrom utf8.chars utf8.widths utf8.unitsOf utf8.lead utf8.next utf8.width utf8.after utf8.settled utf8.wellFormed utf8.gain utf8.takeFrom utf8.takeUnits spelling.after spelt placed readUnsigned utf8.ended line.numberAt line.varAt line.bounded line.upTo line.byteAt line.restored line.deleteAt line.numberOf line.soMany line.bytesAt line.checked line.line grammar._>>=_ course.onDrawn course.run course.fit course.items course.ending blocks.anId blocks.left blocks.right blocks.parentAfter blocks.parent blocks.key blocks.place blocks.deleted blocks.binary blocks.string blocks.content blocks.anItem blocks.bare blocks.body blocks.block blocks.dropped blocks.kept blocks.blocks blocks.sections blocks.allBlocks deletes.ranges deletes.clients deletes.allRanges columned.numberDrawn columned.differenceDrawn columned.byteDrawn columned.textDrawn columned.onto columned.numberIn columned.columned opening.cut opening.heads opening.withOpened opening.textOpened opening.onHeads opening.openedOf update.placed update.inColumns update.blocksOf update.deleteSet
 read zero zero = refl
 read zero (suc m) = refl
@@ -45,7 +44,7 @@ read (suc n) (suc m) = refl
 -- ---- so are the vectors, and what is kept of C is written
 
 abbrev written : List ℕ → ℕ → Diffed
-written v room = afterReading updateC (vectorOf v) 1 room (record { number = 0; blocks = hi ∷ []; ranges = [] })
+written v room = afterReading updateC (vectorOf v) 1 room (record { refusal = none; blocks = hi ∷ []; ranges = [] })
 
 from-reading : (v : List ℕ) (n m room : ℕ) → diffOf 1 updateC v 1 (suc n) m room ≡ written v room
 unfolding diffOf promises.known

@@ -7,7 +7,7 @@ use native.Mathlib.Omega.{arith}
 use lib.Dec.{leb, eqb}
 use lib.ListN.{length}
 use borrow.Author.Tests.{eqb-true, eqb-false}
-use Rattle.numbers.specs.Number.{pick}
+use Rattle.numbers.specs.Number.{pick, none, nowhere}
 use Rattle.numbers.specs.Output.{verdict}
 use Rattle.grammar.specs.Course.{Course, item, over, stopped, ending}
 use Rattle.vector.specs.Vector.{Entry, vectorOf}
@@ -22,7 +22,8 @@ use Rattle.rereading.proofs.Elsewhere.{vector-read}
 
 -- ---- a vector is never refused with 0
 
-read-whole : (c : Course Entry) (d : Diffed) → Stops Low c → ending c (λ s. d) (λ why. refusedWith (why .number)) .number ≡ 0
+read-whole : (c : Course Entry) (d : Diffed) → Stops Low c
+    → ending c (λ s. d) (λ why. refusedWith (nowhere (why .number))) .refusal .number ≡ 0
     → ending c (λ s. true) (λ why. false) ≡ true
 unfolding ending Stops
 read-whole (item e p c) d h z = read-whole c d h z
@@ -33,7 +34,8 @@ read-whole (stopped why) d h z = absurd (omega (arith, h .0, z))
 
 pub record Done (form : ℕ) (u v : List ℕ) (to m n room : ℕ) : Type 0 where
   pub target : known to ≡ true
-  pub read : reading form u m n .number ≡ 0
+  pub refusal : diffOf form u v to m n room .refusal ≡ none
+  pub read : reading form u m n .refusal .number ≡ 0
   pub vector : Reads v
   pub why : diffWhy to u (entriesIn v) (reading form u m n .blocks) (reading form u m n .ranges) ≡ 0
   pub bytes : diffOf form u v to m n room .bytes ≡ diffBytes to u (entriesIn v) (reading form u m n .blocks) (reading form u m n .ranges)
@@ -53,55 +55,58 @@ module _ (u v : List ℕ) (to room : ℕ) (r : Reading) where
 
   record Made (d : Diffed) : Type 0 where
     why : diffWhy to u (entriesIn v) (r .blocks) (r .ranges) ≡ 0
-    same : d ≡ record { number = 0; bytes = diffBytes to u (entriesIn v) (r .blocks) (r .ranges); reading = r }
+    same : d ≡ record { refusal = none; bytes = diffBytes to u (entriesIn v) (r .blocks) (r .ranges); reading = r }
 
-  made : kept u (entriesIn v) to room r .number ≡ 0 → Made (kept u (entriesIn v) to room r)
+  made : kept u (entriesIn v) to room r .refusal .number ≡ 0 → Made (kept u (entriesIn v) to room r)
   unfolding kept whyNot
   made z = go (eqb (whyNot u (entriesIn v) to room r) 0) refl z
     where
       go : (x : Bool) → eqb (whyNot u (entriesIn v) to room r) 0 ≡ x
-          → pick x (record { number = 0; bytes = bytes; reading = r }) (refusedWith (whyNot u (entriesIn v) to room r)) .number ≡ 0
-          → Made (pick x (record { number = 0; bytes = bytes; reading = r }) (refusedWith (whyNot u (entriesIn v) to room r)))
+          → pick x (record { refusal = none; bytes = bytes; reading = r }) (refusedWith (nowhere (whyNot u (entriesIn v) to room r))) .refusal .number
+          ≡ 0
+          → Made (pick x (record { refusal = none; bytes = bytes; reading = r }) (refusedWith (nowhere (whyNot u (entriesIn v) to room r))))
       go true e z = record { why = not-refused _ room bytes (eqb-true (whyNot u (entriesIn v) to room r) 0 e); same = refl }
       go false e z = absurd (eqb-false (whyNot u (entriesIn v) to room r) 0 e z)
 
   record MadeAfter (d : Diffed) : Type 0 where
-    read : r .number ≡ 0
+    read : r .refusal .number ≡ 0
     vector : Reads v
     made : Made d
 
-  reads-then : against u (vectorOf v) to room r .number ≡ 0 → Reads v
+  reads-then : against u (vectorOf v) to room r .refusal .number ≡ 0 → Reads v
   unfolding against
   reads-then z = read-whole (vectorOf v) (kept u (entriesIn v) to room r) (vector-numbered v) z
 
-  made-after : afterReading u (vectorOf v) to room r .number ≡ 0 → MadeAfter (afterReading u (vectorOf v) to room r)
+  made-after : afterReading u (vectorOf v) to room r .refusal .number ≡ 0 → MadeAfter (afterReading u (vectorOf v) to room r)
   unfolding afterReading
-  made-after z = go (eqb (r .number) 0) refl z
+  made-after z = go (eqb (r .refusal .number) 0) refl z
     where
-      go : (x : Bool) → eqb (r .number) 0 ≡ x → pick x (against u (vectorOf v) to room r) (refusedWith (r .number)) .number ≡ 0
-          → MadeAfter (pick x (against u (vectorOf v) to room r) (refusedWith (r .number)))
+      go : (x : Bool) → eqb (r .refusal .number) 0 ≡ x
+          → pick x (against u (vectorOf v) to room r) (refusedWith (r .refusal)) .refusal .number ≡ 0
+          → MadeAfter (pick x (against u (vectorOf v) to room r) (refusedWith (r .refusal)))
       go true e z =
           let reads = reads-then z in
           let same = vector-read u to room r v reads in
-          let k = made (ap (λ (d : Diffed). d .number) (sym same) ∙ z) in
-          record { read = eqb-true (r .number) 0 e; vector = reads; made = record { why = k .why; same = same ∙ k .same } }
-      go false e z = absurd (eqb-false (r .number) 0 e z)
+          let k = made (ap (λ (d : Diffed). d .refusal .number) (sym same) ∙ z) in
+          record { read = eqb-true (r .refusal .number) 0 e; vector = reads; made = record { why = k .why; same = same ∙ k .same } }
+      go false e z = absurd (eqb-false (r .refusal .number) 0 e z)
 
 module _ (form : ℕ) (u v : List ℕ) (to m n room : ℕ) where
   abbrev R : Reading
   R = reading form u m n
 
-  pub done : diffOf form u v to m n room .number ≡ 0 → Done form u v to m n room
+  pub done : diffOf form u v to m n room .refusal .number ≡ 0 → Done form u v to m n room
   unfolding diffOf
   done z = go (known to) refl z refl
     where
-      go : (x : Bool) → known to ≡ x → pick x (afterReading u (vectorOf v) to room R) (refusedWith 12) .number ≡ 0
-          → diffOf form u v to m n room ≡ pick x (afterReading u (vectorOf v) to room R) (refusedWith 12) → Done form u v to m n room
+      go : (x : Bool) → known to ≡ x → pick x (afterReading u (vectorOf v) to room R) (refusedWith (nowhere 12)) .refusal .number ≡ 0
+          → diffOf form u v to m n room ≡ pick x (afterReading u (vectorOf v) to room R) (refusedWith (nowhere 12)) → Done form u v to m n room
       go true e z same =
           let k = made-after u v to room R z in
           let all = same ∙ k .made .same in
           record {
             target = e;
+            refusal = ap (λ (d : Diffed). d .refusal) all;
             read = k .read;
             vector = k .vector;
             why = k .made .why;

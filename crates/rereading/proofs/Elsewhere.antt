@@ -6,7 +6,7 @@ use mathlib.Core.List.{List, [], _∷_}
 use lib.Dec.{eqb}
 use native.Mathlib.Omega.{arith}
 use Rattle.numbers.specs.declared.Refusal.{Refusal}
-use Rattle.numbers.specs.Number.{pick}
+use Rattle.numbers.specs.Number.{pick, nowhere}
 use Rattle.block.specs.declared.Block.{Block}
 use Rattle.grammar.specs.Course.{Course, item, over, stopped, ending}
 use Rattle.vector.specs.Vector.{Entry, vectorOf}
@@ -29,7 +29,7 @@ ends-well (stopped why) e x refused = absurd (omega (arith, ap (λ (t : Bool). p
 module _ (u : List ℕ) (to room : ℕ) (r : Reading) where
   pub vector-read : (v : List ℕ) → Reads v → against u (vectorOf v) to room r ≡ kept u (entriesIn v) to room r
   unfolding against
-  vector-read v e = ends-well (vectorOf v) e (kept u (entriesIn v) to room r) (λ why. refusedWith (why .number))
+  vector-read v e = ends-well (vectorOf v) e (kept u (entriesIn v) to room r) (λ why. refusedWith (nowhere (why .number)))
 
   kept-same : (es fs : List Entry) → sectionsOf es (r .blocks) ≡ sectionsOf fs (r .blocks) → kept u es to room r ≡ kept u fs to room r
   unfolding kept whyNot diffWhy diffBytes diffTokens
@@ -39,14 +39,14 @@ module _ (u : List ℕ) (to room : ℕ) (r : Reading) where
       → afterReading u (vectorOf v) to room r ≡ afterReading u (vectorOf w) to room r
   unfolding afterReading
   same-after v w e f h =
-      ap (λ (d : Diffed). pick (eqb (r .number) 0) d (refusedWith (r .number)))
+      ap (λ (d : Diffed). pick (eqb (r .refusal .number) 0) d (refusedWith (r .refusal)))
       (vector-read v e ∙ kept-same (entriesIn v) (entriesIn w) (same-remote (entriesIn v) (entriesIn w) (r .blocks) h) ∙ sym (vector-read w f))
 
 module _ (form : ℕ) (u v w : List ℕ) (to m n room : ℕ) (e : Reads v) (f : Reads w) where
   -- only remote clocks of clients that have blocks count
   pub same-bytes : SameRemote v w (reading form u m n .blocks) → diffOf form u v to m n room ≡ diffOf form u w to m n room
   unfolding diffOf
-  same-bytes h = ap (λ (d : Diffed). pick (known to) d (refusedWith 12)) (same-after u to room (reading form u m n) v w e f h)
+  same-bytes h = ap (λ (d : Diffed). pick (known to) d (refusedWith (nowhere 12))) (same-after u to room (reading form u m n) v w e f h)
 
   -- ---- the remote clock is the first of a client's entries
 

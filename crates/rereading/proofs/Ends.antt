@@ -8,7 +8,7 @@ use native.Mathlib.Omega.{arith}
 use lib.Dec.{eqb}
 use lib.ListN.{length}
 use borrow.Author.Tests.{le-leb}
-use Rattle.numbers.specs.Number.{pick, spelt, after, placed, readUnsigned}
+use Rattle.numbers.specs.Number.{pick, nowhere, none, spelt, after, placed, readUnsigned}
 use Rattle.numbers.specs.Output.{verdict}
 use Rattle.runs.specs.Runs.{spellable}
 use Rattle.grammar.specs.Grammar as grammar
@@ -34,10 +34,10 @@ use Rattle.rereading.proofs.Done.{done}
 -- numbers without columns need no differences
 numbers-near : (form : ℕ) (rs : List Range) → near form (var 0 ∷ deleteTokens form rs) ≡ true
 unfolding near nearIn takenAll taken spellable
-numbers-near form rs = rw (none lefts (λ e. omega (arith, e)) (λ e. omega (arith, e)), none rights (λ e. omega (arith, e)) (λ e. omega (arith, e))) (go (eqb form 1))
+numbers-near form rs = rw (free lefts (λ e. omega (arith, e)) (λ e. omega (arith, e)), free rights (λ e. omega (arith, e)) (λ e. omega (arith, e))) (go (eqb form 1))
   where
-    none : (k : ℕ) → k ≢ whole → k ≢ rest → takenAll k (deleteTokens form rs) ≡ []
-    none k n m = deletes-taken k n m form rs
+    free : (k : ℕ) → k ≢ whole → k ≢ rest → takenAll k (deleteTokens form rs) ≡ []
+    free k n m = deletes-taken k n m form rs
 
     go : (x : Bool) → pick x true true ≡ true
     go true = refl
@@ -46,7 +46,7 @@ numbers-near form rs = rw (none lefts (λ e. omega (arith, e)) (λ e. omega (ari
 module _ (form : ℕ) (u : List ℕ) (to m n room : ℕ) where
   -- a diff that is made is the bytes of the sections kept, and of the whole delete set
   pub sections-written : (v : List ℕ) (ss : List Section) → sectionsOf (entriesIn v) (reading form u m n .blocks) ≡ ss
-      → diffOf form u v to m n room .number ≡ 0
+      → diffOf form u v to m n room .refusal .number ≡ 0
       → diffOf form u v to m n room .bytes ≡ bytesOf to (updateTokens to u ss (reading form u m n .ranges))
   unfolding diffBytes diffTokens
   sections-written v ss e z =
@@ -59,7 +59,7 @@ module _ (form : ℕ) (u : List ℕ) (to m n room : ℕ) where
   unfolding diffTokens updateTokens sectionsTokens
   no-sections v h = rw (nothing-kept (entriesIn v) (reading form u m n .blocks) h)
 
-  pub has-all : (v : List ℕ) → HasAll v (reading form u m n .blocks) → diffOf form u v to m n room .number ≡ 0
+  pub has-all : (v : List ℕ) → HasAll v (reading form u m n .blocks) → diffOf form u v to m n room .refusal .number ≡ 0
       → diffOf form u v to m n room .bytes ≡ bytesOf to (var 0 ∷ deleteTokens to (reading form u m n .ranges))
   unfolding updateTokens sectionsTokens
   has-all v h z = sections-written v [] (nothing-kept (entriesIn v) (reading form u m n .blocks) h) z
@@ -74,18 +74,19 @@ module _ (form : ℕ) (u : List ℕ) (to m n room : ℕ) where
       rw (nothing-kept (entriesIn v) (reading form u m n .blocks) h, numbers-near to (reading form u m n .ranges), le-leb (length bytes) room fits)
 
   has-kept : (v : List ℕ) → HasAll v (reading form u m n .blocks) → length bytes ≤ room
-      → kept u (entriesIn v) to room (reading form u m n) ≡ record { number = 0; bytes = bytes; reading = reading form u m n }
+      → kept u (entriesIn v) to room (reading form u m n) ≡ record { refusal = none; bytes = bytes; reading = reading form u m n }
   unfolding kept diffBytes diffTokens updateTokens sectionsTokens
   has-kept v h fits = rw (has-why v h fits, nothing-kept (entriesIn v) (reading form u m n .blocks) h)
 
-  pub has-all-made : (v : List ℕ) → known to ≡ true → reading form u m n .number ≡ 0 → Reads v → HasAll v (reading form u m n .blocks)
+  pub has-all-made : (v : List ℕ) → known to ≡ true → reading form u m n .refusal .number ≡ 0 → Reads v
+      → HasAll v (reading form u m n .blocks)
       → length (bytesOf to (var 0 ∷ deleteTokens to (reading form u m n .ranges))) ≤ room
       → diffOf form u v to m n room
-      ≡ record { number = 0; bytes = bytesOf to (var 0 ∷ deleteTokens to (reading form u m n .ranges)); reading = reading form u m n }
+      ≡ record { refusal = none; bytes = bytesOf to (var 0 ∷ deleteTokens to (reading form u m n .ranges)); reading = reading form u m n }
   unfolding diffOf afterReading
   has-all-made v e z reads h fits =
-      ap (λ (x : Bool). pick x (afterReading u (vectorOf v) to room (reading form u m n)) (refusedWith 12)) e
-      ∙ ap (λ (k : ℕ). pick (eqb k 0) (against u (vectorOf v) to room (reading form u m n)) (refusedWith (reading form u m n .number))) z
+      ap (λ (x : Bool). pick x (afterReading u (vectorOf v) to room (reading form u m n)) (refusedWith (nowhere 12))) e
+      ∙ ap (λ (k : ℕ). pick (eqb k 0) (against u (vectorOf v) to room (reading form u m n)) (refusedWith (reading form u m n .refusal))) z
       ∙ vector-read u to room (reading form u m n) v reads
       ∙ has-kept v h fits
 
@@ -95,7 +96,7 @@ module _ (form : ℕ) (u : List ℕ) (to m n room : ℕ) where
   unfolding vectorOf aVector entries grammar._>>=_ run onDrawn line numberOf upTo varAt numberAt bounded items readUnsigned placed spelt after
   no-entries = refl
 
-  pub against-empty : diffOf form u emptyVector to m n room .number ≡ 0
+  pub against-empty : diffOf form u emptyVector to m n room .refusal .number ≡ 0
       → diffOf form u emptyVector to m n room .bytes
       ≡ bytesOf to (updateTokens to u (falling (wholeEach (groups clientOf (reading form u m n .blocks)))) (reading form u m n .ranges))
   against-empty z =

@@ -51,7 +51,7 @@ module _ (d e u : List ℕ) where
 -- this diff was made, and it can be read into these rows
 abbrev pub Readable : ℕ → List ℕ → List ℕ → ℕ → ℕ → ℕ → ℕ → ℕ → ℕ → Type 0
 Readable form u v to m n room m′ n′ =
-    (diffOf form u v to m n room .number ≡ 0)
+    (diffOf form u v to m n room .refusal .number ≡ 0)
     × (length (diffOf form u v to m n room .bytes) ≤ maxUpdate)
     × (pieceCount (keptBy v (diffOf form u v to m n room .reading)) ≤ m′)
     × (length (diffOf form u v to m n room .reading .ranges) ≤ n′)
@@ -69,7 +69,7 @@ module _ (form : ℕ) (u v : List ℕ) (m n : ℕ) where
       let b = again to′ room′ m″ n″ k in
       let same = done form u v to′ m n room′ (k .0) .source ∙ sym (done form u v to m n room (h .0) .source) in
       record {
-        number = a .number ∙ sym (b .number);
+        refusal = a .refusal ∙ sym (b .refusal);
         ranges = a .ranges ∙ sym (b .ranges ∙ ap (λ (r : Reading). r .ranges) same);
         blocks = all-both _ _ u _ _ (sectionsRead u (keptBy v (diffOf form u v to m n room .reading))) (a .blocks)
             (subst (λ (r : Reading). AllAlike (diffOf form u v to′ m n room′ .bytes) (reading to′ (diffOf form u v to′ m n room′ .bytes) m″ n″ .blocks) u (sectionsRead u (keptBy v r)))

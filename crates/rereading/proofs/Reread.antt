@@ -8,12 +8,13 @@ use native.Mathlib.Omega.{arith}
 use lib.Dec.{eqb}
 use lib.ListN.{length}
 use borrow.Author.Tests.{eqb-true}
-use Rattle.numbers.specs.Number.{pick}
+use Rattle.numbers.specs.Number.{pick, none}
 use Rattle.numbers.specs.Limits.{maxUpdate}
 use Rattle.block.specs.declared.Block.{Block}
 use Rattle.grammar.specs.Course.{items}
 use Rattle.ranges.specs.Ranges.{Range}
 use Rattle.decoder.specs.Update.{blocksOf}
+use Rattle.agreement.proofs.Readings.{read-on}
 use Rattle.updates.specs.Promises.{Reading, refused, withRanges, withBlocks, known, reading}
 use Rattle.readings.specs.Sound.{All}
 use Rattle.tokens.specs.Tokens.{Token}
@@ -35,7 +36,7 @@ use Rattle.rereading.specs.Vectors.{entriesIn}
 use Rattle.rereading.specs.Again.{keptBy, ReadAgain}
 use Rattle.rereading.proofs.Few.{few-tokens}
 use Rattle.rereading.proofs.Done.{Done, done}
-use Rattle.rereading.proofs.Wholes.{AllRead, in-time, read-on, all-read}
+use Rattle.rereading.proofs.Wholes.{AllRead, in-time, all-read}
 
 one-or-two : (to : ℕ) → known to ≡ true → (to ≡ 1) ⊎ (to ≡ 2)
 unfolding known
@@ -71,7 +72,7 @@ clean-sections u (s ∷ ss) e = go (tornPieces u (s .pieces)) refl e (clean-sect
 -- ---- what is written of sections and ranges is read again
 
 record Found (to : ℕ) (u d : List ℕ) (ss : List Section) (rs : List Range) (r : Reading) : Type 0 where
-  same : r ≡ record { number = 0; blocks = items (blocksOf to d); ranges = rs }
+  same : r ≡ record { refusal = none; blocks = items (blocksOf to d); ranges = rs }
   alike : AllAlike d (items (blocksOf to d)) u (sectionsRead u ss)
 
 module _ (to : ℕ) (u : List ℕ) (ss : List Section) (rs : List Range) (k : Kept u ss) (l : KeptRanges rs) where
@@ -90,7 +91,7 @@ module _ (to : ℕ) (u : List ℕ) (ss : List Section) (rs : List Range) (k : Ke
       let reads = written-reads to d u ss rs drawn k l in
       record {
         same = read-on to d m n (in-time to d e small)
-            ∙ reading-written to d u ss rs (drawn .place (drawn .last)) reads {X = Reading} (λ bs rs. record { number = 0; blocks = bs; ranges = rs }) (λ why. refused (why .number))
+            ∙ reading-written to d u ss rs (drawn .place (drawn .last)) reads {X = Reading} (λ bs rs. record { refusal = none; blocks = bs; ranges = rs }) (λ why. refused why)
             m n rows ranges (l .normal);
         alike = records-alike to d u ss rs (drawn .place (drawn .last)) reads;
       }
@@ -131,7 +132,7 @@ module _ (form : ℕ) (u v : List ℕ) (to m n room : ℕ) where
       let few : length (R .ranges) ≤ length u = omega (arith, ap length (a .ranges), found-few form u (a .middle) n) in
       found to u (keptBy v R) (R .ranges) k l (h .target) (a .short) few (g .close) small m′ n′ rows ranges
 
-  pub reread : diffOf form u v to m n room .number ≡ 0 → length (diffOf form u v to m n room .bytes) ≤ maxUpdate
+  pub reread : diffOf form u v to m n room .refusal .number ≡ 0 → length (diffOf form u v to m n room .bytes) ≤ maxUpdate
       → (m′ n′ : ℕ) → pieceCount (keptBy v (diffOf form u v to m n room .reading)) ≤ m′ → length (diffOf form u v to m n room .reading .ranges) ≤ n′
       → ReadAgain u v (diffOf form u v to m n room) (reading to (diffOf form u v to m n room .bytes) m′ n′)
   reread z small m′ n′ rows ranges =
@@ -142,7 +143,7 @@ module _ (form : ℕ) (u v : List ℕ) (to m n room : ℕ) where
       (subst (λ (r : Reading). pieceCount (keptBy v r) ≤ m′) s rows) (subst (λ (r : Reading). length (r .ranges) ≤ n′) s ranges) in
       let same = ap (λ (x : List ℕ). reading to x m′ n′) b ∙ f .same in
       record {
-        number = ap (λ (r : Reading). r .number) same;
+        refusal = ap (λ (r : Reading). r .refusal) same;
         ranges = ap (λ (r : Reading). r .ranges) same ∙ sym (ap (λ (r : Reading). r .ranges) s);
         blocks = subst (λ (r : Reading). AllAlike (D .bytes) (reading to (D .bytes) m′ n′ .blocks) u (sectionsRead u (keptBy v r))) (sym s)
             (subst (λ (x : List ℕ). AllAlike x (reading to x m′ n′ .blocks) u (sectionsRead u (keptBy v R))) (sym b)
@@ -152,7 +153,7 @@ module _ (form : ℕ) (u v : List ℕ) (to m n room : ℕ) where
 
   -- ---- the rows that took the update take the diff
 
-  pub reread-there : diffOf form u v to m n room .number ≡ 0 → length (diffOf form u v to m n room .bytes) ≤ maxUpdate
+  pub reread-there : diffOf form u v to m n room .refusal .number ≡ 0 → length (diffOf form u v to m n room .bytes) ≤ maxUpdate
       → ReadAgain u v (diffOf form u v to m n room) (reading to (diffOf form u v to m n room .bytes) m n)
   reread-there z small =
       let h = done form u v to m n room z in

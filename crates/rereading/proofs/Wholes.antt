@@ -1,25 +1,25 @@
 -- A reading with the number 0 has all blocks of the update, and the normal form of its delete ranges.
 use Prim.Native.Nat.{ℕ, _≤_}
-use mathlib.Core.Path.{_≡_, refl, ap, _∙_}
-use mathlib.Core.Bool.{Bool, true, false}
+use mathlib.Core.Path.{_≡_, ap, _∙_}
+use mathlib.Core.Bool.{true, false}
 use mathlib.Core.List.{List}
 use native.Mathlib.Omega.{arith}
-use lib.Dec.{ltb, eqb}
 use lib.ListN.{length}
-use borrow.Author.Tests.{ltb-false, le-ltb}
-use Rattle.numbers.specs.Number.{pick}
+use borrow.Author.Tests.{le-ltb}
+use Rattle.numbers.specs.Number.{none}
 use Rattle.numbers.specs.Limits.{maxUpdate}
 use Rattle.block.specs.declared.Block.{Block}
 use Rattle.grammar.specs.Course.{Course, fit, items}
 use Rattle.ranges.specs.Ranges.{normal}
 use Rattle.ranges.proofs.Theory.{normal-length}
 use Rattle.decoder.specs.Update.{blocksOf, deleteSet}
-use Rattle.updates.specs.Promises.{Reading, refused, withRanges, withBlocks, known, early, reading}
+use Rattle.updates.specs.Promises.{Reading, withRanges, withBlocks, known, early, reading}
+use Rattle.updates.proofs.Read.{not-early, short}
 use Rattle.readings.proofs.Fits.{fit-items, fit-count}
 use Rattle.agreement.specs.Ends.{Whole}
 use Rattle.agreement.proofs.Courses.{ending-at}
 use Rattle.agreement.proofs.Readings as readings
-use Rattle.agreement.proofs.Readings.{not-early}
+use Rattle.agreement.proofs.Readings.{read-on}
 
 pub record AllRead (form : ℕ) (u : List ℕ) (r : Reading) (m n : ℕ) : Type 0 where
   pub short : length u ≤ maxUpdate
@@ -29,43 +29,31 @@ pub record AllRead (form : ℕ) (u : List ℕ) (r : Reading) (m n : ℕ) : Type 
   pub ranges : r .ranges ≡ normal (items (fit n (deleteSet form u middle)))
   pub range-rows : length (r .ranges) ≤ n
 
-short-of : (form : ℕ) (u : List ℕ) → early form u ≡ 0 → length u ≤ maxUpdate
-unfolding early
-short-of form u e = go (known form) (ltb maxUpdate (length u)) refl e
-  where
-    go : (x y : Bool) → ltb maxUpdate (length u) ≡ y → _≡_ {A = ℕ} (pick x (pick y 3 0) 12) 0 → length u ≤ maxUpdate
-    go true true l e = absurd (omega (arith, e))
-    go true false l e = ltb-false maxUpdate (length u) l
-    go false y l e = absurd (omega (arith, e))
-
 -- a known form, and bytes within the limit: nothing is refused before they are read
 pub in-time : (form : ℕ) (u : List ℕ) → known form ≡ true → length u ≤ maxUpdate → early form u ≡ 0
 unfolding early
 in-time form u e l = rw (e, le-ltb maxUpdate (length u) l)
-
-pub read-on : (form : ℕ) (u : List ℕ) (m n : ℕ) → early form u ≡ 0 → reading form u m n ≡ withBlocks form u n (fit m (blocksOf form u))
-unfolding reading
-read-on form u m n e = ap (λ (k : ℕ). pick (eqb k 0) (withBlocks form u n (fit m (blocksOf form u))) (refused k)) e
 
 module _ (form : ℕ) (u : List ℕ) (m n : ℕ) where
   abbrev c : Course Block
   c = fit m (blocksOf form u)
 
   whole-at : early form u ≡ 0 → (w : Whole form u m n)
-      → reading form u m n ≡ record { number = 0; blocks = items (fit m (blocksOf form u)); ranges = normal (items (fit n (deleteSet form u (w .middle)))) }
+      → reading form u m n
+      ≡ record { refusal = none; blocks = items (fit m (blocksOf form u)); ranges = normal (items (fit n (deleteSet form u (w .middle)))) }
   unfolding withBlocks withRanges
   whole-at e w =
       read-on form u m n e
       ∙ ending-at c (λ s. withRanges (items c) (fit n (deleteSet form u s))) _ (w .middle) (w .blocks)
       ∙ ending-at (fit n (deleteSet form u (w .middle))) _ _ (w .last) (w .ranges)
 
-  pub all-read : reading form u m n .number ≡ 0 → AllRead form u (reading form u m n) m n
+  pub all-read : reading form u m n .refusal .number ≡ 0 → AllRead form u (reading form u m n) m n
   all-read z =
       let e = not-early form u m n z in
       let w = readings.done form u m n z in
       let same = whole-at e w in
       record {
-        short = short-of form u e;
+        short = short form u m n z;
         blocks = ap (λ (r : Reading). r .blocks) same ∙ fit-items m (blocksOf form u) (ending-at c (λ s. true) (λ why. false) (w .middle) (w .blocks));
         rows = omega (arith, ap (λ (r : Reading). length (r .blocks)) same, fit-count m (blocksOf form u));
         middle = w .middle;

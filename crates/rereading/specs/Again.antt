@@ -2,6 +2,7 @@
 use Prim.Native.Nat.{ℕ}
 use mathlib.Core.Path.{_≡_}
 use mathlib.Core.List.{List}
+use Rattle.numbers.specs.Number.{none}
 use Rattle.updates.specs.Promises.{Reading}
 use Rattle.kept.specs.Kept.{Section, sectionsOf}
 use Rattle.written.specs.Written.{AllAlike, sectionsRead}
@@ -14,12 +15,12 @@ keptBy v r = sectionsOf (entriesIn v) (r .blocks)
 
 -- r is a reading of the bytes of d, a diff of the update u against v
 pub record ReadAgain (u v : List ℕ) (d : Diffed) (r : Reading) : Type 0 where
-  pub number : r .number ≡ 0
+  pub refusal : r .refusal ≡ none
   pub ranges : r .ranges ≡ d .reading .ranges
   pub blocks : AllAlike (d .bytes) (r .blocks) u (sectionsRead u (keptBy v (d .reading)))
 
 -- r, read of the bytes d, and s, read of the bytes e, say the same
 pub record Agree (d e : List ℕ) (r s : Reading) : Type 0 where
-  pub number : r .number ≡ s .number
+  pub refusal : r .refusal ≡ s .refusal
   pub ranges : r .ranges ≡ s .ranges
   pub blocks : AllAlike d (r .blocks) e (s .blocks)

@@ -3,6 +3,7 @@ use Prim.Native.Nat.{ℕ, suc}
 use mathlib.Core.Path.{_≡_}
 use mathlib.Core.Bool.{true, false}
 use mathlib.Core.List.{List, [], _∷_}
+use Rattle.numbers.specs.Number.{none}
 use Rattle.block.specs.declared.Block.{Block}
 use Rattle.block.specs.Row.{noId, noPart}
 use Rattle.block.specs.Kinds.{TEXT}
@@ -17,7 +18,7 @@ hi = record { client = 5; clock = 0; length = record { 0 = 2 }; kind = TEXT; «h
 
 -- these bytes were written, that block was read
 abbrev pub done : List ℕ → Diffed
-done b = record { number = 0; bytes = b; reading = record { number = 0; blocks = hi ∷ []; ranges = [] } }
+done b = record { refusal = none; bytes = b; reading = record { refusal = none; blocks = hi ∷ []; ranges = [] } }
 
 -- 64 bytes are lent, a block row at least, and any range rows
 pub record CaseE : Type 0 where

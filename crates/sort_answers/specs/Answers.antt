@@ -1,17 +1,18 @@
--- What `sort` answers: the order in which blocks are taken, the reports, and the reading that they are made of; a refusal has its number alone. And how
--- the answer is made of what the sorter says.
+-- What `sort` answers: the order in which blocks are taken, the reports, and the reading that they are made of; or a refusal. And how the answer is
+-- made of what the sorter says.
 use Prim.Native.Nat.{ℕ, _/_}
 use mathlib.Core.List.{List, []}
 use lib.Dec.{ltb, eqb}
 use lib.ListN.{length}
-use Rattle.numbers.specs.Number.{pick}
+use Rattle.numbers.specs.declared.Refusal.{Refusal}
+use Rattle.numbers.specs.Number.{pick, none}
 use Rattle.updates.specs.Promises.{Reading, refused}
 use Rattle.updates.specs.declared.Update.{Update}
 use Rattle.sorter.specs.declared.Sorting.{Sorting}
 use Rattle.sort_answers.specs.declared.Sorted.{Sorted}
 
 pub record Sort : Type 0 where
-  pub number : ℕ
+  pub refusal : Refusal
   -- the numbers of the blocks that are taken, in order
   pub order : List ℕ
   -- the reports in words
@@ -20,8 +21,8 @@ pub record Sort : Type 0 where
   pub pending : List ℕ
   pub reading : Reading
 
-abbrev pub refusedWith : ℕ → Sort
-refusedWith n = record { number = n; order = []; counts = []; reaches = []; pending = []; reading = refused n }
+abbrev pub refusedWith : Refusal → Sort
+refusedWith why = record { refusal = why; order = []; counts = []; reaches = []; pending = []; reading = refused why }
 
 -- ---- how many words are lent for each
 
@@ -41,7 +42,7 @@ whyNot m order counts reaches pending =
 unfoldable pub answered : Sort → Sorted
 answered s =
     record {
-      number = s .number;
+      refusal = s .refusal;
       steps = length (s .order);
       counts = length (s .counts) / 2;
       reaches = length (s .reaches) / 2;
@@ -60,7 +61,7 @@ judged s order counts reaches pending =
 unfoldable pub answerTo : Update → Sorting → Sorted
 answerTo read s =
     record {
-      number = 0;
+      refusal = none;
       steps = s .steps;
       counts = s .counts / 2;
       reaches = s .reaches / 2;

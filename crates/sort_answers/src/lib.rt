@@ -1,4 +1,5 @@
 // What the public call that sorts answers: how a sorting is judged, a refusal, and an answer that is done.
+use numbers::Refusal;
 use sorter::Sorting;
 use updates::Update;
 ghost use mathlib.Core.Path.{_≡_};
@@ -7,7 +8,7 @@ ghost use Rattle.sort_answers.specs.Answers.{refusedWith, answered, judg
 // How many blocks were taken, how many clients each report names, and how many blocks and delete ranges were read.
 #[repr(C)]
 pub struct Sorted {
-    pub number: u8,
+    pub refusal: Refusal,
     pub steps: usize,
     pub counts: usize,
     pub reaches: usize,
@@ -16,12 +17,12 @@ pub struct Sorted {
     pub ranges: usize,
 }
 
-// A refusal: its number, and counts of 0.
-pub fn none(number: u8) -> Sorted
-    ensures { λ r. ⌜ r ≡ answered (refusedWith number) ⌝ }
+// A refusal, and counts of 0.
+pub fn none(why: Refusal) -> Sorted
+    ensures { λ r. ⌜ r ≡ answered (refusedWith why) ⌝ }
 {
     Sorted {
-        number,
+        refusal: why,
         steps: 0,
         counts: 0,
         reaches: 0,
@@ -58,7 +59,10 @@ pub fn done(read: Update, s: Sorting) -> Sorted
     ensures { λ r. ⌜ r ≡ answerTo read s ⌝ }
 {
     Sorted {
-        number: 0,
+        refusal: Refusal {
+            number: 0,
+            place: 0,
+        },
         steps: s.steps,
         counts: s.counts / 2,
         reaches: s.reaches / 2,

@@ -21,8 +21,9 @@ fn begin(
     reaches: &[u64],
     pending: &[u64],
 ) -> Told {
-    let begun = line::decimal(sink, used, answer.number as u64);
-    if answer.number != 0 {
+    let why = answer.refusal;
+    let begun = line::verdict(sink, used, why.number, why.place);
+    if why.number != 0 {
         let zero = sort_lines::are_zero(order, counts, reaches, pending);
         return Told { used: begun, zero };
     }
@@ -43,7 +44,7 @@ fn end(sink: &mut [u8], begun: Told, told: Told, answer: Sorted, words: &[u64]) 
         zero: begun.zero && told.zero,
     };
     let read = Update {
-        number: answer.number,
+        refusal: answer.refusal,
         blocks: answer.blocks,
         ranges: answer.ranges,
     };

@@ -16,13 +16,15 @@ use denote.Triple.Clauses.{atExit}
 use Rattle.walks.proofs.Rows.{Has, byte, word}
 use Rattle.walks.proofs.Refs.{Seat, val, mut, read, pass, Card, since}
 use Rattle.block.specs.declared.Block.{Block}
+use Rattle.numbers.specs.declared.Refusal.{Refusal}
 use Rattle.sorter.specs.declared.Sorting.{Sorting}
 use Rattle.updates.specs.declared.Update.{Update}
 use Rattle.numbers.specs.Output.{padded}
-use Rattle.sorter.specs.Sorter.{countsRead, orderRead, pendingRead, reachesRead, sortingRead}
 use Rattle.sort_answers.specs.Answers.{answerTo, answered, judged, refusedWith}
+use Rattle.sorter.specs.Sorter.{countsRead, orderRead, pendingRead, reachesRead, sortingRead}
 use Rattle.updates.specs.Promises.{refused, rowsOf, wordsOf}
 use Rattle.vector.specs.Vector.{vectorOf}
+use Rattle.reader.proofs.Sorts.{refusal}
 use Rattle.sorter.proofs.Sorts.{sorting}
 use Rattle.sorts.proofs.Sorts.{sorted}
 use Rattle.table.proofs.Sorts.{block}
@@ -55,8 +57,8 @@ module _ {M : Type 1} (𝓤 : URA M) (H : Heap 𝓤) (A : Atoms 𝓤) (mem : Mem
   Sorter·sort-read = tripleOf 𝓤 H A sorter·sort-read-fn.signature (sorter·sort-read-fn.spec 𝓤 H A mem run)
 
   module _ (C : Calls 𝓤 H) where
-    pub sort-answers·none! : Triple 𝓤 (C #sort-answers·none) Sort-answers·none → (number₀ : ℕ) (g-number : Has byte number₀) → Card 𝓤 H A C #sort-answers·none (val byte number₀ g-number ∷ []) sorted (answered (refusedWith number₀))
-    sort-answers·none! known number₀ g-number = record {
+    pub sort-answers·none! : Triple 𝓤 (C #sort-answers·none) Sort-answers·none → (why₀ : Refusal) (g-why : Has refusal why₀) → Card 𝓤 H A C #sort-answers·none (val refusal why₀ g-why ∷ []) sorted (answered (refusedWith why₀))
+    sort-answers·none! known why₀ g-why = record {
       contract = Sort-answers·none;
       known = known;
       ghost = λ x. (x, tt);
@@ -69,8 +71,8 @@ module _ {M : Type 1} (𝓤 : URA M) (H : Heap 𝓤) (A : Atoms 𝓤) (mem : Mem
       said = λ ns r ws. since 𝓤 (λ e. (e, tt));
     }
 
-    pub sorts·refuse! : Triple 𝓤 (C #sorts·refuse) Sorts·refuse → (at-rows : Seat) (rows₀ : List Block) (at-ranges : Seat) (ranges₀ : List ℕ) (at-order : Seat) (order₀ : List ℕ) (at-counts : Seat) (counts₀ : List ℕ) (at-reaches : Seat) (reaches₀ : List ℕ) (at-pending : Seat) (pending₀ : List ℕ) (number₀ : ℕ) (g-number : Has byte number₀) → Card 𝓤 H A C #sorts·refuse (mut block at-rows rows₀ (rowsOf (length rows₀) (refused number₀)) ∷ mut word at-ranges ranges₀ (wordsOf (length ranges₀) (refused number₀)) ∷ mut word at-order order₀ (padded (length order₀) []) ∷ mut word at-counts counts₀ (padded (length counts₀) []) ∷ mut word at-reaches reaches₀ (padded (length reaches₀) []) ∷ mut word at-pending pending₀ (padded (length pending₀) []) ∷ val byte number₀ g-number ∷ []) sorted (answered (refusedWith number₀))
-    sorts·refuse! known at-rows rows₀ at-ranges ranges₀ at-order order₀ at-counts counts₀ at-reaches reaches₀ at-pending pending₀ number₀ g-number = record {
+    pub sorts·refuse! : Triple 𝓤 (C #sorts·refuse) Sorts·refuse → (at-rows : Seat) (rows₀ : List Block) (at-ranges : Seat) (ranges₀ : List ℕ) (at-order : Seat) (order₀ : List ℕ) (at-counts : Seat) (counts₀ : List ℕ) (at-reaches : Seat) (reaches₀ : List ℕ) (at-pending : Seat) (pending₀ : List ℕ) (why₀ : Refusal) (g-why : Has refusal why₀) → Card 𝓤 H A C #sorts·refuse (mut block at-rows rows₀ (rowsOf (length rows₀) (refused why₀)) ∷ mut word at-ranges ranges₀ (wordsOf (length ranges₀) (refused why₀)) ∷ mut word at-order order₀ (padded (length order₀) []) ∷ mut word at-counts counts₀ (padded (length counts₀) []) ∷ mut word at-reaches reaches₀ (padded (length reaches₀) []) ∷ mut word at-pending pending₀ (padded (length pending₀) []) ∷ val refusal why₀ g-why ∷ []) sorted (answered (refusedWith why₀))
+    sorts·refuse! known at-rows rows₀ at-ranges ranges₀ at-order order₀ at-counts counts₀ at-reaches reaches₀ at-pending pending₀ why₀ g-why = record {
       contract = Sorts·refuse;
       known = known;
       ghost = λ x. (x, tt);

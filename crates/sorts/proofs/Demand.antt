@@ -1,11 +1,11 @@
--- What `sort` promises is demand 3: a sort with number 0 is the one that demand 3 asks for.
+-- What `sort` promises is demand 3: a sort that refuses nothing is the one that demand 3 asks for.
 use Prim.Native.Nat.{ℕ}
 use mathlib.Core.Path.{_≡_, refl, sym, ap, subst}
 use mathlib.Core.Bool.{Bool, true, false}
 use mathlib.Core.List.{List}
 use lib.Dec.{eqb}
 use borrow.Author.Tests.{eqb-true, eqb-false}
-use Rattle.numbers.specs.Number.{pick}
+use Rattle.numbers.specs.Number.{pick, none, nowhere}
 use Rattle.block.specs.declared.Block.{Block}
 use Rattle.grammar.specs.Course.{items, ending}
 use Rattle.vector.specs.Vector.{Entry, vectorOf}
@@ -26,39 +26,42 @@ module _ (m : Room) (v : List ℕ) (r : Reading) where
   abbrev es : List Entry
   es = items (vectorOf v)
 
-  fitting-done : (s : Sort) → s .number ≡ 0 → fitting m s .number ≡ 0 → fitting m s ≡ s
+  fitting-done : (s : Sort) → fitting m s .refusal .number ≡ 0 → fitting m s ≡ s
   unfolding fitting
-  fitting-done s z h = go (eqb (whySort m s) 0) refl h
+  fitting-done s h = go (eqb (whySort m s) 0) refl h
     where
-      go : (x : Bool) → eqb (whySort m s) 0 ≡ x → pick x s (refusedWith (whySort m s)) .number ≡ 0 → pick x s (refusedWith (whySort m s)) ≡ s
+      go : (x : Bool) → eqb (whySort m s) 0 ≡ x → pick x s (refusedWith (nowhere (whySort m s))) .refusal .number ≡ 0
+          → pick x s (refusedWith (nowhere (whySort m s))) ≡ s
       go true e h = refl
       go false e h = absurd (eqb-false (whySort m s) 0 e h)
 
-  against-is : against m (vectorOf v) r ≡ pick (eqb (whyVector v) 0) (fitting m (whole es r)) (refusedWith (whyVector v))
+  against-is : against m (vectorOf v) r ≡ pick (eqb (whyVector v) 0) (fitting m (whole es r)) (refusedWith (nowhere (whyVector v)))
   unfolding against
-  against-is = by-number v (fitting m (whole es r)) refusedWith
+  against-is = by-number v (fitting m (whole es r)) (λ n. refusedWith (nowhere n))
 
   ends-is : ending (vectorOf v) (λ _. true) (λ _. false) ≡ pick (eqb (whyVector v) 0) true false
   ends-is = by-number v true (λ _. false)
 
-  against-done : against m (vectorOf v) r .number ≡ 0 → (ending (vectorOf v) (λ _. true) (λ _. false) ≡ true) × (against m (vectorOf v) r ≡ whole es r)
-  unfolding whole
-  against-done h = rw (against-is, ends-is) (go (eqb (whyVector v) 0) refl (subst (λ (s : Sort). s .number ≡ 0) against-is h))
+  against-done : against m (vectorOf v) r .refusal .number ≡ 0
+      → (ending (vectorOf v) (λ _. true) (λ _. false) ≡ true) × (against m (vectorOf v) r ≡ whole es r)
+  against-done h = rw (against-is, ends-is) (go (eqb (whyVector v) 0) refl (subst (λ (s : Sort). s .refusal .number ≡ 0) against-is h))
     where
-      go : (x : Bool) → eqb (whyVector v) 0 ≡ x → pick x (fitting m (whole es r)) (refusedWith (whyVector v)) .number ≡ 0
-          → (pick x true false ≡ true) × (pick x (fitting m (whole es r)) (refusedWith (whyVector v)) ≡ whole es r)
-      go true e h = (refl, fitting-done (whole es r) refl h)
+      go : (x : Bool) → eqb (whyVector v) 0 ≡ x → pick x (fitting m (whole es r)) (refusedWith (nowhere (whyVector v))) .refusal .number ≡ 0
+          → (pick x true false ≡ true) × (pick x (fitting m (whole es r)) (refusedWith (nowhere (whyVector v))) ≡ whole es r)
+      go true e h = (refl, fitting-done (whole es r) h)
       go false e h = absurd (eqb-false (whyVector v) 0 e h)
 
-  after-done : afterReading m (vectorOf v) r .number ≡ 0
-      → (r .number ≡ 0) × (ending (vectorOf v) (λ _. true) (λ _. false) ≡ true) × (afterReading m (vectorOf v) r ≡ whole es r)
+  after-done : afterReading m (vectorOf v) r .refusal .number ≡ 0
+      → (r .refusal .number ≡ 0) × (ending (vectorOf v) (λ _. true) (λ _. false) ≡ true) × (afterReading m (vectorOf v) r ≡ whole es r)
   unfolding afterReading
-  after-done h = go (eqb (r .number) 0) refl h
+  after-done h = go (eqb (r .refusal .number) 0) refl h
     where
-      go : (x : Bool) → eqb (r .number) 0 ≡ x → pick x (against m (vectorOf v) r) (refusedWith (r .number)) .number ≡ 0
-          → (r .number ≡ 0) × (ending (vectorOf v) (λ _. true) (λ _. false) ≡ true) × (pick x (against m (vectorOf v) r) (refusedWith (r .number)) ≡ whole es r)
-      go true e h = (eqb-true (r .number) 0 e, against-done h .0, against-done h .1)
-      go false e h = absurd (eqb-false (r .number) 0 e h)
+      go : (x : Bool) → eqb (r .refusal .number) 0 ≡ x → pick x (against m (vectorOf v) r) (refusedWith (r .refusal)) .refusal .number ≡ 0
+          → (r .refusal .number ≡ 0)
+          × (ending (vectorOf v) (λ _. true) (λ _. false) ≡ true)
+          × (pick x (against m (vectorOf v) r) (refusedWith (r .refusal)) ≡ whole es r)
+      go true e h = (eqb-true (r .refusal .number) 0 e, against-done h .0, against-done h .1)
+      go false e h = absurd (eqb-false (r .refusal .number) 0 e h)
 
 -- ---- what is reported of the one outcome is reported of every run's
 
@@ -67,7 +70,7 @@ reported : {X : Type 0} (bs : List Block) (v : List Entry) (f : State ℕ → X)
 unfolding outcome
 reported bs v f cs e = ap f (sym (sorted bs v .same cs e))
 
-whole-demanded : (r : Reading) (c : List ℕ) → r .number ≡ 0 → ending (vectorOf c) (λ _. true) (λ _. false) ≡ true
+whole-demanded : (r : Reading) (c : List ℕ) → r .refusal .number ≡ 0 → ending (vectorOf c) (λ _. true) (λ _. false) ≡ true
     → Demand3 r (vectorOf c) (whole (items (vectorOf c)) r)
 unfolding whole outcome orderOf countsOf reachesOf pendingOf
 whole-demanded r c z ends =
@@ -92,7 +95,7 @@ whole-demanded r c z ends =
     }
 
 -- Demand 3
-pub demand-3 : (form : ℕ) (u v : List ℕ) (blockRows rangeRows : ℕ) (m : Room) → sortOf form u v blockRows rangeRows m .number ≡ 0
+pub demand-3 : (form : ℕ) (u v : List ℕ) (blockRows rangeRows : ℕ) (m : Room) → sortOf form u v blockRows rangeRows m .refusal .number ≡ 0
     → Demand3 (reading form u blockRows rangeRows) (vectorOf v) (sortOf form u v blockRows rangeRows m)
 unfolding sortOf
 demand-3 form u v blockRows rangeRows m h =

@@ -7,14 +7,15 @@ use native.Mathlib.Omega.{arith}
 use lib.Dec.{ltb, eqb}
 use lib.ListN.{length}
 use borrow.Author.Tests.{eqb-false, eq-eqb, ne-eqb, ltb-false}
-use Rattle.numbers.specs.Number.{pick}
+use Rattle.numbers.specs.declared.Refusal.{Refusal}
+use Rattle.numbers.specs.Number.{pick, nowhere}
 use Rattle.numbers.specs.Output.{padded}
 use Rattle.block.specs.declared.Block.{Block}
 use Rattle.grammar.specs.Course.{items}
 use Rattle.vector.specs.Vector.{Entry, vectorOf}
 use Rattle.vector.proofs.Clients.{vector-most}
 use Rattle.kept.proofs.Vectors.{vector-clocks, whyVector, by-number}
-use Rattle.picker.specs.Picker.{nowhere}
+use Rattle.picker.specs.Picker.{nowhere as noRow}
 use Rattle.reports.specs.Reports.{fitted}
 use Rattle.reports.proofs.Fitted.{fitted-padded, fitted-length}
 use Rattle.sorting.specs.Sorted.{orderOf, countsOf, reachesOf, pendingOf}
@@ -88,32 +89,32 @@ module _ (form : ℕ) (u v : List ℕ) (rows₀ : List Block) (ranges₀ order�
       SortUpdate form u v rows₀ ranges₀ order₀ counts₀ reaches₀ pending₀ r rows ranges order counts reaches pending
 
   -- a refusal leaves nothing
-  by-refusal : (n m k : ℕ) (order counts reaches pending : List ℕ) → s ≡ refusedWith n → m ≡ M → k ≡ N
+  by-refusal : (why : Refusal) (m k : ℕ) (order counts reaches pending : List ℕ) → s ≡ refusedWith why → m ≡ M → k ≡ N
       → length order ≡ length order₀ → length counts ≡ length counts₀ → length reaches ≡ length reaches₀ → length pending ≡ length pending₀
-      → Right (answered (refusedWith n)) (rowsOf m (refused n)) (wordsOf k (refused n)) (padded (length order) []) (padded (length counts) [])
+      → Right (answered (refusedWith why)) (rowsOf m (refused why)) (wordsOf k (refused why)) (padded (length order) []) (padded (length counts) [])
       (padded (length reaches) []) (padded (length pending) [])
-  by-refusal n m k order counts reaches pending e p q a b c d = (
+  by-refusal why m k order counts reaches pending e p q a b c d = (
     ap answered (sym e),
-    ap (λ (x : ℕ). rowsOf x (refused n)) p ∙ ap (λ (x : Sort). rowsOf M (x .reading)) (sym e),
-    ap (λ (x : ℕ). wordsOf x (refused n)) q ∙ ap (λ (x : Sort). wordsOf N (x .reading)) (sym e),
+    ap (λ (x : ℕ). rowsOf x (refused why)) p ∙ ap (λ (x : Sort). rowsOf M (x .reading)) (sym e),
+    ap (λ (x : ℕ). wordsOf x (refused why)) q ∙ ap (λ (x : Sort). wordsOf N (x .reading)) (sym e),
     ap (λ (x : ℕ). padded x []) a ∙ ap (λ (x : Sort). padded (length order₀) (x .order)) (sym e),
     ap (λ (x : ℕ). padded x []) b ∙ ap (λ (x : Sort). padded (length counts₀) (x .counts)) (sym e),
     ap (λ (x : ℕ). padded x []) c ∙ ap (λ (x : Sort). padded (length reaches₀) (x .reaches)) (sym e),
     ap (λ (x : ℕ). padded x []) d ∙ ap (λ (x : Sort). padded (length pending₀) (x .pending)) (sym e),
   )
 
-  pub exit-unread : (R .number ≡ 0 → ⊥)
-      → Right (answered (refusedWith (R .number))) (rowsOf (length (rowsOf M R)) (refused (R .number))) (wordsOf (length (wordsOf N R)) (refused (R .number)))
+  pub exit-unread : (R .refusal .number ≡ 0 → ⊥)
+      → Right (answered (refusedWith (R .refusal))) (rowsOf (length (rowsOf M R)) (refused (R .refusal))) (wordsOf (length (wordsOf N R)) (refused (R .refusal)))
       (padded (length order₀) []) (padded (length counts₀) []) (padded (length reaches₀) []) (padded (length pending₀) [])
   unfolding sortOf afterReading
   exit-unread z =
-      by-refusal (R .number) (length (rowsOf M R)) (length (wordsOf N R)) order₀ counts₀ reaches₀ pending₀
-      (ap (λ (x : Bool). pick x (against room (vectorOf v) R) (refusedWith (R .number))) (ne-eqb (R .number) 0 z))
+      by-refusal (R .refusal) (length (rowsOf M R)) (length (wordsOf N R)) order₀ counts₀ reaches₀ pending₀
+      (ap (λ (x : Bool). pick x (against room (vectorOf v) R) (refusedWith (R .refusal))) (ne-eqb (R .refusal .number) 0 z))
       (rows-length form u M N) (words-length form u M N) refl refl refl refl
 
   -- ---- the update was read
 
-  module _ (z : R .number ≡ 0) (short : M ≤ nowhere) where
+  module _ (z : R .refusal .number ≡ 0) (short : M ≤ noRow) where
     abbrev bs : List Block
     bs = R .blocks
 
@@ -122,7 +123,7 @@ module _ (form : ℕ) (u v : List ℕ) (rows₀ : List Block) (ranges₀ order�
         let good = reading-good form u M (N / 3) in
         record { ordered = good .ordered; sound = good .sound; count = good .count; owners = good .clients; entries = vector-most v; clocks = vector-clocks v }
 
-    small : length (rowsOf M R) ≤ nowhere
+    small : length (rowsOf M R) ≤ noRow
     small = omega (arith, short, rows-length form u M N)
 
     -- the vector's refusal, then that of the room
@@ -173,15 +174,15 @@ module _ (form : ℕ) (u v : List ℕ) (rows₀ : List Block) (ranges₀ order�
         rw (rows-back form u M N, pending-are u bs es fair (rowsOf M R) (rows-back form u M N) small order₀)
         (by-number v (fitted (length pending₀) (pendingOf bs es)) (λ n. pending₀))
 
-    sort-at : s ≡ pick (eqb all 0) (whole es R) (refusedWith all)
+    sort-at : s ≡ pick (eqb all 0) (whole es R) (refusedWith (nowhere all))
     unfolding sortOf afterReading against fitting
     sort-at =
-        ap (λ (x : Bool). pick x (against room (vectorOf v) R) (refusedWith (R .number))) (eq-eqb (R .number) 0 z)
-        ∙ by-number v (pick (eqb last 0) (whole es R) (refusedWith last)) refusedWith ∙ go (eqb w 0) refl
+        ap (λ (x : Bool). pick x (against room (vectorOf v) R) (refusedWith (R .refusal))) (eq-eqb (R .refusal .number) 0 z)
+        ∙ by-number v (pick (eqb last 0) (whole es R) (refusedWith (nowhere last))) (λ n. refusedWith (nowhere n)) ∙ go (eqb w 0) refl
       where
         go : (x : Bool) → eqb w 0 ≡ x
-            → pick x (pick (eqb last 0) (whole es R) (refusedWith last)) (refusedWith w)
-            ≡ pick (eqb (pick x last w) 0) (whole es R) (refusedWith (pick x last w))
+            → pick x (pick (eqb last 0) (whole es R) (refusedWith (nowhere last))) (refusedWith (nowhere w))
+            ≡ pick (eqb (pick x last w) 0) (whole es R) (refusedWith (nowhere (pick x last w)))
         go true e = refl
         go false e = rw e refl
 
@@ -210,11 +211,12 @@ module _ (form : ℕ) (u v : List ℕ) (rows₀ : List Block) (ranges₀ order�
           go false e = rw e refl
 
       pub exit-refused : (why ≡ 0 → ⊥)
-          → Right (answered (refusedWith why)) (rowsOf (length (rowsOf M R)) (refused why)) (wordsOf (length (wordsOf N R)) (refused why))
-          (padded (length O) []) (padded (length C) []) (padded (length P) []) (padded (length Q) [])
+          → Right (answered (refusedWith (nowhere why))) (rowsOf (length (rowsOf M R)) (refused (nowhere why)))
+          (wordsOf (length (wordsOf N R)) (refused (nowhere why))) (padded (length O) []) (padded (length C) []) (padded (length P) []) (padded (length Q) [])
       exit-refused h =
-          by-refusal why (length (rowsOf M R)) (length (wordsOf N R)) O C P Q
-          (sort-at ∙ ap (λ (x : Bool). pick x (whole es R) (refusedWith all)) (ne-eqb all 0 (λ e. h (why-at ∙ e))) ∙ ap refusedWith (sym why-at))
+          by-refusal (nowhere why) (length (rowsOf M R)) (length (wordsOf N R)) O C P Q
+          (sort-at ∙ ap (λ (x : Bool). pick x (whole es R) (refusedWith (nowhere all))) (ne-eqb all 0 (λ e. h (why-at ∙ e)))
+          ∙ ap (λ (n : ℕ). refusedWith (nowhere n)) (sym why-at))
           (rows-length form u M N) (words-length form u M N) (same-size O _ order₀ order-at) (same-size C _ counts₀ counts-at)
           (same-size P _ reaches₀ reaches-at) (same-size Q _ pending₀ pending-at)
 
@@ -230,11 +232,11 @@ module _ (form : ℕ) (u v : List ℕ) (rows₀ : List Block) (ranges₀ order�
         stands Q (pendingOf bs es) pending₀ pending-at (fits .3) ∙ ap (λ (x : Sort). padded (length pending₀) (x .pending)) (sym done-is),
       )
         where
-          none : all ≡ 0
-          none = sym why-at ∙ h
+          fine : all ≡ 0
+          fine = sym why-at ∙ h
 
           both : (eqb w 0 ≡ true) × (last ≡ 0)
-          both = go (eqb w 0) refl none
+          both = go (eqb w 0) refl fine
             where
               go : (x : Bool) → eqb w 0 ≡ x → pick x last w ≡ 0 → (x ≡ true) × (last ≡ 0)
               go true e h = (refl, h)
@@ -247,7 +249,7 @@ module _ (form : ℕ) (u v : List ℕ) (rows₀ : List Block) (ranges₀ order�
           fits = all-fit room (length (orderOf bs es)) (length (countsOf bs es)) (length (reachesOf bs es)) (length (pendingOf bs es)) (both .1)
 
           done-is : s ≡ whole es R
-          done-is = sort-at ∙ ap (λ (x : Bool). pick x (whole es R) (refusedWith all)) (eq-eqb all 0 none)
+          done-is = sort-at ∙ ap (λ (x : Bool). pick x (whole es R) (refusedWith (nowhere all))) (eq-eqb all 0 fine)
 
           stands : (l ws before : List ℕ) → l ≡ pick (eqb w 0) (fitted (length before) ws) before → length ws ≤ length before → l ≡ padded (length before) ws
           stands l ws before e f = e ∙ ap (λ (x : Bool). pick x (fitted (length before) ws) before) read ∙ fitted-padded (length before) ws f

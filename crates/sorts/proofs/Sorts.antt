@@ -2,8 +2,10 @@
 use mathlib.Core.Path.{refl}
 use Prim.Native.Nat.{ℕ}
 use denote.Struct.Laws as LL
-use Rattle.walks.proofs.Rows.{Kind, Has, byte, word}
+use Rattle.walks.proofs.Rows.{Kind, Has, word}
+use Rattle.numbers.specs.declared.Refusal.{Refusal}
 use Rattle.sort_answers.specs.declared.Sorted.{Sorted}
+use Rattle.reader.proofs.Sorts.{refusal}
 use Rattle.sort_answers.proofs.Sorted as Sorted₁
 use Rattle.sort_answers.proofs.Sorted.Laws as Sorted₂
 
@@ -19,11 +21,11 @@ sorted = record {
   silent = λ x w. refl;
 }
 
-pub sorted-has : (number₀ : ℕ) (g-number : Has byte number₀) (steps₀ : ℕ) (g-steps : Has word steps₀) (counts₀ : ℕ) (g-counts : Has word counts₀) (reaches₀ : ℕ) (g-reaches : Has word reaches₀) (pending₀ : ℕ) (g-pending : Has word pending₀) (blocks₀ : ℕ) (g-blocks : Has word blocks₀) (ranges₀ : ℕ) (g-ranges : Has word ranges₀) → Has sorted (record { number = number₀; steps = steps₀; counts = counts₀; reaches = reaches₀; pending = pending₀; blocks = blocks₀; ranges = ranges₀ })
-sorted-has number₀ g-number steps₀ g-steps counts₀ g-counts reaches₀ g-reaches pending₀ g-pending blocks₀ g-blocks ranges₀ g-ranges = LL.owes Sorted₁.the-type Sorted₂.the-laws (record { number = number₀; steps = steps₀; counts = counts₀; reaches = reaches₀; pending = pending₀; blocks = blocks₀; ranges = ranges₀ }) (g-number, (g-steps, (g-counts, (g-reaches, (g-pending, (g-blocks, (g-ranges, tt)))))))
+pub sorted-has : (refusal₀ : Refusal) (g-refusal : Has refusal refusal₀) (steps₀ : ℕ) (g-steps : Has word steps₀) (counts₀ : ℕ) (g-counts : Has word counts₀) (reaches₀ : ℕ) (g-reaches : Has word reaches₀) (pending₀ : ℕ) (g-pending : Has word pending₀) (blocks₀ : ℕ) (g-blocks : Has word blocks₀) (ranges₀ : ℕ) (g-ranges : Has word ranges₀) → Has sorted (record { refusal = refusal₀; steps = steps₀; counts = counts₀; reaches = reaches₀; pending = pending₀; blocks = blocks₀; ranges = ranges₀ })
+sorted-has refusal₀ g-refusal steps₀ g-steps counts₀ g-counts reaches₀ g-reaches pending₀ g-pending blocks₀ g-blocks ranges₀ g-ranges = LL.owes Sorted₁.the-type Sorted₂.the-laws (record { refusal = refusal₀; steps = steps₀; counts = counts₀; reaches = reaches₀; pending = pending₀; blocks = blocks₀; ranges = ranges₀ }) (g-refusal, (g-steps, (g-counts, (g-reaches, (g-pending, (g-blocks, (g-ranges, tt)))))))
 
-pub sorted-number : (x : Sorted) → Has sorted x → Has byte (x .number)
-sorted-number x g = LL.owed Sorted₁.the-type Sorted₂.the-laws x _ g .0
+pub sorted-refusal : (x : Sorted) → Has sorted x → Has refusal (x .refusal)
+sorted-refusal x g = LL.owed Sorted₁.the-type Sorted₂.the-laws x _ g .0
 
 pub sorted-steps : (x : Sorted) → Has sorted x → Has word (x .steps)
 sorted-steps x g = LL.owed Sorted₁.the-type Sorted₂.the-laws x _ g .1 .0

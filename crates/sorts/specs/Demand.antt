@@ -40,7 +40,7 @@ endOf r c cs = after (steps (r .blocks)) (start (remote (items c))) cs
 -- the sort s of r against c
 pub record Demand3 (r : Reading) (c : Course Entry) (s : Sort) : Type 0 where
   -- both were read whole
-  pub read : (r .number ≡ 0) × (ending c (λ _. true) (λ _. false) ≡ true)
+  pub read : (r .refusal .number ≡ 0) × (ending c (λ _. true) (λ _. false) ≡ true)
   pub reading : s .reading ≡ r
   -- the client of each step: every other whole run takes the same blocks and ends in the same reaches, and a block is left pending exactly when no
   -- allowed run takes it

@@ -4,7 +4,7 @@ use mathlib.Core.Path.{_≡_}
 use mathlib.Core.List.{List}
 use lib.Dec.{eqb}
 use lib.ListN.{length}
-use Rattle.numbers.specs.Number.{pick}
+use Rattle.numbers.specs.Number.{pick, none, nowhere}
 use Rattle.numbers.specs.Output.{padded}
 use Rattle.block.specs.declared.Block.{Block}
 use Rattle.grammar.specs.Course.{Course, items, ending}
@@ -23,7 +23,7 @@ lent order counts reaches pending = record { order = length order; counts = leng
 unfoldable pub whole : List Entry → Reading → Sort
 whole v r =
     record {
-      number = 0;
+      refusal = none;
       order = orderOf (r .blocks) v;
       counts = countsOf (r .blocks) v;
       reaches = reachesOf (r .blocks) v;
@@ -34,16 +34,16 @@ whole v r =
 unfoldable pub whySort : Room → Sort → ℕ
 whySort m s = whyNot m (length (s .order)) (length (s .counts)) (length (s .reaches)) (length (s .pending))
 
--- all of it or nothing
+-- all of it or nothing; too little room blames no byte
 unfoldable pub fitting : Room → Sort → Sort
-fitting m s = pick (eqb (whySort m s) 0) s (refusedWith (whySort m s))
+fitting m s = pick (eqb (whySort m s) 0) s (refusedWith (nowhere (whySort m s)))
 
--- the vector is read after the update
+-- the vector is read after the update, and its refusal blames no byte
 unfoldable pub against : Room → Course Entry → Reading → Sort
-against m c r = ending c (λ s. fitting m (whole (items c) r)) (λ why. refusedWith (why .number))
+against m c r = ending c (λ s. fitting m (whole (items c) r)) (λ why. refusedWith (nowhere (why .number)))
 
 unfoldable pub afterReading : Room → Course Entry → Reading → Sort
-afterReading m c r = pick (eqb (r .number) 0) (against m c r) (refusedWith (r .number))
+afterReading m c r = pick (eqb (r .refusal .number) 0) (against m c r) (refusedWith (r .refusal))
 
 unfoldable pub sortOf : ℕ → List ℕ → List ℕ → ℕ → ℕ → Room → Sort
 sortOf form u v blockRows rangeRows m = afterReading m (vectorOf v) (reading form u blockRows rangeRows)

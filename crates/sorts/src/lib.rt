@@ -1,6 +1,7 @@
-// The public call that sorts. It asks nothing of its caller. An answer begins with its number in document 01, 0 for done; a refusal has zeros for counts
-// and leaves zeros in what was lent.
+// The public call that sorts. It asks nothing of its caller. An answer begins with its refusal, zeros for done; a refusal has zeros for counts and leaves
+// zeros in what was lent.
 use block::Block;
+use numbers::Refusal;
 use sort_answers::Sorted;
 ghost use mathlib.Core.Path.{_≡_};
 ghost use mathlib.Core.List.{[]};
@@ -18,10 +19,10 @@ fn refuse(
     counts: &mut [u64],
     reaches: &mut [u64],
     pending: &mut [u64],
-    number: u8,
+    why: Refusal,
 ) -> Sorted
-    ensures { λ r. ⌜ (r ≡ answered (refusedWith number)) × (now (rows .exit) ≡ rowsOf (length (now (rows .entry))) (refused number))
-        × (now (ranges .exit) ≡ wordsOf (length (now (ranges .entry))) (refused number)) × (now (order .exit) ≡ padded (length (now (order .entry))) [])
+    ensures { λ r. ⌜ (r ≡ answered (refusedWith why)) × (now (rows .exit) ≡ rowsOf (length (now (rows .entry))) (refused why))
+        × (now (ranges .exit) ≡ wordsOf (length (now (ranges .entry))) (refused why)) × (now (order .exit) ≡ padded (length (now (order .entry))) [])
         × (now (counts .exit) ≡ padded (length (now (counts .entry))) []) × (now (reaches .exit) ≡ padded (length (now (reaches .entry))) [])
         × (now (pending .exit) ≡ padded (length (now (pending .entry))) []) ⌝ }
 {
@@ -31,7 +32,7 @@ fn refuse(
     numbers::words::clear(counts, 0);
     numbers::words::clear(reaches, 0);
     numbers::words::clear(pending, 0);
-    sort_answers::none(number)
+    sort_answers::none(why)
 }
 
 // The blocks of an update of one form, sorted against a state vector: their numbers in the order in which they are taken (a word each); and, highest
@@ -52,19 +53,27 @@ pub fn sort(
     ensures { λ r. ⌜ SortUpdate form (now (update .entry)) (now (vector .entry)) (now (rows .entry)) (now (ranges .entry)) (now (order .entry)) (now (counts .entry)) (now (reaches .entry)) (now (pending .entry)) r (now (rows .exit)) (now (ranges .exit)) (now (order .exit)) (now (counts .exit)) (now (reaches .exit)) (now (pending .exit)) ⌝ }
 {
     let read = updates::read_update(form, update, rows, ranges);
-    if read.number != 0 {
-        return refuse(rows, ranges, order, counts, reaches, pending, read.number);
+    if read.refusal.number != 0 {
+        return refuse(rows, ranges, order, counts, reaches, pending, read.refusal);
     }
     let sorted = sorter::sort_read(vector, rows, read.blocks, order, counts, reaches, pending);
-    let why = sort_answers::judge(
+    let number = sort_answers::judge(
         sorted,
         order.len(),
         counts.len(),
         reaches.len(),
         pending.len(),
     );
-    if why != 0 {
-        return refuse(rows, ranges, order, counts, reaches, pending, why);
+    if number != 0 {
+        return refuse(
+            rows,
+            ranges,
+            order,
+            counts,
+            reaches,
+            pending,
+            Refusal { number, place: 0 },
+        );
     }
     sort_answers::done(read, sorted)
 }

@@ -1,2 +1,3 @@
--- The starred cases of document 01.
+-- The starred cases of document 01 (Starred), and a place of each kind (Places).
 pub mod Starred
+pub mod Places

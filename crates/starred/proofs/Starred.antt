@@ -6,7 +6,7 @@ use mathlib.Core.List.{List, [], _∷_}
 use lib.ListN.{replicate}
 use Rattle.numbers.specs.Number as spelling
 use Rattle.numbers.specs.Words as words
-use Rattle.numbers.specs.Number.{spelt, placed, readUnsigned, readSigned, speltSigned, minusOf, withSign, spell, unsigned}
+use Rattle.numbers.specs.Number.{none, spelt, placed, readUnsigned, readSigned, speltSigned, minusOf, withSign, spell, unsigned}
 use Rattle.string.specs.declared.Opened.{Opened}
 use Rattle.string.specs.declared.Opened.the-variants.{At, Not}
 use Rattle.string.specs.String as string
@@ -51,21 +51,21 @@ use Rattle.listing_text.specs.Listing as listing
 use Rattle.listed.specs.Listed as listings
 use Rattle.listed.specs.Listed.{linesOf, listed}
 
--- values read, and the number that ended them: 0 where nothing did
-abbrev pub gives : List ℕ → ℕ → Reading
-gives vs n = record { values = vs; number = n }
+-- values read, and the number and the place of the refusal that ended them: zeros where none did
+abbrev pub gives : List ℕ → ℕ → ℕ → Reading
+gives vs n p = record { values = vs; refusal = record { number = n; place = p } }
 
 -- the first text of a text column
 unfoldable pub firstOf : List ℕ → Opened → Texts
 firstOf s (At c) = readTexts 1 s c
-firstOf s (Not why) = record { texts = []; number = why .number }
+firstOf s (Not why) = record { texts = []; refusal = why }
 
 abbrev pub texts : List ℕ → Texts
 texts s = firstOf s (openText s 0)
 
 -- an update read: its blocks, and no delete ranges
 abbrev pub blocksRead : List Block → promises.Reading
-blocksRead bs = record { number = 0; blocks = bs; ranges = [] }
+blocksRead bs = record { refusal = none; blocks = bs; ranges = [] }
 
 -- a text of client 5 at clock 0 with two units: the name of its parent is a byte at a place, the text two bytes
 abbrev pub hi : ℕ → ℕ → Block
@@ -87,7 +87,7 @@ updateD = 0x00 ∷ 0x00 ∷ 0x01 ∷ 0x05 ∷ 0x00 ∷ 0x00 ∷ 0x01 ∷ 0x04 �
 
 -- a diff of C that is written: its bytes, and what was read
 abbrev pub diffed : List ℕ → Diffed
-diffed b = record { number = 0; bytes = b; reading = blocksRead (hi 7 9 ∷ []) }
+diffed b = record { refusal = none; bytes = b; reading = blocksRead (hi 7 9 ∷ []) }
 
 -- "empty" and a new line
 abbrev pub emptyText : List ℕ
@@ -119,7 +119,7 @@ abbrev pub sorts : List ℕ → ℕ → ℕ → Sort
 sorts u n m = sortOf 1 u (0x00 ∷ []) (suc (suc n)) m (record { order = 2; counts = 4; reaches = 4; pending = 6 })
 
 abbrev pub sorted : List ℕ → List ℕ → List ℕ → List ℕ → List Block → Sort
-sorted order counts reaches pending bs = record { number = 0; order = order; counts = counts; reaches = reaches; pending = pending; reading = blocksRead bs }
+sorted order counts reaches pending bs = record { refusal = none; order = order; counts = counts; reaches = reaches; pending = pending; reading = blocksRead bs }
 
 pub record Starred : Type 0 where
   -- nothing, in either form, however many rows there are
@@ -135,22 +135,22 @@ pub record Starred : Type 0 where
   -- C against 01 05 01 is its second unit, with the first as left id; against 01 05 02 nothing
   pub E1 : (n m : ℕ) → diffOf 1 updateC (0x01 ∷ 0x05 ∷ 0x01 ∷ []) 1 (suc n) m 64 ≡ diffed (0x01 ∷ 0x01 ∷ 0x05 ∷ 0x01 ∷ 0x84 ∷ 0x05 ∷ 0x00 ∷ 0x01 ∷ 0x69 ∷ 0x00 ∷ [])
   pub E2 : (n m : ℕ) → diffOf 1 updateC (0x01 ∷ 0x05 ∷ 0x02 ∷ []) 1 (suc n) m 64 ≡ diffed (0x00 ∷ 0x00 ∷ [])
-  -- 40 03: five zeros, a sixth read gives 1
-  pub F : readNumbers 6 (0x40 ∷ 0x03 ∷ []) (number.startAt 0) ≡ gives (0 ∷ 0 ∷ 0 ∷ 0 ∷ 0 ∷ []) 1
+  -- 40 03: five zeros, a sixth read gives 1, at the column's end
+  pub F : readNumbers 6 (0x40 ∷ 0x03 ∷ []) (number.startAt 0) ≡ gives (0 ∷ 0 ∷ 0 ∷ 0 ∷ 0 ∷ []) 1 2
   -- 45 00: 5, 5
-  pub G : readNumbers 3 (0x45 ∷ 0x00 ∷ []) (number.startAt 0) ≡ gives (5 ∷ 5 ∷ []) 1
+  pub G : readNumbers 3 (0x45 ∷ 0x00 ∷ []) (number.startAt 0) ≡ gives (5 ∷ 5 ∷ []) 1 2
   -- 03 01: 1, 2, 3
-  pub H : readDifferences 4 (0x03 ∷ 0x01 ∷ []) (difference.startAt 0) ≡ gives (1 ∷ 2 ∷ 3 ∷ []) 1
+  pub H : readDifferences 4 (0x03 ∷ 0x01 ∷ []) (difference.startAt 0) ≡ gives (1 ∷ 2 ∷ 3 ∷ []) 1 2
   -- 0a 41 00: 5, 4, 3
-  pub I : readDifferences 4 (0x0a ∷ 0x41 ∷ 0x00 ∷ []) (difference.startAt 0) ≡ gives (5 ∷ 4 ∷ 3 ∷ []) 1
-  -- 44: refused 3
-  pub J : readDifferences 1 (0x44 ∷ []) (difference.startAt 0) ≡ gives [] 3
+  pub I : readDifferences 4 (0x0a ∷ 0x41 ∷ 0x00 ∷ []) (difference.startAt 0) ≡ gives (5 ∷ 4 ∷ 3 ∷ []) 1 3
+  -- 44: refused 3, at the run's first byte
+  pub J : readDifferences 1 (0x44 ∷ []) (difference.startAt 0) ≡ gives [] 3 0
   -- 04 01 00: 4, 4, then 0 without end
-  pub K : (m : ℕ) → readBytes (3 + m) (0x04 ∷ 0x01 ∷ 0x00 ∷ []) (byte.startAt 0) ≡ gives (4 ∷ 4 ∷ 0 ∷ replicate m 0) 0
-  -- F0 9F 98 80 with unit length 1: 7; 2: the character; 3: 7
-  pub L1 : texts (0x04 ∷ 0xf0 ∷ 0x9f ∷ 0x98 ∷ 0x80 ∷ 0x01 ∷ []) ≡ record { texts = []; number = 7 }
-  pub L2 : texts (0x04 ∷ 0xf0 ∷ 0x9f ∷ 0x98 ∷ 0x80 ∷ 0x02 ∷ []) ≡ record { texts = (0xf0 ∷ 0x9f ∷ 0x98 ∷ 0x80 ∷ []) ∷ []; number = 0 }
-  pub L3 : texts (0x04 ∷ 0xf0 ∷ 0x9f ∷ 0x98 ∷ 0x80 ∷ 0x03 ∷ []) ≡ record { texts = []; number = 7 }
+  pub K : (m : ℕ) → readBytes (3 + m) (0x04 ∷ 0x01 ∷ 0x00 ∷ []) (byte.startAt 0) ≡ gives (4 ∷ 4 ∷ 0 ∷ replicate m 0) 0 0
+  -- F0 9F 98 80 with unit length 1: 7, at the text's first byte; 2: the character; 3: 7
+  pub L1 : texts (0x04 ∷ 0xf0 ∷ 0x9f ∷ 0x98 ∷ 0x80 ∷ 0x01 ∷ []) ≡ record { texts = []; refusal = record { number = 7; place = 1 } }
+  pub L2 : texts (0x04 ∷ 0xf0 ∷ 0x9f ∷ 0x98 ∷ 0x80 ∷ 0x02 ∷ []) ≡ record { texts = (0xf0 ∷ 0x9f ∷ 0x98 ∷ 0x80 ∷ []) ∷ []; refusal = none }
+  pub L3 : texts (0x04 ∷ 0xf0 ∷ 0x9f ∷ 0x98 ∷ 0x80 ∷ 0x03 ∷ []) ≡ record { texts = []; refusal = record { number = 7; place = 1 } }
   -- both taken, 9's first; without 9 pending, 9 at reach 0; both pending
   pub M1 : (n m : ℕ) → sorts updateM1 n m ≡ sorted (1 ∷ 0 ∷ []) (9 ∷ 1 ∷ 5 ∷ 1 ∷ []) (9 ∷ 1 ∷ 5 ∷ 1 ∷ []) [] (after-id 5 9 8 ∷ in-parent 9 15 17 ∷ [])
   pub M2 : (n m : ℕ) → sorts updateM2 n m ≡ sorted [] (5 ∷ 0 ∷ []) (5 ∷ 0 ∷ []) (5 ∷ 9 ∷ 0 ∷ []) (after-id 5 9 8 ∷ [])

@@ -36,6 +36,16 @@ pub fn decimal(sink: &mut [u8], used: usize, value: u64) -> usize {
     text(sink, used, &digits[..count])
 }
 
+// What a line begins with: 0, or the number of a refusal and the place that it blames.
+pub fn verdict(sink: &mut [u8], used: usize, number: u8, place: usize) -> usize {
+    let told = decimal(sink, used, number as u64);
+    if number == 0 {
+        return told;
+    }
+    let parted = put(sink, told, b'@');
+    decimal(sink, parted, place as u64)
+}
+
 // A number with the space before it.
 pub fn number(sink: &mut [u8], used: usize, value: u64) -> usize {
     let begun = put(sink, used, b' ');

@@ -12,7 +12,7 @@ use Rattle.numbers.specs.declared.Read.{Read}
 use Rattle.numbers.specs.declared.Read.the-variants as read
 use Rattle.numbers.specs.declared.Signed.{Signed}
 use Rattle.numbers.specs.declared.Signed.the-variants as signed
-use Rattle.numbers.specs.Number.{pick, readUnsigned, readSigned}
+use Rattle.numbers.specs.Number.{pick, none, readUnsigned, readSigned}
 use Rattle.numbers.specs.Limits.{maxValue, maxCount}
 use Rattle.text.specs.declared.Part.{Part}
 use Rattle.text.specs.declared.Taken.{Taken}
@@ -71,20 +71,20 @@ GivesTexts s c (t ∷ ts) =
 record First {P : Type 0} (next : P → Draw P) (c : P) (v : ℕ) (vs : List ℕ) : Type 0 where
   place : P
   draw : next c ≡ drew v place
-  rest : reads next (length vs) place ≡ record { values = vs; number = 0 }
+  rest : reads next (length vs) place ≡ record { values = vs; refusal = none }
 
 first : {P : Type 0} (next : P → Draw P) (c : P) (v : ℕ) (vs : List ℕ)
-    → reads next (length (v ∷ vs)) c ≡ record { values = v ∷ vs; number = 0 } → First next c v vs
+    → reads next (length (v ∷ vs)) c ≡ record { values = v ∷ vs; refusal = none } → First next c v vs
 unfolding reads andThen
 first {P} next c v vs r = go (next c) refl r
   where
-    go : (x : Draw P) → next c ≡ x → andThen x (λ d. reads next (length vs) d) ≡ record { values = v ∷ vs; number = 0 } → First next c v vs
+    go : (x : Draw P) → next c ≡ x → andThen x (λ d. reads next (length vs) d) ≡ record { values = v ∷ vs; refusal = none } → First next c v vs
     go (drew w d) e r =
         let y : w ∷ (reads next (length vs) d .values) ≡ v ∷ vs = ap (λ (x : Reading). x .values) r in
-        let z : reads next (length vs) d .number ≡ 0 = ap (λ (x : Reading). x .number) r in
+        let z : reads next (length vs) d .refusal ≡ none = ap (λ (x : Reading). x .refusal) r in
         let same : w ≡ v = cc in
         let after : reads next (length vs) d .values ≡ vs = cc in
-        record { place = d; draw = rw same at e; rest = λ i. record { values = after i; number = z i } }
+        record { place = d; draw = rw same at e; rest = λ i. record { values = after i; refusal = z i } }
     go (stop why) e r =
         let y : [] ≡ v ∷ vs = ap (λ (x : Reading). x .values) r in
         let z : _≡_ {A = ℕ} 0 1 = cc in
@@ -106,21 +106,21 @@ byte-next (byte-answer.Next w c) v d e = cc
 byte-next (byte-answer.Bad why) v d e = cc
 
 number-steps : (s vs : List ℕ) (c : number-place.Place)
-    → reads (λ d. numberDraw (number.nextNumber s d)) (length vs) c ≡ record { values = vs; number = 0 } → GivesNumbers s c vs
+    → reads (λ d. numberDraw (number.nextNumber s d)) (length vs) c ≡ record { values = vs; refusal = none } → GivesNumbers s c vs
 number-steps s [] c r = tt
 number-steps s (v ∷ vs) c r =
     let x = first (λ d. numberDraw (number.nextNumber s d)) c v vs r in
     (x .place, number-next (number.nextNumber s c) v (x .place) (x .draw), number-steps s vs (x .place) (x .rest))
 
 difference-steps : (s vs : List ℕ) (c : difference-place.Place)
-    → reads (λ d. differenceDraw (difference.nextDifference s d)) (length vs) c ≡ record { values = vs; number = 0 } → GivesDifferences s c vs
+    → reads (λ d. differenceDraw (difference.nextDifference s d)) (length vs) c ≡ record { values = vs; refusal = none } → GivesDifferences s c vs
 difference-steps s [] c r = tt
 difference-steps s (v ∷ vs) c r =
     let x = first (λ d. differenceDraw (difference.nextDifference s d)) c v vs r in
     (x .place, difference-next (difference.nextDifference s c) v (x .place) (x .draw), difference-steps s vs (x .place) (x .rest))
 
 byte-steps : (s vs : List ℕ) (c : byte-place.Place)
-    → reads (λ d. byteDraw (byte.nextByte s d)) (length vs) c ≡ record { values = vs; number = 0 } → GivesBytes s c vs
+    → reads (λ d. byteDraw (byte.nextByte s d)) (length vs) c ≡ record { values = vs; refusal = none } → GivesBytes s c vs
 byte-steps s [] c r = tt
 byte-steps s (v ∷ vs) c r =
     let x = first (λ d. byteDraw (byte.nextByte s d)) c v vs r in
@@ -170,7 +170,7 @@ number-last s c d v e =
 -- texts that are read are read a draw at a time
 module _ (s : List ℕ) (end : ℕ) (f : end ≤ length s) where
   abbrev Told : List (List ℕ) → Texts
-  Told ts = record { texts = ts; number = 0 }
+  Told ts = record { texts = ts; refusal = none }
 
   abbrev Steps : List (List ℕ) → Type 0
   Steps ts = (at : ℕ) (c : number-place.Place) → at ≤ end → readTexts (length ts) s (string.placeAt at end c) ≡ Told ts → GivesTexts s (string.placeAt at end c) ts
@@ -184,7 +184,7 @@ module _ (s : List ℕ) (end : ℕ) (f : end ≤ length s) where
         let place : string-place.Place = string.placeAt (at + b .0) end d in
         let w = cut-at 7 u (b .0) at end s h f k in
         let y : slice at (at + b .0) s ∷ (readTexts (length ts) s place .texts) ≡ t ∷ ts = ap (λ (x : Texts). x .texts) r in
-        let z : readTexts (length ts) s place .number ≡ 0 = ap (λ (x : Texts). x .number) r in
+        let z : readTexts (length ts) s place .refusal ≡ none = ap (λ (x : Texts). x .refusal) r in
         let same : slice at (at + b .0) s ≡ t = cc in
         let after : readTexts (length ts) s place .texts ≡ ts = cc in
         let n : unitsOf t ≡ u = rw same at (w .units) in (
@@ -193,7 +193,7 @@ module _ (s : List ℕ) (end : ℕ) (f : end ≤ length s) where
           rw (e, k),
           same,
           number-last s c d u e ∙ sym n,
-          rec (at + b .0) d (w .within) (λ i. record { texts = after i; number = z i }),
+          rec (at + b .0) d (w .within) (λ i. record { texts = after i; refusal = z i }),
         )
     text-took u d e (units.Refused why) k r =
         let y : [] ≡ t ∷ ts = ap (λ (x : Texts). x .texts) r in

@@ -7,7 +7,8 @@ use native.Mathlib.Omega.{arith}
 use lib.ListN.{length, take, drop, length-append}
 use lib.Seq.{slice, take-append-seam, drop-append-seam, take-append-add}
 use borrow.Author.Tests.{le-ltb}
-use Rattle.numbers.specs.Number.{unsigned, readUnsigned}
+use Rattle.numbers.specs.declared.Refusal.{Refusal}
+use Rattle.numbers.specs.Number.{none, unsigned, readUnsigned}
 use Rattle.numbers.specs.declared.Read.the-variants as read
 use Rattle.numbers.proofs.RoundTrip.{read-unsigned-back}
 use Rattle.text.specs.declared.Taken.{Taken}
@@ -27,6 +28,7 @@ use Rattle.runs.specs.Runs.{columnOf, whyOf}
 use Rattle.columns.specs.Reading as reading
 use Rattle.columns.specs.Reading.{Reading, numberDraw, reads, readNumbers}
 use Rattle.string.specs.String.{placeAt, opened, openText, ending, taken, drawn, nextText, Texts, andThen, readTexts, takesMore, takesAll, textHead, textColumn, whyTexts}
+use Rattle.columns.proofs.Back.{atEnd}
 use Rattle.columns.proofs.RoundTrip.{number-back, number-end}
 use Rattle.string.proofs.Texts.{head-length, why-none, why-says}
 
@@ -50,30 +52,30 @@ unfolding unitsEach
 units-length [] = refl
 units-length (a ∷ ts) = ap suc (units-length ts)
 
--- ---- cutting: reading texts with no places
+-- ---- cutting: reading texts off the bytes t that begin at a place
 
 -- the first text, and what is cut off behind it
-unfoldable cutOn : List ℕ → Taken → (ℕ → Texts) → Texts
-cutOn t (Took b) f = record { texts = take (b .0) t ∷ (f (b .0) .texts); number = f (b .0) .number }
-cutOn t (Refused why) f = record { texts = []; number = why }
+unfoldable cutOn : ℕ → List ℕ → Taken → (ℕ → Texts) → Texts
+cutOn at t (Took b) f = record { texts = take (b .0) t ∷ (f (b .0) .texts); refusal = f (b .0) .refusal }
+cutOn at t (Refused why) f = record { texts = []; refusal = record { number = why; place = at } }
 
--- the texts that the units cut off t; n is the number that ended the units
-unfoldable cutBy : List ℕ → List ℕ → ℕ → Texts
-cutBy t [] n = record { texts = []; number = n }
-cutBy t (u ∷ us) n = cutOn t (takeUnits 7 u t) (λ k. cutBy (drop k t) us n)
+-- the texts that the units cut off t; why the units ended
+unfoldable cutBy : ℕ → List ℕ → List ℕ → Refusal → Texts
+cutBy at t [] why = record { texts = []; refusal = why }
+cutBy at t (u ∷ us) why = cutOn at t (takeUnits 7 u t) (λ k. cutBy (at + k) (drop k t) us why)
 
-abbrev cutAs : List ℕ → Reading → Texts
-cutAs t r = cutBy t (r .values) (r .number)
+abbrev cutAs : ℕ → List ℕ → Reading → Texts
+cutAs at t r = cutBy at t (r .values) (r .refusal)
 
 -- texts are cut off the bytes from the place to the end of the texts, by the numbers that the unit lengths give
 module _ (s : List ℕ) (end : ℕ) (f : end ≤ length s) where
   abbrev Cuts : ℕ → Type 0
-  Cuts k = (at : ℕ) (c : number-place.Place) → at ≤ end → readTexts k s (placeAt at end c) ≡ cutAs (slice at end s) (readNumbers k s c)
+  Cuts k = (at : ℕ) (c : number-place.Place) → at ≤ end → readTexts k s (placeAt at end c) ≡ cutAs at (slice at end s) (readNumbers k s c)
 
   module _ (k : ℕ) (rec : Cuts k) (at : ℕ) (h : at ≤ end) where
     cuts-took : (u : ℕ) (c : number-place.Place) (t : Taken) → takeUnits 7 u (slice at end s) ≡ t
         → andThen s (ending at end c t) (λ d. readTexts k s d)
-        ≡ cutOn (slice at end s) t (λ j. cutAs (drop j (slice at end s)) (readNumbers k s c))
+        ≡ cutOn at (slice at end s) t (λ j. cutAs (at + j) (drop j (slice at end s)) (readNumbers k s c))
     unfolding andThen ending cutOn
     cuts-took u c (Took b) p =
         let w : at + b .0 ≤ end = cut-at 7 u (b .0) at end s h f p .within in
@@ -82,7 +84,7 @@ module _ (s : List ℕ) (end : ℕ) (f : end ≤ length s) where
 
     cuts-drew : (a : number-answer.Answer)
         → andThen s (drawn s at end a) (λ d. readTexts k s d)
-        ≡ cutAs (slice at end s) (reading.andThen (numberDraw a) (λ c. readNumbers k s c))
+        ≡ cutAs at (slice at end s) (reading.andThen (numberDraw a) (λ c. readNumbers k s c))
     unfolding drawn taken numberDraw reading.andThen andThen cutBy
     cuts-drew (number.Next u c) = cuts-took u c (takeUnits 7 u (slice at end s)) refl
     cuts-drew (number.Bad why) = refl
@@ -95,12 +97,12 @@ module _ (s : List ℕ) (end : ℕ) (f : end ≤ length s) where
 -- ---- whole texts are found
 
 module _ (l : List ℕ) where
-  cuts-found : (ts : List (List ℕ)) (n : ℕ) → Formed ts → cutBy (joined ts ++ l) (unitsEach ts) n ≡ record { texts = ts; number = n }
+  cuts-found : (ts : List (List ℕ)) (at : ℕ) (why : Refusal) → Formed ts → cutBy at (joined ts ++ l) (unitsEach ts) why ≡ record { texts = ts; refusal = why }
   unfolding joined unitsEach cutBy cutOn
-  cuts-found [] n h = refl
-  cuts-found (a ∷ ts) n h =
+  cuts-found [] at why h = refl
+  cuts-found (a ∷ ts) at why h =
       let b : List ℕ = joined ts ++ l in
-      rw (append-assoc a (joined ts) l, found 7 a b (h .0), take-append-seam a b, drop-append-seam a b, cuts-found ts n (h .1))
+      rw (append-assoc a (joined ts) l, found 7 a b (h .0), take-append-seam a b, drop-append-seam a b, cuts-found ts (at + length a) why (h .1))
 
   -- so units that texts have are never refused
   pub takes-found : (ts : List (List ℕ)) → Formed ts → takesAll (joined ts ++ l) (unitsEach ts) ≡ true
@@ -165,10 +167,10 @@ module _ (p t us : List ℕ) where
     unfolding textColumn
     units-read = rw (append-assoc p (textHead t) (columnOf columns.Number us), units-at) at units
 
-    text-reads : readTexts k (p ++ textColumn t us) textsAt ≡ cutAs t r
+    text-reads : readTexts k (p ++ textColumn t us) textsAt ≡ cutAs begins t r
     text-reads =
         reads-cut (p ++ textColumn t us) (begins + length t) (omega (arith, text-size)) k begins (startAt (begins + length t)) (omega arith)
-        ∙ ap₂ cutAs text-slice units-read
+        ∙ ap₂ (cutAs begins) text-slice units-read
 
 -- ---- the round trip
 
@@ -176,12 +178,13 @@ module _ (p t us : List ℕ) where
 pub record Gives (s : List ℕ) (at : ℕ) (ts : List (List ℕ)) : Type 0 where
   pub place : Place
   pub opens : openText s at ≡ At place
-  pub back : readTexts (length ts) s place ≡ record { texts = ts; number = 0 }
-  pub over : (m : ℕ) → readTexts (length ts + suc m) s place ≡ record { texts = ts; number = 1 }
+  pub back : readTexts (length ts) s place ≡ record { texts = ts; refusal = none }
+  pub over : (m : ℕ) → readTexts (length ts + suc m) s place ≡ record { texts = ts; refusal = atEnd s }
 
 -- any whole texts, with anything left over, that the writer does not refuse; from 2^63 bytes on a length has ten bytes, and no reader takes them
 pub text-back : (p l : List ℕ) (ts : List (List ℕ)) → Formed ts → length (joined ts ++ l) < 2 ^ 63 → whyTexts (joined ts ++ l) (unitsEach ts) ≡ 0
     → Gives (p ++ textColumn (joined ts ++ l) (unitsEach ts)) (length p) ts
+unfolding textColumn
 text-back p l ts f h w =
     let t : List ℕ = joined ts ++ l in
     let us : List ℕ = unitsEach ts in
@@ -190,8 +193,12 @@ text-back p l ts f h w =
     record {
       place = textsAt p t us;
       opens = text-opens p t us h (says .0);
-      back = rw n at (text-reads p t us (length us) (record { values = us; number = 0 }) (number-back (p ++ textHead t) us (says .1))) ∙ cuts-found l ts 0 f;
-      over = λ m. rw n at (text-reads p t us (length us + suc m) (record { values = us; number = 1 }) (number-end (p ++ textHead t) us (says .1) m)) ∙ cuts-found l ts 1 f;
+      back = rw n at (text-reads p t us (length us) (record { values = us; refusal = none }) (number-back (p ++ textHead t) us (says .1))) ∙ cuts-found l ts _ none f;
+      over = λ m.
+          let end : Refusal = atEnd ((p ++ textHead t) ++ columnOf columns.Number us) in
+          rw n at (text-reads p t us (length us + suc m) (record { values = us; refusal = end }) (number-end (p ++ textHead t) us (says .1) m))
+          ∙ cuts-found l ts _ end f
+          ∙ ap (λ (s : List ℕ). record { texts = ts; refusal = atEnd s }) (append-assoc p (textHead t) (columnOf columns.Number us));
     }
 
 -- ---- the other way: what the writer does not refuse are texts and what is left over

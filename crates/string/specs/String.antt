@@ -70,18 +70,18 @@ whyText (Bad why) = why
 
 -- ---- reading on
 
--- the texts drawn, and the number of the refusal that ended them; 0 where none did
+-- the texts drawn, and the refusal that ended them; `none` where none did
 pub record Texts : Type 0 where
   pub texts : List (List ℕ)
-  pub number : ℕ
+  pub refusal : Refusal
 
 unfoldable pub andThen : List ℕ → Answer → (Place → Texts) → Texts
-andThen s (Next p c) f = record { texts = slice (p .place) (p .place + p .bytes .0) s ∷ (f c .texts); number = f c .number }
-andThen s (Bad why) f = record { texts = []; number = why .number }
+andThen s (Next p c) f = record { texts = slice (p .place) (p .place + p .bytes .0) s ∷ (f c .texts); refusal = f c .refusal }
+andThen s (Bad why) f = record { texts = []; refusal = why }
 
 -- at most k texts from a place on
 unfoldable pub readTexts : ℕ → List ℕ → Place → Texts
-readTexts zero s c = record { texts = []; number = 0 }
+readTexts zero s c = record { texts = []; refusal = none }
 readTexts (suc k) s c = andThen s (nextText s c) (λ d. readTexts k s d)
 
 -- ---- writing

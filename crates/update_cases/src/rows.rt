@@ -96,8 +96,9 @@ pub fn blocks(sink: &mut [u8], used: usize, count: usize) -> usize {
 
 // The line up to the rows.
 pub fn begin(sink: &mut [u8], used: usize, answer: Update) -> usize {
-    let begun = line::decimal(sink, used, answer.number as u64);
-    if answer.number != 0 {
+    let why = answer.refusal;
+    let begun = line::verdict(sink, used, why.number, why.place);
+    if why.number != 0 {
         return begun;
     }
     blocks(sink, begun, answer.blocks)
@@ -120,7 +121,8 @@ fn ranges(sink: &mut [u8], used: usize, count: usize, words: &[u64]) -> Listed {
 
 // The line from the ranges on.
 pub fn end(sink: &mut [u8], told: Told, answer: Update, words: &[u64]) -> usize {
-    if answer.number != 0 {
+    let why = answer.refusal;
+    if why.number != 0 {
         let zero = told.zero && lines::are_zero(words, 0);
         return lines::last(sink, told.used, zero);
     }

@@ -16,11 +16,12 @@ use denote.Triple.Clauses.{atExit}
 use Rattle.walks.proofs.Rows.{Has, byte, word, unit-kind}
 use Rattle.walks.proofs.Refs.{Seat, val, mut, pass, Card, since}
 use Rattle.block.specs.declared.Block.{Block}
+use Rattle.numbers.specs.declared.Refusal.{Refusal}
 use Rattle.deletes.specs.DeleteSet.{setOf, wordsOf as setWords}
 use Rattle.reader.specs.Reader.{filledOf, rowsOf as filledRows}
 use Rattle.decoder.specs.Update.{blocksOf}
 use Rattle.updates.specs.Promises.{answer, early, reading, refused, rowsOf, wordsOf}
-use Rattle.reader.proofs.Sorts.{filled}
+use Rattle.reader.proofs.Sorts.{refusal, filled}
 use Rattle.table.proofs.Sorts.{block}
 use Rattle.updates.proofs.Sorts.{deletes·set, update}
 use Rattle.updates.proofs.refused_early as updates·refused-early-fn
@@ -70,8 +71,8 @@ module _ {M : Type 1} (𝓤 : URA M) (H : Heap 𝓤) (A : Atoms 𝓤) (mem : Mem
       said = λ ns r ws. since 𝓤 (λ e. (e, tt));
     }
 
-    pub updates·none! : Triple 𝓤 (C #updates·none) Updates·none → (number₀ : ℕ) (g-number : Has byte number₀) → Card 𝓤 H A C #updates·none (val byte number₀ g-number ∷ []) update (answer (refused number₀))
-    updates·none! known number₀ g-number = record {
+    pub updates·none! : Triple 𝓤 (C #updates·none) Updates·none → (why₀ : Refusal) (g-why : Has refusal why₀) → Card 𝓤 H A C #updates·none (val refusal why₀ g-why ∷ []) update (answer (refused why₀))
+    updates·none! known why₀ g-why = record {
       contract = Updates·none;
       known = known;
       ghost = λ x. (x, tt);

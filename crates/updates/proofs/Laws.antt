@@ -7,7 +7,7 @@ use native.Mathlib.Omega.{arith}
 use lib.Dec.{ltb, eqb}
 use lib.ListN.{length, take, replicate}
 use Rattle.numbers.specs.declared.Refusal.{Refusal}
-use Rattle.numbers.specs.Number.{pick}
+use Rattle.numbers.specs.Number.{pick, none, nowhere}
 use Rattle.numbers.specs.Limits.{maxUpdate}
 use Rattle.numbers.specs.Output.{padded}
 use Rattle.numbers.proofs.Output.{padded-none}
@@ -78,23 +78,23 @@ module _ {A X : Type 0} (done : ℕ → X) (not : Refusal → X) (m : ℕ) where
 
 -- ---- a refusal leaves rows without a block, and zeros
 
-pub rows-none : (rows : List Block) (n number : ℕ) → length rows ≡ n → clearedFrom 0 rows ≡ rowsOf n (refused number)
+pub rows-none : (rows : List Block) (n : ℕ) (why : Refusal) → length rows ≡ n → clearedFrom 0 rows ≡ rowsOf n (refused why)
 unfolding clearedFrom filledFrom rowsOf
-rows-none rows n number size = ap (λ (k : ℕ). replicate (k - 0) noBlock) size
+rows-none rows n why size = ap (λ (k : ℕ). replicate (k - 0) noBlock) size
 
-blocks-none : (n number : ℕ) → replicate n noBlock ≡ rowsOf n (refused number)
+blocks-none : (n : ℕ) (why : Refusal) → replicate n noBlock ≡ rowsOf n (refused why)
 unfolding rowsOf
-blocks-none n number = ap (λ (k : ℕ). replicate k noBlock) all
+blocks-none n why = ap (λ (k : ℕ). replicate k noBlock) all
   where
     all : n ≡ n - 0
     all = omega arith
 
-zeros-none : (n number : ℕ) → padded n [] ≡ wordsOf n (refused number)
+zeros-none : (n : ℕ) (why : Refusal) → padded n [] ≡ wordsOf n (refused why)
 unfolding wordsOf flat
-zeros-none n number = refl
+zeros-none n why = refl
 
-pub words-none : (words : List ℕ) (number : ℕ) → take 0 words ++ replicate (length words - 0) 0 ≡ wordsOf (length words) (refused number)
-words-none words number = padded-none words ∙ zeros-none (length words) number
+pub words-none : (words : List ℕ) (why : Refusal) → take 0 words ++ replicate (length words - 0) 0 ≡ wordsOf (length words) (refused why)
+words-none words why = padded-none words ∙ zeros-none (length words) why
 
 -- ---- the ways out, of n rows and of m words
 
@@ -121,54 +121,58 @@ module _ (form : ℕ) (u : List ℕ) (rows : List Block) (words : List ℕ) wher
   abbrev here : Reading
   here = reading form u N (M / 3)
 
-  tested : (b : Bool) → eqb (early form u) 0 ≡ b → here ≡ pick b (withBlocks form u (M / 3) c₀) (refused (early form u))
+  abbrev unread : Refusal
+  unread = nowhere (early form u)
+
+  tested : (b : Bool) → eqb (early form u) 0 ≡ b → here ≡ pick b (withBlocks form u (M / 3) c₀) (refused unread)
   unfolding reading
-  tested b y = ap (λ (x : Bool). pick x (withBlocks form u (M / 3) c₀) (refused (early form u))) y
+  tested b y = ap (λ (x : Bool). pick x (withBlocks form u (M / 3) c₀) (refused unread)) y
 
   -- before anything is read
-  pub on-early : eqb (early form u) 0 ≡ false → Says here N M (answer (refused (early form u))) (clearedFrom 0 rows) (take 0 words ++ replicate (M - 0) 0)
-  on-early y = says-by (refused (early form u)) here N M _ _ _ (tested false y) (refl, rows-none rows N (early form u) refl, words-none words (early form u))
+  pub on-early : eqb (early form u) 0 ≡ false → Says here N M (answer (refused unread)) (clearedFrom 0 rows) (take 0 words ++ replicate (M - 0) 0)
+  on-early y = says-by (refused unread) here N M _ _ _ (tested false y) (refl, rows-none rows N unread refl, words-none words unread)
 
   module _ (y : eqb (early form u) 0 ≡ true) where
     -- the blocks are refused
     pub on-blocks : (why : Refusal) → filledOf N (blocksOf form u) ≡ filled.Refused why
-        → Says here N M (answer (refused (why .number))) (filledRows N (blocksOf form u)) (take 0 words ++ replicate (M - 0) 0)
+        → Says here N M (answer (refused why)) (filledRows N (blocksOf form u)) (take 0 words ++ replicate (M - 0) 0)
     unfolding filledOf filledRows withBlocks
     on-blocks why e =
-        says-by (refused (why .number)) here N M _ _ _
-        (tested true y ∙ filled-not (λ s. withRanges bs (fit (M / 3) (deleteSet form u s))) (λ why. refused (why .number)) (length bs) c₀ why e) (
+        says-by (refused why) here N M _ _ _
+        (tested true y ∙ filled-not (λ s. withRanges bs (fit (M / 3) (deleteSet form u s))) (λ why. refused why) (length bs) c₀ why e) (
           refl,
-          filled-not (λ s. bs ++ replicate (N - length bs) noBlock) (λ why. replicate N noBlock) (length bs) c₀ why e ∙ blocks-none N (why .number),
-          words-none words (why .number),
+          filled-not (λ s. bs ++ replicate (N - length bs) noBlock) (λ why. replicate N noBlock) (length bs) c₀ why e ∙ blocks-none N why,
+          words-none words why,
         )
 
     -- they are in the rows, and then comes the delete set
     module _ (n : ℕ) (s : ℕ) (e : filledOf N (blocksOf form u) ≡ filled.Rows n s) where
       begun : (n ≡ length bs) × (withBlocks form u (M / 3) c₀ ≡ withRanges bs (taken form u s M))
       unfolding filledOf withBlocks taken
-      begun = filled-at (λ s. withRanges bs (fit (M / 3) (deleteSet form u s))) (λ why. refused (why .number)) (length bs) c₀ n s e
+      begun = filled-at (λ s. withRanges bs (fit (M / 3) (deleteSet form u s))) (λ why. refused why) (length bs) c₀ n s e
 
       abbrev c : Course Range
       c = taken form u s M
 
       abbrev whole : Reading
-      whole = record { number = 0; blocks = bs; ranges = normal (items c) }
+      whole = record { refusal = none; blocks = bs; ranges = normal (items c) }
 
       pub on-set : (why : Refusal) → setOf form u s M ≡ set.Refused why → length (filledRows N (blocksOf form u)) ≡ N
-          → Says here N M (answer (refused (why .number))) (clearedFrom 0 (filledRows N (blocksOf form u))) (setWords form u s M)
+          → Says here N M (answer (refused why)) (clearedFrom 0 (filledRows N (blocksOf form u))) (setWords form u s M)
       unfolding setOf setWords withRanges
       on-set why q size =
-          says-by (refused (why .number)) here N M _ _ _
-          (tested true y ∙ begun .1 ∙ set-not (λ t. whole) (λ why. refused (why .number)) (length (normal (items c))) c why q) (
+          says-by (refused why) here N M _ _ _
+          (tested true y ∙ begun .1 ∙ set-not (λ t. whole) (λ why. refused why) (length (normal (items c))) c why q) (
             refl,
-            rows-none (filledRows N (blocksOf form u)) N (why .number) size,
-            ap (padded M) (set-not (λ t. flat (normal (items c))) (λ why. []) (length (normal (items c))) c why q) ∙ zeros-none M (why .number),
+            rows-none (filledRows N (blocksOf form u)) N why size,
+            ap (padded M) (set-not (λ t. flat (normal (items c))) (λ why. []) (length (normal (items c))) c why q) ∙ zeros-none M why,
           )
 
-      pub on-ranges : (k : ℕ) (t : ℕ) → setOf form u s M ≡ set.Ranges k t → Says here N M (record { number = 0; blocks = n; ranges = k }) (filledRows N (blocksOf form u)) (setWords form u s M)
+      pub on-ranges : (k : ℕ) (t : ℕ) → setOf form u s M ≡ set.Ranges k t
+          → Says here N M (record { refusal = none; blocks = n; ranges = k }) (filledRows N (blocksOf form u)) (setWords form u s M)
       unfolding setOf setWords withRanges filledOf filledRows answer rowsOf wordsOf
       on-ranges k t q =
-          let z = set-at (λ t. whole) (λ why. refused (why .number)) (length (normal (items c))) c k t q in
+          let z = set-at (λ t. whole) (λ why. refused why) (length (normal (items c))) c k t q in
           says-by whole here N M _ _ _
           (tested true y ∙ begun .1 ∙ z .1) (
             rw (begun .0, z .0) refl,

@@ -1,4 +1,4 @@
--- What every reading has, whatever its number: it fits the rows and words lent, it is got back from them, and a diff or an order can be made of it.
+-- What every reading has, refused or done: it fits the rows and words lent, it is got back from them, and a diff or an order can be made of it.
 use Prim.Native.Nat.{ℕ, _-_, _*_, _/_, _≤_}
 use mathlib.Core.Path.{_≡_, refl}
 use mathlib.Core.Bool.{Bool, true, false}
@@ -8,7 +8,8 @@ use lib.Dec.{ltb, eqb}
 use lib.ListN.{length, take, replicate, length-append, length-replicate}
 use lib.Seq.{take-at}
 use borrow.Author.Tests.{eqb-true, ltb-false}
-use Rattle.numbers.specs.Number.{pick}
+use Rattle.numbers.specs.declared.Refusal.{Refusal}
+use Rattle.numbers.specs.Number.{pick, none, nowhere}
 use Rattle.numbers.specs.Limits.{maxUpdate, maxClients, maxBlocks}
 use Rattle.numbers.specs.Output.{padded}
 use Rattle.block.specs.declared.Block.{Block}
@@ -32,12 +33,12 @@ unfolding padded
 length-padded n b h = omega (arith, length-append b (replicate (n - length b) 0), length-replicate {A = ℕ} (n - length b) 0)
 
 -- what follows a course is a refusal, or the course ends well
-pub followed : {A : Type 0} (P : Reading → Type 0) (then : ℕ → Reading) → ((n : ℕ) → P (refused n)) → (c : Course A)
-    → (ending c (λ s. true) (λ why. false) ≡ true → (s : ℕ) → P (then s)) → P (ending c then (λ why. refused (why .number)))
+pub followed : {A : Type 0} (P : Reading → Type 0) (then : ℕ → Reading) → ((why : Refusal) → P (refused why)) → (c : Course A)
+    → (ending c (λ s. true) (λ why. false) ≡ true → (s : ℕ) → P (then s)) → P (ending c then (λ why. refused why))
 unfolding ending
 followed P then h (item a p c) k = followed P then h c k
 followed P then h (over x s) k = k refl s
-followed P then h (stopped why) k = h (why .number)
+followed P then h (stopped why) k = h why
 
 -- ---- a reading of u with n block rows and m range rows
 
@@ -50,9 +51,9 @@ pub record Good (u : List ℕ) (n m : ℕ) (r : Reading) : Type 0 where
   pub clients : length (groups owner (r .blocks)) ≤ maxClients
 
 module _ (form : ℕ) (u : List ℕ) (n m : ℕ) where
-  refused-good : (k : ℕ) → Good u n m (refused k)
+  refused-good : (why : Refusal) → Good u n m (refused why)
   unfolding Ordered groups
-  refused-good k =
+  refused-good why =
       record { fits = omega arith; ranges = omega arith; ordered = tt; sound = tt; count = omega arith; clients = omega arith }
 
   abbrev c : Course Block
@@ -61,7 +62,7 @@ module _ (form : ℕ) (u : List ℕ) (n m : ℕ) where
   abbrev found : ℕ → List Range
   found s = normal (items (fit m (deleteSet form u s)))
 
-  done-good : ending c (λ s. true) (λ why. false) ≡ true → (s : ℕ) → Good u n m (record { number = 0; blocks = items c; ranges = found s })
+  done-good : ending c (λ s. true) (λ why. false) ≡ true → (s : ℕ) → Good u n m (record { refusal = none; blocks = items c; ranges = found s })
   done-good e s =
       record {
         fits = fit-count n (blocksOf form u);
@@ -81,17 +82,18 @@ module _ (form : ℕ) (u : List ℕ) (n m : ℕ) where
   unfolding reading
   reading-good = go (eqb (early form u) 0)
     where
-      go : (x : Bool) → Good u n m (pick x (withBlocks form u m c) (refused (early form u)))
+      go : (x : Bool) → Good u n m (pick x (withBlocks form u m c) (refused (nowhere (early form u))))
       go true = with-good
-      go false = refused-good (early form u)
+      go false = refused-good (nowhere (early form u))
 
   -- ---- 0 says that the update's length was right
 
-  pub not-early : reading form u n m .number ≡ 0 → early form u ≡ 0
+  pub not-early : reading form u n m .refusal .number ≡ 0 → early form u ≡ 0
   unfolding reading
   not-early h = go (eqb (early form u) 0) refl h
     where
-      go : (x : Bool) → eqb (early form u) 0 ≡ x → pick x (withBlocks form u m c) (refused (early form u)) .number ≡ 0 → early form u ≡ 0
+      go : (x : Bool) → eqb (early form u) 0 ≡ x → pick x (withBlocks form u m c) (refused (nowhere (early form u))) .refusal .number ≡ 0
+          → early form u ≡ 0
       go true e h = eqb-true (early form u) 0 e
       go false e h = h
 
@@ -104,7 +106,7 @@ module _ (form : ℕ) (u : List ℕ) (n m : ℕ) where
       go true false l e = ltb-false maxUpdate (length u) l
       go false y l e = absurd (omega (arith, e))
 
-  pub short : reading form u n m .number ≡ 0 → length u ≤ maxUpdate
+  pub short : reading form u n m .refusal .number ≡ 0 → length u ≤ maxUpdate
   short h = short-of (not-early h)
 
 -- ---- in M rows and in N words

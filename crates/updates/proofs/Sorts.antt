@@ -3,7 +3,7 @@ use mathlib.Core.Path.{_≡_, refl}
 use Prim.Native.Nat.{ℕ}
 use denote.Struct.Laws as LL
 use denote.Enum.Laws as EL
-use Rattle.walks.proofs.Rows.{Kind, Has, byte, word}
+use Rattle.walks.proofs.Rows.{Kind, Has, word}
 use Rattle.deletes.specs.declared.Set.{Set as deletes·Set}
 use Rattle.deletes.specs.declared.Set.the-variants.{Ranges as deletes·Set·Ranges, Refused as deletes·Set·Refused}
 use Rattle.numbers.specs.declared.Refusal.{Refusal}
@@ -57,11 +57,11 @@ update = record {
   silent = λ x w. refl;
 }
 
-pub update-has : (number₀ : ℕ) (g-number : Has byte number₀) (blocks₀ : ℕ) (g-blocks : Has word blocks₀) (ranges₀ : ℕ) (g-ranges : Has word ranges₀) → Has update (record { number = number₀; blocks = blocks₀; ranges = ranges₀ })
-update-has number₀ g-number blocks₀ g-blocks ranges₀ g-ranges = LL.owes Update₁.the-type Update₂.the-laws (record { number = number₀; blocks = blocks₀; ranges = ranges₀ }) (g-number, (g-blocks, (g-ranges, tt)))
+pub update-has : (refusal₀ : Refusal) (g-refusal : Has refusal refusal₀) (blocks₀ : ℕ) (g-blocks : Has word blocks₀) (ranges₀ : ℕ) (g-ranges : Has word ranges₀) → Has update (record { refusal = refusal₀; blocks = blocks₀; ranges = ranges₀ })
+update-has refusal₀ g-refusal blocks₀ g-blocks ranges₀ g-ranges = LL.owes Update₁.the-type Update₂.the-laws (record { refusal = refusal₀; blocks = blocks₀; ranges = ranges₀ }) (g-refusal, (g-blocks, (g-ranges, tt)))
 
-pub update-number : (x : Update) → Has update x → Has byte (x .number)
-update-number x g = LL.owed Update₁.the-type Update₂.the-laws x _ g .0
+pub update-refusal : (x : Update) → Has update x → Has refusal (x .refusal)
+update-refusal x g = LL.owed Update₁.the-type Update₂.the-laws x _ g .0
 
 pub update-blocks : (x : Update) → Has update x → Has word (x .blocks)
 update-blocks x g = LL.owed Update₁.the-type Update₂.the-laws x _ g .1 .0

@@ -1,7 +1,8 @@
-// The public call that reads an update. It asks nothing of its caller. An answer begins with its number in document 01, 0 for done; a refusal has
-// zeros for counts and leaves zeros in what was lent.
+// The public call that reads an update. It asks nothing of its caller. An answer begins with its refusal, zeros for done; a refusal has zeros for counts
+// and leaves zeros in what was lent.
 use block::Block;
 use deletes::Set;
+use numbers::Refusal;
 use reader::Filled;
 ghost use mathlib.Core.Path.{_≡_};
 ghost use Rattle.updates.specs.Promises.{early, refused, answer, ReadUpdate};
@@ -9,7 +10,7 @@ ghost use Rattle.updates.specs.Promises.{early, refused, answer, ReadUpd
 // How many blocks and how many delete ranges were read.
 #[repr(C)]
 pub struct Update {
-    pub number: u8,
+    pub refusal: Refusal,
     pub blocks: usize,
     pub ranges: usize,
 }
@@ -29,12 +30,12 @@ fn refused_early(form: u8, update: &[u8]) -> u8
     0
 }
 
-// A refusal: its number, and counts of 0.
-fn none(number: u8) -> Update
-    ensures { λ r. ⌜ r ≡ answer (refused number) ⌝ }
+// A refusal, and counts of 0.
+fn none(why: Refusal) -> Update
+    ensures { λ r. ⌜ r ≡ answer (refused why) ⌝ }
 {
     Update {
-        number,
+        refusal: why,
         blocks: 0,
         ranges: 0,
     }
@@ -48,23 +49,29 @@ pub fn read_update(form: u8, update: &[u8], rows: &mut [Block], ranges: &mut [u6
     if early != 0 {
         table::clear(rows, 0);
         numbers::words::clear(ranges, 0);
-        return none(early);
+        return none(Refusal {
+            number: early,
+            place: 0,
+        });
     }
     match reader::read_blocks(form, update, rows) {
         Filled::Rows(blocks, at) => match deletes::read_delete_set(form, update, at, ranges) {
             Set::Ranges(count, _) => Update {
-                number: 0,
+                refusal: Refusal {
+                    number: 0,
+                    place: 0,
+                },
                 blocks,
                 ranges: count,
             },
             Set::Refused(why) => {
                 table::clear(rows, 0);
-                none(why.number)
+                none(why)
             }
         },
         Filled::Refused(why) => {
             numbers::words::clear(ranges, 0);
-            none(why.number)
+            none(why)
         }
     }
 }

@@ -14,7 +14,7 @@ use borrow.Author.Tests.{lt-ltb, le-ltb, ltb-false}
 use Rattle.numbers.specs.declared.Refusal.{Refusal}
 use Rattle.numbers.specs.declared.Read.{Read as Reading}
 use Rattle.numbers.specs.declared.Read.the-variants as read
-use Rattle.numbers.specs.Number.{pick, whyRead}
+use Rattle.numbers.specs.Number.{pick, none, whyRead}
 use Rattle.numbers.specs.Words.{among}
 use Rattle.numbers.specs.Limits.{maxClients, maxValue, maxClock}
 use Rattle.numbers.specs.Output.{padded}
@@ -24,7 +24,7 @@ use Rattle.grammar.specs.Course.{Drawn, got, not, Course, item, over, stopped, 
 use Rattle.decoder.specs.Line.{numberAt, bounded, upTo, numberOf, line}
 use Rattle.vector.specs.declared.Entries.{Entries}
 use Rattle.vector.specs.declared.Entries.the-variants.{Read, Refused}
-use Rattle.vector.specs.Vector.{Entry, entry, clientsIn, clocksIn, holds, entries, aVector, vectorOf, entriesOf, kept, countIn, Filled, wordsIn, joined, vectorAnswer, vectorWords}
+use Rattle.vector.specs.Vector.{Entry, entry, clientsIn, clocksIn, holds, entries, aVector, vectorOf, entriesOf, kept, countIn, Filled, wordsIn, joined, refusedVector, vectorAnswer, vectorWords}
 
 -- ---- a number by its place, and its field
 
@@ -235,7 +235,7 @@ module _ {X : Type 0} (x : X) (f : Refusal → X) (n : ℕ) where
   ends-read (stopped w) m h = absurd (let z : _≡_ {A = ℕ} 0 1 = cc in omega arith)
 
 module _ (c : Course Entry) where
-  pub refused-answer : (room : ℕ) (why : Refusal) → entriesOf c ≡ Refused why → (vectorAnswer room c ≡ record { number = why .number; count = 0 }) × (vectorWords room c ≡ padded room [])
+  pub refused-answer : (room : ℕ) (why : Refusal) → entriesOf c ≡ Refused why → (vectorAnswer room c ≡ refusedVector (why .number)) × (vectorWords room c ≡ padded room [])
   unfolding entriesOf vectorAnswer vectorWords
   refused-answer room why h = (ends-refused _ _ (length (items c)) c why h, ap (padded room) (ends-refused _ _ (length (items c)) c why h))
 
@@ -243,14 +243,14 @@ module _ (c : Course Entry) where
   unfolding entriesOf kept
   read-count n h = ends-read (items c) (λ why. []) (length (items c)) c n h
 
-  pub read-short : (room n : ℕ) → entriesOf c ≡ Read n → room < 2 * n → (vectorAnswer room c ≡ record { number = 10; count = 0 }) × (vectorWords room c ≡ padded room [])
+  pub read-short : (room n : ℕ) → entriesOf c ≡ Read n → room < 2 * n → (vectorAnswer room c ≡ refusedVector 10) × (vectorWords room c ≡ padded room [])
   unfolding entriesOf vectorAnswer vectorWords
   read-short room n h l =
       let m = read-count n h .0 in
       let t = lt-ltb room (2 * length (items c)) (omega arith) in
       (ends-read _ _ (length (items c)) c n h .1 ∙ rw t, ap (padded room) (ends-read _ _ (length (items c)) c n h .1 ∙ rw t))
 
-  pub read-done : (room n : ℕ) → entriesOf c ≡ Read n → 2 * n ≤ room → (vectorAnswer room c ≡ record { number = 0; count = n }) × (vectorWords room c ≡ padded room (wordsIn (kept c)))
+  pub read-done : (room n : ℕ) → entriesOf c ≡ Read n → 2 * n ≤ room → (vectorAnswer room c ≡ record { refusal = none; count = n }) × (vectorWords room c ≡ padded room (wordsIn (kept c)))
   unfolding entriesOf vectorAnswer vectorWords
   read-done room n h l =
       let m = read-count n h in

@@ -6,7 +6,7 @@ use mathlib.Core.Bool.{Bool}
 use lib.Dec.{ltb}
 use lib.ListN.{length, take}
 use Rattle.numbers.specs.declared.Refusal.{Refusal}
-use Rattle.numbers.specs.Number.{pick, none}
+use Rattle.numbers.specs.Number.{pick, none, nowhere}
 use Rattle.numbers.specs.Words.{among}
 use Rattle.numbers.specs.Limits.{maxClock, maxClients}
 use Rattle.numbers.specs.Output.{padded}
@@ -84,11 +84,14 @@ joined [] ys = []
 joined (x ∷ xs) [] = []
 joined (x ∷ xs) (y ∷ ys) = x ∷ (y ∷ joined xs ys)
 
+-- a vector's refusal blames no byte
+abbrev pub refusedVector : ℕ → Vector
+refusedVector n = record { refusal = nowhere n; count = 0 }
+
 unfoldable pub vectorAnswer : ℕ → Course Entry → Vector
 vectorAnswer room c =
     let n = length (items c) in
-    ending c (λ s. pick (ltb room (2 * n)) (record { number = 10; count = 0 }) (record { number = 0; count = n }))
-    (λ why. record { number = why .number; count = 0 })
+    ending c (λ s. pick (ltb room (2 * n)) (refusedVector 10) (record { refusal = none; count = n })) (λ why. refusedVector (why .number))
 
 unfoldable pub vectorWords : ℕ → Course Entry → List ℕ
 vectorWords room c = padded room (ending c (λ s. pick (ltb room (2 * length (items c))) [] (wordsIn (items c))) (λ why. []))

@@ -10,7 +10,7 @@ ghost use lib.ListN.{length, take};
 ghost use Rattle.numbers.specs.Limits.{maxClients};
 ghost use Rattle.numbers.specs.Output.{padded};
 ghost use Rattle.decoder.specs.Line.{numberAt, upTo};
-ghost use Rattle.vector.specs.Vector.{clientsIn, clocksIn, vectorOf, entriesOf, kept, Filled, whyEntries, countIn, joined, vectorAnswer, vectorWords};
+ghost use Rattle.vector.specs.Vector.{clientsIn, clocksIn, vectorOf, entriesOf, kept, Filled, whyEntries, countIn, joined, refusedVector, vectorAnswer, vectorWords};
 
 // How many entries were read.
 pub enum Entries {
@@ -18,10 +18,10 @@ pub enum Entries {
     Refused(Refusal),
 }
 
-// What a caller outside is told: 0 and how many entries, or the number of a refusal and none.
+// What a caller outside is told: how many entries, or a refusal and none. It blames no byte: places are an update's.
 #[repr(C)]
 pub struct Vector {
-    pub number: u8,
+    pub refusal: Refusal,
     pub count: usize,
 }
 
@@ -130,10 +130,13 @@ fn put_words(out: &mut [u64], clients: &[u64], clocks: &[u64], n: usize)
 
 // The answer to a caller outside that is refused: zeros everywhere.
 fn refuse(out: &mut [u64], number: u8) -> Vector
-    ensures { λ r. ⌜ (r ≡ record { number = number; count = 0 }) × (now (out .exit) ≡ padded (length (now (out .entry))) []) ⌝ }
+    ensures { λ r. ⌜ (r ≡ refusedVector number) × (now (out .exit) ≡ padded (length (now (out .entry))) []) ⌝ }
 {
     words::clear(out, 0);
-    Vector { number, count: 0 }
+    Vector {
+        refusal: Refusal { number, place: 0 },
+        count: 0,
+    }
 }
 
 // Client and clock of every entry in reading order, two words each, and zeros after the last: the vector's own refusal, then 10 where the
@@ -154,7 +157,10 @@ pub fn read_state_vector(vector: &[u8], out: &mut [u64]) -> Vector
     }
     put_words(out, &clients, &clocks, n);
     Vector {
-        number: 0,
+        refusal: Refusal {
+            number: 0,
+            place: 0,
+        },
         count: n,
     }
 }

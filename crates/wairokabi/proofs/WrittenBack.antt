@@ -8,6 +8,7 @@ use lib.ListN.{length, take, replicate}
 use lib.Seq.{take-append-seam}
 use borrow.Author.Tests.{eqb-true, eqb-false}
 use Rattle.numbers.specs.declared.Written.{Written}
+use Rattle.numbers.specs.Number.{none}
 use Rattle.numbers.specs.Output.{padded, verdict, kept, written, put}
 use Rattle.numbers.proofs.Output.{verdict-why}
 use Rattle.columns.specs.Number as number
@@ -35,15 +36,15 @@ done why b lent r x p z = record { legal = why-none (eqb why 0) refl said; bytes
     why-none false e q = sym (verdict-why why (length lent) b (eqb-false why 0 e)) ∙ q
 
 pub numbers-written-back : (lent vs : List ℕ) (r : Written) (x : List ℕ) → WriteNumbers lent vs r x → r .number ≡ 0
-    → readNumbers (length vs) (take (r .bytes) x) (number.startAt 0) ≡ record { values = vs; number = 0 }
+    → readNumbers (length vs) (take (r .bytes) x) (number.startAt 0) ≡ record { values = vs; refusal = none }
 numbers-written-back lent vs r x p z = let d = done _ _ lent r x p z in rw (d .bytes) (number-back [] vs (d .legal))
 
 pub differences-written-back : (lent vs : List ℕ) (r : Written) (x : List ℕ) → WriteDifferences lent vs r x → r .number ≡ 0
-    → readDifferences (length vs) (take (r .bytes) x) (difference.startAt 0) ≡ record { values = vs; number = 0 }
+    → readDifferences (length vs) (take (r .bytes) x) (difference.startAt 0) ≡ record { values = vs; refusal = none }
 differences-written-back lent vs r x p z = let d = done _ _ lent r x p z in rw (d .bytes) (difference-back [] vs (d .legal))
 
 pub bytes-written-back : (lent vs : List ℕ) (r : Written) (x : List ℕ) → WriteBytes lent vs r x → r .number ≡ 0
-    → readBytes (length vs) (take (r .bytes) x) (byte.startAt 0) ≡ record { values = vs; number = 0 }
+    → readBytes (length vs) (take (r .bytes) x) (byte.startAt 0) ≡ record { values = vs; refusal = none }
 bytes-written-back lent vs r x p z = let d = done _ _ lent r x p z in rw (d .bytes) (byte-back [] vs (d .legal))
 
 pub texts-written-back : (lent t us : List ℕ) (r : Written) (x : List ℕ) → length t < 2 ^ 63 → WriteTexts lent t us r x → r .number ≡ 0

@@ -1,4 +1,4 @@
--- The promise of each public call: its number and values, and the final contents of what was lent, as an equation of the inputs.
+-- The promise of each public call: its refusal and values, and the final contents of what was lent, as an equation of the inputs.
 use Prim.Native.Nat.{ℕ}
 use mathlib.Core.Path.{_≡_}
 use mathlib.Core.List.{List}
@@ -10,7 +10,7 @@ use Rattle.numbers.specs.declared.Read.the-variants.{Number, Refused}
 use Rattle.numbers.specs.declared.Signed as numbers-signed
 use Rattle.numbers.specs.declared.Signed.the-variants.{Value, Wrong}
 use Rattle.numbers.specs.declared.Written.{Written}
-use Rattle.numbers.specs.Number.{pick, readUnsigned, readSigned, unsigned, signed}
+use Rattle.numbers.specs.Number.{pick, none, readUnsigned, readSigned, unsigned, signed}
 use Rattle.numbers.specs.Limits.{maxUnsigned, maxSigned}
 use Rattle.numbers.specs.Output.{written, put}
 use Rattle.text.specs.declared.Units.{Units}
@@ -49,18 +49,18 @@ use Rattle.wairokabi.specs.declared.ByteNext.{ByteNext}
 use Rattle.wairokabi.specs.declared.TextOpened.{TextOpened}
 use Rattle.wairokabi.specs.declared.TextNext.{TextNext}
 
--- ---- numbers: of each case of an answer, document 01's number and values
+-- ---- numbers: of each case of an answer, its refusal and values
 
 unfoldable pub unsignedAnswer : Read → Unsigned
-unsignedAnswer (Number v e) = record { number = 0; value = v; next = e }
-unsignedAnswer (Refused why) = record { number = why .number; value = 0; next = 0 }
+unsignedAnswer (Number v e) = record { refusal = none; value = v; next = e }
+unsignedAnswer (Refused why) = record { refusal = why; value = 0; next = 0 }
 
 abbrev pub ReadUnsigned : List ℕ → ℕ → Unsigned → Type 0
 ReadUnsigned s at r = r ≡ unsignedAnswer (readUnsigned s at)
 
 unfoldable pub signedAnswer : numbers-signed.Signed → Signed
-signedAnswer (Value m v e) = record { number = 0; minus = m; magnitude = v; next = e }
-signedAnswer (Wrong why) = record { number = why .number; minus = false; magnitude = 0; next = 0 }
+signedAnswer (Value m v e) = record { refusal = none; minus = m; magnitude = v; next = e }
+signedAnswer (Wrong why) = record { refusal = why; minus = false; magnitude = 0; next = 0 }
 
 abbrev pub ReadSigned : List ℕ → ℕ → Signed → Type 0
 ReadSigned s at r = r ≡ signedAnswer (readSigned s at)
@@ -106,8 +106,8 @@ abbrev pub OpenNumbers : ℕ → number-place.Place → Type 0
 OpenNumbers at r = r ≡ numbers.startAt at
 
 unfoldable pub numberAnswer : number-place.Place → number-answer.Answer → NumberNext
-numberAnswer c (number.Next v d) = record { number = 0; value = v; place = d }
-numberAnswer c (number.Bad why) = record { number = why .number; value = 0; place = c }
+numberAnswer c (number.Next v d) = record { refusal = none; value = v; place = d }
+numberAnswer c (number.Bad why) = record { refusal = why; value = 0; place = c }
 
 abbrev pub NextNumber : List ℕ → number-place.Place → NumberNext → Type 0
 NextNumber s c r = r ≡ numberAnswer c (numbers.nextNumber s c)
@@ -116,8 +116,8 @@ abbrev pub OpenDifferences : ℕ → difference-place.Place → Type 0
 OpenDifferences at r = r ≡ differences.startAt at
 
 unfoldable pub differenceAnswer : difference-place.Place → difference-answer.Answer → DifferenceNext
-differenceAnswer c (difference.Next v d) = record { number = 0; value = v; place = d }
-differenceAnswer c (difference.Bad why) = record { number = why .number; value = 0; place = c }
+differenceAnswer c (difference.Next v d) = record { refusal = none; value = v; place = d }
+differenceAnswer c (difference.Bad why) = record { refusal = why; value = 0; place = c }
 
 abbrev pub NextDifference : List ℕ → difference-place.Place → DifferenceNext → Type 0
 NextDifference s c r = r ≡ differenceAnswer c (differences.nextDifference s c)
@@ -126,22 +126,22 @@ abbrev pub OpenBytes : ℕ → byte-place.Place → Type 0
 OpenBytes at r = r ≡ bytes.startAt at
 
 unfoldable pub byteAnswer : byte-place.Place → byte-answer.Answer → ByteNext
-byteAnswer c (byte.Next v d) = record { number = 0; value = v; place = d }
-byteAnswer c (byte.Bad why) = record { number = why .number; value = 0; place = c }
+byteAnswer c (byte.Next v d) = record { refusal = none; value = v; place = d }
+byteAnswer c (byte.Bad why) = record { refusal = why; value = 0; place = c }
 
 abbrev pub NextByte : List ℕ → byte-place.Place → ByteNext → Type 0
 NextByte s c r = r ≡ byteAnswer c (bytes.nextByte s c)
 
 unfoldable pub openAnswer : string-opened.Opened → TextOpened
-openAnswer (opened.At c) = record { number = 0; place = c }
-openAnswer (opened.Not why) = record { number = why .number; place = strings.placeAt 0 0 (numbers.startAt 0) }
+openAnswer (opened.At c) = record { refusal = none; place = c }
+openAnswer (opened.Not why) = record { refusal = why; place = strings.placeAt 0 0 (numbers.startAt 0) }
 
 abbrev pub OpenText : List ℕ → ℕ → TextOpened → Type 0
 OpenText s at r = r ≡ openAnswer (strings.openText s at)
 
 unfoldable pub textAnswer : string-place.Place → string-answer.Answer → TextNext
-textAnswer c (string.Next p d) = record { number = 0; part = p; place = d }
-textAnswer c (string.Bad why) = record { number = why .number; part = record { place = 0; bytes = record { 0 = 0 } }; place = c }
+textAnswer c (string.Next p d) = record { refusal = none; part = p; place = d }
+textAnswer c (string.Bad why) = record { refusal = why; part = record { place = 0; bytes = record { 0 = 0 } }; place = c }
 
 abbrev pub NextText : List ℕ → string-place.Place → TextNext → Type 0
 NextText s c r = r ≡ textAnswer c (strings.nextText s c)

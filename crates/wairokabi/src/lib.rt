@@ -1,9 +1,11 @@
-// The public calls. None asks anything of its caller: any bytes, any place, any number is answered. An answer begins with its number in
-// document 01, 0 for done; a refusal has zeros for values and leaves zeros in what was lent, and a refused `next_..` gives back its place.
+// The public calls. None asks anything of its caller: any bytes, any place, any number is answered. An answer of reading begins with its refusal, the
+// number in document 01 and the byte that is blamed, zeros for done; any other with its number. A refusal has zeros for values and leaves zeros in what
+// was lent, and a refused `next_..` gives back its place.
 use columns::byte;
 use columns::difference;
 use columns::number;
 use numbers::Read;
+use numbers::Refusal;
 use numbers::Written;
 use text::Bytes;
 use text::Part;
@@ -17,7 +19,7 @@ ghost use mathlib.Core.Path.{_≡_};
 
 #[repr(C)]
 pub struct Unsigned {
-    pub number: u8,
+    pub refusal: Refusal,
     pub value: u64,
     pub next: usize,
 }
@@ -27,12 +29,15 @@ pub fn read_unsigned(s: &[u8], at: usize) -> Unsigned
 {
     match numbers::read_unsigned(s, at) {
         Read::Number(value, next) => Unsigned {
-            number: 0,
+            refusal: Refusal {
+                number: 0,
+                place: 0,
+            },
             value,
             next,
         },
         Read::Refused(why) => Unsigned {
-            number: why.number,
+            refusal: why,
             value: 0,
             next: 0,
         },
@@ -42,7 +47,7 @@ pub fn read_unsigned(s: &[u8], at: usize) -> Unsigned
 // A sign and a size: minus zero keeps its minus.
 #[repr(C)]
 pub struct Signed {
-    pub number: u8,
+    pub refusal: Refusal,
     pub minus: bool,
     pub magnitude: u64,
     pub next: usize,
@@ -53,13 +58,16 @@ pub fn read_signed(s: &[u8], at: usize) -> Signed
 {
     match numbers::read_signed(s, at) {
         numbers::Signed::Value(minus, magnitude, next) => Signed {
-            number: 0,
+            refusal: Refusal {
+                number: 0,
+                place: 0,
+            },
             minus,
             magnitude,
             next,
         },
         numbers::Signed::Wrong(why) => Signed {
-            number: why.number,
+            refusal: why,
             minus: false,
             magnitude: 0,
             next: 0,
@@ -184,7 +192,7 @@ pub fn open_numbers(at: usize) -> number::Place
 
 #[repr(C)]
 pub struct NumberNext {
-    pub number: u8,
+    pub refusal: Refusal,
     pub value: u64,
     pub place: number::Place,
 }
@@ -194,12 +202,15 @@ pub fn next_number(column: &[u8], place: number::Place) -> NumberNext
 {
     match number::next(column, place) {
         number::Answer::Next(value, after) => NumberNext {
-            number: 0,
+            refusal: Refusal {
+                number: 0,
+                place: 0,
+            },
             value,
             place: after,
         },
         number::Answer::Bad(why) => NumberNext {
-            number: why.number,
+            refusal: why,
             value: 0,
             place,
         },
@@ -214,7 +225,7 @@ pub fn open_differences(at: usize) -> difference::Place
 
 #[repr(C)]
 pub struct DifferenceNext {
-    pub number: u8,
+    pub refusal: Refusal,
     pub value: u32,
     pub place: difference::Place,
 }
@@ -224,12 +235,15 @@ pub fn next_difference(column: &[u8], place: difference::Place) -> DifferenceNex
 {
     match difference::next(column, place) {
         difference::Answer::Next(value, after) => DifferenceNext {
-            number: 0,
+            refusal: Refusal {
+                number: 0,
+                place: 0,
+            },
             value,
             place: after,
         },
         difference::Answer::Bad(why) => DifferenceNext {
-            number: why.number,
+            refusal: why,
             value: 0,
             place,
         },
@@ -244,7 +258,7 @@ pub fn open_bytes(at: usize) -> byte::Place
 
 #[repr(C)]
 pub struct ByteNext {
-    pub number: u8,
+    pub refusal: Refusal,
     pub value: u8,
     pub place: byte::Place,
 }
@@ -254,12 +268,15 @@ pub fn next_byte(column: &[u8], place: byte::Place) -> ByteNext
 {
     match byte::next(column, place) {
         byte::Answer::Next(value, after) => ByteNext {
-            number: 0,
+            refusal: Refusal {
+                number: 0,
+                place: 0,
+            },
             value,
             place: after,
         },
         byte::Answer::Bad(why) => ByteNext {
-            number: why.number,
+            refusal: why,
             value: 0,
             place,
         },
@@ -268,7 +285,7 @@ pub fn next_byte(column: &[u8], place: byte::Place) -> ByteNext
 
 #[repr(C)]
 pub struct TextOpened {
-    pub number: u8,
+    pub refusal: Refusal,
     pub place: string::Place,
 }
 
@@ -276,7 +293,13 @@ pub fn open_text(column: &[u8], at: usize) -> TextOpened
     ensures { λ r. ⌜ OpenText (now (column .entry)) at r ⌝ }
 {
     match string::open(column, at) {
-        string::Opened::At(place) => TextOpened { number: 0, place },
+        string::Opened::At(place) => TextOpened {
+            refusal: Refusal {
+                number: 0,
+                place: 0,
+            },
+            place,
+        },
         string::Opened::Not(why) => {
             let units = number::start(0);
             let none = string::Place {
@@ -285,7 +308,7 @@ pub fn open_text(column: &[u8], at: usize) -> TextOpened
                 units,
             };
             TextOpened {
-                number: why.number,
+                refusal: why,
                 place: none,
             }
         }
@@ -294,7 +317,7 @@ pub fn open_text(column: &[u8], at: usize) -> TextOpened
 
 #[repr(C)]
 pub struct TextNext {
-    pub number: u8,
+    pub refusal: Refusal,
     pub part: Part,
     pub place: string::Place,
 }
@@ -304,12 +327,15 @@ pub fn next_text(column: &[u8], place: string::Place) -> TextNext
 {
     match string::next(column, place) {
         string::Answer::Next(part, after) => TextNext {
-            number: 0,
+            refusal: Refusal {
+                number: 0,
+                place: 0,
+            },
             part,
             place: after,
         },
         string::Answer::Bad(why) => TextNext {
-            number: why.number,
+            refusal: why,
             part: Part {
                 place: 0,
                 bytes: Bytes(0),

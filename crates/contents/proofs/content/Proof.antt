@@ -38,6 +38,9 @@ use denote.Triple.Clauses.{ensured, lasts}
 use denote.Triple.Walked.{says, Stays, stay-dropped, walkOf, goes-dropped, ends-at}
 use denote.Exit.{yes}
 use Rattle.walks.proofs.Walk.{has, Envs, envOf, alloc-all, free-all, meets}
+use Rattle.numbers.specs.declared.Refusal.{Refusal}
+use Rattle.numbers.proofs.Refusal as Q
+use Rattle.numbers.proofs.Refusal.Laws as Q′
 use Rattle.text.specs.declared.Part.{Part}
 use Rattle.text.proofs.Part as P
 use Rattle.text.proofs.Part.Laws as P′
@@ -66,12 +69,15 @@ use Rattle.contents.proofs.content.Code.Mir as body
 abbrev stayed : Stays (f.ended .signature .params) (f.ended .kept)
 stayed = (stay-dropped (plain (λ _. u8)) yes, (stay-dropped (shrSliceOf (0 ∷ []) tt (plain (λ _. u8))) yes, (stay-dropped (plain (λ _. usize)) yes, tt)))
 
--- the machine values of a record and of its part
+-- the machine values of a record and of its parts
 abbrev low : Where → Val
 low = LL.val R.the-type R′.the-laws
 
 abbrev low-part : Part → Val
 low-part = LL.val P.the-type P′.the-laws
+
+abbrev low-refusal : Refusal → Val
+low-refusal = LL.val Q.the-type Q′.the-laws
 
 module _ {M : Type 1} (𝓤 : URA M) (H : Heap 𝓤) (A : Atoms 𝓤) (mem : Memory → SProp 𝓤) (run : Routine → Fun 𝓤) where
   -- the contracts that the proof cites
@@ -141,17 +147,17 @@ module _ {M : Type 1} (𝓤 : URA M) (H : Heap 𝓤) (A : Atoms 𝓤) (W : Given
   -- ---- the answer
   module _ (r : RefT (List ℕ)) where
     abbrev made : Content
-    made = record { number = told .number; part = r }
+    made = record { refusal = told .refusal; part = r }
 
     abbrev vr : Val
     vr = sliceVal (r .ptr) (length (r .now))
 
-    exits : Is u8 (told .number) (vint w8 (told .number) ∷ []) → PartOf s (told .part) r → ent 𝓤 (sep 𝓤 (sem 𝓤 H A (ShrSlice (named 0) κ u8 .own r (vr ∷ []))) (A .lft κ q)) (Post (LL.val (T.the-type α) (T′.the-laws α) made))
+    exits : Is Q.the-row (told .refusal) (low-refusal (told .refusal) ∷ []) → PartOf s (told .part) r → ent 𝓤 (sep 𝓤 (sem 𝓤 H A (ShrSlice (named 0) κ u8 .own r (vr ∷ []))) (A .lft κ q)) (Post (LL.val (T.the-type α) (T′.the-laws α) made))
     exits g is =
         qed W (‵ (ShrSlice (named 0) κ u8 .own r (vr ∷ [])) ∷ ‵ (flft κ q) ∷ []) ∵
         suffices ! _ (ends-at 𝓤 H A f.ended stayed (f.clauses 𝓤 H A mem run) W (((κ, tt), (q, tt), tt, x, at), tt) (LL.val (T.the-type α) (T′.the-laws α) made) made (tt, (tt, (tt, tt))) (tt, (tt, (tt, tt)))) $ says ! (refl, is) $
         nothing ! $ move ! (2 ∷ 0 ∷ []) $ join ! $ frame ! $ nothing ! $ nothing ! $ fjoin ! $ nothing ! $ fjoin ! $ nothing ! $ fjoin ! $ frame ! $
-        nothing ! $ move ! (1 ∷ 0 ∷ []) $ fjoin ! $ owned ! u8 (Is u8) (uint-makes 𝓤 H A W w8) (told .number) _ g $ fjoin ! $ by ! (own-shut 𝓤 H A W (T.the-type α) (T′.the-laws α) (told .number, (r, tt)))
+        nothing ! $ move ! (1 ∷ 0 ∷ []) $ fjoin ! $ owned ! Q.the-row (Is Q.the-row) (LL.makes Q.the-type Q′.the-plain 𝓤 H A) (told .refusal) _ g $ fjoin ! $ by ! (own-shut 𝓤 H A W (T.the-type α) (T′.the-laws α) (told .refusal, (r, tt)))
 
   module _ (𝓣 : Tables 𝓤 H) (known-look : Triple 𝓤 (𝓣 .C #contents·look) (Look 𝓤 H A mem run)) (known-cut : Triple 𝓤 (𝓣 .C #contents·cut) (Cut 𝓤 H A mem run)) where
     walk : form < 2 ^ 8 → Is (ShrSlice (named 0) κ u8) s (v ∷ []) → n < 2 ^ 64 → ent 𝓤 (onEntry 𝓤 H A f.signature (κ, tt) (q, tt) x at) (WpFn 𝓤 H (𝓣 .C) (𝓣 .Λ) code.function (vint w8 form ∷ v ∷ vint w64 n ∷ []) Post)

@@ -1,4 +1,4 @@
--- `diffs::none` meets its contract: a number, and counts of 0.
+-- `diffs::none` meets its contract: a refusal, and counts of 0.
 use mathlib.Core.Path.{refl}
 use Rattle.diffs.specs.Promises.{answered}
 use borrow.Author.Needs.{needs}

@@ -47,11 +47,12 @@ use Prim.Native.Nat.{_/_}
 use Rattle.block.specs.Row.{noBlock}
 use Rattle.lines.specs.Lines.{overlay}
 use Rattle.listed.specs.Listed.{listedReading}
-use Rattle.listing_text.specs.Listing.{listing, number, refusedLine}
+use Rattle.listing_text.specs.Listing.{listing, refusedLine}
 use Rattle.ranges.specs.Table.{rowsFrom}
 use Rattle.updates.specs.Promises.{answer, reading, rowsOf, wordsOf}
 use Rattle.table.proofs.Sorts.{block}
-use Rattle.updates.proofs.Sorts.{update-number, update-blocks, update-ranges}
+use Rattle.reader.proofs.Sorts.{refusal}
+use Rattle.updates.proofs.Sorts.{update-refusal, update-blocks, update-ranges}
 use Rattle.listed.proofs.Cards.{Listing-text·put-refused, Listed·put-tables, listing-text·put-refused!, listed·put-tables-rows-words! }
 use Rattle.updates.proofs.Cards.{Updates·read-update, updates·read-update! }
 use Rattle.table.proofs.Cards.{Block·none, block·none! }
@@ -135,15 +136,15 @@ module _ {M : Type 1} (𝓤 : URA M) (H : Heap 𝓤) (A : Atoms 𝓤) (W : Given
   as-listed : linesOf form₀ R₀ ≡ listedReading form₀ update₀
   as-listed = enough form₀ update₀ n m (length-replicate 512 noBlock) (length-replicate {A = ℕ} 3072 0)
 
-  right-shown : eqb (answer R₀ .number) 0 ≡ true → Right (length shown) (overlay out₀ 0 shown)
+  right-shown : eqb (answer R₀ .refusal .number) 0 ≡ true → Right (length shown) (overlay out₀ 0 shown)
   right-shown e =
       let text = lines-done R₀ n m form₀ e ∙ as-listed in
       (ap length text, ap (overlay out₀ 0) text)
 
-  right-refused : eqb (answer R₀ .number) 0 ≡ false → Right (0 + length (refusedLine (answer R₀ .number))) (overlay out₀ 0 (refusedLine (answer R₀ .number)))
+  right-refused : eqb (answer R₀ .refusal .number) 0 ≡ false → Right (0 + length (refusedLine (answer R₀ .refusal))) (overlay out₀ 0 (refusedLine (answer R₀ .refusal)))
   right-refused e =
       let text = lines-refused R₀ n m form₀ e ∙ as-listed in
-      (zero-add (length (refusedLine (answer R₀ .number))) ∙ ap length text, ap (overlay out₀ 0) text)
+      (zero-add (length (refusedLine (answer R₀ .refusal))) ∙ ap length text, ap (overlay out₀ 0) text)
 
   module _ (𝓣 : Tables 𝓤 H) (known-block·none : Triple 𝓤 (𝓣 .C #block·none) (Block·none 𝓤 H A mem run)) (known-updates·read-update : Triple 𝓤 (𝓣 .C #updates·read-update) (Updates·read-update 𝓤 H A mem run)) (known-listed·put-tables : Triple 𝓤 (𝓣 .C #listed·put-tables) (Listed·put-tables 𝓤 H A mem run)) (known-listing-text·put-refused : Triple 𝓤 (𝓣 .C #listing-text·put-refused) (Listing-text·put-refused 𝓤 H A mem run)) where
     walk : ent 𝓤 (onEntry 𝓤 H A f.signature κs qs a at-entry) (WpFn 𝓤 H (𝓣 .C) (𝓣 .Λ) code.function (vals (ps out₀)) Post)
@@ -170,10 +171,10 @@ module _ {M : Type 1} (𝓤 : URA M) (H : Heap 𝓤) (A : Atoms 𝓤) (W : Given
         assigns ! (agg ! (and-then ! (load ! (from ! (stop !)) (look ! 21 refl)) (and-then ! (load ! (from ! (fld ! refl (stop !))) (look-in ! 35 (sub ! 1 refl (whole !)))) (no-more !)))) (from ! (stop !)) (init ! 19 refl (tt, (tt, (record { fits = lit< tt }, tt)))) $
         calls-by ! (fmOf 𝓤 H (W .laws) 𝓣) (2 ∷ 1 ∷ 0 ∷ []) (tab word (own-seat l₇ 3072 ν₇ δ₇) (replicate 3072 0) ∷ tab block (own-seat l₅ 512 ν₅ δ₅) (replicate 512 noBlock) ∷ hs out₀) (updates·read-update! 𝓤 H A mem run (𝓣 .C) known-updates·read-update form₀ (are .0) at-update update₀ (own-seat l₅ 512 ν₅ δ₅) (replicate 512 noBlock) (own-seat l₇ 3072 ν₇ δ₇) (replicate 3072 0)) refl (λ P. and-then ! (load ! (from ! (stop !)) (look ! 49 refl)) (and-then ! (load ! (from ! (stop !)) (look ! 47 refl)) (and-then ! (load ! (from ! (stop !)) (look ! 23 refl)) (and-then ! (load ! (from ! (stop !)) (look ! 19 refl)) (no-more !))))) (λ g₂.
         land ! (from ! (stop !)) (init ! 33 refl (g₂ .1 .0)) $
-        assigns ! (of-opd ! (load ! (from ! (fld ! refl (stop !))) (look-in ! 33 (sub ! 0 refl (whole !))))) (from ! (stop !)) (init ! 31 refl (tt, record { fits = (update-number (answer R₀) (g₂ .0)) .1 })) $
-        assigns ! (bin ! (load ! (from ! (stop !)) (look ! 31 refl)) (lit ! tt) tt) (from ! (stop !)) (init ! 17 refl (tt, tt)) $
+        assigns ! (of-opd ! (load ! (from ! (fld ! refl (stop !))) (look-in ! 33 (sub ! 0 refl (whole !))))) (from ! (stop !)) (init ! 31 refl (refusal .lawful M 𝓤 H A W .typed (answer R₀ .refusal) _ (update-refusal (answer R₀) (g₂ .0)) .0)) $
+        assigns ! (bin ! (load ! (from ! (fld ! refl (stop !))) (look-in ! 31 (sub ! 0 refl (whole !)))) (lit ! tt) tt) (from ! (stop !)) (init ! 17 refl (tt, tt)) $
         knows ! (tab word (own-seat l₇ 3072 ν₇ δ₇) words₁ ∷ tab block (own-seat l₅ 512 ν₅ δ₅) rows₁ ∷ hs out₀) (λ sz.
-        tests ! (load ! (from ! (stop !)) (look ! 17 refl))  -- eqb (answer R₀ .number) 0
+        tests ! (load ! (from ! (stop !)) (look ! 17 refl))  -- eqb (answer R₀ .refusal .number) 0
         (λ y₃.
         flat ! $
         assigns ! (addr ! (from ! (fld ! refl (hop ! (look-in ! 45 (sub ! 0 refl (whole !))) (stop !))))) (from ! (stop !)) (init ! 15 refl (tt, tt)) $
@@ -198,12 +199,12 @@ module _ {M : Type 1} (𝓤 : URA M) (H : Heap 𝓤) (A : Atoms 𝓤) (W : Given
         skip-on ! $
         assigns ! (addr ! (from ! (fld ! refl (hop ! (look-in ! 45 (sub ! 0 refl (whole !))) (stop !))))) (from ! (stop !)) (init ! 3 refl (tt, tt)) $
         assigns ! (agg ! (and-then ! (load ! (from ! (stop !)) (look ! 3 refl)) (and-then ! (load ! (from ! (fld ! refl (stop !))) (look-in ! 45 (sub ! 1 refl (whole !)))) (no-more !)))) (from ! (stop !)) (init ! 1 refl (tt, (tt, (record { fits = are .1 .1 .0 .0 .1 .0 }, tt)))) $
-        calls-by ! (fmOf 𝓤 H (W .laws) 𝓣) (3 ∷ []) (tab word (own-seat l₇ 3072 ν₇ δ₇) words₁ ∷ tab block (own-seat l₅ 512 ν₅ δ₅) rows₁ ∷ hs out₀) (listing-text·put-refused! 𝓤 H A mem run (𝓣 .C) known-listing-text·put-refused at-out out₀ 0 (refl, lit< tt) (answer R₀ .number) (update-number (answer R₀) (g₂ .0)) (omega arith)) refl (λ P. and-then ! (load ! (from ! (stop !)) (look ! 1 refl)) (and-then ! (lit ! tt) (and-then ! (load ! (from ! (stop !)) (look ! 31 refl)) (no-more !)))) (λ g₅.
+        calls-by ! (fmOf 𝓤 H (W .laws) 𝓣) (3 ∷ []) (tab word (own-seat l₇ 3072 ν₇ δ₇) words₁ ∷ tab block (own-seat l₅ 512 ν₅ δ₅) rows₁ ∷ hs out₀) (listing-text·put-refused! 𝓤 H A mem run (𝓣 .C) known-listing-text·put-refused at-out out₀ 0 (refl, lit< tt) (answer R₀ .refusal) (update-refusal (answer R₀) (g₂ .0)) (omega arith)) refl (λ P. and-then ! (load ! (from ! (stop !)) (look ! 1 refl)) (and-then ! (lit ! tt) (and-then ! (load ! (from ! (stop !)) (look ! 31 refl)) (no-more !)))) (λ g₅.
         land ! (from ! (stop !)) (init ! 51 refl (g₅ .1 .0)) $
-        move ! (0 ∷ 37 ∷ []) $ own-back ! tt word 3072 3072 (omega (arith)) 0 words₁ l₇ ν₇ δ₇ (tab block (own-seat l₅ 512 ν₅ δ₅) rows₁ ∷ hs (overlay out₀ 0 (refusedLine (answer R₀ .number)))) $ move ! (0 ∷ 2 ∷ 3 ∷ 4 ∷ 5 ∷ 6 ∷ 7 ∷ 8 ∷ 9 ∷ 10 ∷ 11 ∷ 12 ∷ 13 ∷ 14 ∷ 15 ∷ 16 ∷ 17 ∷ 18 ∷ 19 ∷ 20 ∷ 21 ∷ 22 ∷ 23 ∷ 24 ∷ 25 ∷ 26 ∷ 27 ∷ 28 ∷ 29 ∷ 30 ∷ 31 ∷ 32 ∷ 33 ∷ 34 ∷ 35 ∷ 36 ∷ 37 ∷ 1 ∷ []) $
-        move ! (0 ∷ 41 ∷ []) $ own-back ! tt block 512 512 (omega (arith)) noBlock rows₁ l₅ ν₅ δ₅ (hs (overlay out₀ 0 (refusedLine (answer R₀ .number)))) $ move ! (0 ∷ 2 ∷ 3 ∷ 4 ∷ 5 ∷ 6 ∷ 7 ∷ 8 ∷ 9 ∷ 10 ∷ 11 ∷ 12 ∷ 13 ∷ 14 ∷ 15 ∷ 16 ∷ 17 ∷ 18 ∷ 19 ∷ 20 ∷ 21 ∷ 22 ∷ 23 ∷ 24 ∷ 25 ∷ 26 ∷ 27 ∷ 28 ∷ 29 ∷ 30 ∷ 31 ∷ 32 ∷ 33 ∷ 34 ∷ 35 ∷ 36 ∷ 37 ∷ 38 ∷ 39 ∷ 40 ∷ 41 ∷ 1 ∷ []) $
+        move ! (0 ∷ 37 ∷ []) $ own-back ! tt word 3072 3072 (omega (arith)) 0 words₁ l₇ ν₇ δ₇ (tab block (own-seat l₅ 512 ν₅ δ₅) rows₁ ∷ hs (overlay out₀ 0 (refusedLine (answer R₀ .refusal)))) $ move ! (0 ∷ 2 ∷ 3 ∷ 4 ∷ 5 ∷ 6 ∷ 7 ∷ 8 ∷ 9 ∷ 10 ∷ 11 ∷ 12 ∷ 13 ∷ 14 ∷ 15 ∷ 16 ∷ 17 ∷ 18 ∷ 19 ∷ 20 ∷ 21 ∷ 22 ∷ 23 ∷ 24 ∷ 25 ∷ 26 ∷ 27 ∷ 28 ∷ 29 ∷ 30 ∷ 31 ∷ 32 ∷ 33 ∷ 34 ∷ 35 ∷ 36 ∷ 37 ∷ 1 ∷ []) $
+        move ! (0 ∷ 41 ∷ []) $ own-back ! tt block 512 512 (omega (arith)) noBlock rows₁ l₅ ν₅ δ₅ (hs (overlay out₀ 0 (refusedLine (answer R₀ .refusal)))) $ move ! (0 ∷ 2 ∷ 3 ∷ 4 ∷ 5 ∷ 6 ∷ 7 ∷ 8 ∷ 9 ∷ 10 ∷ 11 ∷ 12 ∷ 13 ∷ 14 ∷ 15 ∷ 16 ∷ 17 ∷ 18 ∷ 19 ∷ 20 ∷ 21 ∷ 22 ∷ 23 ∷ 24 ∷ 25 ∷ 26 ∷ 27 ∷ 28 ∷ 29 ∷ 30 ∷ 31 ∷ 32 ∷ 33 ∷ 34 ∷ 35 ∷ 36 ∷ 37 ∷ 38 ∷ 39 ∷ 40 ∷ 41 ∷ 1 ∷ []) $
         returns-within ! Post refl (look ! 51 refl) $
-        free-all ! (_ ∷ []) En (has _ ∷ has _ ∷ has _ ∷ has _ ∷ has _ ∷ has _ ∷ has _ ∷ has _ ∷ has _ ∷ has _ ∷ has _ ∷ has _ ∷ has _ ∷ has _ ∷ has _ ∷ has _ ∷ has _ ∷ has _ ∷ bare ∷ bare ∷ bare ∷ bare ∷ bare ∷ bare ∷ has _ ∷ has _ ∷ []) [] $ by ! (exits (0 + length (refusedLine (answer R₀ .number))) (overlay out₀ 0 (refusedLine (answer R₀ .number))) (g₅ .0) (right-refused y₃))))))))))))
+        free-all ! (_ ∷ []) En (has _ ∷ has _ ∷ has _ ∷ has _ ∷ has _ ∷ has _ ∷ has _ ∷ has _ ∷ has _ ∷ has _ ∷ has _ ∷ has _ ∷ has _ ∷ has _ ∷ has _ ∷ has _ ∷ has _ ∷ has _ ∷ bare ∷ bare ∷ bare ∷ bare ∷ bare ∷ bare ∷ has _ ∷ has _ ∷ []) [] $ by ! (exits (0 + length (refusedLine (answer R₀ .refusal))) (overlay out₀ 0 (refusedLine (answer R₀ .refusal))) (g₅ .0) (right-refused y₃))))))))))))
 
 pub put-reading-spec : {M : Type 1} → stated.statement M
 unfolding code.routine tablesOf

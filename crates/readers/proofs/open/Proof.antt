@@ -42,7 +42,7 @@ use Rattle.readers.specs.declared.Kind.{Kind}
 use Rattle.readers.specs.declared.Start.{Start}
 use Rattle.readers.specs.declared.Column.{Column}
 use Rattle.readers.specs.declared.Opened.{Opened}
-use Rattle.readers.proofs.Sorts.{readers·kind, readers·place, start, start-number, start-place}
+use Rattle.readers.proofs.Sorts.{readers·kind, readers·place, refusal, start, start-refusal, start-place}
 use Rattle.readers.proofs.Cards.{Readers·begin, readers·begin! }
 use Rattle.readers.proofs.Column as T
 use Rattle.readers.proofs.Column.Laws as T′
@@ -83,7 +83,7 @@ module _ {M : Type 1} (𝓤 : URA M) (H : Heap 𝓤) (A : Atoms 𝓤) (W : Given
   column = record { bytes = s; place = told .place }
 
   abbrev made : Opened
-  made = record { number = told .number; column = column }
+  made = record { refusal = told .refusal; column = column }
 
   abbrev low : Val
   low = LL.val (O.the-type α) (O′.the-laws α) made
@@ -99,7 +99,7 @@ module _ {M : Type 1} (𝓤 : URA M) (H : Heap 𝓤) (A : Atoms 𝓤) (W : Given
       nothing ! $ move ! (2 ∷ 0 ∷ []) $ join ! $ frame ! $ nothing ! $ nothing ! $ fjoin ! $ nothing ! $ fjoin ! $ frame ! $
       nothing ! $ owned ! (readers·place .row) (Is (readers·place .row)) (readers·place .makes M 𝓤 H A W) (told .place) _ (start-place told g) $ fjoin ! $ move ! (1 ∷ 0 ∷ []) $ fjoin ! $
       use1 W (‵ (T.the-row α .own column (LL.val (T.the-type α) (T′.the-laws α) column ∷ []))) (own-shut 𝓤 H A W (T.the-type α) (T′.the-laws α) (s, (told .place, tt))) $
-      nothing ! $ move ! (1 ∷ 0 ∷ []) $ fjoin ! $ owned ! (byte .row) (Is (byte .row)) (byte .makes M 𝓤 H A W) (told .number) _ (start-number told g) $ fjoin ! $ by ! (own-shut 𝓤 H A W (O.the-type α) (O′.the-laws α) (told .number, (column, tt)))
+      nothing ! $ move ! (1 ∷ 0 ∷ []) $ fjoin ! $ owned ! (refusal .row) (Is (refusal .row)) (refusal .makes M 𝓤 H A W) (told .refusal) _ (start-refusal told g) $ fjoin ! $ by ! (own-shut 𝓤 H A W (O.the-type α) (O′.the-laws α) (told .refusal, (column, tt)))
 
   module _ (𝓣 : Tables 𝓤 H) (known : Triple 𝓤 (𝓣 .C #readers·begin) (Readers·begin 𝓤 H A mem run)) where
     walk : Is (ShrSlice (named 0) κ u8) s (v ∷ []) → ent 𝓤 (onEntry 𝓤 H A f.signature (κ, tt) (q, tt) (s, (k, tt)) at) (WpFn 𝓤 H (𝓣 .C) (𝓣 .Λ) code.function (v ∷ readers·kind .val k ∷ []) Post)
@@ -113,7 +113,7 @@ module _ {M : Type 1} (𝓤 : URA M) (H : Heap 𝓤) (A : Atoms 𝓤) (W : Given
         let gc = LL.owes (T.the-type α) (T′.the-laws α) column (gs, (start-place told (g .0), tt)) in
         land ! (from ! (stop !)) (init ! 3 refl (g .1 .0)) $
         assigns ! (agg ! (and-then ! (load ! (from ! (stop !)) (look ! 7 refl)) (and-then ! (load ! (from ! (fld ! refl (stop !))) (look-in ! 3 (sub ! 1 refl (whole !)))) (no-more !)))) (from ! (stop !)) (init ! 1 refl (LL.lawful (T.the-type α) (T′.the-laws α) 𝓤 H A W .typed column _ gc .0)) $
-        assigns ! (agg ! (and-then ! (load ! (from ! (fld ! refl (stop !))) (look-in ! 3 (sub ! 0 refl (whole !)))) (and-then ! (load ! (from ! (stop !)) (look ! 1 refl)) (no-more !)))) (from ! (stop !)) (init ! 9 refl (LL.lawful (O.the-type α) (O′.the-laws α) 𝓤 H A W .typed made _ (LL.owes (O.the-type α) (O′.the-laws α) made (start-number told (g .0), (gc, tt))) .0)) $
+        assigns ! (agg ! (and-then ! (load ! (from ! (fld ! refl (stop !))) (look-in ! 3 (sub ! 0 refl (whole !)))) (and-then ! (load ! (from ! (stop !)) (look ! 1 refl)) (no-more !)))) (from ! (stop !)) (init ! 9 refl (LL.lawful (O.the-type α) (O′.the-laws α) 𝓤 H A W .typed made _ (LL.owes (O.the-type α) (O′.the-laws α) made (start-refusal told (g .0), (gc, tt))) .0)) $
         returns ! (look ! 9 refl) $ free-all ! (_ ∷ []) En (has _ ∷ has _ ∷ has _ ∷ has _ ∷ has _ ∷ []) [] $ fsplit ! $ fsplit ! $ keep ! (0 ∷ 1 ∷ []) $ by ! (exits (g .0))))
 
 pub open-spec : {M : Type 1} → stated.statement M

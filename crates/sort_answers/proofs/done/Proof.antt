@@ -1,4 +1,4 @@
--- `sort_answers::done` meets its contract: 0, what was sorted, and what was read.
+-- `sort_answers::done` meets its contract: no refusal, what was sorted, and what was read.
 use mathlib.Core.Path.{refl}
 use Rattle.sort_answers.specs.Answers.{answerTo}
 use Rattle.sort_answers.proofs.done.Statement.{statement}

@@ -1,4 +1,4 @@
--- `sort_answers::none` meets its contract: a number, and counts of 0.
+-- `sort_answers::none` meets its contract: a refusal, and counts of 0.
 use mathlib.Core.Path.{refl}
 use Rattle.sort_answers.specs.Answers.{answered}
 use Rattle.sort_answers.proofs.none.Statement.{statement}

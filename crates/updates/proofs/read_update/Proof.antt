@@ -45,7 +45,7 @@ use Rattle.reader.specs.Reader.{filledOf, rowsOf as filledRows}
 use Rattle.table.specs.Rows.{clearedFrom}
 use Rattle.decoder.specs.Update.{blocksOf}
 use Rattle.updates.specs.Promises.{answer, early, refused, ReadUpdate}
-use Rattle.reader.proofs.Sorts.{refusal, refusal-number, filled, filled·rows-0, filled·rows-1, filled·refused-0, filled-cases}
+use Rattle.reader.proofs.Sorts.{refusal, refusal-has, filled, filled·rows-0, filled·rows-1, filled·refused-0, filled-cases}
 use Rattle.table.proofs.Sorts.{block}
 use Rattle.updates.proofs.Sorts.{deletes·set, deletes·set·ranges-0, deletes·set·refused-0, deletes·set-cases, update, update-has}
 use Rattle.updates.proofs.Laws.{on-early, on-blocks, on-set, on-ranges}
@@ -79,7 +79,7 @@ fs = by-value byte ∷ by-ref 0 tt byte ∷ by-mut 1 tt block ∷ by-mut 2 tt wo
 
 -- the function, its large types in their shape of quick computing
 abbrev fn : Fn
-fn = retyped (some (lone (update .row .mir)) ∷ none ∷ none ∷ none ∷ none ∷ none ∷ none ∷ none ∷ none ∷ some (lone (refusal .row .mir)) ∷ some (lone (refusal .row .mir)) ∷ none ∷ none ∷ none ∷ none ∷ none ∷ none ∷ some (lone (filled .row .mir)) ∷ none ∷ none ∷ some (lone (update .row .mir)) ∷ some (lone (deletes·set .row .mir)) ∷ none ∷ none ∷ some (lone (update .row .mir)) ∷ []) code.function
+fn = retyped (some (lone (update .row .mir)) ∷ none ∷ none ∷ none ∷ none ∷ none ∷ none ∷ none ∷ none ∷ some (lone (refusal .row .mir)) ∷ some (lone (refusal .row .mir)) ∷ none ∷ none ∷ none ∷ none ∷ none ∷ none ∷ some (lone (refusal .row .mir)) ∷ some (lone (filled .row .mir)) ∷ none ∷ none ∷ some (lone (update .row .mir)) ∷ some (lone (deletes·set .row .mir)) ∷ none ∷ none ∷ some (lone (update .row .mir)) ∷ some (lone (refusal .row .mir)) ∷ []) code.function
 
 module _ {M : Type 1} (𝓤 : URA M) (H : Heap 𝓤) (A : Atoms 𝓤) (W : Given 𝓤 H A) (mem : Memory → SProp 𝓤) (run : Routine → Fun 𝓤) (κs : Lfts 3) (qs : Shares 3) (bounds : AllOutlive 3 (f.signature .outlives) κs) (a : Args f.signature κs)
     (are : Are (typesAt (f.signature .params) κs) (Ises (typesAt (f.signature .params) κs)) a (valss (typesAt (f.signature .params) κs) (spells fs κs) a)) where
@@ -128,98 +128,102 @@ module _ {M : Type 1} (𝓤 : URA M) (H : Heap 𝓤) (A : Atoms 𝓤) (W : Given
     walk : ent 𝓤 (onEntry 𝓤 H A f.signature κs qs a at-entry) (WpFn 𝓤 H (𝓣 .C) (𝓣 .Λ) fn (vals (ps rows₀ ranges₀)) Post)
     walk =
         qed W (raw (onEntry 𝓤 H A f.signature κs qs a at-entry) ∷ []) ∵ use1 W (‵ (refs (hs rows₀ ranges₀))) (enters 𝓤 H A W (ps rows₀ ranges₀)) $ enter ! (𝓣 .C) (𝓣 .Λ) fn (vals (ps rows₀ ranges₀)) _ $
-        alloc-all ! (fn .locals) (λ l₀ l₁ l₂ l₃ l₄ l₅ l₆ l₇ l₈ l₉ l₁₀ l₁₁ l₁₂ l₁₃ l₁₄ l₁₅ l₁₆ l₁₇ l₁₈ l₁₉ l₂₀ l₂₁ l₂₂ l₂₃ l₂₄ l₂₅ l₂₆ l₂₇ l₂₈ l₂₉ l₃₀. let ls : List ℕ = l₀ ∷ l₁ ∷ l₂ ∷ l₃ ∷ l₄ ∷ l₅ ∷ l₆ ∷ l₇ ∷ l₈ ∷ l₉ ∷ l₁₀ ∷ l₁₁ ∷ l₁₂ ∷ l₁₃ ∷ l₁₄ ∷ l₁₅ ∷ l₁₆ ∷ l₁₇ ∷ l₁₈ ∷ l₁₉ ∷ l₂₀ ∷ l₂₁ ∷ l₂₂ ∷ l₂₃ ∷ l₂₄ ∷ l₂₅ ∷ l₂₆ ∷ l₂₇ ∷ l₂₈ ∷ l₂₉ ∷ l₃₀ ∷ [] in let En : Envs = envOf (fn .locals) ls in
-        params1 ! $ pass1 ! (init ! 58 refl (byte .lawful M 𝓤 H A W .typed form₀ _ (are .0) .0)) $ pass1 ! (init ! 56 refl (tt, (tt, (record { fits = are .1 .0 .0 .1 .0 }, tt)))) $ pass1 ! (init ! 54 refl (tt, (tt, (record { fits = are .1 .1 .0 .0 .1 .0 }, tt)))) $ pass1 ! (init ! 52 refl (tt, (tt, (record { fits = are .1 .1 .1 .0 .0 .1 .0 }, tt)))) $ pass0 ! $ move ! (62 ∷ []) $
-        -- [the references; _30 at 1; _29 at 3; _28 at 5; _27 at 7; _26 at 9; _25 at 11; _24 at 13; _23 at 15; _22 at 17; _21 at 19; _20 at 21; _19 at 23; _18 at 25; _17 at 27; _16 at 29; _15 at 31; _14 at 33; _13 at 35; _12 at 37; _11 at 39; _10 at 41; _9 at 43; _8 at 45; _7 at 47; _6 at 49; _5 at 51; _4 at 53; _3 at 55; _2 at 57; _1 at 59; _0 at 61]
-        calls-by ! (fmOf 𝓤 H (W .laws) 𝓣) (0 ∷ []) (hs rows₀ ranges₀) (updates·refused-early! 𝓤 H A mem run (𝓣 .C) known-updates·refused-early form₀ (are .0) at-update update₀) refl (λ P. and-then ! (load ! (from ! (stop !)) (look ! 59 refl)) (and-then ! (load ! (from ! (stop !)) (look ! 57 refl)) (no-more !))) (λ g₁.
-        land ! (from ! (stop !)) (init ! 51 refl (g₁ .1 .0)) $
-        assigns ! (bin ! (load ! (from ! (stop !)) (look ! 51 refl)) (lit ! tt) tt) (from ! (stop !)) (init ! 39 refl (tt, tt)) $
-        tests ! (load ! (from ! (stop !)) (look ! 39 refl))  -- not (eqb (early form₀ update₀) 0)
+        alloc-all ! (fn .locals) (λ l₀ l₁ l₂ l₃ l₄ l₅ l₆ l₇ l₈ l₉ l₁₀ l₁₁ l₁₂ l₁₃ l₁₄ l₁₅ l₁₆ l₁₇ l₁₈ l₁₉ l₂₀ l₂₁ l₂₂ l₂₃ l₂₄ l₂₅ l₂₆ l₂₇ l₂₈ l₂₉ l₃₀ l₃₁ l₃₂. let ls : List ℕ = l₀ ∷ l₁ ∷ l₂ ∷ l₃ ∷ l₄ ∷ l₅ ∷ l₆ ∷ l₇ ∷ l₈ ∷ l₉ ∷ l₁₀ ∷ l₁₁ ∷ l₁₂ ∷ l₁₃ ∷ l₁₄ ∷ l₁₅ ∷ l₁₆ ∷ l₁₇ ∷ l₁₈ ∷ l₁₉ ∷ l₂₀ ∷ l₂₁ ∷ l₂₂ ∷ l₂₃ ∷ l₂₄ ∷ l₂₅ ∷ l₂₆ ∷ l₂₇ ∷ l₂₈ ∷ l₂₉ ∷ l₃₀ ∷ l₃₁ ∷ l₃₂ ∷ [] in let En : Envs = envOf (fn .locals) ls in
+        params1 ! $ pass1 ! (init ! 62 refl (byte .lawful M 𝓤 H A W .typed form₀ _ (are .0) .0)) $ pass1 ! (init ! 60 refl (tt, (tt, (record { fits = are .1 .0 .0 .1 .0 }, tt)))) $ pass1 ! (init ! 58 refl (tt, (tt, (record { fits = are .1 .1 .0 .0 .1 .0 }, tt)))) $ pass1 ! (init ! 56 refl (tt, (tt, (record { fits = are .1 .1 .1 .0 .0 .1 .0 }, tt)))) $ pass0 ! $ move ! (66 ∷ []) $
+        -- [the references; _32 at 1; _31 at 3; _30 at 5; _29 at 7; _28 at 9; _27 at 11; _26 at 13; _25 at 15; _24 at 17; _23 at 19; _22 at 21; _21 at 23; _20 at 25; _19 at 27; _18 at 29; _17 at 31; _16 at 33; _15 at 35; _14 at 37; _13 at 39; _12 at 41; _11 at 43; _10 at 45; _9 at 47; _8 at 49; _7 at 51; _6 at 53; _5 at 55; _4 at 57; _3 at 59; _2 at 61; _1 at 63; _0 at 65]
+        calls-by ! (fmOf 𝓤 H (W .laws) 𝓣) (0 ∷ []) (hs rows₀ ranges₀) (updates·refused-early! 𝓤 H A mem run (𝓣 .C) known-updates·refused-early form₀ (are .0) at-update update₀) refl (λ P. and-then ! (load ! (from ! (stop !)) (look ! 63 refl)) (and-then ! (load ! (from ! (stop !)) (look ! 61 refl)) (no-more !))) (λ g₁.
+        land ! (from ! (stop !)) (init ! 55 refl (g₁ .1 .0)) $
+        assigns ! (bin ! (load ! (from ! (stop !)) (look ! 55 refl)) (lit ! tt) tt) (from ! (stop !)) (init ! 43 refl (tt, tt)) $
+        tests ! (load ! (from ! (stop !)) (look ! 43 refl))  -- not (eqb (early form₀ update₀) 0)
         (λ y₂.
         flat ! $
-        assigns ! (addr ! (from ! (fld ! refl (hop ! (look-in ! 55 (sub ! 0 refl (whole !))) (stop !))))) (from ! (stop !)) (init ! 35 refl (tt, tt)) $
+        assigns ! (addr ! (from ! (fld ! refl (hop ! (look-in ! 59 (sub ! 0 refl (whole !))) (stop !))))) (from ! (stop !)) (init ! 39 refl (tt, tt)) $
         flat ! $
-        assigns ! (agg ! (and-then ! (load ! (from ! (stop !)) (look ! 35 refl)) (and-then ! (load ! (from ! (fld ! refl (stop !))) (look-in ! 55 (sub ! 1 refl (whole !)))) (no-more !)))) (from ! (stop !)) (init ! 33 refl (tt, (tt, (record { fits = are .1 .1 .0 .0 .1 .0 }, tt)))) $
+        assigns ! (agg ! (and-then ! (load ! (from ! (stop !)) (look ! 39 refl)) (and-then ! (load ! (from ! (fld ! refl (stop !))) (look-in ! 59 (sub ! 1 refl (whole !)))) (no-more !)))) (from ! (stop !)) (init ! 37 refl (tt, (tt, (record { fits = are .1 .1 .0 .0 .1 .0 }, tt)))) $
         flat ! $
-        calls-by ! (fmOf 𝓤 H (W .laws) 𝓣) (1 ∷ []) (hs rows₀ ranges₀) (table·clear! 𝓤 H A mem run (𝓣 .C) known-table·clear at-rows rows₀ 0 (refl, lit< tt)) refl (λ P. and-then ! (load ! (from ! (stop !)) (look ! 33 refl)) (and-then ! (lit ! tt) (no-more !))) (λ g₃.
-        land ! (from ! (stop !)) (init ! 37 refl (g₃ .1 .0)) $
+        calls-by ! (fmOf 𝓤 H (W .laws) 𝓣) (1 ∷ []) (hs rows₀ ranges₀) (table·clear! 𝓤 H A mem run (𝓣 .C) known-table·clear at-rows rows₀ 0 (refl, lit< tt)) refl (λ P. and-then ! (load ! (from ! (stop !)) (look ! 37 refl)) (and-then ! (lit ! tt) (no-more !))) (λ g₃.
+        land ! (from ! (stop !)) (init ! 41 refl (g₃ .1 .0)) $
         flat ! $
-        assigns ! (addr ! (from ! (fld ! refl (hop ! (look-in ! 53 (sub ! 0 refl (whole !))) (stop !))))) (from ! (stop !)) (init ! 31 refl (tt, tt)) $
+        assigns ! (addr ! (from ! (fld ! refl (hop ! (look-in ! 57 (sub ! 0 refl (whole !))) (stop !))))) (from ! (stop !)) (init ! 35 refl (tt, tt)) $
         flat ! $
-        assigns ! (agg ! (and-then ! (load ! (from ! (stop !)) (look ! 31 refl)) (and-then ! (load ! (from ! (fld ! refl (stop !))) (look-in ! 53 (sub ! 1 refl (whole !)))) (no-more !)))) (from ! (stop !)) (init ! 29 refl (tt, (tt, (record { fits = are .1 .1 .1 .0 .0 .1 .0 }, tt)))) $
+        assigns ! (agg ! (and-then ! (load ! (from ! (stop !)) (look ! 35 refl)) (and-then ! (load ! (from ! (fld ! refl (stop !))) (look-in ! 57 (sub ! 1 refl (whole !)))) (no-more !)))) (from ! (stop !)) (init ! 33 refl (tt, (tt, (record { fits = are .1 .1 .1 .0 .0 .1 .0 }, tt)))) $
         flat ! $
-        calls-by ! (fmOf 𝓤 H (W .laws) 𝓣) (2 ∷ []) (hs (clearedFrom 0 rows₀) ranges₀) (numbers·words·clear! 𝓤 H A mem run (𝓣 .C) known-numbers·words·clear at-ranges ranges₀ 0 (refl, lit< tt) (omega arith)) refl (λ P. and-then ! (load ! (from ! (stop !)) (look ! 29 refl)) (and-then ! (lit ! tt) (no-more !))) (λ g₄.
-        land ! (from ! (stop !)) (store ! 37 refl (g₄ .1 .0)) $
+        calls-by ! (fmOf 𝓤 H (W .laws) 𝓣) (2 ∷ []) (hs (clearedFrom 0 rows₀) ranges₀) (numbers·words·clear! 𝓤 H A mem run (𝓣 .C) known-numbers·words·clear at-ranges ranges₀ 0 (refl, lit< tt) (omega arith)) refl (λ P. and-then ! (load ! (from ! (stop !)) (look ! 33 refl)) (and-then ! (lit ! tt) (no-more !))) (λ g₄.
+        land ! (from ! (stop !)) (store ! 41 refl (g₄ .1 .0)) $
         flat ! $
-        calls-by ! (fmOf 𝓤 H (W .laws) 𝓣) ([]) (hs (clearedFrom 0 rows₀) (take 0 ranges₀ ++ replicate (length ranges₀ - 0) 0)) (updates·none! 𝓤 H A mem run (𝓣 .C) known-updates·none (early form₀ update₀) (g₁ .0)) refl (λ P. and-then ! (load ! (from ! (stop !)) (look ! 51 refl)) (no-more !)) (λ g₅.
-        land ! (from ! (stop !)) (init ! 61 refl (g₅ .1 .0)) $
-        return-on ! Post refl (look ! 61 refl) $
-        free-all ! (_ ∷ []) En (has _ ∷ has _ ∷ has _ ∷ has _ ∷ has _ ∷ has _ ∷ bare ∷ bare ∷ bare ∷ bare ∷ bare ∷ has _ ∷ has _ ∷ has _ ∷ has _ ∷ has _ ∷ has _ ∷ []) [] $ by ! (exits (answer (refused (early form₀ update₀))) (clearedFrom 0 rows₀) (take 0 ranges₀ ++ replicate (length ranges₀ - 0) 0) (g₅ .0) (on-early form₀ update₀ rows₀ ranges₀ (not-true (eqb (early form₀ update₀) 0) y₂)))))))
+        assigns ! (agg ! (and-then ! (load ! (from ! (stop !)) (look ! 55 refl)) (and-then ! (lit ! tt) (no-more !)))) (from ! (stop !)) (init ! 31 refl (refusal .lawful M 𝓤 H A W .typed (record { number = early form₀ update₀; place = 0 }) _ (refusal-has (early form₀ update₀) (g₁ .0) 0 (refl, lit< tt)) .0)) $
+        flat ! $
+        calls-by ! (fmOf 𝓤 H (W .laws) 𝓣) ([]) (hs (clearedFrom 0 rows₀) (take 0 ranges₀ ++ replicate (length ranges₀ - 0) 0)) (updates·none! 𝓤 H A mem run (𝓣 .C) known-updates·none (record { number = early form₀ update₀; place = 0 }) (refusal-has (early form₀ update₀) (g₁ .0) 0 (refl, lit< tt))) refl (λ P. and-then ! (load ! (from ! (stop !)) (look ! 31 refl)) (no-more !)) (λ g₅.
+        land ! (from ! (stop !)) (init ! 65 refl (g₅ .1 .0)) $
+        return-on ! Post refl (look ! 65 refl) $
+        free-all ! (_ ∷ []) En (has _ ∷ has _ ∷ has _ ∷ has _ ∷ has _ ∷ has _ ∷ bare ∷ bare ∷ bare ∷ bare ∷ bare ∷ has _ ∷ has _ ∷ has _ ∷ has _ ∷ has _ ∷ has _ ∷ has _ ∷ []) [] $ by ! (exits (answer (refused (record { number = early form₀ update₀; place = 0 }))) (clearedFrom 0 rows₀) (take 0 ranges₀ ++ replicate (length ranges₀ - 0) 0) (g₅ .0) (on-early form₀ update₀ rows₀ ranges₀ (not-true (eqb (early form₀ update₀) 0) y₂)))))))
         (λ y₂.
         skip-on ! $
-        assigns ! (addr ! (from ! (fld ! refl (hop ! (look-in ! 55 (sub ! 0 refl (whole !))) (stop !))))) (from ! (stop !)) (init ! 25 refl (tt, tt)) $
-        assigns ! (agg ! (and-then ! (load ! (from ! (stop !)) (look ! 25 refl)) (and-then ! (load ! (from ! (fld ! refl (stop !))) (look-in ! 55 (sub ! 1 refl (whole !)))) (no-more !)))) (from ! (stop !)) (init ! 23 refl (tt, (tt, (record { fits = are .1 .1 .0 .0 .1 .0 }, tt)))) $
-        calls-by ! (fmOf 𝓤 H (W .laws) 𝓣) (0 ∷ 1 ∷ []) (hs rows₀ ranges₀) (reader·read-blocks! 𝓤 H A mem run (𝓣 .C) known-reader·read-blocks form₀ (are .0) at-update update₀ at-rows rows₀) refl (λ P. and-then ! (load ! (from ! (stop !)) (look ! 59 refl)) (and-then ! (load ! (from ! (stop !)) (look ! 57 refl)) (and-then ! (load ! (from ! (stop !)) (look ! 23 refl)) (no-more !)))) (λ g₆.
-        land ! (from ! (stop !)) (init ! 27 refl (g₆ .1 .0)) $
+        assigns ! (addr ! (from ! (fld ! refl (hop ! (look-in ! 59 (sub ! 0 refl (whole !))) (stop !))))) (from ! (stop !)) (init ! 27 refl (tt, tt)) $
+        assigns ! (agg ! (and-then ! (load ! (from ! (stop !)) (look ! 27 refl)) (and-then ! (load ! (from ! (fld ! refl (stop !))) (look-in ! 59 (sub ! 1 refl (whole !)))) (no-more !)))) (from ! (stop !)) (init ! 25 refl (tt, (tt, (record { fits = are .1 .1 .0 .0 .1 .0 }, tt)))) $
+        calls-by ! (fmOf 𝓤 H (W .laws) 𝓣) (0 ∷ 1 ∷ []) (hs rows₀ ranges₀) (reader·read-blocks! 𝓤 H A mem run (𝓣 .C) known-reader·read-blocks form₀ (are .0) at-update update₀ at-rows rows₀) refl (λ P. and-then ! (load ! (from ! (stop !)) (look ! 63 refl)) (and-then ! (load ! (from ! (stop !)) (look ! 61 refl)) (and-then ! (load ! (from ! (stop !)) (look ! 25 refl)) (no-more !)))) (λ g₆.
+        land ! (from ! (stop !)) (init ! 29 refl (g₆ .1 .0)) $
         filled-cases (filledOf (length rows₀) (blocksOf form₀ update₀))
         (λ x₇a x₇b e₇.  -- Rows
-        revalue ! 27 (filled .val) e₇ refl $ switches-to ! (load ! (from ! (vrt ! refl (fld ! refl (stop !)))) (look-tag ! 27 (whole !))) refl $
+        revalue ! 29 (filled .val) e₇ refl $ switches-to ! (load ! (from ! (vrt ! refl (fld ! refl (stop !)))) (look-tag ! 29 (whole !))) refl $
         flat ! $
-        assigns ! (of-opd ! (load ! (from ! (vrt ! refl (fld ! refl (stop !)))) (look-in ! 27 (in-variant ! 0 0 refl refl (whole !))))) (from ! (stop !)) (init ! 49 refl (tt, record { fits = (filled·rows-0 x₇a x₇b (subst (Has filled) e₇ (g₆ .0))) .1 })) $
+        assigns ! (of-opd ! (load ! (from ! (vrt ! refl (fld ! refl (stop !)))) (look-in ! 29 (in-variant ! 0 0 refl refl (whole !))))) (from ! (stop !)) (init ! 53 refl (tt, record { fits = (filled·rows-0 x₇a x₇b (subst (Has filled) e₇ (g₆ .0))) .1 })) $
         flat ! $
-        assigns ! (of-opd ! (load ! (from ! (vrt ! refl (fld ! refl (stop !)))) (look-in ! 27 (in-variant ! 0 1 refl refl (whole !))))) (from ! (stop !)) (init ! 47 refl (tt, record { fits = (filled·rows-1 x₇a x₇b (subst (Has filled) e₇ (g₆ .0))) .1 })) $
+        assigns ! (of-opd ! (load ! (from ! (vrt ! refl (fld ! refl (stop !)))) (look-in ! 29 (in-variant ! 0 1 refl refl (whole !))))) (from ! (stop !)) (init ! 51 refl (tt, record { fits = (filled·rows-1 x₇a x₇b (subst (Has filled) e₇ (g₆ .0))) .1 })) $
         flat ! $
-        assigns ! (addr ! (from ! (fld ! refl (hop ! (look-in ! 53 (sub ! 0 refl (whole !))) (stop !))))) (from ! (stop !)) (init ! 17 refl (tt, tt)) $
+        assigns ! (addr ! (from ! (fld ! refl (hop ! (look-in ! 57 (sub ! 0 refl (whole !))) (stop !))))) (from ! (stop !)) (init ! 19 refl (tt, tt)) $
         flat ! $
-        assigns ! (agg ! (and-then ! (load ! (from ! (stop !)) (look ! 17 refl)) (and-then ! (load ! (from ! (fld ! refl (stop !))) (look-in ! 53 (sub ! 1 refl (whole !)))) (no-more !)))) (from ! (stop !)) (init ! 15 refl (tt, (tt, (record { fits = are .1 .1 .1 .0 .0 .1 .0 }, tt)))) $
+        assigns ! (agg ! (and-then ! (load ! (from ! (stop !)) (look ! 19 refl)) (and-then ! (load ! (from ! (fld ! refl (stop !))) (look-in ! 57 (sub ! 1 refl (whole !)))) (no-more !)))) (from ! (stop !)) (init ! 17 refl (tt, (tt, (record { fits = are .1 .1 .1 .0 .0 .1 .0 }, tt)))) $
         flat ! $
-        calls-by ! (fmOf 𝓤 H (W .laws) 𝓣) (0 ∷ 2 ∷ []) (hs (filledRows (length rows₀) (blocksOf form₀ update₀)) ranges₀) (deletes·read-delete-set! 𝓤 H A mem run (𝓣 .C) known-deletes·read-delete-set form₀ (are .0) at-update update₀ x₇b (filled·rows-1 x₇a x₇b (subst (Has filled) e₇ (g₆ .0))) at-ranges ranges₀) refl (λ P. and-then ! (load ! (from ! (stop !)) (look ! 59 refl)) (and-then ! (load ! (from ! (stop !)) (look ! 57 refl)) (and-then ! (load ! (from ! (stop !)) (look ! 47 refl)) (and-then ! (load ! (from ! (stop !)) (look ! 15 refl)) (no-more !))))) (λ g₈.
-        land ! (from ! (stop !)) (init ! 19 refl (g₈ .1 .0)) $
+        calls-by ! (fmOf 𝓤 H (W .laws) 𝓣) (0 ∷ 2 ∷ []) (hs (filledRows (length rows₀) (blocksOf form₀ update₀)) ranges₀) (deletes·read-delete-set! 𝓤 H A mem run (𝓣 .C) known-deletes·read-delete-set form₀ (are .0) at-update update₀ x₇b (filled·rows-1 x₇a x₇b (subst (Has filled) e₇ (g₆ .0))) at-ranges ranges₀) refl (λ P. and-then ! (load ! (from ! (stop !)) (look ! 63 refl)) (and-then ! (load ! (from ! (stop !)) (look ! 61 refl)) (and-then ! (load ! (from ! (stop !)) (look ! 51 refl)) (and-then ! (load ! (from ! (stop !)) (look ! 17 refl)) (no-more !))))) (λ g₈.
+        land ! (from ! (stop !)) (init ! 21 refl (g₈ .1 .0)) $
         flat ! $
         deletes·set-cases (setOf form₀ update₀ x₇b (length ranges₀))
         (λ x₉a x₉b e₉.  -- Ranges
-        revalue ! 19 (deletes·set .val) e₉ refl $ switches-to ! (load ! (from ! (vrt ! refl (fld ! refl (stop !)))) (look-tag ! 19 (whole !))) refl $
+        revalue ! 21 (deletes·set .val) e₉ refl $ switches-to ! (load ! (from ! (vrt ! refl (fld ! refl (stop !)))) (look-tag ! 21 (whole !))) refl $
         flat ! $
-        assigns ! (of-opd ! (load ! (from ! (vrt ! refl (fld ! refl (stop !)))) (look-in ! 19 (in-variant ! 0 0 refl refl (whole !))))) (from ! (stop !)) (init ! 45 refl (tt, record { fits = (deletes·set·ranges-0 x₉a x₉b (subst (Has deletes·set) e₉ (g₈ .0))) .1 })) $
-        assigns ! (agg ! (and-then ! (lit ! tt) (and-then ! (load ! (from ! (stop !)) (look ! 49 refl)) (and-then ! (load ! (from ! (stop !)) (look ! 45 refl)) (no-more !))))) (from ! (stop !)) (init ! 13 refl (update .lawful M 𝓤 H A W .typed (record { number = 0; blocks = x₇a; ranges = x₉a }) _ (update-has 0 (refl, lit< tt) x₇a (filled·rows-0 x₇a x₇b (subst (Has filled) e₇ (g₆ .0))) x₉a (deletes·set·ranges-0 x₉a x₉b (subst (Has deletes·set) e₉ (g₈ .0)))) .0)) $
-        assigns ! (of-opd ! (load ! (from ! (stop !)) (look ! 13 refl))) (from ! (stop !)) (init ! 21 refl (update .lawful M 𝓤 H A W .typed (record { number = 0; blocks = x₇a; ranges = x₉a }) _ (update-has 0 (refl, lit< tt) x₇a (filled·rows-0 x₇a x₇b (subst (Has filled) e₇ (g₆ .0))) x₉a (deletes·set·ranges-0 x₉a x₉b (subst (Has deletes·set) e₉ (g₈ .0)))) .0)) $
-        assigns ! (of-opd ! (load ! (from ! (stop !)) (look ! 21 refl))) (from ! (stop !)) (init ! 61 refl (update .lawful M 𝓤 H A W .typed (record { number = 0; blocks = x₇a; ranges = x₉a }) _ (update-has 0 (refl, lit< tt) x₇a (filled·rows-0 x₇a x₇b (subst (Has filled) e₇ (g₆ .0))) x₉a (deletes·set·ranges-0 x₉a x₉b (subst (Has deletes·set) e₉ (g₈ .0)))) .0)) $
-        returns-within ! Post refl (look ! 61 refl) $
-        free-all ! (_ ∷ []) En (has _ ∷ has _ ∷ has _ ∷ has _ ∷ has _ ∷ has _ ∷ has _ ∷ has _ ∷ has _ ∷ bare ∷ bare ∷ has _ ∷ bare ∷ bare ∷ bare ∷ bare ∷ bare ∷ has _ ∷ has _ ∷ has _ ∷ has _ ∷ has _ ∷ has _ ∷ has _ ∷ has _ ∷ []) [] $ by ! (exits (record { number = 0; blocks = x₇a; ranges = x₉a }) (filledRows (length rows₀) (blocksOf form₀ update₀)) (setWords form₀ update₀ x₇b (length ranges₀)) (update-has 0 (refl, lit< tt) x₇a (filled·rows-0 x₇a x₇b (subst (Has filled) e₇ (g₆ .0))) x₉a (deletes·set·ranges-0 x₉a x₉b (subst (Has deletes·set) e₉ (g₈ .0)))) (on-ranges form₀ update₀ rows₀ ranges₀ (not-false (eqb (early form₀ update₀) 0) y₂) x₇a x₇b e₇ x₉a x₉b e₉)))
+        assigns ! (of-opd ! (load ! (from ! (vrt ! refl (fld ! refl (stop !)))) (look-in ! 21 (in-variant ! 0 0 refl refl (whole !))))) (from ! (stop !)) (init ! 49 refl (tt, record { fits = (deletes·set·ranges-0 x₉a x₉b (subst (Has deletes·set) e₉ (g₈ .0))) .1 })) $
+        flat ! $
+        assigns ! (agg ! (and-then ! (lit ! tt) (and-then ! (lit ! tt) (no-more !)))) (from ! (stop !)) (init ! 13 refl (refusal .lawful M 𝓤 H A W .typed (record { number = 0; place = 0 }) _ (refusal-has 0 (refl, lit< tt) 0 (refl, lit< tt)) .0)) $
+        assigns ! (agg ! (and-then ! (load ! (from ! (stop !)) (look ! 13 refl)) (and-then ! (load ! (from ! (stop !)) (look ! 53 refl)) (and-then ! (load ! (from ! (stop !)) (look ! 49 refl)) (no-more !))))) (from ! (stop !)) (init ! 15 refl (update .lawful M 𝓤 H A W .typed (record { refusal = record { number = 0; place = 0 }; blocks = x₇a; ranges = x₉a }) _ (update-has (record { number = 0; place = 0 }) (refusal-has 0 (refl, lit< tt) 0 (refl, lit< tt)) x₇a (filled·rows-0 x₇a x₇b (subst (Has filled) e₇ (g₆ .0))) x₉a (deletes·set·ranges-0 x₉a x₉b (subst (Has deletes·set) e₉ (g₈ .0)))) .0)) $
+        assigns ! (of-opd ! (load ! (from ! (stop !)) (look ! 15 refl))) (from ! (stop !)) (init ! 23 refl (update .lawful M 𝓤 H A W .typed (record { refusal = record { number = 0; place = 0 }; blocks = x₇a; ranges = x₉a }) _ (update-has (record { number = 0; place = 0 }) (refusal-has 0 (refl, lit< tt) 0 (refl, lit< tt)) x₇a (filled·rows-0 x₇a x₇b (subst (Has filled) e₇ (g₆ .0))) x₉a (deletes·set·ranges-0 x₉a x₉b (subst (Has deletes·set) e₉ (g₈ .0)))) .0)) $
+        assigns ! (of-opd ! (load ! (from ! (stop !)) (look ! 23 refl))) (from ! (stop !)) (init ! 65 refl (update .lawful M 𝓤 H A W .typed (record { refusal = record { number = 0; place = 0 }; blocks = x₇a; ranges = x₉a }) _ (update-has (record { number = 0; place = 0 }) (refusal-has 0 (refl, lit< tt) 0 (refl, lit< tt)) x₇a (filled·rows-0 x₇a x₇b (subst (Has filled) e₇ (g₆ .0))) x₉a (deletes·set·ranges-0 x₉a x₉b (subst (Has deletes·set) e₉ (g₈ .0)))) .0)) $
+        returns-within ! Post refl (look ! 65 refl) $
+        free-all ! (_ ∷ []) En (has _ ∷ has _ ∷ has _ ∷ has _ ∷ has _ ∷ has _ ∷ has _ ∷ has _ ∷ has _ ∷ bare ∷ bare ∷ has _ ∷ bare ∷ bare ∷ bare ∷ bare ∷ bare ∷ bare ∷ has _ ∷ has _ ∷ has _ ∷ has _ ∷ has _ ∷ has _ ∷ has _ ∷ has _ ∷ has _ ∷ []) [] $ by ! (exits (record { refusal = record { number = 0; place = 0 }; blocks = x₇a; ranges = x₉a }) (filledRows (length rows₀) (blocksOf form₀ update₀)) (setWords form₀ update₀ x₇b (length ranges₀)) (update-has (record { number = 0; place = 0 }) (refusal-has 0 (refl, lit< tt) 0 (refl, lit< tt)) x₇a (filled·rows-0 x₇a x₇b (subst (Has filled) e₇ (g₆ .0))) x₉a (deletes·set·ranges-0 x₉a x₉b (subst (Has deletes·set) e₉ (g₈ .0)))) (on-ranges form₀ update₀ rows₀ ranges₀ (not-false (eqb (early form₀ update₀) 0) y₂) x₇a x₇b e₇ x₉a x₉b e₉)))
         (λ x₉ e₉.  -- Refused
         knows ! (hs (filledRows (length rows₀) (blocksOf form₀ update₀)) (setWords form₀ update₀ x₇b (length ranges₀))) (λ sz.
-        revalue ! 19 (deletes·set .val) e₉ refl $ switches-to ! (load ! (from ! (vrt ! refl (fld ! refl (stop !)))) (look-tag ! 19 (whole !))) refl $
+        revalue ! 21 (deletes·set .val) e₉ refl $ switches-to ! (load ! (from ! (vrt ! refl (fld ! refl (stop !)))) (look-tag ! 21 (whole !))) refl $
         flat ! $
-        assigns ! (of-opd ! (load ! (from ! (vrt ! refl (fld ! refl (stop !)))) (look-in ! 19 (in-variant ! 1 0 refl refl (whole !))))) (from ! (stop !)) (init ! 43 refl (refusal .lawful M 𝓤 H A W .typed x₉ _ (deletes·set·refused-0 x₉ (subst (Has deletes·set) e₉ (g₈ .0))) .0)) $
+        assigns ! (of-opd ! (load ! (from ! (vrt ! refl (fld ! refl (stop !)))) (look-in ! 21 (in-variant ! 1 0 refl refl (whole !))))) (from ! (stop !)) (init ! 47 refl (refusal .lawful M 𝓤 H A W .typed x₉ _ (deletes·set·refused-0 x₉ (subst (Has deletes·set) e₉ (g₈ .0))) .0)) $
         flat ! $
-        assigns ! (addr ! (from ! (fld ! refl (hop ! (look-in ! 55 (sub ! 0 refl (whole !))) (stop !))))) (from ! (stop !)) (init ! 9 refl (tt, tt)) $
+        assigns ! (addr ! (from ! (fld ! refl (hop ! (look-in ! 59 (sub ! 0 refl (whole !))) (stop !))))) (from ! (stop !)) (init ! 9 refl (tt, tt)) $
         flat ! $
-        assigns ! (agg ! (and-then ! (load ! (from ! (stop !)) (look ! 9 refl)) (and-then ! (load ! (from ! (fld ! refl (stop !))) (look-in ! 55 (sub ! 1 refl (whole !)))) (no-more !)))) (from ! (stop !)) (init ! 7 refl (tt, (tt, (record { fits = are .1 .1 .0 .0 .1 .0 }, tt)))) $
+        assigns ! (agg ! (and-then ! (load ! (from ! (stop !)) (look ! 9 refl)) (and-then ! (load ! (from ! (fld ! refl (stop !))) (look-in ! 59 (sub ! 1 refl (whole !)))) (no-more !)))) (from ! (stop !)) (init ! 7 refl (tt, (tt, (record { fits = are .1 .1 .0 .0 .1 .0 }, tt)))) $
         flat ! $
         calls-by ! (fmOf 𝓤 H (W .laws) 𝓣) (1 ∷ []) (hs (filledRows (length rows₀) (blocksOf form₀ update₀)) (setWords form₀ update₀ x₇b (length ranges₀))) (table·clear! 𝓤 H A mem run (𝓣 .C) known-table·clear at-rows (filledRows (length rows₀) (blocksOf form₀ update₀)) 0 (refl, lit< tt)) refl (λ P. and-then ! (load ! (from ! (stop !)) (look ! 7 refl)) (and-then ! (lit ! tt) (no-more !))) (λ g₁₀.
         land ! (from ! (stop !)) (init ! 11 refl (g₁₀ .1 .0)) $
-        calls-by ! (fmOf 𝓤 H (W .laws) 𝓣) ([]) (hs (clearedFrom 0 (filledRows (length rows₀) (blocksOf form₀ update₀))) (setWords form₀ update₀ x₇b (length ranges₀))) (updates·none! 𝓤 H A mem run (𝓣 .C) known-updates·none (x₉ .number) (refusal-number x₉ (deletes·set·refused-0 x₉ (subst (Has deletes·set) e₉ (g₈ .0))))) refl (λ P. and-then ! (load ! (from ! (fld ! refl (stop !))) (look-in ! 43 (sub ! 0 refl (whole !)))) (no-more !)) (λ g₁₁.
-        land ! (from ! (stop !)) (init ! 13 refl (g₁₁ .1 .0)) $
-        assigns ! (of-opd ! (load ! (from ! (stop !)) (look ! 13 refl))) (from ! (stop !)) (init ! 21 refl (g₁₁ .1 .0)) $
-        assigns ! (of-opd ! (load ! (from ! (stop !)) (look ! 21 refl))) (from ! (stop !)) (init ! 61 refl (g₁₁ .1 .0)) $
-        returns-within ! Post refl (look ! 61 refl) $
-        free-all ! (_ ∷ []) En (has _ ∷ has _ ∷ has _ ∷ has _ ∷ has _ ∷ has _ ∷ has _ ∷ has _ ∷ bare ∷ has _ ∷ bare ∷ has _ ∷ bare ∷ bare ∷ bare ∷ bare ∷ bare ∷ has _ ∷ has _ ∷ has _ ∷ has _ ∷ has _ ∷ has _ ∷ has _ ∷ has _ ∷ has _ ∷ has _ ∷ has _ ∷ []) [] $ by ! (exits (answer (refused (x₉ .number))) (clearedFrom 0 (filledRows (length rows₀) (blocksOf form₀ update₀))) (setWords form₀ update₀ x₇b (length ranges₀)) (g₁₁ .0) (on-set form₀ update₀ rows₀ ranges₀ (not-false (eqb (early form₀ update₀) 0) y₂) x₇a x₇b e₇ x₉ e₉ (sz .0)))))))))
+        calls-by ! (fmOf 𝓤 H (W .laws) 𝓣) ([]) (hs (clearedFrom 0 (filledRows (length rows₀) (blocksOf form₀ update₀))) (setWords form₀ update₀ x₇b (length ranges₀))) (updates·none! 𝓤 H A mem run (𝓣 .C) known-updates·none x₉ (deletes·set·refused-0 x₉ (subst (Has deletes·set) e₉ (g₈ .0)))) refl (λ P. and-then ! (load ! (from ! (stop !)) (look ! 47 refl)) (no-more !)) (λ g₁₁.
+        land ! (from ! (stop !)) (init ! 15 refl (g₁₁ .1 .0)) $
+        assigns ! (of-opd ! (load ! (from ! (stop !)) (look ! 15 refl))) (from ! (stop !)) (init ! 23 refl (g₁₁ .1 .0)) $
+        assigns ! (of-opd ! (load ! (from ! (stop !)) (look ! 23 refl))) (from ! (stop !)) (init ! 65 refl (g₁₁ .1 .0)) $
+        returns-within ! Post refl (look ! 65 refl) $
+        free-all ! (_ ∷ []) En (has _ ∷ has _ ∷ has _ ∷ has _ ∷ has _ ∷ has _ ∷ has _ ∷ has _ ∷ bare ∷ has _ ∷ bare ∷ has _ ∷ bare ∷ bare ∷ bare ∷ bare ∷ bare ∷ bare ∷ has _ ∷ has _ ∷ has _ ∷ has _ ∷ has _ ∷ has _ ∷ has _ ∷ has _ ∷ bare ∷ has _ ∷ has _ ∷ has _ ∷ []) [] $ by ! (exits (answer (refused x₉)) (clearedFrom 0 (filledRows (length rows₀) (blocksOf form₀ update₀))) (setWords form₀ update₀ x₇b (length ranges₀)) (g₁₁ .0) (on-set form₀ update₀ rows₀ ranges₀ (not-false (eqb (early form₀ update₀) 0) y₂) x₇a x₇b e₇ x₉ e₉ (sz .0)))))))))
         (λ x₇ e₇.  -- Refused
-        revalue ! 27 (filled .val) e₇ refl $ switches-to ! (load ! (from ! (vrt ! refl (fld ! refl (stop !)))) (look-tag ! 27 (whole !))) refl $
+        revalue ! 29 (filled .val) e₇ refl $ switches-to ! (load ! (from ! (vrt ! refl (fld ! refl (stop !)))) (look-tag ! 29 (whole !))) refl $
         flat ! $
-        assigns ! (of-opd ! (load ! (from ! (vrt ! refl (fld ! refl (stop !)))) (look-in ! 27 (in-variant ! 1 0 refl refl (whole !))))) (from ! (stop !)) (init ! 41 refl (refusal .lawful M 𝓤 H A W .typed x₇ _ (filled·refused-0 x₇ (subst (Has filled) e₇ (g₆ .0))) .0)) $
+        assigns ! (of-opd ! (load ! (from ! (vrt ! refl (fld ! refl (stop !)))) (look-in ! 29 (in-variant ! 1 0 refl refl (whole !))))) (from ! (stop !)) (init ! 45 refl (refusal .lawful M 𝓤 H A W .typed x₇ _ (filled·refused-0 x₇ (subst (Has filled) e₇ (g₆ .0))) .0)) $
         flat ! $
-        assigns ! (addr ! (from ! (fld ! refl (hop ! (look-in ! 53 (sub ! 0 refl (whole !))) (stop !))))) (from ! (stop !)) (init ! 3 refl (tt, tt)) $
+        assigns ! (addr ! (from ! (fld ! refl (hop ! (look-in ! 57 (sub ! 0 refl (whole !))) (stop !))))) (from ! (stop !)) (init ! 3 refl (tt, tt)) $
         flat ! $
-        assigns ! (agg ! (and-then ! (load ! (from ! (stop !)) (look ! 3 refl)) (and-then ! (load ! (from ! (fld ! refl (stop !))) (look-in ! 53 (sub ! 1 refl (whole !)))) (no-more !)))) (from ! (stop !)) (init ! 1 refl (tt, (tt, (record { fits = are .1 .1 .1 .0 .0 .1 .0 }, tt)))) $
+        assigns ! (agg ! (and-then ! (load ! (from ! (stop !)) (look ! 3 refl)) (and-then ! (load ! (from ! (fld ! refl (stop !))) (look-in ! 57 (sub ! 1 refl (whole !)))) (no-more !)))) (from ! (stop !)) (init ! 1 refl (tt, (tt, (record { fits = are .1 .1 .1 .0 .0 .1 .0 }, tt)))) $
         flat ! $
         calls-by ! (fmOf 𝓤 H (W .laws) 𝓣) (2 ∷ []) (hs (filledRows (length rows₀) (blocksOf form₀ update₀)) ranges₀) (numbers·words·clear! 𝓤 H A mem run (𝓣 .C) known-numbers·words·clear at-ranges ranges₀ 0 (refl, lit< tt) (omega arith)) refl (λ P. and-then ! (load ! (from ! (stop !)) (look ! 1 refl)) (and-then ! (lit ! tt) (no-more !))) (λ g₁₂.
         land ! (from ! (stop !)) (init ! 5 refl (g₁₂ .1 .0)) $
-        calls-by ! (fmOf 𝓤 H (W .laws) 𝓣) ([]) (hs (filledRows (length rows₀) (blocksOf form₀ update₀)) (take 0 ranges₀ ++ replicate (length ranges₀ - 0) 0)) (updates·none! 𝓤 H A mem run (𝓣 .C) known-updates·none (x₇ .number) (refusal-number x₇ (filled·refused-0 x₇ (subst (Has filled) e₇ (g₆ .0))))) refl (λ P. and-then ! (load ! (from ! (fld ! refl (stop !))) (look-in ! 41 (sub ! 0 refl (whole !)))) (no-more !)) (λ g₁₃.
-        land ! (from ! (stop !)) (init ! 21 refl (g₁₃ .1 .0)) $
-        assigns ! (of-opd ! (load ! (from ! (stop !)) (look ! 21 refl))) (from ! (stop !)) (init ! 61 refl (g₁₃ .1 .0)) $
-        returns-within ! Post refl (look ! 61 refl) $
-        free-all ! (_ ∷ []) En (has _ ∷ has _ ∷ has _ ∷ has _ ∷ has _ ∷ has _ ∷ bare ∷ bare ∷ bare ∷ bare ∷ has _ ∷ has _ ∷ bare ∷ bare ∷ bare ∷ bare ∷ bare ∷ has _ ∷ has _ ∷ has _ ∷ has _ ∷ bare ∷ bare ∷ bare ∷ bare ∷ bare ∷ bare ∷ bare ∷ has _ ∷ has _ ∷ has _ ∷ []) [] $ by ! (exits (answer (refused (x₇ .number))) (filledRows (length rows₀) (blocksOf form₀ update₀)) (take 0 ranges₀ ++ replicate (length ranges₀ - 0) 0) (g₁₃ .0) (on-blocks form₀ update₀ rows₀ ranges₀ (not-false (eqb (early form₀ update₀) 0) y₂) x₇ e₇)))))))))
+        calls-by ! (fmOf 𝓤 H (W .laws) 𝓣) ([]) (hs (filledRows (length rows₀) (blocksOf form₀ update₀)) (take 0 ranges₀ ++ replicate (length ranges₀ - 0) 0)) (updates·none! 𝓤 H A mem run (𝓣 .C) known-updates·none x₇ (filled·refused-0 x₇ (subst (Has filled) e₇ (g₆ .0)))) refl (λ P. and-then ! (load ! (from ! (stop !)) (look ! 45 refl)) (no-more !)) (λ g₁₃.
+        land ! (from ! (stop !)) (init ! 23 refl (g₁₃ .1 .0)) $
+        assigns ! (of-opd ! (load ! (from ! (stop !)) (look ! 23 refl))) (from ! (stop !)) (init ! 65 refl (g₁₃ .1 .0)) $
+        returns-within ! Post refl (look ! 65 refl) $
+        free-all ! (_ ∷ []) En (has _ ∷ has _ ∷ has _ ∷ has _ ∷ has _ ∷ has _ ∷ bare ∷ bare ∷ bare ∷ bare ∷ has _ ∷ has _ ∷ bare ∷ bare ∷ bare ∷ bare ∷ bare ∷ bare ∷ has _ ∷ has _ ∷ has _ ∷ has _ ∷ bare ∷ bare ∷ bare ∷ bare ∷ bare ∷ bare ∷ bare ∷ bare ∷ has _ ∷ has _ ∷ has _ ∷ []) [] $ by ! (exits (answer (refused x₇)) (filledRows (length rows₀) (blocksOf form₀ update₀)) (take 0 ranges₀ ++ replicate (length ranges₀ - 0) 0) (g₁₃ .0) (on-blocks form₀ update₀ rows₀ ranges₀ (not-false (eqb (early form₀ update₀) 0) y₂) x₇ e₇)))))))))
 
 pub read-update-spec : {M : Type 1} → stated.statement M
 unfolding code.routine tablesOf

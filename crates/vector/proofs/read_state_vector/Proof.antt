@@ -2,7 +2,7 @@
 use native.Mathlib.Omega.{arith}
 use mathlib.Core.Path.{sym, ap, _∙_}
 use lib.ListN.{length}
-use Rattle.vector.specs.Vector.{whyEntries, vectorOf, kept}
+use Rattle.vector.specs.Vector.{whyEntries, refusedVector, vectorOf, kept}
 use Rattle.vector.proofs.Laws.{refused-answer, read-count, read-short, read-done, joined-padded}
 use Rattle.vector.proofs.Clients.{vector-most}
 use borrow.Author.Needs.{needs}
@@ -16,7 +16,7 @@ returns c =
     let q = refused-answer (vectorOf (a .vector .now)) (length (a .out .now)) _ (sym (c .before .before .before .before .before .before .before .before .before .read-entries .ensures .0) ∙ told) in
     let w = c .before .before .before .before .why-entries .ensures ∙ ap whyEntries told in
     let r = c .before .before .refuse .ensures in
-    (r .0 ∙ ap (λ w. record { number = w .number; count = 0 }) w ∙ sym (q .0), r .1 ∙ sym (q .1))
+    (r .0 ∙ ap (λ w. refusedVector (w .number)) w ∙ sym (q .0), r .1 ∙ sym (q .1))
 
 mul-words : tie.Need-mul-words
 mul-words c =

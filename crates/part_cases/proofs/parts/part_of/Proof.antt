@@ -86,7 +86,7 @@ module _ {M : Type 1} (𝓤 : URA M) (H : Heap 𝓤) (A : Atoms 𝓤) (W : Given
   L = T′.the-laws α
 
   abbrev held : Lookup → Values (D .parts)
-  held r = (r .number, (r .part, tt))
+  held r = (r .refusal, (r .part, tt))
 
   exits : (r : Lookup) → Is (Answer α) r (low r ∷ []) → ent 𝓤 (sep 𝓤 (sem 𝓤 H A (Answer α .own r (low r ∷ []))) (A .lft κ q)) (Post (sliceVal (r .part .ptr) (length (r .part .now))))
   exits r g =

@@ -1,4 +1,4 @@
--- `part_cases::parts::number_of` is safe: a walk of its MIR, by hand, for the answer that it takes the number out of holds a slice.
+-- `part_cases::parts::refusal_of` is safe: a walk of its MIR, by hand, for the answer that it takes the refusal out of holds a slice.
 -- Assumes nothing.
 use mathlib.Core.Path.{refl, ap, subst}
 use Prim.Native.Nat.{ℕ, _<_, _^_}
@@ -20,7 +20,7 @@ use types.Part.{whole, sub, look-in}
 use types.Run.{look, init, stop, fld, from, load, of-opd, and-then, no-more, assigns, land, returns, enter, params1, pass1, pass0}
 use denote.RattleType.{owns}
 use denote.Laws.{Is, shows}
-use denote.Plain.{uint-vals, uint-tells, uint-makes}
+use denote.Plain.{uint-vals, uint-tells}
 use denote.Builtin.{u8, usize}
 use denote.Ref.{RefT, NamedLft}
 use denote.Signature.{plain, shrSliceOf}
@@ -35,6 +35,9 @@ use denote.Triple.Table.{entered, cited}
 use denote.Triple.Walked.{Stays, stay-dropped, walkOf, goes-dropped, ends-at}
 use denote.Exit.{yes}
 use Rattle.walks.proofs.Walk.{has, Envs, envOf, alloc-all, free-all, meets}
+use Rattle.numbers.specs.declared.Refusal.{Refusal}
+use Rattle.numbers.proofs.Refusal as Q
+use Rattle.numbers.proofs.Refusal.Laws as Q′
 use Rattle.contents.specs.declared.answer.Content.{Content as Lookup}
 use Rattle.contents.proofs.answer.Content as T
 use Rattle.contents.proofs.answer.Content.Laws as T′
@@ -43,11 +46,11 @@ use Rattle.contents.proofs.content.Symbol.{name as #contents·content}
 use Rattle.contents.proofs.content.Met as content-thm
 use Rattle.part_cases.proofs.Answers as C
 use Rattle.part_cases.proofs.Answers.{Answer, Content, with-nothing}
-use Rattle.part_cases.proofs.parts.number_of.Key.{name as #it}
-use Rattle.part_cases.proofs.parts.number_of as f
-use Rattle.part_cases.proofs.parts.number_of.Statement as stated
-use Rattle.part_cases.proofs.parts.number_of.Code as code
-use Rattle.part_cases.proofs.parts.number_of.Code.Mir as body
+use Rattle.part_cases.proofs.parts.refusal_of.Key.{name as #it}
+use Rattle.part_cases.proofs.parts.refusal_of as f
+use Rattle.part_cases.proofs.parts.refusal_of.Statement as stated
+use Rattle.part_cases.proofs.parts.refusal_of.Code as code
+use Rattle.part_cases.proofs.parts.refusal_of.Code.Mir as body
 
 abbrev stayed : Stays (f.ended .signature .params) (f.ended .kept)
 stayed = (stay-dropped (plain (λ _. u8)) yes, (stay-dropped (shrSliceOf (0 ∷ []) tt (plain (λ _. u8))) yes, (stay-dropped (plain (λ _. usize)) yes, tt)))
@@ -75,12 +78,15 @@ module _ {M : Type 1} (𝓤 : URA M) (H : Heap 𝓤) (A : Atoms 𝓤) (W : Given
   abbrev low : Lookup → Val
   low = LL.val (T.the-type α) (T′.the-laws α)
 
-  exits : (r : Lookup) → Is (Answer α) r (low r ∷ []) → ent 𝓤 (sep 𝓤 (sem 𝓤 H A (Answer α .own r (low r ∷ []))) (A .lft κ q)) (Post (vint w8 (r .number)))
+  abbrev low-refusal : Refusal → Val
+  low-refusal = LL.val Q.the-type Q′.the-laws
+
+  exits : (r : Lookup) → Is (Answer α) r (low r ∷ []) → ent 𝓤 (sep 𝓤 (sem 𝓤 H A (Answer α .own r (low r ∷ []))) (A .lft κ q)) (Post (low-refusal (r .refusal)))
   exits r g =
       qed W (‵ (Answer α .own r (low r ∷ [])) ∷ ‵ (flft κ q) ∷ []) ∵
-      suffices ! _ (via 𝓤 _ (with-nothing 𝓤 _) (ends-at 𝓤 H A f.ended stayed (f.clauses 𝓤 H A mem run) W (((κ, tt), (q, tt), tt, x, at), tt) (vint w8 (r .number)) (r .number) (tt, (tt, (tt, tt))) (tt, (tt, (tt, tt))))) $
+      suffices ! _ (via 𝓤 _ (with-nothing 𝓤 _) (ends-at 𝓤 H A f.ended stayed (f.clauses 𝓤 H A mem run) W (((κ, tt), (q, tt), tt, x, at), tt) (low-refusal (r .refusal)) (r .refusal) (tt, (tt, (tt, tt))) (tt, (tt, (tt, tt))))) $
       nothing ! $ move ! (2 ∷ 0 ∷ []) $ join ! $ frame ! $ nothing ! $ nothing ! $ fjoin ! $ nothing ! $ fjoin ! $ nothing ! $ fjoin ! $ frame ! $
-      drop ! $ owned ! u8 (Is u8) (uint-makes 𝓤 H A W w8) (r .number) _ (LL.owed (T.the-type α) (T′.the-laws α) r _ g .0) $ done !
+      drop ! $ owned ! Q.the-row (Is Q.the-row) (LL.makes Q.the-type Q′.the-plain 𝓤 H A) (r .refusal) _ (LL.owed (T.the-type α) (T′.the-laws α) r _ g .0) $ done !
 
   module _ (𝓣 : Tables 𝓤 H) (known : Triple 𝓤 (𝓣 .C #contents·content) (Content 𝓤 H A mem run)) where
     walk : form < 2 ^ 8 → Is (ShrSlice (named 0) κ u8) s (v ∷ []) → n < 2 ^ 64 → ent 𝓤 (onEntry 𝓤 H A f.signature (κ, tt) (q, tt) x at) (WpFn 𝓤 H (𝓣 .C) (𝓣 .Λ) code.function (vint w8 form ∷ v ∷ vint w64 n ∷ []) Post)
@@ -101,12 +107,12 @@ module _ {M : Type 1} (𝓤 : URA M) (H : Heap 𝓤) (A : Atoms 𝓤) (W : Given
         rewrite ! 0 (λ (w : Val). ‵ (Answer α .own r (w ∷ []))) (ap only same) refl $
         regoal ! (λ (w : Val). lands (𝓣 .C) (𝓣 .Λ) En (place 4 []) w body.t-2 (atRet En Post)) (ap only same) refl $
         land ! (from ! (stop !)) (init ! 2 refl (LL.lawful (T.the-type αᵉ) (T′.the-laws αᵉ) 𝓤 H A W .typed r _ gr .0)) $
-        assigns ! (of-opd ! (load ! (from ! (fld ! refl (stop !))) (look-in ! 2 (sub ! 0 refl (whole !))))) (from ! (stop !)) (init ! 10 refl (tt, record { fits = LL.owed (T.the-type α) (T′.the-laws α) r _ gr .0 .1 })) $
+        assigns ! (of-opd ! (load ! (from ! (fld ! refl (stop !))) (look-in ! 2 (sub ! 0 refl (whole !))))) (from ! (stop !)) (init ! 10 refl (LL.lawful Q.the-type Q′.the-laws 𝓤 H A W .typed (r .refusal) _ (LL.owed (T.the-type α) (T′.the-laws α) r _ gr .0) .0)) $
         returns ! (look ! 10 refl) $ free-all ! (_ ∷ _ ∷ []) En (has _ ∷ has _ ∷ has _ ∷ has _ ∷ has _ ∷ []) [] $ by ! (exits r gr)))))
 
-pub number-of-spec : {M : Type 1} → stated.statement M
+pub refusal-of-spec : {M : Type 1} → stated.statement M
 unfolding code.routine tablesOf
-number-of-spec 𝓤 H 𝓜 𝓖 𝓡 =
+refusal-of-spec 𝓤 H 𝓜 𝓖 𝓡 =
     let A = 𝓖 .A in
     let W = givenOf 𝓤 H 𝓜 𝓖 in
     let 𝓣 = tablesOf 𝓤 H 𝓜 (tables 𝓤 H 𝓜 𝓡 code.env) in

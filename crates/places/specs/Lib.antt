@@ -1,0 +1,3 @@
+-- What the theorems speak of.
+pub mod Places
+pub mod Appended
