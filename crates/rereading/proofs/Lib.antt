@@ -1,5 +1,5 @@
 -- Theorems about diffs: a diff is read again (Few, Done, Wholes, Reread), in either form the same (Forms); which entries of a vector count (Elsewhere);
--- what a diff has where the other side has everything or nothing (Ends); and case E (CaseE).
+-- which ids a diff covers (Covering); what a diff has where the other side has everything or nothing (Ends); and case E (CaseE).
 pub mod Elsewhere
 pub mod Few
 pub mod Done
@@ -7,4 +7,5 @@ pub mod Ends
 pub mod Wholes
 pub mod Reread
 pub mod Forms
+pub mod Covering
 pub mod CaseE

@@ -1,0 +1,2 @@
+-- What the crate proves.
+pub mod Diffs

@@ -1,0 +1,2 @@
+-- The ids that blocks cover.
+pub mod Covered
