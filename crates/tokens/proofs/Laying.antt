@@ -14,7 +14,7 @@ use Rattle.runs.specs.declared.writer.Writer.{Writer}
 use Rattle.runs.specs.Runs.{coding}
 use Rattle.runs.specs.Writer.{keyAfter, emitted, finished, pushed, Sound}
 use Rattle.runs.proofs.Standing.{pushed-sound}
-use Rattle.tokens.specs.declared.Lane.{Lane}
+use Rattle.tokens.specs.Lanes.{Lane}
 use Rattle.tokens.specs.Tokens.{inLine}
 use Rattle.parts.specs.Brim.{brim}
 use Rattle.tokens.specs.Lanes.{lay, movedTo, forward, laidBytes, takes, pushedOn, laidValue, pushedAll, laidValues, lastRun, closed, laidEnd}

@@ -7,7 +7,7 @@ use mathlib.Core.Bool.{Bool, true, false}
 use borrow.Author.Tests.{eq-eqb, ne-eqb}
 use Rattle.numbers.specs.Number.{pick, unsigned}
 use Rattle.runs.specs.Writer.{Sound}
-use Rattle.tokens.specs.declared.Lane.{Lane}
+use Rattle.tokens.specs.Lanes.{Lane}
 use Rattle.tokens.specs.Tokens.{Token, field, text, var, buf, infos, texts, units, rest, whole, led, inlined, taken, inLine}
 use Rattle.tokens.specs.Lanes.{forward, laidBytes, pushedOn, laidValue, pushedAll, laidValues, put, laid}
 use Rattle.tokens.proofs.Laying.{forward-sound, forward-none, bytes-none, pushed-none, pushed-one, values-none, values-one, pushed-sound-all}
