@@ -19,7 +19,7 @@ use Rattle.tokens.specs.Tokens.{inLine}
 use Rattle.parts.specs.Brim.{brim}
 use Rattle.tokens.specs.Lanes.{lay, movedTo, forward, laidBytes, takes, pushedOn, laidValue, pushedAll, laidValues, lastRun, closed, laidEnd}
 
-pick-same : {A : Type 0} (b : Bool) (x : A) → pick b x x ≡ x
+pub pick-same : {A : Type 0} (b : Bool) (x : A) → pick b x x ≡ x
 pick-same true x = refl
 pick-same false x = refl
 

@@ -6,8 +6,8 @@ use lib.ListN.{length}
 use lib.Seq.{sets, slice, length-sets}
 use Rattle.tokens.proofs.Parts.{copy-none, copy-on}
 use borrow.Author.Needs.{needs}
-use Rattle.tokens.proofs.copy.Statement.{statement}
-use Rattle.tokens.proofs.copy.Tie as tie
+use Rattle.tokens.proofs.line.copy.Statement.{statement}
+use Rattle.tokens.proofs.line.copy.Tie as tie
 
 abbrev Inv-loop : tie.InvT-loop
 Inv-loop out₀ at update from n i₀ out i = (out ≡ sets out₀ at (slice from (from + i) update)) × (i ≤ n)

@@ -4,8 +4,8 @@ use native.Mathlib.Omega.{arith}
 use mathlib.Core.Path.{sym}
 use borrow.Author.Tests.{lt-leb}
 use Rattle.tokens.proofs.Laying.{leb-less}
-use Rattle.tokens.proofs.fits.Statement.{statement}
-use Rattle.tokens.proofs.fits.Tie as tie
+use Rattle.tokens.proofs.line.fits.Statement.{statement}
+use Rattle.tokens.proofs.line.fits.Tie as tie
 
 returns : tie.Need-returns
 returns c = let a = c .before .args in sym (lt-leb (a .at + a .n) (a .end) (omega arith))

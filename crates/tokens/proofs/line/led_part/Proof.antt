@@ -1,4 +1,4 @@
--- `put_led` meets its contract: at the brim, without room, with room.
+-- `led_part` meets its contract: at the brim, without room, with room.
 use Prim.Native.Nat.{ℕ, _+_, _≤_}
 use native.Mathlib.Omega.{arith}
 use mathlib.Core.Path.{_≡_, sym, ap, _∙_}
@@ -9,40 +9,37 @@ use lib.ListN.{length}
 use Rattle.numbers.specs.Number.{unsigned}
 use Rattle.readings.specs.Sound.{bytesIn}
 use Rattle.tokens.specs.Tokens.{led}
-use Rattle.tokens.proofs.Laying.{at-brim, moved-on, bytes-short, bytes-laid}
+use Rattle.tokens.proofs.Places.{place-brim, place-on, place-short, place-laid}
 use Rattle.tokens.proofs.Parts.{part-slice, led-length, led-sets}
 use borrow.Author.Needs.{needs}
-use Rattle.tokens.proofs.put_led.Statement.{statement}
-use Rattle.tokens.proofs.put_led.Tie as tie
+use Rattle.tokens.proofs.line.led_part.Statement.{statement}
+use Rattle.tokens.proofs.line.led_part.Tie as tie
 
 returns : tie.Need-returns
-returns c = let a = c .before .before .before .before .args in at-brim (a .out .now) (a .e) (led (bytesIn (a .update .now) (a .part))) (c .if1 .taken)
+returns c = let a = c .before .before .before .args in place-brim (a .out .now) (a .at) (led (bytesIn (a .update .now) (a .p))) (c .if1 .taken)
 
 -- head and bytes
-size : (c : tie.After-size-unsigned)
-    → c .size-unsigned .result + c .before .bytes-inside .result ≡ length (led (bytesIn (c .before .before .before .before .before .before .args .update .now) (c .before .before .before .before .before .before .args .part)))
+size : (c : tie.After-size-unsigned) → c .size-unsigned .result + c .before .bytes-inside .result ≡ length (led (bytesIn (c .before .before .before .before .before .args .update .now) (c .before .before .before .before .before .args .p)))
 size c =
-    let b = bytesIn (c .before .before .before .before .before .before .args .update .now) (c .before .before .before .before .before .before .args .part) in
+    let b = bytesIn (c .before .before .before .before .before .args .update .now) (c .before .before .before .before .before .args .p) in
     let n = c .before .bytes-inside .ensures .0 in
     omega (arith, c .size-unsigned .ensures .0, ap (λ (k : ℕ). length (unsigned k)) n, n, led-length b)
 
 -- there is room
-room : (c : tie.Else2)
-    → leb (c .before .before .before .before .before .before .before .before .args .e .run .at + (c .before .before .size-unsigned .result + c .before .before .before .bytes-inside .result)) (length (c .before .before .before .before .before .before .before .before .args .out .now)) ≡ true
+room : (c : tie.Else2) → leb (c .before .before .before .before .before .before .before .args .at + (c .before .before .size-unsigned .result + c .before .before .before .bytes-inside .result)) (length (c .before .before .before .before .before .before .before .args .out .now)) ≡ true
 room c = let f = c .before .fits2 in sym (f .ensures) ∙ not-false (f .result) (c .if2 .left)
 
-fit : (c : tie.Else2)
-    → c .before .before .before .before .before .before .before .before .args .e .run .at + (c .before .before .size-unsigned .result + c .before .before .before .bytes-inside .result) ≤ length (c .before .before .before .before .before .before .before .before .args .out .now)
-fit c = leb-true (c .before .before .before .before .before .before .before .before .args .e .run .at + (c .before .before .size-unsigned .result + c .before .before .before .bytes-inside .result)) (length (c .before .before .before .before .before .before .before .before .args .out .now)) (room c)
+fit : (c : tie.Else2) → c .before .before .before .before .before .before .before .args .at + (c .before .before .size-unsigned .result + c .before .before .before .bytes-inside .result) ≤ length (c .before .before .before .before .before .before .before .args .out .now)
+fit c = leb-true (c .before .before .before .before .before .before .before .args .at + (c .before .before .size-unsigned .result + c .before .before .before .bytes-inside .result)) (length (c .before .before .before .before .before .before .before .args .out .now)) (room c)
 
 returns-2 : tie.Need-returns-2
 returns-2 c =
-    let a = c .before .before .before .before .before .before .before .before .before .args in
-    let b = led (bytesIn (a .update .now) (a .part)) in
-    let s = c .before .before .before .size-unsigned .result + c .before .before .before .before .bytes-inside .result in
-    let f = c .before .before .fits2 in (
-      c .moved .ensures ∙ moved-on (a .out .now) (a .e) b (a .e .run .at + s) (c .before .before .before .before .before .if1 .left) (ap (λ (k : ℕ). a .e .run .at + k) (size (c .before .before .before))),
-      bytes-short (a .out .now) (a .e) b s (size (c .before .before .before)) (sym (f .ensures) ∙ not-true (f .result) (c .before .if2 .taken)),
+    let a = c .before .before .before .before .before .before .before .args in
+    let b = led (bytesIn (a .update .now) (a .p)) in
+    let s = c .before .before .size-unsigned .result + c .before .before .before .bytes-inside .result in
+    let f = c .before .fits2 in (
+      place-on (a .out .now) (a .at) b (a .at + s) (c .before .before .before .before .if1 .left) (ap (λ (k : ℕ). a .at + k) (size (c .before .before))),
+      place-short (a .out .now) (a .at) b s (size (c .before .before)) (sym (f .ensures) ∙ not-true (f .result) (c .if2 .taken)),
     )
 
 write-unsigned-requires : tie.Need-write-unsigned-requires
@@ -51,28 +48,26 @@ write-unsigned-requires c κs = omega (arith, c .before .before .before .size-un
 copy-requires : tie.Need-copy-requires
 copy-requires c κs =
     let w = c .before .before .before .write-unsigned in
-    let s = c .before .before .before .before .before .before .before in
-    (omega (arith, w .ensures .0, w .kept .0, s .size-unsigned .ensures .0, fit (c .before .before .before .before .before)), s .before .bytes-inside .ensures .1)
+    (omega (arith, w .ensures .0, w .kept .0, c .before .before .before .before .before .before .before .size-unsigned .ensures .0, fit (c .before .before .before .before .before)), c .before .before .before .before .before .before .before .before .bytes-inside .ensures .1)
 
 returns-3 : tie.Need-returns-3
 returns-3 c =
-    let a = c .before .before .before .before .before .before .before .before .before .before .before .before .before .before .before .before .before .args in
+    let a = c .before .before .before .before .before .before .before .before .before .before .before .before .before .before .before .args in
     let o = a .out .now in
     let u = a .update .now in
-    let b = bytesIn u (a .part) in
-    let n = c .before .before .before .before .before .before .before .before .before .before .before .before .bytes-inside in
-    let w = c .before .before .before .before .before .before .before .write-unsigned .ensures in
-    let s = c .before .before .before .before .before .before .before .before .before .before .before .size-unsigned .result + n .result in
-    let same = size (c .before .before .before .before .before .before .before .before .before .before .before) in
-    let low = c .before .before .before .before .before .before .before .before .before .before .before .before .before .if1 .left in (
-      c .moved2 .ensures ∙ moved-on o (a .e) (led b) (a .e .run .at + s) low (ap (λ (k : ℕ). a .e .run .at + k) same),
-      c .before .before .before .copy .ensures ∙ rw (part-slice u (a .part) (n .result) (n .ensures .0), w .1, w .0, n .ensures .0)
-          (sym (led-sets o (a .e .run .at) b) ∙ bytes-laid o (a .e) (led b) s low same (room (c .before .before .before .before .before .before .before .before .before))),
+    let b = bytesIn u (a .p) in
+    let n = c .before .before .before .before .before .before .before .before .before .before .before .bytes-inside in
+    let w = c .before .before .before .before .before .before .write-unsigned .ensures in
+    let s = c .before .before .before .before .before .before .before .before .before .before .size-unsigned .result + n .result in
+    let same = size (c .before .before .before .before .before .before .before .before .before .before) in
+    let low = c .before .before .before .before .before .before .before .before .before .before .before .before .if1 .left in (
+      place-on o (a .at) (led b) (a .at + s) low (ap (λ (k : ℕ). a .at + k) same),
+      c .before .before .copy .ensures ∙ rw (part-slice u (a .p) (n .result) (n .ensures .0), w .1, w .0, n .ensures .0)
+          (sym (led-sets o (a .at) b) ∙ place-laid o (a .at) (led b) s low same (room (c .before .before .before .before .before .before .before .before))),
     )
 
-pub put-led-spec : {M : Type 1} → statement M
-put-led-spec =
+pub led-part-spec : {M : Type 1} → statement M
+led-part-spec =
     tie.close
     (tie.spec
-    returns (λ c κs. search needs) (λ c κs. search needs) (λ c. search needs) (λ c. search needs) (λ c κs. search needs) (λ c κs. search needs)
-    returns-2 write-unsigned-requires copy-requires (λ c κs. search needs) (λ c. search needs) returns-3)
+    returns (λ c κs. search needs) (λ c κs. search needs) (λ c. search needs) (λ c. search needs) (λ c κs. search needs) returns-2 write-unsigned-requires copy-requires (λ c. search needs) returns-3)

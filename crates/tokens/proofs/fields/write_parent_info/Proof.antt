@@ -1,0 +1,32 @@
+-- `write_parent_info` meets its contract: a parent info is one byte in either form.
+use native.Mathlib.Omega.{arith}
+use mathlib.Core.Path.{refl, _∙_}
+use mathlib.Core.List.{[], _∷_}
+use Rattle.numbers.proofs.Laws.{unsigned-last}
+use Rattle.tokens.specs.Tokens.{field, parents, whole, inLine, columnIn}
+use Rattle.tokens.proofs.Taking.{field-line}
+use Rattle.tokens.proofs.Deskwise.{wrote-whole, wrote-field}
+use borrow.Author.Needs.{needs}
+use Rattle.tokens.proofs.fields.write_parent_info.Statement.{statement}
+use Rattle.tokens.proofs.fields.write_parent_info.Tie as tie
+
+returns : tie.Need-returns
+returns c =
+    wrote-whole (c .before .before .before .before .before .before .before .args .form) (c .before .before .before .before .before .before .before .args .at) (c .before .before .before .before .before .before .before .args .out .now) (c .before .before .before .before .before .before .before .args .lanes .now) (field parents (c .before .before .before .before .before .before .before .args .v)) (c .before .before .before .before .if1 .taken) (c .before .before .before .before .before .before .before .pre .0) (c .before .before .before .before .before .before .before .args .v ∷ []) (c .before .before .byte .last .0) (c .before .before .byte .result)
+    ((field-line whole parents (c .before .before .before .before .before .before .before .args .v) refl (λ h. absurd (omega arith)) ∙ unsigned-last (c .before .before .before .before .before .before .before .args .v) (c .before .before .before .before .before .before .before .pre .1))) (c .before .before .byte .ensures .0) (c .before .before .byte .ensures .1)
+
+push-byte-requires : tie.Need-push-byte-requires
+unfolding columnIn
+push-byte-requires c κs = (c .before .before .before .before .before .pre .0, omega arith, refl)
+
+returns-2 : tie.Need-returns-2
+unfolding inLine
+returns-2 c =
+    let p = c .before .before .before .before .push-byte in
+    wrote-field (c .before .before .before .before .before .before .before .before .before .before .args .form) (c .before .before .before .before .before .before .before .before .before .before .args .at) (c .before .before .before .before .before .before .before .before .before .before .args .out .now) (c .before .before .before .before .before .before .before .before .before .before .args .lanes .now) (c .before .before .before .before .before .before .before .if1 .left) parents (c .before .before .before .before .before .before .before .before .before .before .args .v) (omega arith) refl (p .last .0) (p .last .1 .0) (p .ensures .0) (p .ensures .1)
+
+pub write-parent-info-spec : {M : Type 1} → statement M
+write-parent-info-spec =
+    tie.close
+    (tie.spec
+    (λ c κs. search needs) (λ c. search needs) returns push-byte-requires (λ c. search needs) (λ c. search needs) returns-2)
