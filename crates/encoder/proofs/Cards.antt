@@ -19,7 +19,7 @@ use Rattle.walks.proofs.Refs.{Seat, val, mut, pass, Card, since}
 use Rattle.block.specs.declared.Block.{Block}
 use Rattle.kept.specs.declared.cursor.Cursor.{Cursor}
 use Rattle.kept.specs.declared.plan.Planning.{Planning}
-use Rattle.tokens.specs.declared.Lane.{Lane}
+use Rattle.tokens.specs.Lanes.{Lane}
 use Rattle.encoder.specs.Passes.{outcomeOf}
 use Rattle.kept.specs.Plan.{advanced, endedWords, entriesOf, openedAt, planStep, planWords, unplanned}
 use Rattle.ranges.specs.Table.{rowsFrom}

@@ -8,7 +8,7 @@ use Rattle.block.specs.declared.Block.{Block}
 use Rattle.block.specs.Row.{noBlock}
 use Rattle.ranges.specs.Ranges.{Range}
 use Rattle.runs.specs.Writer.{Sound}
-use Rattle.tokens.specs.declared.Lane.{Lane}
+use Rattle.tokens.specs.Lanes.{Lane}
 use Rattle.tokens.specs.Tokens.{Token, var}
 use Rattle.tokens.specs.Lanes.{freshLane, put, laid, putAll, laidAll, closed, laidEnd}
 use Rattle.tokens.proofs.Passes.{put-none, put-cons, laid-none, laid-cons, put-append, laid-append, sound-all, stays-sound, same-lane}

@@ -1,15 +1,14 @@
-// The passes over the block table: a plan of what is kept, and a lane written by the plan.
+// The passes over the block table: a plan of what is kept, and the planned rows written.
 pub mod steps;
 
 use block::Block;
 use steps::Outcome;
-use tokens::Lane;
 ghost use mathlib.Core.Path.{_≡_};
 ghost use Prim.Native.Nat.{_*_, _≤_};
 ghost use lib.ListN.{length, take};
-ghost use Rattle.ranges.specs.Table.{rowsFrom};
 ghost use Rattle.kept.specs.Plan.{entriesOf};
-ghost use Rattle.encoder.specs.Passes.{outcomeFor, wordsFor, laneFor, bytesFor};
+ghost use Rattle.tokens.specs.Desk.{Tidy, Wrote};
+ghost use Rattle.encoder.specs.Passes.{outcomeFor, wordsFor, plannedTokens};
 
 // The first n rows planned, the other side having m entries.
 pub fn plan_rows(
@@ -35,28 +34,27 @@ pub fn plan_rows(
     steps::end_plan(plan, s)
 }
 
-// A lane of the update that has the planned rows, and the first n ranges, from place `at` on; where there is no room it is measured.
-pub fn put_lane(
+// The planned rows onto the lanes of a form, the place in line being `at`; where there is no room they are measured. The place in line after them.
+pub fn put_rows(
     out: &mut [u8],
+    lanes: &mut [u64],
     update: &[u8],
     rows: &[Block],
     plan: &[u64],
     sections: usize,
-    ranges: &[u64],
-    n: usize,
-    lane: u8,
+    form: u8,
     at: usize,
-) -> Lane
-    requires { ⌜ (3 * n ≤ length (now ranges)) × (5 * sections ≤ length (now plan)) ⌝ }
-    ensures { λ r. ⌜ (r ≡ laneFor (now (update .entry)) (now (rows .entry)) (now (plan .entry)) sections (rowsFrom (now (ranges .entry)) 0 n) lane at)
-        × (now (out .exit) ≡ bytesFor (now (out .entry)) (now (update .entry)) (now (rows .entry)) (now (plan .entry)) sections (rowsFrom (now (ranges .entry)) 0 n) lane at) ⌝ }
+) -> usize
+    requires { ⌜ Tidy (now lanes) × (5 * sections ≤ length (now plan)) ⌝ }
+    ensures { λ r. ⌜ Wrote form (plannedTokens (now (update .entry)) (now (rows .entry)) (now (plan .entry)) sections)
+        (now (out .entry)) (now (lanes .entry)) at (now (out .exit)) (now (lanes .exit)) r ⌝ }
 {
-    let mut e = steps::begin_lane(out, lane, at, sections);
+    let mut end = at;
     let mut c = kept::cursor::open(plan, sections, 0);
     while c.row < rows.len() {
         let b = table::fetch(rows, c.row);
-        e = steps::put_row(out, update, e, c, b);
+        end = records::write_row(out, update, lanes, form, end, c, b);
         c = kept::cursor::advance(plan, sections, c);
     }
-    steps::end_lane(out, e, ranges, n)
+    end
 }

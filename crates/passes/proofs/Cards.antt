@@ -17,7 +17,7 @@ use denote.Triple.Clauses.{atExit}
 use Rattle.walks.proofs.Rows.{Has, byte, word, bool-kind}
 use Rattle.walks.proofs.Refs.{Seat, val, mut, pass, Card, since}
 use Rattle.block.specs.declared.Block.{Block}
-use Rattle.tokens.specs.declared.Lane.{Lane}
+use Rattle.tokens.specs.Lanes.{Lane}
 use Rattle.encoder.specs.Passes.{bytesFor, laneFor}
 use Rattle.numbers.specs.Number.{pick}
 use Rattle.passes.specs.Forms.{leadAt, leadBytes}

@@ -13,7 +13,7 @@ use Rattle.parts.specs.Brim.{brim}
 use Rattle.runs.specs.declared.Column.{Column}
 use Rattle.runs.specs.declared.Column.the-variants.{Number, Difference, Byte}
 use Rattle.runs.specs.Runs.{coding, spellable}
-use Rattle.tokens.specs.declared.Lane.{Lane}
+use Rattle.tokens.specs.Lanes.{Lane}
 use Rattle.tokens.specs.Tokens.{Token, var, clients, texts, lens, whole, takenAll, inLine, columnIn, lane}
 use Rattle.tokens.specs.Bytes.{nearIn}
 use Rattle.tokens.specs.Lanes.{freshLane}

@@ -7,7 +7,7 @@ use mathlib.Core.List.{List, [], _∷_}
 use native.Mathlib.Omega.{arith}
 use borrow.Author.Tests.{eq-eqb, ne-eqb}
 use lib.ListN.{getD}
-use Rattle.tokens.specs.declared.Lane.{Lane}
+use Rattle.tokens.specs.Lanes.{Lane}
 use Rattle.tokens.specs.Tokens.{Token, var, clients, texts, lens, whole}
 use Rattle.tokens.specs.Lanes.{freshLane, put, laid, putAll, laidAll}
 use Rattle.passes.specs.Forms.{textSize, isBare, leadTokens, leadAt, leadBytes, onTo, totalFrom}

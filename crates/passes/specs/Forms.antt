@@ -1,35 +1,15 @@
--- A form written lane by lane: what stands before each lane, the sizes that are measured, and what is written. Form 1 has one lane, form 2 nine.
+-- A form written, all its lanes at once: the sizes of its lanes, what leads each of them, where they begin, and what is written. Form 1 has one lane and
+-- nothing is measured; form 2 has nine, and all but the last are measured first, since their lengths stand before them.
 use Prim.Native.Nat.{ℕ, zero, suc, _+_}
 use mathlib.Core.Bool.{Bool, true, false}
 use mathlib.Core.List.{List, [], _∷_}
 use lib.Dec.{ltb, eqb}
-use lib.ListN.{length, getD, set}
+use lib.ListN.{length, getD}
 use Rattle.numbers.specs.Number.{pick, unsigned}
-use Rattle.block.specs.declared.Block.{Block}
-use Rattle.ranges.specs.Ranges.{Range}
 use Rattle.parts.specs.Brim.{brim}
-use Rattle.tokens.specs.declared.Lane.{Lane}
 use Rattle.tokens.specs.Tokens.{Token, var, clients, texts, units, lens, rest, whole}
-use Rattle.tokens.specs.Lanes.{freshLane, putAll, laidAll}
-use Rattle.encoder.specs.Passes.{laneFor, bytesFor}
-
--- ---- what is to be written: planned rows of a table, and ranges
-
-pub record Job : Type 0 where
-  pub update : List ℕ
-  pub rows : List Block
-  pub plan : List ℕ
-  pub sections : ℕ
-  pub ranges : List Range
-
-abbrev pub job : List ℕ → List Block → List ℕ → ℕ → List Range → Job
-job u rows w n rs = record { update = u; rows = rows; plan = w; sections = n; ranges = rs }
-
-abbrev pub laneAt : Job → ℕ → ℕ → Lane
-laneAt j k at = laneFor (j .update) (j .rows) (j .plan) (j .sections) (j .ranges) k at
-
-abbrev pub bytesAt : List ℕ → Job → ℕ → ℕ → List ℕ
-bytesAt out j k at = bytesFor out (j .update) (j .rows) (j .plan) (j .sections) (j .ranges) k at
+use Rattle.tokens.specs.Lanes.{Lane, freshLane, putAll, laidAll}
+use Rattle.tokens.specs.Desk.{putTokens, laidTokens, closedEach, laidEnds}
 
 -- ---- the lanes of a form
 
@@ -39,9 +19,30 @@ firstLane form = pick (eqb form 1) whole clients
 unfoldable pub lanesOf : ℕ → ℕ
 lanesOf form = pick (eqb form 1) 1 9
 
--- those before the last: no lane is led by the size of the last
-unfoldable pub ledOf : ℕ → ℕ
-ledOf form = pick (eqb form 1) 0 8
+-- n lanes from lane k on, of which nothing is written, at place 0
+unfoldable pub freshFrom : ℕ → ℕ → List Lane
+freshFrom k zero = []
+freshFrom k (suc n) = freshLane k 0 ∷ freshFrom (k + 1) n
+
+-- ---- measured: the eight lanes of form 2 before the rest, once the tokens ts are put
+
+unfoldable pub measured : List Token → List Lane
+measured ts = closedEach (putTokens (freshFrom clients 8) ts)
+
+unfoldable pub placesOf : List Lane → List ℕ
+placesOf [] = []
+placesOf (e ∷ es) = e .run .at ∷ placesOf es
+
+unfoldable pub anyFar : List Lane → Bool
+anyFar [] = false
+anyFar (e ∷ es) = pick (e .far) true (anyFar es)
+
+-- the sizes, z where none is measured; and whether a difference could not be spelled
+unfoldable pub sizesFor : ℕ → List Token → List ℕ → List ℕ
+sizesFor form ts z = pick (eqb form 1) z (placesOf (measured ts))
+
+unfoldable pub farFor : ℕ → List Token → Bool
+farFor form ts = pick (eqb form 1) false (anyFar (measured ts))
 
 -- ---- before a lane, the sizes of all being z
 
@@ -61,37 +62,46 @@ leadTokens z k =
     (pick (eqb k texts) (var (textSize z) ∷ (var (getD z k 0) ∷ []))
     (pick (eqb k lens) (var 0 ∷ (var (getD z k 0) ∷ [])) (var (getD z k 0) ∷ []))))
 
-abbrev pub leadAt : List ℕ → ℕ → ℕ → Lane
-leadAt z k at = putAll (freshLane whole at) (leadTokens z k)
+-- the place after it, and the bytes lent then
+abbrev pub leadEnd : List ℕ → ℕ → ℕ → ℕ
+leadEnd z k at = putAll (freshLane whole at) (leadTokens z k) .run .at
 
 abbrev pub leadBytes : List ℕ → List ℕ → ℕ → ℕ → List ℕ
 leadBytes out z k at = laidAll out (freshLane whole at) (leadTokens z k)
-
--- ---- n lanes from lane k on, measured
-
-unfoldable pub sizesFrom : Job → ℕ → ℕ → List ℕ → List ℕ
-sizesFrom j k zero z = z
-sizesFrom j k (suc n) z = sizesFrom j (k + 1) n (set z k (laneAt j k 0 .run .at))
-
-unfoldable pub farFrom : Job → ℕ → ℕ → Bool → Bool
-farFrom j k zero far = far
-farFrom j k (suc n) far = farFrom j (k + 1) n (pick far true (laneAt j k 0 .far))
 
 -- a size more
 unfoldable pub onTo : ℕ → ℕ → ℕ
 onTo at size = pick (ltb at brim) (pick (ltb size brim) (at + size) at) at
 
-unfoldable pub totalFrom : List ℕ → ℕ → ℕ → ℕ → ℕ
-totalFrom z k zero at = at
-totalFrom z k (suc n) at = totalFrom z (k + 1) n (onTo (leadAt z k at .run .at) (getD z k 0))
+-- ---- n lanes from lane k on, the first with what leads it from place `at` on, each behind the one before
 
--- ---- and written
+unfoldable pub begunFrom : List ℕ → ℕ → ℕ → ℕ → List Lane
+begunFrom z k zero at = []
+begunFrom z k (suc n) at = freshLane k (leadEnd z k at) ∷ begunFrom z (k + 1) n (onTo (leadEnd z k at) (getD z k 0))
 
-unfoldable pub endFrom : Job → List ℕ → ℕ → ℕ → ℕ → ℕ
-endFrom j z k zero at = at
-endFrom j z k (suc n) at = endFrom j z (k + 1) n (laneAt j k (leadAt z k at .run .at) .run .at)
+unfoldable pub ledFrom : List ℕ → List ℕ → ℕ → ℕ → ℕ → List ℕ
+ledFrom out z k zero at = out
+ledFrom out z k (suc n) at = ledFrom (leadBytes out z k at) z (k + 1) n (onTo (leadEnd z k at) (getD z k 0))
 
-unfoldable pub outFrom : Job → List ℕ → ℕ → ℕ → ℕ → List ℕ → List ℕ
-outFrom j z k zero at out = out
-outFrom j z k (suc n) at out =
-    outFrom j z (k + 1) n (laneAt j k (leadAt z k at .run .at) .run .at) (bytesAt (leadBytes out z k at) j k (leadAt z k at .run .at))
+abbrev pub begun : ℕ → List ℕ → List Lane
+begun form z = begunFrom z (firstLane form) (lanesOf form) 0
+
+abbrev pub ledBytes : ℕ → List ℕ → List ℕ → List ℕ
+ledBytes form z out = ledFrom out z (firstLane form) (lanesOf form) 0
+
+-- ---- written: the tokens ts onto all lanes, the lanes' ends, and then ds, numbers without columns, in line
+
+-- the place of the last lane, which is in line
+unfoldable pub lastPlace : List Lane → ℕ
+lastPlace [] = 0
+lastPlace (e ∷ []) = e .run .at
+lastPlace (e ∷ (f ∷ es)) = lastPlace (f ∷ es)
+
+abbrev pub lineFor : ℕ → List ℕ → List Token → Lane
+lineFor form z ts = freshLane whole (lastPlace (putTokens (begun form z) ts))
+
+unfoldable pub endFor : ℕ → List ℕ → List Token → List Token → ℕ
+endFor form z ts ds = putAll (lineFor form z ts) ds .run .at
+
+unfoldable pub outFor : ℕ → List ℕ → List Token → List Token → List ℕ → List ℕ
+outFor form z ts ds out = laidAll (laidEnds (laidTokens (ledBytes form z out) (begun form z) ts) (putTokens (begun form z) ts)) (lineFor form z ts) ds

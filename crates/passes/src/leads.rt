@@ -1,44 +1,13 @@
-// What stands before a lane, and the sizes of lanes.
-use tokens::Lane;
+// What leads the lanes of a form, where they begin, and their ends.
 ghost use mathlib.Core.Path.{_≡_};
-ghost use mathlib.Core.Bool.{true};
-ghost use Prim.Native.Nat.{_+_, _-_, _≤_, _<_};
-ghost use lib.ListN.{length, set};
-ghost use Rattle.numbers.specs.Number.{pick};
-ghost use Rattle.passes.specs.Forms.{firstLane, lanesOf, ledOf, textSize, isBare, leadAt, leadBytes, onTo, totalFrom};
-
-// The lanes of a form: from the first up to, not including, the end.
-pub fn first_lane(form: u8) -> u8
-    ensures { λ r. ⌜ (r ≡ firstLane form) × (r ≤ 9) ⌝ }
-{
-    if form == 1 {
-        return tokens::LINE;
-    }
-    tokens::CLIENTS
-}
-
-pub fn lanes_end(form: u8) -> u8
-    ensures { λ r. ⌜ (r ≡ firstLane form + lanesOf form) × (r ≤ 10) ⌝ }
-{
-    if form == 1 {
-        return 10;
-    }
-    9
-}
-
-// The end of those before the last: a lane is led by its own size, or by that of the units, never by the size of the last.
-pub fn led_end(form: u8) -> u8
-    ensures { λ r. ⌜ (r ≡ firstLane form + ledOf form) × (r ≤ 10) ⌝ }
-{
-    if form == 1 {
-        return tokens::LINE;
-    }
-    tokens::REST
-}
+ghost use Prim.Native.Nat.{ℕ, _<_};
+ghost use lib.ListN.{length, replicate};
+ghost use Rattle.tokens.specs.Desk.{deskIn, lanesIn, Tidy, laidEnds};
+ghost use Rattle.passes.specs.Forms.{placesOf, anyFar, textSize, isBare, leadEnd, leadBytes, onTo, begun, ledBytes};
 
 // The text column has its texts, led by their length, and their units.
 fn text_size(sizes: &[u64]) -> u64
-    requires { ⌜ 10 ≤ length (now sizes) ⌝ }
+    requires { ⌜ length (now sizes) ≡ 8 ⌝ }
     ensures { λ r. ⌜ r ≡ textSize (now (sizes .entry)) ⌝ }
 {
     let texts = sizes[4];
@@ -54,72 +23,30 @@ fn text_size(sizes: &[u64]) -> u64
     led + units
 }
 
-fn is_bare(k: u8) -> bool
-    ensures { λ r. ⌜ r ≡ isBare k ⌝ }
-{
-    if k == tokens::UNITS {
-        return true;
-    }
-    if k == tokens::REST {
-        return true;
-    }
-    k == tokens::LINE
-}
-
 // The length of a column, after what else stands before it: the flag and the empty key column, the empty type column, the texts' own length.
-fn write_lead(out: &mut [u8], at: usize, sizes: &[u64], k: u8) -> Lane
-    requires { ⌜ (10 ≤ length (now sizes)) × (k ≤ 9) ⌝ }
-    ensures { λ r. ⌜ (r ≡ leadAt (now (sizes .entry)) k at) × (now (out .exit) ≡ leadBytes (now (out .entry)) (now (sizes .entry)) k at) ⌝ }
+fn put_lead(out: &mut [u8], at: usize, sizes: &[u64], k: usize) -> usize
+    requires { ⌜ (length (now sizes) ≡ 8) × (k < 8) ⌝ }
+    ensures { λ r. ⌜ (r ≡ leadEnd (now (sizes .entry)) k at) × (now (out .exit) ≡ leadBytes (now (out .entry)) (now (sizes .entry)) k at) ⌝ }
 {
-    let e = tokens::begin(tokens::LINE, at);
-    if is_bare(k) {
-        return e;
+    let size = sizes[k];
+    if k == tokens::lanes::UNITS {
+        return at;
     }
-    let size = sizes[k as usize];
-    if k == tokens::CLIENTS {
-        let flag = tokens::fields::write_var(out, e, 0);
-        let key = tokens::fields::write_var(out, flag, 0);
-        return tokens::fields::write_var(out, key, size);
+    if k == tokens::lanes::CLIENTS {
+        let flag = tokens::line::number(out, at, 0);
+        let key = tokens::line::number(out, flag, 0);
+        return tokens::line::number(out, key, size);
     }
-    if k == tokens::TEXTS {
+    if k == tokens::lanes::TEXTS {
         let column = text_size(sizes);
-        let led = tokens::fields::write_var(out, e, column);
-        return tokens::fields::write_var(out, led, size);
+        let led = tokens::line::number(out, at, column);
+        return tokens::line::number(out, led, size);
     }
-    if k == tokens::LENS {
-        let types = tokens::fields::write_var(out, e, 0);
-        return tokens::fields::write_var(out, types, size);
+    if k == tokens::lanes::LENS {
+        let types = tokens::line::number(out, at, 0);
+        return tokens::line::number(out, types, size);
     }
-    tokens::fields::write_var(out, e, size)
-}
-
-// The place after it.
-pub fn put_lead(out: &mut [u8], at: usize, sizes: &[u64], k: u8) -> usize
-    requires { ⌜ (10 ≤ length (now sizes)) × (k ≤ 9) ⌝ }
-    ensures { λ r. ⌜ (r ≡ leadAt (now (sizes .entry)) k at .run .at) × (now (out .exit) ≡ leadBytes (now (out .entry)) (now (sizes .entry)) k at) ⌝ }
-{
-    let e = write_lead(out, at, sizes, k);
-    end_of(e)
-}
-
-pub fn end_of(e: Lane) -> usize
-    ensures { λ r. ⌜ r ≡ e .run .at ⌝ }
-{
-    let run = e.run;
-    run.at
-}
-
-// The size of lane k is noted, and whether it or one before it needs a difference that cannot be spelled.
-pub fn note(sizes: &mut [u64], k: u8, e: Lane, far: bool) -> bool
-    requires { ⌜ k < length (now sizes) ⌝ }
-    ensures { λ r. ⌜ (r ≡ pick far true (e .far)) × (now (sizes .exit) ≡ set (now (sizes .entry)) k (e .run .at)) ⌝ }
-{
-    let run = e.run;
-    sizes[k as usize] = run.at as u64;
-    if far {
-        return true;
-    }
-    e.far
+    tokens::line::number(out, at, size)
 }
 
 fn on_to(at: usize, size: u64) -> usize
@@ -134,19 +61,50 @@ fn on_to(at: usize, size: u64) -> usize
     at + size as usize
 }
 
-// How many bytes the lanes from one up to another have together, with what stands before them.
-pub fn total(sizes: &[u64], from: u8, to: u8) -> usize
-    requires { ⌜ (10 ≤ length (now sizes)) × (from ≤ to) × (to ≤ 10) ⌝ }
-    ensures { λ r. ⌜ r ≡ totalFrom (now (sizes .entry)) from (to - from) 0 ⌝ }
+// The lanes of a form at their beginnings, what leads them written; the place in line.
+pub fn open(out: &mut [u8], lanes: &mut [u64], sizes: &[u64], form: u8) -> usize
+    requires { ⌜ (length (now sizes) ≡ 8) × (now lanes ≡ replicate {A = ℕ} 40 0) ⌝ }
+    ensures { λ r. ⌜ (deskIn form (now (lanes .exit)) r ≡ begun form (now (sizes .entry)))
+        × (now (out .exit) ≡ ledBytes form (now (sizes .entry)) (now (out .entry))) × Tidy (now (lanes .exit)) ⌝ }
 {
-    let mut room = [0u8; 1];
+    if form == 1 {
+        return 0;
+    }
     let mut at = 0;
-    let mut k = from;
-    while k < to {
-        let lead = put_lead(&mut room, at, sizes, k);
-        let size = sizes[k as usize];
-        at = on_to(lead, size);
+    let mut k = 0;
+    while k < 8 {
+        let lead = put_lead(out, at, sizes, k);
+        lanes[5 * k] = lead as u64;
+        at = on_to(lead, sizes[k]);
         k += 1;
     }
     at
+}
+
+// The ends of all lanes.
+pub fn close(out: &mut [u8], lanes: &mut [u64], form: u8)
+    requires { ⌜ Tidy (now lanes) ⌝ }
+    ensures { λ _. ⌜ (at : ℕ) → now (out .exit) ≡ laidEnds (now (out .entry)) (deskIn form (now (lanes .entry)) at) ⌝ }
+{
+    if form == 1 {
+        return;
+    }
+    tokens::lanes::close(out, lanes);
+}
+
+// The sizes of the lanes before the last, measured from place 0 on, and whether one of them needs a difference that cannot be spelled.
+pub fn note(sizes: &mut [u64], lanes: &[u64]) -> bool
+    requires { ⌜ (length (now sizes) ≡ 8) × Tidy (now lanes) ⌝ }
+    ensures { λ r. ⌜ (r ≡ anyFar (lanesIn (now (lanes .entry)))) × (now (sizes .exit) ≡ placesOf (lanesIn (now (lanes .entry)))) ⌝ }
+{
+    let mut far = false;
+    let mut k = 0;
+    while k < 8 {
+        sizes[k] = lanes[5 * k];
+        if lanes[5 * k + 4] != 0 {
+            far = true;
+        }
+        k += 1;
+    }
+    far
 }

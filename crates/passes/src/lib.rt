@@ -1,43 +1,43 @@
-// The passes over the lanes of a form: measured, all but the last, then all written.
+// A form written, all its lanes at once: form 1 in one pass over the planned rows, form 2 in two, the first to measure.
 pub mod leads;
 
 use block::Block;
 ghost use mathlib.Core.Path.{_≡_};
-ghost use mathlib.Core.Bool.{false};
-ghost use Prim.Native.Nat.{_-_, _*_, _≤_};
+ghost use mathlib.Core.List.{_∷_};
+ghost use Prim.Native.Nat.{_*_, _≤_};
 ghost use lib.ListN.{length};
 ghost use Rattle.ranges.specs.Table.{rowsFrom};
-ghost use Rattle.passes.specs.Forms.{job, sizesFrom, farFrom, endFrom, outFrom};
+ghost use Rattle.tokens.specs.Tokens.{var};
+ghost use Rattle.records.specs.Records.{deleteTokens};
+ghost use Rattle.encoder.specs.Passes.{plannedTokens};
+ghost use Rattle.passes.specs.Forms.{sizesFor, farFor, endFor, outFor};
 
-// The sizes of the lanes from one up to another, and whether a difference cannot be spelled.
+// The sizes of the lanes that are led by them, and whether a difference cannot be spelled. Form 1 has no such lanes.
 pub fn measure(
     sizes: &mut [u64],
     update: &[u8],
     rows: &[Block],
     plan: &[u64],
     sections: usize,
-    ranges: &[u64],
-    n: usize,
-    from: u8,
-    to: u8,
+    form: u8,
 ) -> bool
-    requires { ⌜ (10 ≤ length (now sizes)) × (3 * n ≤ length (now ranges)) × (5 * sections ≤ length (now plan)) × (from ≤ to) × (to ≤ 10) ⌝ }
-    ensures { λ r. ⌜ (r ≡ farFrom (job (now (update .entry)) (now (rows .entry)) (now (plan .entry)) sections (rowsFrom (now (ranges .entry)) 0 n)) from (to - from) false)
-        × (now (sizes .exit) ≡ sizesFrom (job (now (update .entry)) (now (rows .entry)) (now (plan .entry)) sections (rowsFrom (now (ranges .entry)) 0 n)) from (to - from) (now (sizes .entry))) ⌝ }
+    requires { ⌜ (length (now sizes) ≡ 8) × (5 * sections ≤ length (now plan)) ⌝ }
+    ensures { λ r. ⌜ (r ≡ farFor form (plannedTokens (now (update .entry)) (now (rows .entry)) (now (plan .entry)) sections))
+        × (now (sizes .exit) ≡ sizesFor form (plannedTokens (now (update .entry)) (now (rows .entry)) (now (plan .entry)) sections) (now (sizes .entry))) ⌝ }
 {
+    if form == 1 {
+        return false;
+    }
+    let mut table = [0u64; 40];
+    let lanes = &mut table[..];
     let mut room = [0u8; 16];
     let nothing = &mut room[..];
-    let mut far = false;
-    let mut k = from;
-    while k < to {
-        let e = encoder::put_lane(nothing, update, rows, plan, sections, ranges, n, k, 0);
-        far = leads::note(sizes, k, e, far);
-        k += 1;
-    }
-    far
+    encoder::put_rows(nothing, lanes, update, rows, plan, sections, form, 0);
+    tokens::lanes::close(nothing, lanes);
+    leads::note(sizes, lanes)
 }
 
-// The lanes written one after the other, each with what stands before it; the place after them.
+// All lanes written, the sizes being known, and the first n ranges; the place after them.
 pub fn write(
     out: &mut [u8],
     sizes: &[u64],
@@ -47,20 +47,19 @@ pub fn write(
     sections: usize,
     ranges: &[u64],
     n: usize,
-    from: u8,
-    to: u8,
+    form: u8,
 ) -> usize
-    requires { ⌜ (10 ≤ length (now sizes)) × (3 * n ≤ length (now ranges)) × (5 * sections ≤ length (now plan)) × (from ≤ to) × (to ≤ 10) ⌝ }
-    ensures { λ r. ⌜ (r ≡ endFrom (job (now (update .entry)) (now (rows .entry)) (now (plan .entry)) sections (rowsFrom (now (ranges .entry)) 0 n)) (now (sizes .entry)) from (to - from) 0)
-        × (now (out .exit) ≡ outFrom (job (now (update .entry)) (now (rows .entry)) (now (plan .entry)) sections (rowsFrom (now (ranges .entry)) 0 n)) (now (sizes .entry)) from (to - from) 0 (now (out .entry))) ⌝ }
+    requires { ⌜ (length (now sizes) ≡ 8) × (3 * n ≤ length (now ranges)) × (5 * sections ≤ length (now plan)) ⌝ }
+    ensures { λ r. ⌜ (r ≡ endFor form (now (sizes .entry)) (var sections ∷ plannedTokens (now (update .entry)) (now (rows .entry)) (now (plan .entry)) sections)
+        (deleteTokens form (rowsFrom (now (ranges .entry)) 0 n)))
+        × (now (out .exit) ≡ outFor form (now (sizes .entry)) (var sections ∷ plannedTokens (now (update .entry)) (now (rows .entry)) (now (plan .entry)) sections)
+        (deleteTokens form (rowsFrom (now (ranges .entry)) 0 n)) (now (out .entry))) ⌝ }
 {
-    let mut at = 0;
-    let mut k = from;
-    while k < to {
-        let lead = leads::put_lead(out, at, sizes, k);
-        let e = encoder::put_lane(out, update, rows, plan, sections, ranges, n, k, lead);
-        at = leads::end_of(e);
-        k += 1;
-    }
-    at
+    let mut table = [0u64; 40];
+    let lanes = &mut table[..];
+    let at = leads::open(out, lanes, sizes, form);
+    let counted = tokens::line::number(out, at, sections as u64);
+    let end = encoder::put_rows(out, lanes, update, rows, plan, sections, form, counted);
+    leads::close(out, lanes, form);
+    records::delete_set::write_delete_set(out, form, end, ranges, n)
 }

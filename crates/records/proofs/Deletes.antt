@@ -13,7 +13,7 @@ use Rattle.ranges.specs.Ranges.{Range}
 use Rattle.ranges.specs.Table.{row, rowsFrom}
 use Rattle.readings.specs.Groups.{groups}
 use Rattle.runs.specs.Writer.{Sound}
-use Rattle.tokens.specs.declared.Lane.{Lane}
+use Rattle.tokens.specs.Lanes.{Lane}
 use Rattle.tokens.specs.Tokens.{Token, var, taken, takenAll, rest, whole}
 use Rattle.tokens.specs.Lanes.{put, putAll, laidAll}
 use Rattle.tokens.proofs.Taking.{var-other}

@@ -10,7 +10,7 @@ use borrow.Author.Tests.{ne-eqb}
 use Rattle.numbers.specs.Number.{pick}
 use Rattle.text.specs.declared.Units.{Units}
 use Rattle.text.specs.Utf8.{countedIn, wellFormed, unitsOf, widths, chars, charsFrom}
-use Rattle.tokens.specs.declared.Lane.{Lane}
+use Rattle.tokens.specs.Lanes.{Lane}
 use Rattle.tokens.specs.Tokens.{text, units, taken}
 use Rattle.tokens.specs.Lanes.{put, laid}
 use Rattle.records.proofs.Chains.{WroteOne}

@@ -10,7 +10,7 @@ use Rattle.numbers.specs.Number.{pick}
 use Rattle.block.specs.declared.Block.{Block}
 use Rattle.readings.specs.Sound.{bytesIn, linked}
 use Rattle.runs.specs.Writer.{Sound}
-use Rattle.tokens.specs.declared.Lane.{Lane}
+use Rattle.tokens.specs.Lanes.{Lane}
 use Rattle.tokens.specs.Tokens.{client, left, right, info, parentInfo, text, len, var, buf}
 use Rattle.kept.specs.Plan.{sane, laterPart}
 use Rattle.records.specs.Records.{contentNumber, infoByte, name, leftTokens, rightTokens, parentTokens, keyTokens, placeTokens, contentTokens, blockTokens}

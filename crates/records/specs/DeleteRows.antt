@@ -1,12 +1,14 @@
 -- The tokens of a delete set, a row of the table at a time.
 use Prim.Native.Nat.{ℕ, zero, suc, _+_, _-_}
+use mathlib.Core.Path.{_≡_}
 use mathlib.Core.Bool.{Bool, true, false}
 use mathlib.Core.List.{List, [], _∷_, _++_}
 use lib.Dec.{eqb}
 use Rattle.numbers.specs.Number.{pick}
 use Rattle.ranges.specs.Ranges.{Range}
 use Rattle.ranges.specs.Table.{row, rowsFrom}
-use Rattle.tokens.specs.Tokens.{Token, var, rest, whole}
+use Rattle.tokens.specs.Tokens.{Token, var, whole}
+use Rattle.tokens.specs.Lanes.{freshLane, putAll, laidAll}
 use Rattle.records.specs.Records.{clockFrom, lengthOf}
 
 -- row i is its client's first
@@ -37,6 +39,7 @@ unfoldable pub tableTokens : ℕ → List ℕ → ℕ → ℕ → List Token
 tableTokens form s i zero = []
 tableTokens form s i (suc k) = rangeTokens form s i k ++ tableTokens form s (suc i) k
 
--- lanes that take numbers without columns
-unfoldable pub hasNumbers : ℕ → Bool
-hasNumbers k = pick (eqb k whole) true (eqb k rest)
+-- numbers without columns, in line from a place on: the bytes lent and the place after them. They stand so in form 1 and in the rest of form 2
+pub record InLine (ts : List Token) (out : List ℕ) (at : ℕ) (out₁ : List ℕ) (at₁ : ℕ) : Type 0 where
+  pub place : at₁ ≡ putAll (freshLane whole at) ts .run .at
+  pub bytes : out₁ ≡ laidAll out (freshLane whole at) ts

@@ -23,7 +23,3 @@ unfoldable pub stopsTokens : List ℕ → List Block → ℕ → List Stop → L
 stopsTokens u rows n [] = []
 stopsTokens u rows n (s ∷ ss) =
     pick (ltb (s .row) n) (rowTokens u (s .head) (s .from) (s .skip) (getD rows (s .row) noBlock) ++ stopsTokens u rows n ss) []
-
--- a lane that is all in line is of form 1
-unfoldable pub formOf : ℕ → ℕ
-formOf k = pick (eqb k whole) 1 2

@@ -1,15 +1,12 @@
 // The delete set written: ranges in normal form, three words each, a client's together.
-use tokens::Lane;
 ghost use mathlib.Core.Path.{_≡_};
 ghost use Prim.Native.Nat.{_+_, _-_, _*_, _≤_, _<_};
 ghost use lib.ListN.{length};
-ghost use Rattle.runs.specs.Writer.{Sound};
 ghost use Rattle.ranges.specs.Table.{row, rowsFrom};
 ghost use Rattle.readings.specs.Groups.{groups};
-ghost use Rattle.tokens.specs.Lanes.{putAll, laidAll};
+ghost use Rattle.tokens.specs.Lanes.{freshLane, putAll, laidAll};
 ghost use Rattle.records.specs.Records.{ownerOf, deleteTokens};
-ghost use Rattle.records.specs.DeleteRows.{isFirst, endBefore, siblings, ownerTokens, rangeTokens, hasNumbers};
-ghost use Rattle.records.specs.Stops.{formOf};
+ghost use Rattle.records.specs.DeleteRows.{isFirst, endBefore, siblings, ownerTokens, rangeTokens, InLine};
 
 fn client_at(ranges: &[u64], i: usize) -> u64
     requires { ⌜ 3 * i + 3 ≤ length (now ranges) ⌝ }
@@ -91,63 +88,47 @@ fn increase(ranges: &[u64], i: usize) -> u64
 }
 
 // Before a client's first range: the client, and how many ranges it has.
-fn write_owner(out: &mut [u8], e: Lane, ranges: &[u64], i: usize, n: usize) -> Lane
-    requires { ⌜ Sound (e .run) × (i < n) × (3 * n ≤ length (now ranges)) ⌝ }
-    ensures { λ r. ⌜ (r ≡ putAll e (ownerTokens (now (ranges .entry)) i (n - (i + 1))))
-        × (now (out .exit) ≡ laidAll (now (out .entry)) e (ownerTokens (now (ranges .entry)) i (n - (i + 1)))) × Sound (r .run) ⌝ }
+fn write_owner(out: &mut [u8], at: usize, ranges: &[u64], i: usize, n: usize) -> usize
+    requires { ⌜ (i < n) × (3 * n ≤ length (now ranges)) ⌝ }
+    ensures { λ r. ⌜ InLine (ownerTokens (now (ranges .entry)) i (n - (i + 1))) (now (out .entry)) at (now (out .exit)) r ⌝ }
 {
     if !is_first(ranges, i) {
-        return e;
+        return at;
     }
     let client = client_at(ranges, i);
     let count = count_ranges(ranges, i, n);
-    let named = tokens::fields::write_var(out, e, client);
-    tokens::fields::write_var(out, named, count as u64)
+    let named = tokens::line::number(out, at, client);
+    tokens::line::number(out, named, count as u64)
 }
 
 // Range i of n.
-fn write_range(out: &mut [u8], e: Lane, ranges: &[u64], i: usize, n: usize) -> Lane
-    requires { ⌜ Sound (e .run) × (i < n) × (3 * n ≤ length (now ranges)) ⌝ }
-    ensures { λ r. ⌜ (r ≡ putAll e (rangeTokens (formOf (e .lane)) (now (ranges .entry)) i (n - (i + 1))))
-        × (now (out .exit) ≡ laidAll (now (out .entry)) e (rangeTokens (formOf (e .lane)) (now (ranges .entry)) i (n - (i + 1)))) × Sound (r .run) ⌝ }
+fn write_range(out: &mut [u8], form: u8, at: usize, ranges: &[u64], i: usize, n: usize) -> usize
+    requires { ⌜ (i < n) × (3 * n ≤ length (now ranges)) ⌝ }
+    ensures { λ r. ⌜ InLine (rangeTokens form (now (ranges .entry)) i (n - (i + 1))) (now (out .entry)) at (now (out .exit)) r ⌝ }
 {
     let len = length_at(ranges, i);
-    let owned = write_owner(out, e, ranges, i, n);
-    if e.lane == tokens::LINE {
+    let owned = write_owner(out, at, ranges, i, n);
+    if form == 1 {
         let clock = clock_at(ranges, i);
-        let begun = tokens::fields::write_var(out, owned, clock);
-        return tokens::fields::write_var(out, begun, len);
+        let begun = tokens::line::number(out, owned, clock);
+        return tokens::line::number(out, begun, len);
     }
     let clock = increase(ranges, i);
-    let begun = tokens::fields::write_var(out, owned, clock);
-    tokens::fields::write_var(out, begun, numbers::words::less(len, 1))
+    let begun = tokens::line::number(out, owned, clock);
+    tokens::line::number(out, begun, numbers::words::less(len, 1))
 }
 
-// Whether a lane takes numbers without columns.
-fn has_numbers(lane: u8) -> bool
-    ensures { λ r. ⌜ r ≡ hasNumbers lane ⌝ }
+// The first n ranges. They are numbers without columns, in line in both forms.
+pub fn write_delete_set(out: &mut [u8], form: u8, at: usize, ranges: &[u64], n: usize) -> usize
+    requires { ⌜ 3 * n ≤ length (now ranges) ⌝ }
+    ensures { λ r. ⌜ InLine (deleteTokens form (rowsFrom (now (ranges .entry)) 0 n)) (now (out .entry)) at (now (out .exit)) r ⌝ }
 {
-    if lane == tokens::LINE {
-        return true;
-    }
-    lane == tokens::REST
-}
-
-// The first n ranges. They are numbers without columns: the columns' lanes take nothing of them.
-pub fn write_delete_set(out: &mut [u8], e: Lane, ranges: &[u64], n: usize) -> Lane
-    requires { ⌜ Sound (e .run) × (3 * n ≤ length (now ranges)) ⌝ }
-    ensures { λ r. ⌜ (r ≡ putAll e (deleteTokens (formOf (e .lane)) (rowsFrom (now (ranges .entry)) 0 n)))
-        × (now (out .exit) ≡ laidAll (now (out .entry)) e (deleteTokens (formOf (e .lane)) (rowsFrom (now (ranges .entry)) 0 n))) × Sound (r .run) ⌝ }
-{
-    if !has_numbers(e.lane) {
-        return e;
-    }
     let clients = count_clients(ranges, n);
-    let mut written = tokens::fields::write_var(out, e, clients as u64);
+    let mut end = tokens::line::number(out, at, clients as u64);
     let mut i: usize = 0;
     while i < n {
-        written = write_range(out, written, ranges, i, n);
+        end = write_range(out, form, end, ranges, i, n);
         i += 1;
     }
-    written
+    end
 }

@@ -1,19 +1,18 @@
-// Records written, token by token: a block, a row that a plan names, a delete set.
+// Records written, token by token, in either form: a block, a row that a plan names, a delete set.
 pub mod delete_set;
 
 use block::Block;
 use kept::cursor::Cursor;
 use text::Part;
 use text::Units;
-use tokens::Lane;
 ghost use mathlib.Core.Path.{_≡_};
+ghost use mathlib.Core.List.{[], _∷_};
 ghost use Prim.Native.Nat.{_+_, _≤_};
 ghost use Rattle.numbers.specs.Number.{pick};
 ghost use Rattle.numbers.specs.Limits.{maxClock};
 ghost use Rattle.text.specs.Utf8.{countedIn};
 ghost use Rattle.readings.specs.Sound.{bytesIn, linked};
-ghost use Rattle.runs.specs.Writer.{Sound};
-ghost use Rattle.tokens.specs.Lanes.{put, laid, putAll, laidAll};
+ghost use Rattle.tokens.specs.Desk.{Tidy, Wrote};
 ghost use Rattle.records.specs.Records.{contentNumber, infoByte, name, leftTokens, rightTokens, parentTokens, keyTokens, placeTokens, contentTokens, blockTokens};
 ghost use Rattle.records.specs.Stops.{headTokens, rowTokens};
 
@@ -55,19 +54,6 @@ fn is_linked(b: Block) -> bool
     b.has_right
 }
 
-// A name or a key: its units are counted where they are written.
-fn write_name(out: &mut [u8], update: &[u8], e: Lane, part: Part) -> Lane
-    requires { ⌜ Sound (e .run) ⌝ }
-    ensures { λ r. ⌜ (r ≡ put e (name (now (update .entry)) part))
-        × (now (out .exit) ≡ laid (now (out .entry)) e (name (now (update .entry)) part)) × Sound (r .run) ⌝ }
-{
-    if e.lane != tokens::UNITS {
-        return tokens::fields::write_string(out, update, e, part, Units(0));
-    }
-    let units = count_units(update, part);
-    tokens::fields::write_string(out, update, e, part, units)
-}
-
 fn count_units(update: &[u8], part: Part) -> Units
     ensures { λ r. ⌜ r ≡ countedIn (bytesIn (now (update .entry)) part) .units ⌝ }
 {
@@ -80,135 +66,199 @@ fn count_units(update: &[u8], part: Part) -> Units
     counted.units
 }
 
-fn write_left(out: &mut [u8], e: Lane, b: Block) -> Lane
-    requires { ⌜ Sound (e .run) ⌝ }
-    ensures { λ r. ⌜ (r ≡ putAll e (leftTokens b)) × (now (out .exit) ≡ laidAll (now (out .entry)) e (leftTokens b)) × Sound (r .run) ⌝ }
+// A name or a key: form 1 has no use for its units, so they are counted for form 2 alone.
+fn write_name(
+    out: &mut [u8],
+    update: &[u8],
+    lanes: &mut [u64],
+    form: u8,
+    at: usize,
+    part: Part,
+) -> usize
+    requires { ⌜ Tidy (now lanes) ⌝ }
+    ensures { λ r. ⌜ Wrote form (name (now (update .entry)) part ∷ []) (now (out .entry)) (now (lanes .entry)) at (now (out .exit)) (now (lanes .exit)) r ⌝ }
 {
-    if !b.has_left {
-        return e;
+    if form == 1 {
+        return tokens::line::led_part(out, update, at, part);
     }
-    let id = b.left;
-    let mid = tokens::fields::write_client(out, e, id.client);
-    tokens::fields::write_left_clock(out, mid, id.clock as u64)
+    let units = count_units(update, part);
+    tokens::fields::write_string(out, update, lanes, form, at, part, units)
 }
 
-fn write_right(out: &mut [u8], e: Lane, b: Block) -> Lane
-    requires { ⌜ Sound (e .run) ⌝ }
-    ensures { λ r. ⌜ (r ≡ putAll e (rightTokens b)) × (now (out .exit) ≡ laidAll (now (out .entry)) e (rightTokens b)) × Sound (r .run) ⌝ }
+fn write_left(out: &mut [u8], lanes: &mut [u64], form: u8, at: usize, b: Block) -> usize
+    requires { ⌜ Tidy (now lanes) ⌝ }
+    ensures { λ r. ⌜ Wrote form (leftTokens b) (now (out .entry)) (now (lanes .entry)) at (now (out .exit)) (now (lanes .exit)) r ⌝ }
+{
+    if !b.has_left {
+        return at;
+    }
+    let id = b.left;
+    let mid = tokens::fields::write_client(out, lanes, form, at, id.client);
+    tokens::fields::write_left_clock(out, lanes, form, mid, id.clock as u64)
+}
+
+fn write_right(out: &mut [u8], lanes: &mut [u64], form: u8, at: usize, b: Block) -> usize
+    requires { ⌜ Tidy (now lanes) ⌝ }
+    ensures { λ r. ⌜ Wrote form (rightTokens b) (now (out .entry)) (now (lanes .entry)) at (now (out .exit)) (now (lanes .exit)) r ⌝ }
 {
     if !b.has_right {
-        return e;
+        return at;
     }
     let id = b.right;
-    let mid = tokens::fields::write_client(out, e, id.client);
-    tokens::fields::write_right_clock(out, mid, id.clock as u64)
+    let mid = tokens::fields::write_client(out, lanes, form, at, id.client);
+    tokens::fields::write_right_clock(out, lanes, form, mid, id.clock as u64)
 }
 
 // A parent by its name, or by its id, which is written as a left id.
-fn write_parent(out: &mut [u8], update: &[u8], e: Lane, b: Block) -> Lane
-    requires { ⌜ Sound (e .run) ⌝ }
-    ensures { λ r. ⌜ (r ≡ putAll e (parentTokens (now (update .entry)) b))
-        × (now (out .exit) ≡ laidAll (now (out .entry)) e (parentTokens (now (update .entry)) b)) × Sound (r .run) ⌝ }
+fn write_parent(
+    out: &mut [u8],
+    update: &[u8],
+    lanes: &mut [u64],
+    form: u8,
+    at: usize,
+    b: Block,
+) -> usize
+    requires { ⌜ Tidy (now lanes) ⌝ }
+    ensures { λ r. ⌜ Wrote form (parentTokens (now (update .entry)) b) (now (out .entry)) (now (lanes .entry)) at (now (out .exit)) (now (lanes .exit)) r ⌝ }
 {
     if b.has_name {
-        let named = tokens::fields::write_parent_info(out, e, 1);
+        let named = tokens::fields::write_parent_info(out, lanes, form, at, 1);
         let part = b.name;
-        return write_name(out, update, named, part);
+        return write_name(out, update, lanes, form, named, part);
     }
     let id = b.parent;
-    let begun = tokens::fields::write_parent_info(out, e, 0);
-    let mid = tokens::fields::write_client(out, begun, id.client);
-    tokens::fields::write_left_clock(out, mid, id.clock as u64)
+    let begun = tokens::fields::write_parent_info(out, lanes, form, at, 0);
+    let mid = tokens::fields::write_client(out, lanes, form, begun, id.client);
+    tokens::fields::write_left_clock(out, lanes, form, mid, id.clock as u64)
 }
 
-fn write_key(out: &mut [u8], update: &[u8], e: Lane, b: Block) -> Lane
-    requires { ⌜ Sound (e .run) ⌝ }
-    ensures { λ r. ⌜ (r ≡ putAll e (keyTokens (now (update .entry)) b))
-        × (now (out .exit) ≡ laidAll (now (out .entry)) e (keyTokens (now (update .entry)) b)) × Sound (r .run) ⌝ }
+fn write_key(
+    out: &mut [u8],
+    update: &[u8],
+    lanes: &mut [u64],
+    form: u8,
+    at: usize,
+    b: Block,
+) -> usize
+    requires { ⌜ Tidy (now lanes) ⌝ }
+    ensures { λ r. ⌜ Wrote form (keyTokens (now (update .entry)) b) (now (out .entry)) (now (lanes .entry)) at (now (out .exit)) (now (lanes .exit)) r ⌝ }
 {
     if !b.has_key {
-        return e;
+        return at;
     }
     let part = b.key;
-    write_name(out, update, e, part)
+    write_name(out, update, lanes, form, at, part)
 }
 
 // Where an item stands: beside others, or in a parent.
-fn write_place(out: &mut [u8], update: &[u8], e: Lane, b: Block) -> Lane
-    requires { ⌜ Sound (e .run) ⌝ }
-    ensures { λ r. ⌜ (r ≡ putAll e (placeTokens (now (update .entry)) b))
-        × (now (out .exit) ≡ laidAll (now (out .entry)) e (placeTokens (now (update .entry)) b)) × Sound (r .run) ⌝ }
+fn write_place(
+    out: &mut [u8],
+    update: &[u8],
+    lanes: &mut [u64],
+    form: u8,
+    at: usize,
+    b: Block,
+) -> usize
+    requires { ⌜ Tidy (now lanes) ⌝ }
+    ensures { λ r. ⌜ Wrote form (placeTokens (now (update .entry)) b) (now (out .entry)) (now (lanes .entry)) at (now (out .exit)) (now (lanes .exit)) r ⌝ }
 {
     if is_linked(b) {
-        let mid = write_left(out, e, b);
-        return write_right(out, mid, b);
+        let mid = write_left(out, lanes, form, at, b);
+        return write_right(out, lanes, form, mid, b);
     }
-    let mid = write_parent(out, update, e, b);
-    write_key(out, update, mid, b)
+    let mid = write_parent(out, update, lanes, form, at, b);
+    write_key(out, update, lanes, form, mid, b)
 }
 
-fn write_content(out: &mut [u8], update: &[u8], e: Lane, b: Block) -> Lane
-    requires { ⌜ Sound (e .run) ⌝ }
-    ensures { λ r. ⌜ (r ≡ putAll e (contentTokens (now (update .entry)) b))
-        × (now (out .exit) ≡ laidAll (now (out .entry)) e (contentTokens (now (update .entry)) b)) × Sound (r .run) ⌝ }
+fn write_content(
+    out: &mut [u8],
+    update: &[u8],
+    lanes: &mut [u64],
+    form: u8,
+    at: usize,
+    b: Block,
+) -> usize
+    requires { ⌜ Tidy (now lanes) ⌝ }
+    ensures { λ r. ⌜ Wrote form (contentTokens (now (update .entry)) b) (now (out .entry)) (now (lanes .entry)) at (now (out .exit)) (now (lanes .exit)) r ⌝ }
 {
     let length = b.length;
     let part = b.part;
     if b.kind == block::DELETED {
-        return tokens::fields::write_len(out, e, length.0);
+        return tokens::fields::write_len(out, lanes, form, at, length.0);
     }
     if b.kind == block::BINARY {
-        return tokens::fields::write_buf(out, update, e, part);
+        return tokens::line::led_part(out, update, at, part);
     }
-    tokens::fields::write_string(out, update, e, part, length)
+    tokens::fields::write_string(out, update, lanes, form, at, part, length)
 }
 
 // A block: a GC, a Skip, or an item.
-pub fn write_block(out: &mut [u8], update: &[u8], e: Lane, b: Block) -> Lane
-    requires { ⌜ Sound (e .run) ⌝ }
-    ensures { λ r. ⌜ (r ≡ putAll e (blockTokens (now (update .entry)) b))
-        × (now (out .exit) ≡ laidAll (now (out .entry)) e (blockTokens (now (update .entry)) b)) × Sound (r .run) ⌝ }
+pub fn write_block(
+    out: &mut [u8],
+    update: &[u8],
+    lanes: &mut [u64],
+    form: u8,
+    at: usize,
+    b: Block,
+) -> usize
+    requires { ⌜ Tidy (now lanes) ⌝ }
+    ensures { λ r. ⌜ Wrote form (blockTokens (now (update .entry)) b) (now (out .entry)) (now (lanes .entry)) at (now (out .exit)) (now (lanes .exit)) r ⌝ }
 {
     let length = b.length;
     if b.kind == block::GC {
-        let gc = tokens::fields::write_info(out, e, 0);
-        return tokens::fields::write_len(out, gc, length.0);
+        let gc = tokens::fields::write_info(out, lanes, form, at, 0);
+        return tokens::fields::write_len(out, lanes, form, gc, length.0);
     }
     if b.kind == block::SKIP {
-        let skip = tokens::fields::write_info(out, e, 10);
-        return tokens::fields::write_var(out, skip, length.0);
+        let skip = tokens::fields::write_info(out, lanes, form, at, 10);
+        return tokens::line::number(out, skip, length.0);
     }
-    let item = tokens::fields::write_info(out, e, info_byte(b));
-    let placed = write_place(out, update, item, b);
-    write_content(out, update, placed, b)
+    let item = tokens::fields::write_info(out, lanes, form, at, info_byte(b));
+    let placed = write_place(out, update, lanes, form, item, b);
+    write_content(out, update, lanes, form, placed, b)
 }
 
 // A section's head: how many blocks, the client, the first clock.
-fn write_head(out: &mut [u8], e: Lane, count: usize, from: Units, b: Block) -> Lane
-    requires { ⌜ Sound (e .run) × (b .clock + from .0 ≤ maxClock) ⌝ }
-    ensures { λ r. ⌜ (r ≡ putAll e (headTokens count (from .0) b)) × (now (out .exit) ≡ laidAll (now (out .entry)) e (headTokens count (from .0) b)) × Sound (r .run) ⌝ }
+fn write_head(
+    out: &mut [u8],
+    lanes: &mut [u64],
+    form: u8,
+    at: usize,
+    count: usize,
+    from: Units,
+    b: Block,
+) -> usize
+    requires { ⌜ Tidy (now lanes) × (b .clock + from .0 ≤ maxClock) ⌝ }
+    ensures { λ r. ⌜ Wrote form (headTokens count (from .0) b) (now (out .entry)) (now (lanes .entry)) at (now (out .exit)) (now (lanes .exit)) r ⌝ }
 {
     if count == 0 {
-        return e;
+        return at;
     }
     let clock = b.clock as u64 + from.0;
-    let counted = tokens::fields::write_var(out, e, count as u64);
-    let named = tokens::fields::write_client(out, counted, b.client);
-    tokens::fields::write_var(out, named, clock)
+    let counted = tokens::line::number(out, at, count as u64);
+    let named = tokens::fields::write_client(out, lanes, form, counted, b.client);
+    tokens::line::number(out, named, clock)
 }
 
 // The row of the table at a cursor.
-pub fn write_row(out: &mut [u8], update: &[u8], e: Lane, c: Cursor, b: Block) -> Lane
-    requires { ⌜ Sound (e .run) ⌝ }
-    ensures { λ r. ⌜ (r ≡ putAll e (rowTokens (now (update .entry)) (c .head) (c .from .0) (c .skip .0) b))
-        × (now (out .exit) ≡ laidAll (now (out .entry)) e (rowTokens (now (update .entry)) (c .head) (c .from .0) (c .skip .0) b)) × Sound (r .run) ⌝ }
+pub fn write_row(
+    out: &mut [u8],
+    update: &[u8],
+    lanes: &mut [u64],
+    form: u8,
+    at: usize,
+    c: Cursor,
+    b: Block,
+) -> usize
+    requires { ⌜ Tidy (now lanes) ⌝ }
+    ensures { λ r. ⌜ Wrote form (rowTokens (now (update .entry)) (c .head) (c .from .0) (c .skip .0) b) (now (out .entry)) (now (lanes .entry)) at (now (out .exit)) (now (lanes .exit)) r ⌝ }
 {
     let from = c.from;
     let skip = c.skip;
     if !kept::cursor::is_sane(b, from, skip) {
-        return e;
+        return at;
     }
-    let headed = write_head(out, e, c.head, from, b);
+    let headed = write_head(out, lanes, form, at, c.head, from, b);
     let piece = kept::cursor::cut(b, from, skip);
-    write_block(out, update, headed, piece)
+    write_block(out, update, lanes, form, headed, piece)
 }

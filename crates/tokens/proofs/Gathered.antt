@@ -8,7 +8,7 @@ use lib.ListN.{length, length-append}
 use lib.Seq.{sets, length-sets}
 use borrow.Author.Tests.{le-leb}
 use Rattle.numbers.proofs.Output.{sets-append}
-use Rattle.tokens.specs.declared.Lane.{Lane}
+use Rattle.tokens.specs.Lanes.{Lane}
 use Rattle.tokens.specs.Tokens.{Token, taken, takenAll, inLine}
 use Rattle.parts.specs.Brim.{brim}
 use Rattle.tokens.specs.Lanes.{movedTo, forward, laidBytes, pushedAll, laidValues, put, laid, putAll, laidAll}

@@ -1,7 +1,9 @@
--- The laws of tokens that are written: one put (Laying), what a lane takes of a token (Taking), parts of an update (Parts), how long a lane can
--- be (Sizes), values onto their column (Values), passes over tokens (Passes), each as one put (Gathered), a lane from beginning to end (Written),
--- and what makes it fit, token by token (Fitting).
+-- The laws of tokens that are written: one put (Laying), a place in line (Places), what a lane takes of a token (Taking), parts of an update (Parts), how
+-- long a lane can be (Sizes), values onto their column (Values), passes over tokens (Passes), each as one put (Gathered), a lane from beginning to end
+-- (Written), and what makes it fit, token by token (Fitting). And of the lanes in words: stores to a lane's words (Words), a push (Pushes), the ends
+-- (Ends), and one token onto all lanes of a form (Deskwise).
 pub mod Laying
+pub mod Places
 pub mod Taking
 pub mod Parts
 pub mod Sizes
@@ -10,3 +12,7 @@ pub mod Passes
 pub mod Gathered
 pub mod Written
 pub mod Fitting
+pub mod Words
+pub mod Pushes
+pub mod Ends
+pub mod Deskwise

@@ -9,7 +9,7 @@ use lib.ListN.{length}
 use lib.Seq.{sets, length-sets}
 use Rattle.numbers.specs.Number.{pick}
 use Rattle.runs.specs.Writer.{emitted, pushed, Sound}
-use Rattle.tokens.specs.declared.Lane.{Lane}
+use Rattle.tokens.specs.Lanes.{Lane}
 use Rattle.tokens.specs.Tokens.{Token, taken, takenAll, inLine}
 use Rattle.parts.specs.Brim.{brim}
 use Rattle.tokens.specs.Lanes.{freshLane, lay, movedTo, forward, laidBytes, takes, pushedOn, laidValue, pushedAll, laidValues, put, laid, putAll, laidAll, lastRun, laidEnd}

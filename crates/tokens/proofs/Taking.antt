@@ -7,7 +7,7 @@ use mathlib.Core.Bool.{Bool, true, false}
 use borrow.Author.Tests.{eq-eqb, ne-eqb}
 use Rattle.numbers.specs.Number.{pick, unsigned}
 use Rattle.runs.specs.Writer.{Sound}
-use Rattle.tokens.specs.declared.Lane.{Lane}
+use Rattle.tokens.specs.Lanes.{Lane}
 use Rattle.tokens.specs.Tokens.{Token, field, text, var, buf, infos, texts, units, rest, whole, led, inlined, taken, inLine}
 use Rattle.tokens.specs.Lanes.{forward, laidBytes, pushedOn, laidValue, pushedAll, laidValues, put, laid}
 use Rattle.tokens.proofs.Laying.{forward-sound, forward-none, bytes-none, pushed-none, pushed-one, values-none, values-one, pushed-sound-all}
@@ -25,9 +25,6 @@ in-texts k e = rw e
 pub in-rest : (k : ℕ) → k ≡ rest → inLine k ≡ true
 unfolding inLine
 in-rest k e = rw e
-
-pub out-of-line : (k j : ℕ) → k ≡ j → inLine j ≡ false → inLine k ≡ false
-out-of-line k j e h = rw e h
 
 -- ---- what a lane takes
 
@@ -117,7 +114,3 @@ module _ (out : List ℕ) (e : Lane) (t : Token) where
       go : (b : Bool) → Sound (pick b (forward e (taken (e .lane) t)) (pushedAll e (taken (e .lane) t)) .run)
       go true = forward-sound out e (taken (e .lane) t) s
       go false = pushed-sound-all e (taken (e .lane) t) s
-
-  -- what a writer of tokens promises
-  pub wrote : {r : Lane} {bytes : List ℕ} → Sound (e .run) → (r ≡ put e t) → (bytes ≡ laid out e t) → (r ≡ put e t) × (bytes ≡ laid out e t) × Sound (r .run)
-  wrote s p q = (p, q, rw p (put-sound s))

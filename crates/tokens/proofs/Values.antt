@@ -14,7 +14,7 @@ use Rattle.runs.specs.declared.writer.Writer.{Writer}
 use Rattle.runs.specs.Runs.{coding, column, within, spellable}
 use Rattle.runs.specs.Writer.{keyAfter, emitted, pushed}
 use Rattle.runs.proofs.Standing.{Holds, pushed-column, pushed-at, pushed-last, pushed-count, holds-push, holds-room}
-use Rattle.tokens.specs.declared.Lane.{Lane}
+use Rattle.tokens.specs.Lanes.{Lane}
 use Rattle.parts.specs.Brim.{brim}
 use Rattle.tokens.specs.Lanes.{takes, pushedOn, laidValue, pushedAll, laidValues}
 use Rattle.tokens.proofs.Laying.{onward, farWith, value-on, value-laid}

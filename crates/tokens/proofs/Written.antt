@@ -11,7 +11,7 @@ use Rattle.numbers.specs.Number.{pick}
 use Rattle.runs.specs.Runs.{coding, within, spellable}
 use Rattle.runs.specs.Writer.{finished}
 use Rattle.runs.proofs.Standing.{Holds, holds-fresh, holds-end, holds-size}
-use Rattle.tokens.specs.declared.Lane.{Lane}
+use Rattle.tokens.specs.Lanes.{Lane}
 use Rattle.tokens.specs.Tokens.{Token, takenAll, inLine, columnIn, lane}
 use Rattle.parts.specs.Brim.{brim}
 use Rattle.tokens.specs.Lanes.{freshLane, movedTo, pushedAll, laidValues, putAll, laidAll, lastRun, closed, laidEnd}

@@ -10,8 +10,13 @@ use Rattle.runs.specs.declared.writer.Writer.{Writer}
 use Rattle.runs.specs.Runs.{coding}
 use Rattle.runs.specs.Writer.{fresh, keyAfter, emitted, finished, pushed}
 use Rattle.parts.specs.Brim.{brim}
-use Rattle.tokens.specs.declared.Lane.{Lane}
 use Rattle.tokens.specs.Tokens.{Token, taken, inLine, columnIn}
+
+-- which lane, its writer, whose `at` is the next place in lanes without runs too, and whether a difference could not be spelled
+pub record Lane : Type 0 where
+  pub lane : ℕ
+  pub run : Writer
+  pub far : Bool
 
 abbrev pub freshLane : ℕ → ℕ → Lane
 freshLane k at = record { lane = k; run = fresh (columnIn k) at; far = false }
@@ -21,7 +26,18 @@ unfoldable pub lay : List ℕ → ℕ → List ℕ → List ℕ
 lay out at b = pick (leb (at + length b) (length out)) (sets out at b) out
 
 abbrev pub movedTo : Lane → ℕ → Lane
-movedTo e at = record { lane = e .lane; run = record { column = e .run .column; at = at; last = e .run .last; key = e .run .key; count = e .run .count }; far = e .far }
+movedTo e at = record {
+  lane = e .lane;
+  run = record { column = e .run .column; at = at; last = e .run .last; key = e .run .key; count = e .run .count };
+  far = e .far;
+}
+
+-- the place after bytes b in line, and the bytes lent then; at the brim nothing moves
+unfoldable pub ahead : ℕ → List ℕ → ℕ
+ahead at b = pick (ltb at brim) (at + length b) at
+
+unfoldable pub laidAt : List ℕ → ℕ → List ℕ → List ℕ
+laidAt out at b = pick (ltb at brim) (lay out at b) out
 
 unfoldable pub forward : Lane → List ℕ → Lane
 forward e b = pick (ltb (e .run .at) brim) (movedTo e (e .run .at + length b)) e
@@ -34,7 +50,9 @@ unfoldable pub takes : Writer → ℕ → Bool
 takes w v = pick (ltb (w .at) brim) (pick (ltb (w .count) brim) (leb v (coding (w .column) .most)) false) false
 
 unfoldable pub pushedOn : Lane → ℕ → Lane
-pushedOn e v = pick (takes (e .run) v) (record { lane = e .lane; run = pushed (e .run) v; far = pick (coding (e .run .column) .near (keyAfter (e .run) v)) (e .far) true }) e
+pushedOn e v =
+    pick (takes (e .run) v)
+    (record { lane = e .lane; run = pushed (e .run) v; far = pick (coding (e .run .column) .near (keyAfter (e .run) v)) (e .far) true }) e
 
 unfoldable pub laidValue : List ℕ → Lane → ℕ → List ℕ
 laidValue out e v = pick (takes (e .run) v) (lay out (e .run .at) (emitted (e .run) v)) out

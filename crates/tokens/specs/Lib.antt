@@ -1,4 +1,6 @@
--- What is written of an update, token by token (Tokens), its bytes in either form (Bytes), and how a pass over the tokens writes one lane (Lanes).
+-- What is written of an update, token by token (Tokens), its bytes in either form (Bytes), how a lane is written a token at a time (Lanes), and how all
+-- lanes of a form are, side by side (Desk).
 pub mod Tokens
 pub mod Bytes
 pub mod Lanes
+pub mod Desk

@@ -1,8 +1,7 @@
 -- What is written of an update that was read, against a vector: the steps with their refusals, 9, 13, 10. `Meaning` in the proofs says that this is the
 -- diff.
-use Prim.Native.Nat.{ℕ, _+_}
-use mathlib.Core.Bool.{false}
-use mathlib.Core.List.{List, []}
+use Prim.Native.Nat.{ℕ}
+use mathlib.Core.List.{List, [], _∷_}
 use lib.Dec.{ltb, eqb}
 use lib.ListN.{length, take, replicate}
 use Rattle.numbers.specs.declared.Written.{Written}
@@ -12,31 +11,49 @@ use Rattle.block.specs.declared.Block.{Block}
 use Rattle.grammar.specs.Course.{Course, items, ending}
 use Rattle.ranges.specs.Ranges.{Range}
 use Rattle.vector.specs.Vector.{Entry}
-use Rattle.encoder.specs.Passes.{outcomeFor, wordsFor}
-use Rattle.passes.specs.Forms.{Job, job, firstLane, lanesOf, ledOf, sizesFrom, farFrom, totalFrom, endFrom, outFrom}
+use Rattle.tokens.specs.Tokens.{Token, var}
+use Rattle.records.specs.Records.{deleteTokens}
+use Rattle.encoder.specs.Passes.{outcomeFor, wordsFor, plannedTokens}
+use Rattle.passes.specs.Forms.{sizesFor, farFor, endFor, outFor}
 
 -- ---- planned rows, in a form, into the bytes lent
 
--- of the lanes before the last
-abbrev pub sizesOf : Job → ℕ → List ℕ
-sizesOf j form = sizesFrom j (firstLane form) (ledOf form) (replicate 10 0)
+-- planned rows of a table, and ranges
+pub record Job : Type 0 where
+  pub update : List ℕ
+  pub rows : List Block
+  pub plan : List ℕ
+  pub sections : ℕ
+  pub ranges : List Range
 
-abbrev pub endOf : Job → ℕ → ℕ
-endOf j form = endFrom j (sizesOf j form) (firstLane form) (lanesOf form) 0
+abbrev pub job : List ℕ → List Block → List ℕ → ℕ → List Range → Job
+job u rows w n rs = record { update = u; rows = rows; plan = w; sections = n; ranges = rs }
 
--- 13, then 10: already where the lanes before the last have no room
+abbrev pub plannedIn : Job → List Token
+plannedIn j = plannedTokens (j .update) (j .rows) (j .plan) (j .sections)
+
+abbrev pub deletesIn : ℕ → Job → List Token
+deletesIn form j = deleteTokens form (j .ranges)
+
+-- of the lanes that are led by them
+abbrev pub sizesIn : Job → ℕ → List ℕ
+sizesIn j form = sizesFor form (plannedIn j) (replicate 8 0)
+
+abbrev pub endIn : Job → ℕ → ℕ
+endIn j form = endFor form (sizesIn j form) (var (j .sections) ∷ plannedIn j) (deletesIn form j)
+
+-- 13, then 10
 unfoldable pub plannedWhy : Job → ℕ → ℕ → ℕ
-plannedWhy j form room =
-    pick (farFrom j (firstLane form) (ledOf form) false) 13
-    (pick (ltb room (totalFrom (sizesOf j form) (firstLane form) (ledOf form) 0)) 10 (pick (ltb room (endOf j form)) 10 0))
+plannedWhy j form room = pick (farFor form (plannedIn j)) 13 (pick (ltb room (endIn j form)) 10 0)
 
 unfoldable pub plannedAnswer : Job → ℕ → ℕ → Written
-plannedAnswer j form room = pick (eqb (plannedWhy j form room) 0) (done (endOf j form)) (refusal (plannedWhy j form room))
+plannedAnswer j form room = pick (eqb (plannedWhy j form room) 0) (done (endIn j form)) (refusal (plannedWhy j form room))
 
 unfoldable pub plannedOut : Job → ℕ → List ℕ → List ℕ
 plannedOut j form out =
     padded (length out)
-    (pick (eqb (plannedWhy j form (length out)) 0) (take (endOf j form) (outFrom j (sizesOf j form) (firstLane form) (lanesOf form) 0 out)) [])
+    (pick (eqb (plannedWhy j form (length out)) 0)
+    (take (endIn j form) (outFor form (sizesIn j form) (var (j .sections) ∷ plannedIn j) (deletesIn form j) out)) [])
 
 -- ---- blocks, kept against the entries v: 9 first
 

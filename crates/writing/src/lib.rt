@@ -8,8 +8,7 @@ ghost use lib.ListN.{length};
 ghost use Rattle.ranges.specs.Table.{rowsFrom};
 ghost use Rattle.vector.specs.Vector.{vectorOf};
 ghost use Rattle.kept.specs.Plan.{entriesOf};
-ghost use Rattle.passes.specs.Forms.{job};
-ghost use Rattle.writing.specs.Writing.{plannedAnswer, plannedOut, keptAnswer, keptOut, readAnswer, readOut};
+ghost use Rattle.writing.specs.Writing.{job, plannedAnswer, plannedOut, keptAnswer, keptOut, readAnswer, readOut};
 
 // Planned rows and the first n ranges, in a form: 13, or 10, or all of it.
 fn encode_planned(
@@ -26,31 +25,13 @@ fn encode_planned(
     ensures { λ r. ⌜ (r ≡ plannedAnswer (job (now (update .entry)) (now (rows .entry)) (now (plan .entry)) sections (rowsFrom (now (ranges .entry)) 0 n)) form (length (now (out .entry))))
         × (now (out .exit) ≡ plannedOut (job (now (update .entry)) (now (rows .entry)) (now (plan .entry)) sections (rowsFrom (now (ranges .entry)) 0 n)) form (now (out .entry))) ⌝ }
 {
-    let mut table = [0u64; 10];
+    let mut table = [0u64; 8];
     let sizes = &mut table[..];
-    let first = passes::leads::first_lane(form);
-    let end = passes::leads::lanes_end(form);
-    let led = passes::leads::led_end(form);
-    let far = passes::measure(sizes, update, rows, plan, sections, ranges, n, first, led);
+    let far = passes::measure(sizes, update, rows, plan, sections, form);
     if far {
         return numbers::refuse(out, 13);
     }
-    let total = passes::leads::total(sizes, first, led);
-    if out.len() < total {
-        return numbers::refuse(out, 10);
-    }
-    let used = passes::write(
-        out,
-        sizes,
-        update,
-        rows,
-        plan,
-        sections,
-        ranges,
-        n,
-        first,
-        end,
-    );
+    let used = passes::write(out, sizes, update, rows, plan, sections, ranges, n, form);
     if out.len() < used {
         return numbers::refuse(out, 10);
     }

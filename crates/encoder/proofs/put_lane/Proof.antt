@@ -39,7 +39,7 @@ use Rattle.walks.proofs.Walk.{has, bare, retyped, Envs, envOf, locals, alloc-al
 use Rattle.walks.proofs.Flow.{tests, skip-on, exit-on, part}
 use Rattle.block.specs.declared.Block.{Block}
 use Rattle.kept.specs.declared.cursor.Cursor.{Cursor}
-use Rattle.tokens.specs.declared.Lane.{Lane}
+use Rattle.tokens.specs.Lanes.{Lane}
 use Rattle.block.specs.Row.{noBlock}
 use Rattle.encoder.specs.Passes.{bytesFor, laneFor}
 use Rattle.kept.specs.Plan.{advanced, openedAt}

@@ -1,7 +1,7 @@
 -- `put_lead` meets its contract: what `write_lead` promises, its place.
 use borrow.Author.Needs.{needs}
 use mathlib.Core.Path.{ap, _∙_}
-use Rattle.tokens.specs.declared.Lane.{Lane}
+use Rattle.tokens.specs.Lanes.{Lane}
 use Rattle.passes.proofs.leads.put_lead.Statement.{statement}
 use Rattle.passes.proofs.leads.put_lead.Tie as tie
 

@@ -1,55 +1,42 @@
--- `write_string` meets its contract: in line, bytes, units, in another lane.
-use mathlib.Core.Path.{refl, _∙_}
+-- `write_string` meets its contract: a text in line, or its bytes and its units.
+use native.Mathlib.Omega.{arith}
+use mathlib.Core.Path.{refl}
 use Rattle.readings.specs.Sound.{bytesIn}
-use Rattle.tokens.specs.Tokens.{text, units, led, inLine}
-use Rattle.tokens.proofs.Taking.{in-line, in-texts, out-of-line, text-line, text-texts, text-units, text-other, takes-none, takes-bytes, takes-value, wrote}
+use Rattle.tokens.specs.Tokens.{text, whole, led, columnIn}
+use Rattle.tokens.proofs.Taking.{text-line}
+use Rattle.tokens.proofs.Deskwise.{wrote-whole, wrote-text}
 use borrow.Author.Needs.{needs}
 use Rattle.tokens.proofs.fields.write_string.Statement.{statement}
 use Rattle.tokens.proofs.fields.write_string.Tie as tie
 
 returns : tie.Need-returns
 returns c =
-    let a = c .before .before .before .before .before .before .before .before .args in
-    let h = c .before .before .before .before .if1 .taken in
-    let p = c .before .before .put-led .ensures in
+    let start = c .before .before .before .before .before .before .before .before in
+    let a = start .args in
     let b = bytesIn (a .update .now) (a .part) in
     let n = a .units .0 in
-    let x = takes-bytes (a .out .now) (a .e) (text b n) (led b) (in-line (a .e .lane) h) (text-line (a .e .lane) b n h) in
-    wrote (a .out .now) (a .e) (text b n) (c .before .before .before .before .before .before .before .before .pre) (p .0 ∙ x .0) (p .1 ∙ x .1)
+    let r = c .before .before .led-part in
+    wrote-whole (a .form) (a .at) (a .out .now) (a .lanes .now) (text b n) (c .before .before .before .before .if1 .taken) (start .pre) (led b)
+    (r .last .0) (r .result) (text-line whole b n refl)
+    (r .ensures .0) (r .ensures .1)
+
+push-number-requires : tie.Need-push-number-requires
+unfolding columnIn
+push-number-requires c κs = (c .before .before .before .before .before .before .put-text .ensures .0 .tidy, omega arith, refl)
 
 returns-2 : tie.Need-returns-2
 returns-2 c =
-    let a = c .before .before .before .before .before .before .before .before .before .before .args in
-    let h = c .before .before .before .before .if2 .taken in
-    let p = c .before .before .put-part .ensures in
+    let a = c .before .before .before .before .before .before .before .before .before .before .before .before .before .before .before .before .before .before .args in
     let b = bytesIn (a .update .now) (a .part) in
-    let n = a .units .0 in
-    let x = takes-bytes (a .out .now) (a .e) (text b n) b (in-texts (a .e .lane) h) (text-texts (a .e .lane) b n (c .before .before .before .before .before .before .if1 .left) h) in
-    wrote (a .out .now) (a .e) (text b n) (c .before .before .before .before .before .before .before .before .before .before .pre) (p .0 ∙ x .0) (p .1 ∙ x .1)
-
-returns-3 : tie.Need-returns-3
-unfolding inLine
-returns-3 c =
-    let a = c .before .before .before .before .before .before .before .before .before .before .before .before .args in
-    let h = c .before .before .before .before .if3 .taken in
-    let p = c .before .before .put-value .ensures in
-    let b = bytesIn (a .update .now) (a .part) in
-    let n = a .units .0 in
-    let own = text-units (a .e .lane) b n (c .before .before .before .before .before .before .before .before .if1 .left) (c .before .before .before .before .before .before .if2 .left) h in
-    let x = takes-value (a .out .now) (a .e) (text b n) n (out-of-line (a .e .lane) units h refl) own in
-    (p .0 ∙ x .0, p .1 ∙ x .1, p .2)
-
-returns-4 : tie.Need-returns-4
-returns-4 c =
-    let a = c .before .before .before .before .before .before .before .before .args in
-    let b = bytesIn (a .update .now) (a .part) in
-    let n = a .units .0 in
-    let x = takes-none (a .out .now) (a .e) (text b n) (text-other (a .e .lane) b n (c .before .before .before .before .if1 .left) (c .before .before .if2 .left) (c .if3 .left)) in
-    (x .0, x .1, c .before .before .before .before .before .before .before .before .pre)
+    let s = c .before .before .before .before .before .before .before .before .before .before .before .put-text in
+    let p = c .before .before .before .before .push-number in
+    wrote-text (a .form) (a .at) (a .out .now) (a .lanes .now)
+    (c .before .before .before .before .before .before .before .before .before .before .before .before .before .before .if1 .left) b (a .units .0)
+    (s .last .0) (s .last .1 .1 .0) (p .last .0) (p .last .1 .0)
+    (s .ensures .0) (s .ensures .1) (p .ensures .0) (p .ensures .1)
 
 pub write-string-spec : {M : Type 1} → statement M
 write-string-spec =
     tie.close
     (tie.spec
-    (λ c κs. search needs) (λ c. search needs) returns (λ c κs. search needs) (λ c. search needs) returns-2 (λ c κs. search needs) (λ c. search needs)
-    returns-3 returns-4)
+    (λ c κs. search needs) (λ c. search needs) returns (λ c κs. search needs) push-number-requires (λ c. search needs) (λ c. search needs) returns-2)
