@@ -1,9 +1,10 @@
--- What is written of a delete set: a range, the whole, and nothing in the lanes of columns.
-use Prim.Native.Nat.{ℕ, _+_, _-_, _≤_, _<_}
-use mathlib.Core.Path.{_≡_, refl, sym, subst, _∙_}
+-- What is written of a delete set: numbers without columns, a range, and the rows so far.
+use Prim.Native.Nat.{ℕ, zero, suc, _+_, _-_, _≤_, _<_}
+use mathlib.Core.Path.{_≡_, refl, sym, ap, _∙_}
 use mathlib.Core.Logic.{_≢_}
 use mathlib.Core.Bool.{Bool, true, false, not}
-use mathlib.Core.List.{List, [], _∷_, _++_}
+use mathlib.Core.List.{List, [], _∷_, _++_, append-assoc, append-nil}
+use native.Mathlib.Numerals.{add-one}
 use native.Mathlib.Omega.{arith}
 use lib.Dec.{eqb}
 use lib.ListN.{length}
@@ -12,69 +13,49 @@ use Rattle.numbers.specs.Number.{pick}
 use Rattle.ranges.specs.Ranges.{Range}
 use Rattle.ranges.specs.Table.{row, rowsFrom}
 use Rattle.readings.specs.Groups.{groups}
-use Rattle.runs.specs.Writer.{Sound}
-use Rattle.tokens.specs.Lanes.{Lane}
+use Rattle.readings.specs.Sound.{All}
 use Rattle.tokens.specs.Tokens.{Token, var, taken, takenAll, rest, whole}
-use Rattle.tokens.specs.Lanes.{put, putAll, laidAll}
-use Rattle.tokens.proofs.Taking.{var-other}
+use Rattle.tokens.specs.Lanes.{freshLane, putAll, laidAll}
+use Rattle.tokens.proofs.Taking.{in-line, in-rest, var-line, var-rest, var-other}
+use Rattle.tokens.proofs.Wrote.{line-alike}
 use Rattle.records.specs.Records.{clockFrom, lengthOf, rangesTokens, clientTokens, ownerOf, deleteTokens}
-use Rattle.records.specs.DeleteRows.{isFirst, endBefore, siblings, ownerTokens, rangeTokens, tableTokens, hasNumbers}
-use Rattle.records.specs.Stops.{formOf}
-use Rattle.tokens.proofs.Passes.{put-append, laid-append, skips, same-lane}
-use Rattle.records.proofs.Chains.{Wrote, WroteOne, wrote-none, wrote-one, wrote-more, wrote-both}
-use Rattle.records.proofs.DeleteRows.{delete-rows, rows-begin, rows-turn, rows-end}
+use Rattle.records.specs.DeleteRows.{isFirst, endBefore, siblings, ownerTokens, rangeTokens, tableTokens}
+use Rattle.records.proofs.DeleteRows.{delete-rows, rows-turn, rows-end}
 
-put-lane : (e : Lane) (t : Token) → put e t .lane ≡ e .lane
-unfolding putAll
-put-lane e t = same-lane e (t ∷ [])
+-- ---- all are numbers without columns
 
--- ---- lanes that take no number without a column
+module _ (P : Token → Type 0) (p : (v : ℕ) → P (var v)) (form : ℕ) where
+  ranges-plain : (end : ℕ) (rs : List Range) (ts : List Token) → All P ts → All P (rangesTokens form end rs ++ ts)
+  unfolding rangesTokens
+  ranges-plain end [] ts h = h
+  ranges-plain end (r ∷ rs) ts h = (p (clockFrom form end r), (p (lengthOf form r), ranges-plain (r .clock + r .len) rs ts h))
 
-module _ (k : ℕ) where
-  pub numbers-line : k ≡ whole → true ≡ hasNumbers k
-  unfolding hasNumbers
-  numbers-line e = rw (eq-eqb k whole e)
+  clients-plain : (gs : List (List Range)) → All P (clientTokens form gs)
+  unfolding clientTokens
+  clients-plain [] = tt
+  clients-plain ([] ∷ gs) = clients-plain gs
+  clients-plain ((r ∷ rs) ∷ gs) = (p (r .client), (p (length (r ∷ rs)), ranges-plain 0 (r ∷ rs) (clientTokens form gs) (clients-plain gs)))
 
-  pub numbers-rest : k ≢ whole → eqb k rest ≡ hasNumbers k
-  unfolding hasNumbers
-  numbers-rest n = rw (ne-eqb k whole n)
+  pub deletes-plain : (rs : List Range) → All P (deleteTokens form rs)
+  unfolding deleteTokens
+  deletes-plain rs = (p (length (groups ownerOf rs)), clients-plain (groups ownerOf rs))
 
-  no-numbers : hasNumbers k ≡ false → (k ≢ whole) × (k ≢ rest)
-  unfolding hasNumbers
-  no-numbers h = go (eqb k whole) refl h
-    where
-      no : {A : Type 0} → true ≡ false → A
-      no p = absurd (let z : _≡_ {A = ℕ} 0 1 = cc in omega arith)
+none-taken : (k : ℕ) (ts : List Token) → All (λ (t : Token). taken k t ≡ []) ts → takenAll k ts ≡ []
+unfolding takenAll
+none-taken k [] h = refl
+none-taken k (t ∷ ts) h = rw (h .0) (none-taken k ts (h .1))
 
-      go : (b : Bool) → eqb k whole ≡ b → pick b true (eqb k rest) ≡ false → (k ≢ whole) × (k ≢ rest)
-      go true e h = no h
-      go false e h = (eqb-false k whole e, eqb-false k rest h)
+-- a delete set has nothing for the columns
+pub deletes-taken : (k : ℕ) → k ≢ whole → k ≢ rest → (form : ℕ) (rs : List Range) → takenAll k (deleteTokens form rs) ≡ []
+deletes-taken k n m form rs = none-taken k (deleteTokens form rs) (deletes-plain (λ (t : Token). taken k t ≡ []) (λ v. var-other k v n m) form rs)
 
-module _ (k : ℕ) (n : k ≢ whole) (m : k ≢ rest) (form : ℕ) where
-  ranges-taken : (end : ℕ) (rs : List Range) (ts : List Token) → takenAll k ts ≡ [] → takenAll k (rangesTokens form end rs ++ ts) ≡ []
-  unfolding takenAll rangesTokens
-  ranges-taken end [] ts h = h
-  ranges-taken end (r ∷ rs) ts h =
-      rw (var-other k (clockFrom form end r) n m, var-other k (lengthOf form r) n m) (ranges-taken (r .clock + r .len) rs ts h)
-
-  clients-taken : (gs : List (List Range)) → takenAll k (clientTokens form gs) ≡ []
-  unfolding takenAll clientTokens
-  clients-taken [] = refl
-  clients-taken ([] ∷ gs) = clients-taken gs
-  clients-taken ((r ∷ rs) ∷ gs) =
-      rw (var-other k (r .client) n m, var-other k (length (r ∷ rs)) n m) (ranges-taken 0 (r ∷ rs) (clientTokens form gs) (clients-taken gs))
-
-  -- a delete set has nothing for the columns
-  pub deletes-taken : (rs : List Range) → takenAll k (deleteTokens form rs) ≡ []
-  unfolding takenAll deleteTokens
-  deletes-taken rs = rw (var-other k (length (groups ownerOf rs)) n m) (clients-taken (groups ownerOf rs))
-
-pub deletes-none : (out : List ℕ) (e : Lane) (form : ℕ) (rs : List Range) → hasNumbers (e .lane) ≡ false → Sound (e .run)
-    → Wrote out e (deleteTokens form rs) e out
-deletes-none out e form rs h s =
-    let n = no-numbers (e .lane) h in
-    let x = skips out e (deleteTokens form rs) (deletes-taken (e .lane) (n .0) (n .1) form rs) in
-    (sym (x .0), sym (x .1), s)
+-- it stands in the rest of form 2 as in form 1
+pub deletes-rest : (out : List ℕ) (at form : ℕ) (rs : List Range)
+    → (putAll (freshLane rest at) (deleteTokens form rs) .run .at ≡ putAll (freshLane whole at) (deleteTokens form rs) .run .at)
+    × (laidAll out (freshLane rest at) (deleteTokens form rs) ≡ laidAll out (freshLane whole at) (deleteTokens form rs))
+deletes-rest out at form rs =
+    line-alike rest whole (in-rest rest refl) (in-line whole refl) out at (deleteTokens form rs)
+    (deletes-plain (λ (t : Token). taken rest t ≡ taken whole t) (λ v. var-rest rest v (λ e. absurd (omega arith)) refl ∙ sym (var-line whole v refl)) form rs)
 
 -- ---- a range
 
@@ -107,78 +88,53 @@ module _ (s : List ℕ) (i : ℕ) where
   unfolding endBefore
   increase-later h = rw h (omega arith)
 
-module _ (out : List ℕ) (e : Lane) (s : List ℕ) (i k : ℕ) where
-  pub owner-none : isFirst s i ≡ false → Sound (e .run) → Wrote out e (ownerTokens s i k) e out
+module _ (s : List ℕ) (i k : ℕ) where
+  pub owner-none : isFirst s i ≡ false → ownerTokens s i k ≡ []
   unfolding ownerTokens
-  owner-none h x = rw h (wrote-none out e x)
+  owner-none h = rw h
 
-  pub owner-some : {mid r : Lane} {between bytes : List ℕ} → isFirst s i ≡ true → WroteOne out e (var (row s i .client)) mid between
-      → WroteOne between mid (var (siblings s i k)) r bytes → Wrote out e (ownerTokens s i k) r bytes
+  pub owner-some : isFirst s i ≡ true → ownerTokens s i k ≡ var (row s i .client) ∷ (var (siblings s i k) ∷ [])
   unfolding ownerTokens
-  owner-some {mid} {between} h p q =
-      rw h (wrote-more out e (var (row s i .client)) (var (siblings s i k) ∷ []) p (wrote-one between mid (var (siblings s i k)) q))
+  owner-some h = rw h
 
-  range-both : (form clock size : ℕ) {mid later r : Lane} {between further bytes : List ℕ} → clock ≡ clockFrom form (endBefore s i) (row s i)
-      → size ≡ lengthOf form (row s i)
-      → Wrote out e (ownerTokens s i k) mid between → WroteOne between mid (var clock) later further → WroteOne further later (var size) r bytes
-      → Wrote out e (rangeTokens form s i k) r bytes
-  unfolding rangeTokens
-  range-both form clock size {mid} {later} {between} {further} c l p q z =
-      rw (← c, ← l)
-      (wrote-both out e (ownerTokens s i k) (var clock ∷ (var size ∷ [])) p (wrote-more between mid (var clock) (var size ∷ []) q (wrote-one further later (var size) z)))
+  pub range-line : (form : ℕ) → form ≡ 1 → rangeTokens form s i k ≡ ownerTokens s i k ++ (var (row s i .clock) ∷ (var (row s i .len) ∷ []))
+  unfolding rangeTokens clockFrom lengthOf
+  range-line form h = rw (eq-eqb form 1 h)
 
-  pub range-line : {mid later r : Lane} {between further bytes : List ℕ} → e .lane ≡ whole → Wrote out e (ownerTokens s i k) mid between
-      → WroteOne between mid (var (row s i .clock)) later further → WroteOne further later (var (row s i .len)) r bytes
-      → Wrote out e (rangeTokens (formOf (e .lane)) s i k) r bytes
-  unfolding formOf clockFrom lengthOf
-  range-line h p q z = rw (eq-eqb (e .lane) whole h) (range-both 1 (row s i .clock) (row s i .len) refl refl p q z)
+  pub range-less : (form : ℕ) → form ≢ 1
+      → rangeTokens form s i k ≡ ownerTokens s i k ++ (var (row s i .clock - endBefore s i) ∷ (var (row s i .len - 1) ∷ []))
+  unfolding rangeTokens clockFrom lengthOf
+  range-less form h = rw (ne-eqb form 1 h)
 
-  pub range-less : {mid later r : Lane} {between further bytes : List ℕ} → e .lane ≢ whole → Wrote out e (ownerTokens s i k) mid between
-      → WroteOne between mid (var (row s i .clock - endBefore s i)) later further → WroteOne further later (var (row s i .len - 1)) r bytes
-      → Wrote out e (rangeTokens (formOf (e .lane)) s i k) r bytes
-  unfolding formOf clockFrom lengthOf
-  range-less h p q z = rw (ne-eqb (e .lane) whole h) (range-both 2 (row s i .clock - endBefore s i) (row s i .len - 1) refl refl p q z)
+-- ---- the rows so far, of n
 
--- ---- the whole
+unfoldable pub soFar : ℕ → List ℕ → ℕ → ℕ → List Token
+soFar form s n zero = []
+soFar form s n (suc i) = soFar form s n i ++ rangeTokens form s i (n - (i + 1))
 
--- rows from row i on are left to be written, of those that were left at the beginning
-abbrev pub Writing : List ℕ → ℕ → List ℕ → Lane → List ℕ → Lane → ℕ → Type 0
-Writing s n out₀ w₀ out w i =
-    (putAll w (tableTokens (formOf (w₀ .lane)) s i (n - i)) ≡ putAll w₀ (tableTokens (formOf (w₀ .lane)) s 0 n))
-    × (laidAll out w (tableTokens (formOf (w₀ .lane)) s i (n - i)) ≡ laidAll out₀ w₀ (tableTokens (formOf (w₀ .lane)) s 0 n))
-    × Sound (w .run)
-    × (w .lane ≡ w₀ .lane)
+module _ (form : ℕ) (s : List ℕ) (n : ℕ) where
+  pub far-none : soFar form s n 0 ≡ []
+  unfolding soFar
+  far-none = refl
 
-module _ (s : List ℕ) (n : ℕ) (out₀ : List ℕ) (w₀ : Lane) where
-  pub writing-begin : Sound (w₀ .run) → Writing s n out₀ w₀ out₀ w₀ 0
-  writing-begin h = rw (rows-begin (formOf (w₀ .lane)) s n) (refl, refl, h, refl)
+  pub far-next : (i : ℕ) → soFar form s n (i + 1) ≡ soFar form s n i ++ rangeTokens form s i (n - (i + 1))
+  unfolding soFar
+  far-next i = let e : i + 1 ≡ suc i = add-one i in ap (λ (j : ℕ). soFar form s n j) e
 
-  pub writing-turn : (out : List ℕ) (w : Lane) (i : ℕ) {r : Lane} {bytes : List ℕ} → i < n → Writing s n out₀ w₀ out w i
-      → Wrote out w (rangeTokens (formOf (w .lane)) s i (n - (i + 1))) r bytes → Writing s n out₀ w₀ bytes r (i + 1)
-  writing-turn out w i {r} {bytes} l h k =
-      let form = formOf (w₀ .lane) in
-      let now = rangeTokens form s i (n - (i + 1)) in
-      let later = tableTokens form s (i + 1) (n - (i + 1)) in
-      let k′ = subst (λ (x : ℕ). Wrote out w (rangeTokens (formOf x) s i (n - (i + 1))) r bytes) (h .3) k in
-      let p = k′ .0 in
-      let q = k′ .1 in (
-        rw (p, ← put-append w now later, ← rows-turn s n i l form) (h .0),
-        rw (p, q, ← laid-append out w now later, ← rows-turn s n i l form) (h .1),
-        k .2,
-        rw p (same-lane w now) ∙ h .3,
-      )
+  far-left : (i : ℕ) → i ≤ n → soFar form s n i ++ tableTokens form s i (n - i) ≡ tableTokens form s 0 n
+  unfolding soFar
+  far-left zero l = let e : n - 0 ≡ n = omega arith in rw e
+  far-left (suc i) l =
+      append-assoc (soFar form s n i) (rangeTokens form s i (n - (i + 1))) (tableTokens form s (suc i) (n - suc i))
+      ∙ ap (λ (ts : List Token). soFar form s n i ++ ts) (let t = rows-turn s n i (omega arith) form in rw (← add-one i) (sym t)) ∙ far-left i (omega arith)
 
-  pub writing-end : (out : List ℕ) (w : Lane) (i : ℕ) → n ≤ i → Writing s n out₀ w₀ out w i → Wrote out₀ w₀ (tableTokens (formOf (w₀ .lane)) s 0 n) w out
-  unfolding putAll laidAll
-  writing-end out w i l h = (rw (rows-end s n i l (formOf (w₀ .lane))) at (h .0), rw (rows-end s n i l (formOf (w₀ .lane))) at (h .1), h .2)
+  pub far-all : soFar form s n n ≡ tableTokens form s 0 n
+  far-all =
+      sym (append-nil (soFar form s n n)) ∙ ap (λ (ts : List Token). soFar form s n n ++ ts) (sym (rows-end s n n (omega arith) form))
+      ∙ far-left n (omega arith)
 
 -- the number of clients, then all rows
-pub deletes-written : (out : List ℕ) (e : Lane) (s : List ℕ) (n : ℕ) {w r : Lane} {between bytes : List ℕ}
-    → WroteOne out e (var (length (groups ownerOf (rowsFrom s 0 n)))) w between → Wrote between w (tableTokens (formOf (w .lane)) s 0 n) r bytes
-    → Wrote out e (deleteTokens (formOf (e .lane)) (rowsFrom s 0 n)) r bytes
+pub deletes-are : (form : ℕ) (s : List ℕ) (n : ℕ)
+    → deleteTokens form (rowsFrom s 0 n) ≡ var (length (groups ownerOf (rowsFrom s 0 n))) ∷ soFar form s n n
 unfolding deleteTokens
-deletes-written out e s n {w} {r} {between} {bytes} h k =
-    let count = var (length (groups ownerOf (rowsFrom s 0 n))) in
-    let lane : w .lane ≡ e .lane = rw (h .0) (put-lane e count) in
-    rw delete-rows
-    (wrote-more out e count (tableTokens (formOf (e .lane)) s 0 n) h (subst (λ (x : ℕ). Wrote between w (tableTokens (formOf x) s 0 n) r bytes) lane k))
+deletes-are form s n = rw (delete-rows form s n, far-all form s n)

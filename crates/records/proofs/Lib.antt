@@ -1,6 +1,6 @@
--- The laws of records that are written: several tokens (Chains), units of texts (Units), a block part by part (Writes), a row that is cut (Sane),
+-- The laws of records that are written: numbers in line (Lines), units of texts (Units), a block part by part (Writes), a row that is cut (Sane),
 -- a table of delete ranges row by row (DeleteRows), a delete set (Deletes), and rows that a plan names (Stops).
-pub mod Chains
+pub mod Lines
 pub mod Units
 pub mod Writes
 pub mod Sane

@@ -1,21 +1,18 @@
--- What is written of a block, part by part.
+-- The tokens of a block, part by part: one law a case.
 use Prim.Native.Nat.{ℕ, _+_}
-use mathlib.Core.Path.{_≡_, sym, subst}
+use mathlib.Core.Path.{_≡_}
 use mathlib.Core.Logic.{_≢_}
-use mathlib.Core.Bool.{Bool, true, false}
+use mathlib.Core.Bool.{true, false}
 use mathlib.Core.List.{List, [], _∷_, _++_}
-use lib.Dec.{eqb}
 use borrow.Author.Tests.{eq-eqb, ne-eqb}
 use Rattle.numbers.specs.Number.{pick}
 use Rattle.block.specs.declared.Block.{Block}
 use Rattle.readings.specs.Sound.{bytesIn, linked}
-use Rattle.runs.specs.Writer.{Sound}
-use Rattle.tokens.specs.Lanes.{Lane}
 use Rattle.tokens.specs.Tokens.{client, left, right, info, parentInfo, text, len, var, buf}
 use Rattle.kept.specs.Plan.{sane, laterPart}
-use Rattle.records.specs.Records.{contentNumber, infoByte, name, leftTokens, rightTokens, parentTokens, keyTokens, placeTokens, contentTokens, blockTokens}
+use Rattle.records.specs.Records.{contentNumber, infoByte, name, leftTokens, rightTokens, parentTokens, keyTokens}
+use Rattle.records.specs.Records.{placeTokens, contentTokens, blockTokens}
 use Rattle.records.specs.Stops.{headTokens, rowTokens}
-use Rattle.records.proofs.Chains.{Wrote, WroteOne, wrote-none, wrote-one, wrote-more, wrote-both}
 
 -- ---- numbers
 
@@ -48,123 +45,90 @@ module _ (b : Block) where
 
 -- ---- where an item stands
 
-module _ (out u : List ℕ) (e : Lane) (b : Block) where
-  pub left-none : b .«has_left» ≡ false → Sound (e .run) → Wrote out e (leftTokens b) e out
+module _ (u : List ℕ) (b : Block) where
+  pub left-none : b .«has_left» ≡ false → leftTokens b ≡ []
   unfolding leftTokens
-  left-none h s = rw h (wrote-none out e s)
+  left-none h = rw h
 
-  pub left-some : {mid r : Lane} {between bytes : List ℕ} → b .«has_left» ≡ true → WroteOne out e (client (b .left .client)) mid between
-      → WroteOne between mid (left (b .left .clock)) r bytes
-      → Wrote out e (leftTokens b) r bytes
+  pub left-some : b .«has_left» ≡ true → leftTokens b ≡ client (b .left .client) ∷ (left (b .left .clock) ∷ [])
   unfolding leftTokens
-  left-some {mid} {between} h p q =
-      rw h (wrote-more out e (client (b .left .client)) (left (b .left .clock) ∷ []) p (wrote-one between mid (left (b .left .clock)) q))
+  left-some h = rw h
 
-  pub right-none : b .«has_right» ≡ false → Sound (e .run) → Wrote out e (rightTokens b) e out
+  pub right-none : b .«has_right» ≡ false → rightTokens b ≡ []
   unfolding rightTokens
-  right-none h s = rw h (wrote-none out e s)
+  right-none h = rw h
 
-  pub right-some : {mid r : Lane} {between bytes : List ℕ} → b .«has_right» ≡ true → WroteOne out e (client (b .right .client)) mid between
-      → WroteOne between mid (right (b .right .clock)) r bytes
-      → Wrote out e (rightTokens b) r bytes
+  pub right-some : b .«has_right» ≡ true → rightTokens b ≡ client (b .right .client) ∷ (right (b .right .clock) ∷ [])
   unfolding rightTokens
-  right-some {mid} {between} h p q =
-      rw h (wrote-more out e (client (b .right .client)) (right (b .right .clock) ∷ []) p (wrote-one between mid (right (b .right .clock)) q))
+  right-some h = rw h
 
-  pub parent-named : {mid r : Lane} {between bytes : List ℕ} → b .«has_name» ≡ true → WroteOne out e (parentInfo 1) mid between
-      → WroteOne between mid (name u (b .name)) r bytes
-      → Wrote out e (parentTokens u b) r bytes
+  pub parent-named : b .«has_name» ≡ true → parentTokens u b ≡ parentInfo 1 ∷ (name u (b .name) ∷ [])
   unfolding parentTokens
-  parent-named {mid} {between} h p q = rw h (wrote-more out e (parentInfo 1) (name u (b .name) ∷ []) p (wrote-one between mid (name u (b .name)) q))
+  parent-named h = rw h
 
-  pub parent-by-id : {mid later r : Lane} {between further bytes : List ℕ} → b .«has_name» ≡ false → WroteOne out e (parentInfo 0) mid between
-      → WroteOne between mid (client (b .parent .client)) later further → WroteOne further later (left (b .parent .clock)) r bytes
-      → Wrote out e (parentTokens u b) r bytes
+  pub parent-by-id : b .«has_name» ≡ false → parentTokens u b ≡ parentInfo 0 ∷ (client (b .parent .client) ∷ (left (b .parent .clock) ∷ []))
   unfolding parentTokens
-  parent-by-id {mid} {later} {between} {further} h p q z =
-      let c = client (b .parent .client) in
-      let k = left (b .parent .clock) in
-      rw h (wrote-more out e (parentInfo 0) (c ∷ (k ∷ [])) p (wrote-more between mid c (k ∷ []) q (wrote-one further later k z)))
+  parent-by-id h = rw h
 
-  pub key-none : b .«has_key» ≡ false → Sound (e .run) → Wrote out e (keyTokens u b) e out
+  pub key-none : b .«has_key» ≡ false → keyTokens u b ≡ []
   unfolding keyTokens
-  key-none h s = rw h (wrote-none out e s)
+  key-none h = rw h
 
-  pub key-some : {r : Lane} {bytes : List ℕ} → b .«has_key» ≡ true → WroteOne out e (name u (b .key)) r bytes → Wrote out e (keyTokens u b) r bytes
+  pub key-some : b .«has_key» ≡ true → keyTokens u b ≡ name u (b .key) ∷ []
   unfolding keyTokens
-  key-some h p = rw h (wrote-one out e (name u (b .key)) p)
+  key-some h = rw h
 
-  pub place-beside : {mid r : Lane} {between bytes : List ℕ} → linked b ≡ true → Wrote out e (leftTokens b) mid between
-      → Wrote between mid (rightTokens b) r bytes → Wrote out e (placeTokens u b) r bytes
+  pub place-beside : linked b ≡ true → placeTokens u b ≡ leftTokens b ++ rightTokens b
   unfolding placeTokens
-  place-beside h p q = rw h (wrote-both out e (leftTokens b) (rightTokens b) p q)
+  place-beside h = rw h
 
-  pub place-inside : {mid r : Lane} {between bytes : List ℕ} → linked b ≡ false → Wrote out e (parentTokens u b) mid between
-      → Wrote between mid (keyTokens u b) r bytes → Wrote out e (placeTokens u b) r bytes
+  pub place-inside : linked b ≡ false → placeTokens u b ≡ parentTokens u b ++ keyTokens u b
   unfolding placeTokens
-  place-inside h p q = rw h (wrote-both out e (parentTokens u b) (keyTokens u b) p q)
+  place-inside h = rw h
 
   -- ---- what it holds
 
-  pub content-deleted : {r : Lane} {bytes : List ℕ} → b .kind ≡ 3 → WroteOne out e (len (b .length .0)) r bytes → Wrote out e (contentTokens u b) r bytes
+  pub content-deleted : b .kind ≡ 3 → contentTokens u b ≡ len (b .length .0) ∷ []
   unfolding contentTokens
-  content-deleted h p = rw (eq-eqb (b .kind) 3 h) (wrote-one out e (len (b .length .0)) p)
+  content-deleted h = rw (eq-eqb (b .kind) 3 h)
 
-  pub content-binary : {r : Lane} {bytes : List ℕ} → b .kind ≢ 3 → b .kind ≡ 4 → WroteOne out e (buf (bytesIn u (b .part))) r bytes
-      → Wrote out e (contentTokens u b) r bytes
+  pub content-binary : b .kind ≢ 3 → b .kind ≡ 4 → contentTokens u b ≡ buf (bytesIn u (b .part)) ∷ []
   unfolding contentTokens
-  content-binary n h p = rw (ne-eqb (b .kind) 3 n, eq-eqb (b .kind) 4 h) (wrote-one out e (buf (bytesIn u (b .part))) p)
+  content-binary n h = rw (ne-eqb (b .kind) 3 n, eq-eqb (b .kind) 4 h)
 
-  pub content-text : {r : Lane} {bytes : List ℕ} → b .kind ≢ 3 → b .kind ≢ 4 → WroteOne out e (text (bytesIn u (b .part)) (b .length .0)) r bytes
-      → Wrote out e (contentTokens u b) r bytes
+  pub content-text : b .kind ≢ 3 → b .kind ≢ 4 → contentTokens u b ≡ text (bytesIn u (b .part)) (b .length .0) ∷ []
   unfolding contentTokens
-  content-text n m p = rw (ne-eqb (b .kind) 3 n, ne-eqb (b .kind) 4 m) (wrote-one out e (text (bytesIn u (b .part)) (b .length .0)) p)
+  content-text n m = rw (ne-eqb (b .kind) 3 n, ne-eqb (b .kind) 4 m)
 
   -- ---- a block
 
-  pub block-gc : {mid r : Lane} {between bytes : List ℕ} → b .kind ≡ 1 → WroteOne out e (info 0) mid between
-      → WroteOne between mid (len (b .length .0)) r bytes → Wrote out e (blockTokens u b) r bytes
+  pub block-gc : b .kind ≡ 1 → blockTokens u b ≡ info 0 ∷ (len (b .length .0) ∷ [])
   unfolding blockTokens
-  block-gc {mid} {between} h p q =
-      rw (eq-eqb (b .kind) 1 h) (wrote-more out e (info 0) (len (b .length .0) ∷ []) p (wrote-one between mid (len (b .length .0)) q))
+  block-gc h = rw (eq-eqb (b .kind) 1 h)
 
-  pub block-skip : {mid r : Lane} {between bytes : List ℕ} → b .kind ≢ 1 → b .kind ≡ 2 → WroteOne out e (info 10) mid between
-      → WroteOne between mid (var (b .length .0)) r bytes → Wrote out e (blockTokens u b) r bytes
+  pub block-skip : b .kind ≢ 1 → b .kind ≡ 2 → blockTokens u b ≡ info 10 ∷ (var (b .length .0) ∷ [])
   unfolding blockTokens
-  block-skip {mid} {between} n h p q =
-      rw (ne-eqb (b .kind) 1 n, eq-eqb (b .kind) 2 h)
-      (wrote-more out e (info 10) (var (b .length .0) ∷ []) p (wrote-one between mid (var (b .length .0)) q))
+  block-skip n h = rw (ne-eqb (b .kind) 1 n, eq-eqb (b .kind) 2 h)
 
-  pub block-item : {mid later r : Lane} {between further bytes : List ℕ} → b .kind ≢ 1 → b .kind ≢ 2 → WroteOne out e (info (infoByte b)) mid between
-      → Wrote between mid (placeTokens u b) later further → Wrote further later (contentTokens u b) r bytes → Wrote out e (blockTokens u b) r bytes
+  pub block-item : b .kind ≢ 1 → b .kind ≢ 2 → blockTokens u b ≡ info (infoByte b) ∷ (placeTokens u b ++ contentTokens u b)
   unfolding blockTokens
-  block-item {mid} {between} n m p q z =
-      rw (ne-eqb (b .kind) 1 n, ne-eqb (b .kind) 2 m)
-      (wrote-more out e (info (infoByte b)) (placeTokens u b ++ contentTokens u b) p (wrote-both between mid (placeTokens u b) (contentTokens u b) q z))
+  block-item n m = rw (ne-eqb (b .kind) 1 n, ne-eqb (b .kind) 2 m)
 
   -- ---- a row that a plan names
 
-  pub head-none : (count from : ℕ) → count ≡ 0 → Sound (e .run) → Wrote out e (headTokens count from b) e out
+  pub head-none : (count from : ℕ) → count ≡ 0 → headTokens count from b ≡ []
   unfolding headTokens
-  head-none count from h s = rw (eq-eqb count 0 h) (wrote-none out e s)
+  head-none count from h = rw (eq-eqb count 0 h)
 
-  pub head-some : (count from : ℕ) {mid later r : Lane} {between further bytes : List ℕ} → count ≢ 0 → WroteOne out e (var count) mid between
-      → WroteOne between mid (client (b .client)) later further → WroteOne further later (var (b .clock + from)) r bytes
-      → Wrote out e (headTokens count from b) r bytes
+  pub head-some : (count from : ℕ) → count ≢ 0 → headTokens count from b ≡ var count ∷ (client (b .client) ∷ (var (b .clock + from) ∷ []))
   unfolding headTokens
-  head-some count from {mid} {later} {between} {further} n p q z =
-      let c = client (b .client) in
-      let k = var (b .clock + from) in
-      rw (ne-eqb count 0 n) (wrote-more out e (var count) (c ∷ (k ∷ [])) p (wrote-more between mid c (k ∷ []) q (wrote-one further later k z)))
+  head-some count from n = rw (ne-eqb count 0 n)
 
-  pub row-none : (count from skip : ℕ) → sane b from skip ≡ false → Sound (e .run) → Wrote out e (rowTokens u count from skip b) e out
+  pub row-none : (count from skip : ℕ) → sane b from skip ≡ false → rowTokens u count from skip b ≡ []
   unfolding rowTokens
-  row-none count from skip h s =
-      subst (λ (x : Bool). Wrote out e (pick x (headTokens count from b ++ blockTokens u (laterPart b from skip)) []) e out) (sym h) (wrote-none out e s)
+  row-none count from skip h = rw h
 
-  pub row-some : (count from skip : ℕ) {mid r : Lane} {between bytes : List ℕ} → sane b from skip ≡ true → Wrote out e (headTokens count from b) mid between
-      → Wrote between mid (blockTokens u (laterPart b from skip)) r bytes → Wrote out e (rowTokens u count from skip b) r bytes
+  pub row-some : (count from skip : ℕ) → sane b from skip ≡ true
+      → rowTokens u count from skip b ≡ headTokens count from b ++ blockTokens u (laterPart b from skip)
   unfolding rowTokens
-  row-some count from skip {mid} {r} {between} {bytes} h p q =
-      subst (λ (x : Bool). Wrote out e (pick x (headTokens count from b ++ blockTokens u (laterPart b from skip)) []) r bytes) (sym h)
-      (wrote-both out e (headTokens count from b) (blockTokens u (laterPart b from skip)) p q)
+  row-some count from skip h = rw h

@@ -6,7 +6,7 @@ use lib.ListN.{getD}
 use Rattle.numbers.specs.Number.{pick}
 use Rattle.block.specs.declared.Block.{Block}
 use Rattle.block.specs.Row.{noBlock}
-use Rattle.tokens.specs.Tokens.{Token, client, var, whole}
+use Rattle.tokens.specs.Tokens.{Token, client, var}
 use Rattle.kept.specs.Plan.{Stop, stop, sane, laterPart}
 use Rattle.records.specs.Records.{blockTokens}
 

@@ -4,7 +4,6 @@ ghost use Prim.Native.Nat.{_+_, _-_, _*_, _≤_, _<_};
 ghost use lib.ListN.{length};
 ghost use Rattle.ranges.specs.Table.{row, rowsFrom};
 ghost use Rattle.readings.specs.Groups.{groups};
-ghost use Rattle.tokens.specs.Lanes.{freshLane, putAll, laidAll};
 ghost use Rattle.records.specs.Records.{ownerOf, deleteTokens};
 ghost use Rattle.records.specs.DeleteRows.{isFirst, endBefore, siblings, ownerTokens, rangeTokens, InLine};
 

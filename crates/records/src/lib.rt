@@ -13,7 +13,8 @@ ghost use Rattle.numbers.specs.Limits.{maxClock};
 ghost use Rattle.text.specs.Utf8.{countedIn};
 ghost use Rattle.readings.specs.Sound.{bytesIn, linked};
 ghost use Rattle.tokens.specs.Desk.{Tidy, Wrote};
-ghost use Rattle.records.specs.Records.{contentNumber, infoByte, name, leftTokens, rightTokens, parentTokens, keyTokens, placeTokens, contentTokens, blockTokens};
+ghost use Rattle.records.specs.Records.{contentNumber, infoByte, name, leftTokens, rightTokens, parentTokens, keyTokens};
+ghost use Rattle.records.specs.Records.{placeTokens, contentTokens, blockTokens};
 ghost use Rattle.records.specs.Stops.{headTokens, rowTokens};
 
 fn bit(there: bool, n: u8) -> u8
@@ -76,7 +77,8 @@ fn write_name(
     part: Part,
 ) -> usize
     requires { ⌜ Tidy (now lanes) ⌝ }
-    ensures { λ r. ⌜ Wrote form (name (now (update .entry)) part ∷ []) (now (out .entry)) (now (lanes .entry)) at (now (out .exit)) (now (lanes .exit)) r ⌝ }
+    ensures { λ r. ⌜ Wrote form (name (now (update .entry)) part ∷ [])
+        (now (out .entry)) (now (lanes .entry)) at (now (out .exit)) (now (lanes .exit)) r ⌝ }
 {
     if form == 1 {
         return tokens::line::led_part(out, update, at, part);
@@ -119,7 +121,8 @@ fn write_parent(
     b: Block,
 ) -> usize
     requires { ⌜ Tidy (now lanes) ⌝ }
-    ensures { λ r. ⌜ Wrote form (parentTokens (now (update .entry)) b) (now (out .entry)) (now (lanes .entry)) at (now (out .exit)) (now (lanes .exit)) r ⌝ }
+    ensures { λ r. ⌜ Wrote form (parentTokens (now (update .entry)) b)
+        (now (out .entry)) (now (lanes .entry)) at (now (out .exit)) (now (lanes .exit)) r ⌝ }
 {
     if b.has_name {
         let named = tokens::fields::write_parent_info(out, lanes, form, at, 1);
@@ -141,7 +144,8 @@ fn write_key(
     b: Block,
 ) -> usize
     requires { ⌜ Tidy (now lanes) ⌝ }
-    ensures { λ r. ⌜ Wrote form (keyTokens (now (update .entry)) b) (now (out .entry)) (now (lanes .entry)) at (now (out .exit)) (now (lanes .exit)) r ⌝ }
+    ensures { λ r. ⌜ Wrote form (keyTokens (now (update .entry)) b)
+        (now (out .entry)) (now (lanes .entry)) at (now (out .exit)) (now (lanes .exit)) r ⌝ }
 {
     if !b.has_key {
         return at;
@@ -160,7 +164,8 @@ fn write_place(
     b: Block,
 ) -> usize
     requires { ⌜ Tidy (now lanes) ⌝ }
-    ensures { λ r. ⌜ Wrote form (placeTokens (now (update .entry)) b) (now (out .entry)) (now (lanes .entry)) at (now (out .exit)) (now (lanes .exit)) r ⌝ }
+    ensures { λ r. ⌜ Wrote form (placeTokens (now (update .entry)) b)
+        (now (out .entry)) (now (lanes .entry)) at (now (out .exit)) (now (lanes .exit)) r ⌝ }
 {
     if is_linked(b) {
         let mid = write_left(out, lanes, form, at, b);
@@ -179,7 +184,8 @@ fn write_content(
     b: Block,
 ) -> usize
     requires { ⌜ Tidy (now lanes) ⌝ }
-    ensures { λ r. ⌜ Wrote form (contentTokens (now (update .entry)) b) (now (out .entry)) (now (lanes .entry)) at (now (out .exit)) (now (lanes .exit)) r ⌝ }
+    ensures { λ r. ⌜ Wrote form (contentTokens (now (update .entry)) b)
+        (now (out .entry)) (now (lanes .entry)) at (now (out .exit)) (now (lanes .exit)) r ⌝ }
 {
     let length = b.length;
     let part = b.part;
@@ -202,7 +208,8 @@ pub fn write_block(
     b: Block,
 ) -> usize
     requires { ⌜ Tidy (now lanes) ⌝ }
-    ensures { λ r. ⌜ Wrote form (blockTokens (now (update .entry)) b) (now (out .entry)) (now (lanes .entry)) at (now (out .exit)) (now (lanes .exit)) r ⌝ }
+    ensures { λ r. ⌜ Wrote form (blockTokens (now (update .entry)) b)
+        (now (out .entry)) (now (lanes .entry)) at (now (out .exit)) (now (lanes .exit)) r ⌝ }
 {
     let length = b.length;
     if b.kind == block::GC {
@@ -251,7 +258,8 @@ pub fn write_row(
     b: Block,
 ) -> usize
     requires { ⌜ Tidy (now lanes) ⌝ }
-    ensures { λ r. ⌜ Wrote form (rowTokens (now (update .entry)) (c .head) (c .from .0) (c .skip .0) b) (now (out .entry)) (now (lanes .entry)) at (now (out .exit)) (now (lanes .exit)) r ⌝ }
+    ensures { λ r. ⌜ Wrote form (rowTokens (now (update .entry)) (c .head) (c .from .0) (c .skip .0) b)
+        (now (out .entry)) (now (lanes .entry)) at (now (out .exit)) (now (lanes .exit)) r ⌝ }
 {
     let from = c.from;
     let skip = c.skip;

@@ -1,7 +1,7 @@
 -- The laws of tokens that are written: one put (Laying), a place in line (Places), what a lane takes of a token (Taking), parts of an update (Parts), how
 -- long a lane can be (Sizes), values onto their column (Values), passes over tokens (Passes), each as one put (Gathered), a lane from beginning to end
 -- (Written), and what makes it fit, token by token (Fitting). And of the lanes in words: stores to a lane's words (Words), a push (Pushes), the ends
--- (Ends), and one token onto all lanes of a form (Deskwise).
+-- (Ends), one token onto all lanes of a form (Deskwise), and writers one after the other (Wrote).
 pub mod Laying
 pub mod Places
 pub mod Taking
@@ -16,3 +16,4 @@ pub mod Words
 pub mod Pushes
 pub mod Ends
 pub mod Deskwise
+pub mod Wrote

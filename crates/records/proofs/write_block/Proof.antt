@@ -1,4 +1,5 @@
 -- `write_block` meets its contract: a GC, a Skip, or an item.
+use Rattle.tokens.proofs.Wrote.{wrote-then, wrote-var, wrote-is}
 use Rattle.records.proofs.Writes.{block-gc, block-skip, block-item}
 use borrow.Author.Needs.{needs}
 use Rattle.records.proofs.write_block.Statement.{statement}
@@ -6,39 +7,41 @@ use Rattle.records.proofs.write_block.Tie as tie
 
 returns : tie.Need-returns
 returns c =
-    let p2 = c .before .before in
-    let p6 = p2 .before .before .before .before in
-    let p8 = p6 .before .before in
-    let p13 = p8 .before .before .before .before .before in
-    let a = p13 .args in
-    block-gc (a .out .now) (a .update .now) (a .e) (a .b) (p8 .if1 .taken) (p6 .write-info .ensures) (p2 .write-len .ensures)
+    let p4 = c .before .before .before .before in
+    let p11 = p4 .before .before .before .before .before .before .before in
+    let p14 = p11 .before .before .before in
+    let p20 = p14 .before .before .before .before .before .before in
+    let a = p20 .args in
+    wrote-is (block-gc (a .update .now) (a .b) (p14 .if1 .taken)) (wrote-then (p11 .write-info .ensures) (p4 .write-len .ensures))
 
 returns-2 : tie.Need-returns-2
 returns-2 c =
     let p2 = c .before .before in
-    let p6 = p2 .before .before .before .before in
-    let p8 = p6 .before .before in
-    let p10 = p8 .before .before in
-    let p15 = p10 .before .before .before .before .before in
-    let a = p15 .args in
-    block-skip (a .out .now) (a .update .now) (a .e) (a .b) (p10 .if1 .left) (p8 .if2 .taken) (p6 .write-info2 .ensures) (p2 .write-var .ensures)
+    let p8 = p2 .before .before .before .before .before .before in
+    let p11 = p8 .before .before .before in
+    let p13 = p11 .before .before in
+    let p19 = p13 .before .before .before .before .before .before in
+    let a = p19 .args in
+    wrote-is (block-skip (a .update .now) (a .b) (p13 .if1 .left) (p11 .if2 .taken))
+    (wrote-then (p8 .write-info2 .ensures) (wrote-var (a .b .length .0) (p8 .write-info2 .ensures .tidy) (p2 .number .ensures)))
 
 returns-3 : tie.Need-returns-3
 returns-3 c =
-    let p2 = c .before .before in
-    let p6 = p2 .before .before .before .before in
-    let p10 = p6 .before .before .before .before in
-    let p11 = p10 .before in
-    let p13 = p11 .before .before in
-    let p15 = p13 .before .before in
-    let p20 = p15 .before .before .before .before .before in
-    let a = p20 .args in
-    block-item (a .out .now) (a .update .now) (a .e) (a .b) (p15 .if1 .left) (p13 .if2 .left)
-    (rw (p11 .info-byte .ensures) at (p10 .write-info3 .ensures)) (p6 .write-place .ensures) (p2 .write-content .ensures)
+    let p4 = c .before .before .before .before in
+    let p11 = p4 .before .before .before .before .before .before .before in
+    let p18 = p11 .before .before .before .before .before .before .before in
+    let p19 = p18 .before in
+    let p22 = p19 .before .before .before in
+    let p24 = p22 .before .before in
+    let p30 = p24 .before .before .before .before .before .before in
+    let a = p30 .args in
+    wrote-is (block-item (a .update .now) (a .b) (p24 .if1 .left) (p22 .if2 .left))
+    (wrote-then (rw (p19 .info-byte .ensures) at (p18 .write-info3 .ensures)) (wrote-then (p11 .write-place .ensures) (p4 .write-content .ensures)))
 
 pub write-block-spec : {M : Type 1} → statement M
 write-block-spec =
     tie.close
     (tie.spec
-    (λ c κs. search needs) (λ c κs. search needs) (λ c. search needs) returns (λ c κs. search needs) (λ c κs. search needs) (λ c. search needs)
-    returns-2 (λ c κs. search needs) (λ c κs. search needs) (λ c κs. search needs) (λ c κs. search needs) (λ c. search needs) returns-3)
+    (λ c κs. search needs) (λ c κs. search needs) (λ c. search needs) (λ c. search needs) returns (λ c κs. search needs) (λ c κs. search needs)
+    (λ c. search needs) (λ c. search needs) returns-2 (λ c κs. search needs) (λ c κs. search needs) (λ c κs. search needs) (λ c κs. search needs)
+    (λ c. search needs) (λ c. search needs) returns-3)

@@ -2,6 +2,9 @@
 use Prim.Native.Nat.{_+_, _-_}
 use mathlib.Core.Path.{sym, _∙_}
 use borrow.Author.Tests.{not-true, not-false}
+use Rattle.ranges.specs.Table.{row}
+use Rattle.records.specs.DeleteRows.{siblings}
+use Rattle.records.proofs.Lines.{line-none, line-var, line-then, line-is}
 use Rattle.records.proofs.Deletes.{owner-none, owner-some}
 use borrow.Author.Needs.{needs}
 use Rattle.records.proofs.delete_set.write_owner.Statement.{statement}
@@ -12,8 +15,7 @@ returns c =
     let p1 = c .before in
     let p4 = p1 .before .before .before in
     let a = p4 .args in
-    owner-none (a .out .now) (a .e) (a .ranges .now) (a .i) (a .n - (a .i + 1))
-    (sym (p1 .is-first .ensures) ∙ not-true (p1 .is-first .result) (c .if1 .taken)) (p4 .pre .0)
+    line-is (owner-none (a .ranges .now) (a .i) (a .n - (a .i + 1)) (sym (p1 .is-first .ensures) ∙ not-true (p1 .is-first .result) (c .if1 .taken))) line-none
 
 returns-2 : tie.Need-returns-2
 returns-2 c =
@@ -25,9 +27,9 @@ returns-2 c =
     let p11 = p10 .before in
     let p14 = p11 .before .before .before in
     let a = p14 .args in
-    owner-some (a .out .now) (a .e) (a .ranges .now) (a .i) (a .n - (a .i + 1))
-    (sym (p11 .is-first .ensures) ∙ not-false (p11 .is-first .result) (p10 .if1 .left))
-    (rw (p9 .client-at .ensures) at (p6 .write-var .ensures)) (rw (p8 .count-ranges .ensures) at (p2 .write-var2 .ensures))
+    line-is (owner-some (a .ranges .now) (a .i) (a .n - (a .i + 1)) (sym (p11 .is-first .ensures) ∙ not-false (p11 .is-first .result) (p10 .if1 .left)))
+    (line-then (line-var (row (a .ranges .now) (a .i) .client) (rw (p9 .client-at .ensures) at (p6 .number .ensures)))
+    (line-var (siblings (a .ranges .now) (a .i) (a .n - (a .i + 1))) (rw (p8 .count-ranges .ensures) at (p2 .number2 .ensures))))
 
 pub write-owner-spec : {M : Type 1} → statement M
 write-owner-spec =

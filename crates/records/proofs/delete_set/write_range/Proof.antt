@@ -1,5 +1,8 @@
--- `write_range` meets its contract: in line as it is, else less what came before.
+-- `write_range` meets its contract: as it is, or less what came before.
 use Prim.Native.Nat.{_+_, _-_}
+use Rattle.ranges.specs.Table.{row}
+use Rattle.records.specs.DeleteRows.{endBefore}
+use Rattle.records.proofs.Lines.{line-var, line-then, line-is}
 use Rattle.records.proofs.Deletes.{range-line, range-less}
 use borrow.Author.Needs.{needs}
 use Rattle.records.proofs.delete_set.write_range.Statement.{statement}
@@ -11,12 +14,15 @@ returns c =
     let p6 = p2 .before .before .before .before in
     let p8 = p6 .before .before in
     let p9 = p8 .before in
-    let p13 = p9 .before .before .before .before in
-    let p15 = p13 .before .before in
-    let p18 = p15 .before .before .before in
-    let a = p18 .args in
-    range-line (a .out .now) (a .e) (a .ranges .now) (a .i) (a .n - (a .i + 1)) (p9 .if1 .taken) (p13 .write-owner .ensures)
-    (rw (p8 .clock-at .ensures) at (p6 .write-var .ensures)) (rw (p15 .length-at .ensures) at (p2 .write-var2 .ensures))
+    let p12 = p9 .before .before .before in
+    let p14 = p12 .before .before in
+    let p17 = p14 .before .before .before in
+    let a = p17 .args in
+    let r = row (a .ranges .now) (a .i) in
+    line-is (range-line (a .ranges .now) (a .i) (a .n - (a .i + 1)) (a .form) (p9 .if1 .taken))
+    (line-then (p12 .write-owner .ensures)
+    (line-then (line-var (r .clock) (rw (p8 .clock-at .ensures) at (p6 .number .ensures)))
+    (line-var (r .len) (rw (p14 .length-at .ensures) at (p2 .number2 .ensures)))))
 
 returns-2 : tie.Need-returns-2
 returns-2 c =
@@ -25,12 +31,15 @@ returns-2 c =
     let p7 = p3 .before .before .before .before in
     let p9 = p7 .before .before in
     let p10 = p9 .before in
-    let p14 = p10 .before .before .before .before in
-    let p16 = p14 .before .before in
-    let p19 = p16 .before .before .before in
-    let a = p19 .args in
-    range-less (a .out .now) (a .e) (a .ranges .now) (a .i) (a .n - (a .i + 1)) (p10 .if1 .left) (p14 .write-owner .ensures)
-    (rw (p9 .increase .ensures) at (p7 .write-var3 .ensures)) (rw (p3 .less .ensures, p16 .length-at .ensures) at (p2 .write-var4 .ensures))
+    let p13 = p10 .before .before .before in
+    let p15 = p13 .before .before in
+    let p18 = p15 .before .before .before in
+    let a = p18 .args in
+    let r = row (a .ranges .now) (a .i) in
+    line-is (range-less (a .ranges .now) (a .i) (a .n - (a .i + 1)) (a .form) (p10 .if1 .left))
+    (line-then (p13 .write-owner .ensures)
+    (line-then (line-var (r .clock - endBefore (a .ranges .now) (a .i)) (rw (p9 .increase .ensures) at (p7 .number3 .ensures)))
+    (line-var (r .len - 1) (rw (p3 .less .ensures, p15 .length-at .ensures) at (p2 .number4 .ensures)))))
 
 pub write-range-spec : {M : Type 1} → statement M
 write-range-spec =
