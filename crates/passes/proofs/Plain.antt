@@ -6,52 +6,52 @@ use mathlib.Core.Bool.{Bool, true, false}
 use native.Mathlib.Omega.{arith}
 use lib.Dec.{eqb}
 use Rattle.numbers.specs.Number.{pick}
-use Rattle.tokens.specs.Tokens.{Token, var, lefts, rights, rest, whole, takenAll, inLine, lane}
+use Rattle.readings.specs.Sound.{All}
+use Rattle.tokens.specs.Tokens.{Token, var, lefts, rights, rest, whole, taken, takenAll, inLine, lane}
 use Rattle.tokens.specs.Bytes.{form1, form2, bytesOf, nearIn, near}
 use Rattle.tokens.proofs.Taking.{var-line, var-rest, var-other}
 use Rattle.tokens.proofs.Fitting.{taken-append}
 
-pub record Plain (ds : List Token) : Type 0 where
-  pub none : (k : ℕ) → k < rest → takenAll k ds ≡ []
-  pub line : takenAll rest ds ≡ takenAll whole ds
+-- a token that no lane takes but the one in line, in either form the same
+pub record Plain (t : Token) : Type 0 where
+  pub none : (k : ℕ) → k < rest → taken k t ≡ []
+  pub line : taken rest t ≡ taken whole t
 
-pub plain-none : Plain []
-unfolding takenAll
-plain-none = record { none = λ k h. refl; line = refl }
-
-module _ (v : ℕ) (ts : List Token) where
-  pub var-skipped : (k : ℕ) → k < rest → takenAll k (var v ∷ ts) ≡ takenAll k ts
-  unfolding takenAll
-  var-skipped k h = rw (var-other k v (λ e. omega arith) (λ e. omega arith))
-
-  pub plain-var : Plain ts → Plain (var v ∷ ts)
-  unfolding takenAll
-  plain-var p = record {
-    none = λ k h. var-skipped k h ∙ p .none k h;
-    line = ap₂ (λ (a b : List ℕ). a ++ b) (var-rest rest v (λ e. omega arith) refl ∙ sym (var-line whole v refl)) (p .line);
-  }
-
-pub plain-append : (a b : List Token) → Plain a → Plain b → Plain (a ++ b)
-plain-append a b p q = record {
-  none = λ k h. taken-append k a b ∙ ap₂ (λ (x y : List ℕ). x ++ y) (p .none k h) (q .none k h);
-  line = taken-append rest a b ∙ ap₂ (λ (x y : List ℕ). x ++ y) (p .line) (q .line) ∙ sym (taken-append whole a b);
+pub var-plain : (v : ℕ) → Plain (var v)
+var-plain v = record {
+  none = λ k h. var-other k v (λ e. omega arith) (λ e. omega arith);
+  line = var-rest rest v (λ e. omega arith) refl ∙ sym (var-line whole v refl);
 }
+
+pub var-skipped : (v : ℕ) (ts : List Token) (k : ℕ) → k < rest → takenAll k (var v ∷ ts) ≡ takenAll k ts
+unfolding takenAll
+var-skipped v ts k h = rw (var-plain v .none k h)
+
+none-taken : (ds : List Token) → All Plain ds → (k : ℕ) → k < rest → takenAll k ds ≡ []
+unfolding takenAll
+none-taken [] p k h = refl
+none-taken (t ∷ ds) p k h = rw (p .0 .none k h) (none-taken ds (p .1) k h)
+
+line-taken : (ds : List Token) → All Plain ds → takenAll rest ds ≡ takenAll whole ds
+unfolding takenAll
+line-taken [] p = refl
+line-taken (t ∷ ds) p = ap₂ (λ (a b : List ℕ). a ++ b) (p .0 .line) (line-taken ds (p .1))
 
 pub lane-same : (k : ℕ) (a b : List Token) → takenAll k a ≡ takenAll k b → lane k a ≡ lane k b
 unfolding lane
 lane-same k a b h = rw h
 
 -- behind other tokens
-module _ (ts ds : List Token) (plain : Plain ds) where
+module _ (ts ds : List Token) (plain : All Plain ds) where
   pub plain-taken : (k : ℕ) → k < rest → takenAll k (ts ++ ds) ≡ takenAll k ts
-  plain-taken k h = taken-append k ts ds ∙ ap (λ (b : List ℕ). takenAll k ts ++ b) (plain .none k h) ∙ append-nil (takenAll k ts)
+  plain-taken k h = taken-append k ts ds ∙ ap (λ (b : List ℕ). takenAll k ts ++ b) (none-taken ds plain k h) ∙ append-nil (takenAll k ts)
 
   plain-lane : (k : ℕ) → k < rest → lane k (ts ++ ds) ≡ lane k ts
   plain-lane k h = lane-same k (ts ++ ds) ts (plain-taken k h)
 
   plain-rest : lane rest (ts ++ ds) ≡ lane rest ts ++ takenAll whole ds
   unfolding lane inLine
-  plain-rest = taken-append rest ts ds ∙ ap (λ (b : List ℕ). takenAll rest ts ++ b) (plain .line)
+  plain-rest = taken-append rest ts ds ∙ ap (λ (b : List ℕ). takenAll rest ts ++ b) (line-taken ds plain)
 
   plain-form1 : form1 (ts ++ ds) ≡ form1 ts ++ takenAll whole ds
   unfolding form1 lane inLine

@@ -13,6 +13,7 @@ use borrow.Author.Tests.{lt-ltb}
 use Rattle.numbers.specs.Number.{pick, unsigned}
 use Rattle.numbers.proofs.Laws.{unsigned-last}
 use Rattle.numbers.proofs.Output.{sets-append}
+use Rattle.readings.specs.Sound.{All}
 use Rattle.parts.specs.Brim.{brim}
 use Rattle.tokens.specs.Tokens.{Token, var, lefts, rights, texts, units, rest, whole, led, taken, takenAll, inLine, columnIn, lane}
 use Rattle.tokens.specs.Bytes.{form1, form2, bytesOf, nearIn, near}
@@ -194,7 +195,7 @@ legal-front (t ∷ a) b h = go (legal t) h (λ p. legal-front a b p)
     go true p more = more p
     go false p more = p
 
-module _ (f : ℕ) (form : IsForm f) (n : ℕ) (ts ds : List Token) (plain : Plain ds) (lawful : legalAll (var n ∷ (ts ++ ds)) ≡ true)
+module _ (f : ℕ) (form : IsForm f) (n : ℕ) (ts ds : List Token) (plain : All Plain ds) (lawful : legalAll (var n ∷ (ts ++ ds)) ≡ true)
     (few : sizeAll (var n ∷ (ts ++ ds)) < 2 ^ 54) (z₀ : List ℕ) where
   abbrev us : List Token
   us = var n ∷ ts

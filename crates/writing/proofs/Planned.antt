@@ -12,38 +12,15 @@ use borrow.Author.Tests.{ltb-true, ltb-false, lt-leb, le-leb, leb-true, eqb-true
 use Rattle.numbers.specs.Number.{pick}
 use Rattle.numbers.specs.Output.{padded, verdict, refusal, done, written, put}
 use Rattle.numbers.proofs.Output.{take-sets, refused-answer, refused-bytes, done-answer, done-bytes}
-use Rattle.ranges.specs.Ranges.{Range}
-use Rattle.readings.specs.Groups.{groups}
+use Rattle.readings.specs.Sound.{All}
 use Rattle.tokens.specs.Tokens.{Token, var}
 use Rattle.tokens.specs.Bytes.{bytesOf, near}
 use Rattle.tokens.proofs.Fitting.{sizeAll, legalAll}
-use Rattle.records.specs.Records.{clockFrom, lengthOf, rangesTokens, clientTokens, ownerOf, deleteTokens}
+use Rattle.records.proofs.Deletes.{deletes-plain}
 use Rattle.passes.specs.Forms.{outFor}
-use Rattle.passes.proofs.Plain.{Plain, plain-none, plain-var, plain-append}
+use Rattle.passes.proofs.Plain.{Plain, var-plain}
 use Rattle.passes.proofs.Wholes.{IsForm, far-is, end-is, out-is}
 use Rattle.writing.specs.Writing.{Job, plannedIn, deletesIn, sizesIn, endIn, plannedWhy, plannedAnswer, plannedOut}
-
--- ---- a delete set has numbers without columns only
-
-module _ (form : ℕ) where
-  ranges-plain : (rs : List Range) (end : ℕ) → Plain (rangesTokens form end rs)
-  unfolding rangesTokens
-  ranges-plain [] end = plain-none
-  ranges-plain (r ∷ rs) end = plain-var (clockFrom form end r) _ (plain-var (lengthOf form r) _ (ranges-plain rs (r .clock + r .len)))
-
-  clients-plain : (gs : List (List Range)) → Plain (clientTokens form gs)
-  unfolding clientTokens
-  clients-plain [] = plain-none
-  clients-plain ([] ∷ gs) = clients-plain gs
-  clients-plain ((r ∷ rs) ∷ gs) =
-      plain-var (r .client) _ (plain-var (length (r ∷ rs)) _
-      (plain-append (rangesTokens form 0 (r ∷ rs)) (clientTokens form gs) (ranges-plain (r ∷ rs) 0) (clients-plain gs)))
-
-  deletes-plain : (rs : List Range) → Plain (deleteTokens form rs)
-  unfolding deleteTokens
-  deletes-plain rs = plain-var (length (groups ownerOf rs)) _ (clients-plain (groups ownerOf rs))
-
--- ---- what is written, and why not
 
 -- all tokens of a job
 abbrev pub jobTokens : ℕ → Job → List Token
@@ -84,8 +61,8 @@ module _ (j : Job) (f : ℕ) (form : IsForm f) (legal : legalAll (jobTokens f j)
   abbrev ds : List Token
   ds = deletesIn f j
 
-  plain : Plain ds
-  plain = deletes-plain f (j .ranges)
+  plain : All Plain ds
+  plain = deletes-plain Plain var-plain f (j .ranges)
 
   end-at : endIn j f ≡ length bytes
   end-at = end-is f form (j .sections) (plannedIn j) ds plain legal few (replicate 8 0)
