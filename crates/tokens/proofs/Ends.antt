@@ -21,15 +21,15 @@ use Rattle.tokens.proofs.Words.{alone-none, alone-is, moves}
 
 -- ---- one lane
 
-module _ (out w : List ℕ) (k : ℕ) (t : Tidy w) (l : k < 8) where
-  -- what the end of lane k promises of words and bytes
-  abbrev pub Closes : List ℕ → List ℕ → Type 0
-  Closes w₁ out₁ = Alone k (closed (laneIn w k)) w w₁ × (out₁ ≡ laidEnd out (laneIn w k))
+-- what the end of lane k promises of words and bytes
+abbrev pub Closes : List ℕ → List ℕ → ℕ → List ℕ → List ℕ → Type 0
+Closes out w k w₁ out₁ = Alone k (closed (laneIn w k)) w w₁ × (out₁ ≡ laidEnd out (laneIn w k))
 
-  stays : laneIn w k ≡ closed (laneIn w k) → out ≡ laidEnd out (laneIn w k) → Closes w out
+module _ (out w : List ℕ) (k : ℕ) (t : Tidy w) (l : k < 8) where
+  stays : laneIn w k ≡ closed (laneIn w k) → out ≡ laidEnd out (laneIn w k) → Closes out w k w out
   stays p q = (alone-is k (laneIn w k) (closed (laneIn w k)) w w (alone-none k w t l) p, q)
 
-  pub end-brim : brim ≤ getD w (5 * k) 0 → Closes w out
+  pub end-brim : brim ≤ getD w (5 * k) 0 → Closes out w k w out
   unfolding laneIn
   end-brim h = let x = at-brim out (laneIn w k) (lastRun (laneIn w k)) h in stays (x .0) (x .1)
 
@@ -42,7 +42,7 @@ module _ (out w : List ℕ) (k : ℕ) (t : Tidy w) (l : k < 8) where
     unfolding laneIn finished
     none h = last-is ∙ rw h
 
-    pub end-none : getD w (5 * k + 3) 0 ≡ 0 → Closes w out
+    pub end-none : getD w (5 * k + 3) 0 ≡ 0 → Closes out w k w out
     end-none h =
         let e = laneIn w k in
         stays (rw (none h) (sym (forward-none e))) (rw (none h) (sym (bytes-none out e)))
@@ -53,7 +53,7 @@ module _ (out w : List ℕ) (k : ℕ) (t : Tidy w) (l : k < 8) where
 
     -- the last run b laid, and the place after it
     pub end-laid : (at : ℕ) (out₁ b : List ℕ) → getD w (5 * k + 3) 0 ≢ 0 → coding (columnIn k) .final (getD w (5 * k + 2) 0) (getD w (5 * k + 3) 0 - 1) ≡ b
-        → at ≡ ahead (getD w (5 * k) 0) b → out₁ ≡ laidAt out (getD w (5 * k) 0) b → Closes (set w (5 * k) at) out₁
+        → at ≡ ahead (getD w (5 * k) 0) b → out₁ ≡ laidAt out (getD w (5 * k) 0) b → Closes out w k (set w (5 * k) at) out₁
     unfolding laneIn
     end-laid at out₁ b n f p q =
         let e = laneIn w k in
@@ -64,7 +64,7 @@ module _ (out w : List ℕ) (k : ℕ) (t : Tidy w) (l : k < 8) where
 
     -- the same of a place below the brim
     pub end-low : (at : ℕ) (out₁ b : List ℕ) → getD w (5 * k + 3) 0 ≢ 0 → coding (columnIn k) .final (getD w (5 * k + 2) 0) (getD w (5 * k + 3) 0 - 1) ≡ b
-        → getD w (5 * k) 0 < brim → at ≡ getD w (5 * k) 0 + length b → out₁ ≡ lay out (getD w (5 * k) 0) b → Closes (set w (5 * k) at) out₁
+        → getD w (5 * k) 0 < brim → at ≡ getD w (5 * k) 0 + length b → out₁ ≡ lay out (getD w (5 * k) 0) b → Closes out w k (set w (5 * k) at) out₁
     unfolding laidAt
     end-low at out₁ b n f h p q =
         end-laid at out₁ b n f (place-on out (getD w (5 * k) 0) b at h p) (q ∙ rw (lt-ltb (getD w (5 * k) 0) brim h))
@@ -86,36 +86,26 @@ pub ended-none : (out w : List ℕ) → Tidy w → Ended 0 out w out w
 unfolding endsTo
 ended-none out w t = record { lanes = λ j l. rw (le-ltb j 0 (omega arith)); bytes = refl; tidy = t }
 
-module _ (n : ℕ) (l : n < 8) (out w out₁ w₁ : List ℕ) (d : Ended n out w out₁ w₁) where
+module _ {n : ℕ} {out w out₁ w₁ : List ℕ} (d : Ended n out w out₁ w₁) (l : n < 8) where
   next-lane : laneIn w₁ n ≡ laneIn w n
   next-lane = d .lanes n l ∙ rw (le-ltb n n (omega arith))
 
-  pub ended-on : (out₂ w₂ : List ℕ) → Closes out₁ w₁ n (d .tidy) l w₂ out₂ → Ended (suc n) out w out₂ w₂
-  unfolding endsTo
-  ended-on out₂ w₂ a = record { lanes = lanes′; bytes = a .1 ∙ rw (next-lane, d .bytes); tidy = a .0 .tidy }
+  -- lanes before the next and lanes after it
+  apart : (j : ℕ) (b : Bool) → ltb j n ≡ b → j ≢ n → ltb j (suc n) ≡ b
+  apart j true e x = let y = ltb-true j n e in lt-ltb j (suc n) (omega arith)
+  apart j false e x = go (ltb j (suc n)) refl
     where
-      lanes′ : (j : ℕ) → j < 8 → laneIn w₂ j ≡ pick (ltb j (suc n)) (closed (laneIn w j)) (laneIn w j)
-      lanes′ j m = go (eqb j n) refl
-        where
-          later : (b : Bool) → ltb j n ≡ b → j ≢ n → pick b (closed (laneIn w j)) (laneIn w j) ≡ pick (ltb j (suc n)) (closed (laneIn w j)) (laneIn w j)
-          later true e x = let y = ltb-true j n e in rw (lt-ltb j (suc n) (omega arith))
-          later false e x =
-              let y = ltb-false j n e in
-              let z : suc n ≤ j = past y x in
-              rw (le-ltb j (suc n) z)
-            where
-              past : n ≤ j → j ≢ n → suc n ≤ j
-              past y x = go (ltb n j) refl
-                where
-                  go : (b : Bool) → ltb n j ≡ b → suc n ≤ j
-                  go true e = omega (arith, ltb-true n j e)
-                  go false e = absurd (x (omega (arith, ltb-false n j e)))
+      go : (b : Bool) → ltb j (suc n) ≡ b → b ≡ false
+      go true h = let y = ltb-true j (suc n) h in let z = ltb-false j n e in absurd (x (omega arith))
+      go false h = refl
 
-          go : (b : Bool) → eqb j n ≡ b → laneIn w₂ j ≡ pick (ltb j (suc n)) (closed (laneIn w j)) (laneIn w j)
-          go true e =
-              let s = eqb-true j n e in
-              rw (s, lt-ltb n (suc n) (omega arith)) (a .0 .own ∙ ap (λ (x : Lane). closed x) next-lane)
-          go false e = let x = eqb-false j n e in a .0 .others j m x ∙ d .lanes j m ∙ later (ltb j n) refl x
+  pub ended-on : (out₂ w₂ : List ℕ) → Closes out₁ w₁ n w₂ out₂ → Ended (suc n) out w out₂ w₂
+  unfolding endsTo
+  ended-on out₂ w₂ a = record { lanes = λ j m. go j m (eqb j n) refl; bytes = a .1 ∙ rw (next-lane, d .bytes); tidy = a .0 .tidy }
+    where
+      go : (j : ℕ) → j < 8 → (b : Bool) → eqb j n ≡ b → laneIn w₂ j ≡ pick (ltb j (suc n)) (closed (laneIn w j)) (laneIn w j)
+      go j m true e = rw (eqb-true j n e, lt-ltb n (suc n) (omega arith)) (a .0 .own ∙ ap (λ (x : Lane). closed x) next-lane)
+      go j m false e = let x = eqb-false j n e in a .0 .others j m x ∙ d .lanes j m ∙ rw (apart j (ltb j n) refl x)
 
   -- a lane in line has no last run
   pub ended-line : inLine n ≡ true → Ended (suc n) out w out₁ w₁

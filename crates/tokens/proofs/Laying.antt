@@ -35,10 +35,6 @@ module _ (out : List ℕ) (e : Lane) (b : List ℕ) where
   unfolding forward
   moved-on end low h = rw (lt-ltb (e .run .at) brim low, h)
 
-  pub bytes-short : (n : ℕ) → n ≡ length b → leb (e .run .at + n) (length out) ≡ false → out ≡ laidBytes out e b
-  unfolding laidBytes lay
-  bytes-short n size h = rw (← size, h) (sym (pick-same (ltb (e .run .at) brim) out))
-
   pub bytes-laid : (n : ℕ) → e .run .at < brim → n ≡ length b → leb (e .run .at + n) (length out) ≡ true → sets out (e .run .at) b ≡ laidBytes out e b
   unfolding laidBytes lay
   bytes-laid n low size h = rw (lt-ltb (e .run .at) brim low, ← size, h)
@@ -97,10 +93,6 @@ module _ (out : List ℕ) (e : Lane) (v : ℕ) where
   pub value-on : (run : Writer) (far : Bool) → takes (e .run) v ≡ true → run ≡ pushed (e .run) v → far ≡ farWith e v → onward e run far ≡ pushedOn e v
   unfolding pushedOn
   value-on run far t r f = rw (t, r, f)
-
-  pub value-short : (n : ℕ) → n ≡ length (emitted (e .run) v) → leb (e .run .at + n) (length out) ≡ false → out ≡ laidValue out e v
-  unfolding laidValue lay
-  value-short n size h = rw (← size, h) (sym (pick-same (takes (e .run) v) out))
 
   pub value-laid : (n : ℕ) → takes (e .run) v ≡ true → n ≡ length (emitted (e .run) v) → leb (e .run .at + n) (length out) ≡ true
       → sets out (e .run .at) (emitted (e .run) v) ≡ laidValue out e v

@@ -1,12 +1,12 @@
 -- The bytes of a part of an update: how many they are, and how a loop copies them.
-use Prim.Native.Nat.{ℕ, zero, suc, _+_, _-_, _≤_, _<_}
+use Prim.Native.Nat.{ℕ, zero, suc, _+_, _-_, _<_}
 use mathlib.Core.Path.{_≡_, refl, sym, ap, _∙_}
 use mathlib.Core.List.{List, [], _∷_}
 use native.Mathlib.Nat.{suc-add, zero-add}
 use native.Mathlib.Numerals.{add-one}
 use native.Mathlib.Omega.{arith}
-use lib.ListN.{length, take, drop, set, getD, length-append, length-drop, drop-of-length-le}
-use lib.Seq.{sets, slice, take-suc, take-nil, length-take-le, getD-drop, take-all}
+use lib.ListN.{length, take, drop, set, getD, length-append, length-drop}
+use lib.Seq.{sets, slice, take-suc, take-nil, length-take-le, getD-drop}
 use Rattle.numbers.specs.Number.{unsigned}
 use Rattle.numbers.proofs.Output.{sets-append}
 use Rattle.text.specs.declared.Part.{Part}
@@ -30,15 +30,6 @@ module _ (u : List ℕ) (p : Part) where
   part-take : bytesIn u p ≡ take (p .bytes .0) (drop (p .place) u)
   unfolding bytesIn
   part-take = slice-take (p .place) (p .bytes .0) u
-
-  pub part-none : length u ≤ p .place → 0 ≡ length (bytesIn u p)
-  part-none h = rw (part-take, drop-of-length-le u {i = p .place} h, take-nil)
-
-  pub part-cut : length u - p .place < p .bytes .0 → length u - p .place ≡ length (bytesIn u p)
-  part-cut h = rw (part-take, take-all (p .bytes .0) (drop (p .place) u) (rw length-drop (omega arith)), length-drop)
-
-  pub part-all : p .bytes .0 ≤ length u - p .place → p .bytes .0 ≡ length (bytesIn u p)
-  part-all h = rw part-take (sym (length-take-le (p .bytes .0) (drop (p .place) u) (rw length-drop h)))
 
   -- as many bytes from its place on are the part
   pub part-slice : (n : ℕ) → n ≡ length (bytesIn u p) → slice (p .place) (p .place + n) u ≡ bytesIn u p

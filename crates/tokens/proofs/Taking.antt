@@ -26,9 +26,6 @@ pub in-rest : (k : ℕ) → k ≡ rest → inLine k ≡ true
 unfolding inLine
 in-rest k e = rw e
 
-pub out-of-line : (k j : ℕ) → k ≡ j → inLine j ≡ false → inLine k ≡ false
-out-of-line k j e h = rw e h
-
 -- ---- what a lane takes
 
 module _ (k j v : ℕ) where
@@ -117,7 +114,3 @@ module _ (out : List ℕ) (e : Lane) (t : Token) where
       go : (b : Bool) → Sound (pick b (forward e (taken (e .lane) t)) (pushedAll e (taken (e .lane) t)) .run)
       go true = forward-sound out e (taken (e .lane) t) s
       go false = pushed-sound-all e (taken (e .lane) t) s
-
-  -- what a writer of tokens promises
-  pub wrote : {r : Lane} {bytes : List ℕ} → Sound (e .run) → (r ≡ put e t) → (bytes ≡ laid out e t) → (r ≡ put e t) × (bytes ≡ laid out e t) × Sound (r .run)
-  wrote s p q = (p, q, rw p (put-sound s))

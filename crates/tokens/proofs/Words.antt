@@ -9,7 +9,6 @@ use lib.Dec.{ltb, eqb}
 use lib.ListN.{length, getD, set, length-set}
 use lib.Seq.{getD-set-same, getD-set-other}
 use borrow.Author.Tests.{eqb-true, eqb-false}
-use Rattle.numbers.specs.Number.{pick}
 use Rattle.runs.specs.Runs.{coding, keyMost}
 use Rattle.runs.specs.Writer.{Sound}
 use Rattle.tokens.specs.Tokens.{columnIn}
@@ -71,11 +70,17 @@ alone-then k e e₁ w w₁ w₂ a b = record { own = b .own; others = λ j l n. 
 pub alone-is : (k : ℕ) (e e₁ : Lane) (w w₁ : List ℕ) → Alone k e w w₁ → e ≡ e₁ → Alone k e₁ w w₁
 alone-is k e e₁ w w₁ a h = subst (λ (x : Lane). Alone k x w w₁) h a
 
--- ---- stores
+-- what a lane's last value and key have at all times
+module _ (w : List ℕ) (k : ℕ) (t : Tidy w) (l : k < 8) where
+  pub last-low : getD w (5 * k + 1) 0 ≤ coding (columnIn k) .most
+  unfolding laneIn
+  last-low = t .sound k l .0
 
--- lane k's words lie in the forty
-pub inside : (k i : ℕ) (w : List ℕ) → Tidy w → k < 8 → i < 5 → 5 * k + i < length w
-inside k i w t l m = omega (arith, t .size)
+  pub key-low : getD w (5 * k + 2) 0 ≤ keyMost (columnIn k)
+  unfolding laneIn
+  key-low = t .sound k l .1
+
+-- ---- stores
 
 module _ (k : ℕ) (w : List ℕ) (t : Tidy w) (l : k < 8) where
   -- place, last value, key and count
@@ -178,13 +183,3 @@ module _ (k : ℕ) (w : List ℕ) (t : Tidy w) (l : k < 8) where
     where
       other : (p : ℕ) → p < 5 * k + 4 → getD (set w (5 * k + 4) 1) p 0 ≡ getD w p 0
       other p h = getD-set-other w (5 * k + 4) p 1 0 (λ e. absurd (omega arith))
-
--- ---- a test of keys, as the code has it
-
-pub far-of : (near : Bool) → pick near false true ≡ true → near ≡ false
-far-of true h = sym h
-far-of false h = refl
-
-pub near-of : (near : Bool) → pick near false true ≡ false → near ≡ true
-near-of true h = refl
-near-of false h = sym h

@@ -26,7 +26,11 @@ unfoldable pub lay : List ℕ → ℕ → List ℕ → List ℕ
 lay out at b = pick (leb (at + length b) (length out)) (sets out at b) out
 
 abbrev pub movedTo : Lane → ℕ → Lane
-movedTo e at = record { lane = e .lane; run = record { column = e .run .column; at = at; last = e .run .last; key = e .run .key; count = e .run .count }; far = e .far }
+movedTo e at = record {
+  lane = e .lane;
+  run = record { column = e .run .column; at = at; last = e .run .last; key = e .run .key; count = e .run .count };
+  far = e .far;
+}
 
 -- the place after bytes b in line, and the bytes lent then; at the brim nothing moves
 unfoldable pub ahead : ℕ → List ℕ → ℕ
@@ -46,7 +50,9 @@ unfoldable pub takes : Writer → ℕ → Bool
 takes w v = pick (ltb (w .at) brim) (pick (ltb (w .count) brim) (leb v (coding (w .column) .most)) false) false
 
 unfoldable pub pushedOn : Lane → ℕ → Lane
-pushedOn e v = pick (takes (e .run) v) (record { lane = e .lane; run = pushed (e .run) v; far = pick (coding (e .run .column) .near (keyAfter (e .run) v)) (e .far) true }) e
+pushedOn e v =
+    pick (takes (e .run) v)
+    (record { lane = e .lane; run = pushed (e .run) v; far = pick (coding (e .run .column) .near (keyAfter (e .run) v)) (e .far) true }) e
 
 unfoldable pub laidValue : List ℕ → Lane → ℕ → List ℕ
 laidValue out e v = pick (takes (e .run) v) (lay out (e .run .at) (emitted (e .run) v)) out

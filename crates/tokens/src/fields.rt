@@ -90,7 +90,8 @@ pub fn write_string(
     units: Units,
 ) -> usize
     requires { ⌜ Tidy (now lanes) ⌝ }
-    ensures { λ r. ⌜ Wrote form (text (bytesIn (now (update .entry)) part) (units .0) ∷ []) (now (out .entry)) (now (lanes .entry)) at (now (out .exit)) (now (lanes .exit)) r ⌝ }
+    ensures { λ r. ⌜ Wrote form (text (bytesIn (now (update .entry)) part) (units .0) ∷ []) (now (out .entry)) (now (lanes .entry)) at
+        (now (out .exit)) (now (lanes .exit)) r ⌝ }
 {
     if form == 1 {
         return crate::line::led_part(out, update, at, part);

@@ -58,12 +58,15 @@ fn note(lanes: &mut [u64], k: usize, at: usize, last: u64, key: u64, count: u64)
     lanes[base + 3] = count;
 }
 
-// ---- runs, each by its column's rule; measured where there is no room
+// ---- runs, each by its column's rule; measured only where there is not plenty of room, for no run has more than 21 bytes
 
 fn number_run(out: &mut [u8], at: usize, key: u64, n: u64) -> usize
     requires { ⌜ at < brim ⌝ }
     ensures { λ r. ⌜ (r ≡ at + length (coding Number .spell key n)) × (now (out .exit) ≡ lay (now (out .entry)) at (coding Number .spell key n)) ⌝ }
 {
+    if crate::line::fits(out.len(), at, 21) {
+        return runs::number::put_run(out, at, key, n);
+    }
     let size = runs::number::run_size(key, n);
     if !crate::line::fits(out.len(), at, size) {
         return at + size;
@@ -73,8 +76,12 @@ fn number_run(out: &mut [u8], at: usize, key: u64, n: u64) -> usize
 
 fn difference_run(out: &mut [u8], at: usize, key: u64, n: u64) -> usize
     requires { ⌜ (at < brim) × (key ≤ keyMost Difference) ⌝ }
-    ensures { λ r. ⌜ (r ≡ at + length (coding Difference .spell key n)) × (now (out .exit) ≡ lay (now (out .entry)) at (coding Difference .spell key n)) ⌝ }
+    ensures { λ r. ⌜ (r ≡ at + length (coding Difference .spell key n))
+        × (now (out .exit) ≡ lay (now (out .entry)) at (coding Difference .spell key n)) ⌝ }
 {
+    if crate::line::fits(out.len(), at, 21) {
+        return runs::difference::put_run(out, at, key, n);
+    }
     let size = runs::difference::run_size(key, n);
     if !crate::line::fits(out.len(), at, size) {
         return at + size;
@@ -86,6 +93,9 @@ fn byte_run(out: &mut [u8], at: usize, key: u64, n: u64) -> usize
     requires { ⌜ (at < brim) × (key ≤ keyMost Byte) ⌝ }
     ensures { λ r. ⌜ (r ≡ at + length (coding Byte .spell key n)) × (now (out .exit) ≡ lay (now (out .entry)) at (coding Byte .spell key n)) ⌝ }
 {
+    if crate::line::fits(out.len(), at, 21) {
+        return runs::byte::put_run(out, at, key, n);
+    }
     let size = runs::byte::run_size(key, n);
     if !crate::line::fits(out.len(), at, size) {
         return at + size;
@@ -279,7 +289,8 @@ fn close_byte(out: &mut [u8], lanes: &mut [u64], k: usize)
 // The last runs of all columns; texts have none.
 pub fn close(out: &mut [u8], lanes: &mut [u64])
     requires { ⌜ Tidy (now lanes) ⌝ }
-    ensures { λ _. ⌜ (lanesIn (now (lanes .exit)) ≡ closedEach (lanesIn (now (lanes .entry)))) × (now (out .exit) ≡ laidEnds (now (out .entry)) (lanesIn (now (lanes .entry)))) × Tidy (now (lanes .exit)) ⌝ }
+    ensures { λ _. ⌜ (lanesIn (now (lanes .exit)) ≡ closedEach (lanesIn (now (lanes .entry))))
+        × (now (out .exit) ≡ laidEnds (now (out .entry)) (lanesIn (now (lanes .entry)))) × Tidy (now (lanes .exit)) ⌝ }
 {
     close_number(out, lanes, CLIENTS);
     close_difference(out, lanes, LEFTS);

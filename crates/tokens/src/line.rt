@@ -21,12 +21,15 @@ pub fn fits(end: usize, at: usize, n: usize) -> bool
     n <= end - at
 }
 
-// A number.
+// A number; measured only where there is not plenty of room, for none has more than ten bytes.
 pub fn number(out: &mut [u8], at: usize, v: u64) -> usize
     ensures { λ r. ⌜ (r ≡ ahead at (unsigned v)) × (now (out .exit) ≡ laidAt (now (out .entry)) at (unsigned v)) ⌝ }
 {
     if parts::BRIM <= at {
         return at;
+    }
+    if fits(out.len(), at, 10) {
+        return numbers::write_unsigned(out, at, v);
     }
     let n = numbers::size_unsigned(v);
     if !fits(out.len(), at, n) {
@@ -64,7 +67,8 @@ fn copy(out: &mut [u8], at: usize, update: &[u8], from: usize, n: usize)
 
 // The bytes of a part.
 pub fn part(out: &mut [u8], update: &[u8], at: usize, p: Part) -> usize
-    ensures { λ r. ⌜ (r ≡ ahead at (bytesIn (now (update .entry)) p)) × (now (out .exit) ≡ laidAt (now (out .entry)) at (bytesIn (now (update .entry)) p)) ⌝ }
+    ensures { λ r. ⌜ (r ≡ ahead at (bytesIn (now (update .entry)) p))
+        × (now (out .exit) ≡ laidAt (now (out .entry)) at (bytesIn (now (update .entry)) p)) ⌝ }
 {
     let from = p.place;
     if parts::BRIM <= at {

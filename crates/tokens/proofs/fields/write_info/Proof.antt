@@ -1,4 +1,4 @@
--- `write_info` meets its contract: an info is a byte in line too.
+-- `write_info` meets its contract: an info is a byte, in line too.
 use native.Mathlib.Omega.{arith}
 use mathlib.Core.Path.{refl}
 use mathlib.Core.List.{[], _∷_}
@@ -11,8 +11,12 @@ use Rattle.tokens.proofs.fields.write_info.Tie as tie
 
 returns : tie.Need-returns
 returns c =
-    wrote-whole (c .before .before .before .before .before .before .before .args .form) (c .before .before .before .before .before .before .before .args .at) (c .before .before .before .before .before .before .before .args .out .now) (c .before .before .before .before .before .before .before .args .lanes .now) (field infos (c .before .before .before .before .before .before .before .args .v)) (c .before .before .before .before .if1 .taken) (c .before .before .before .before .before .before .before .pre) (c .before .before .before .before .before .before .before .args .v ∷ []) (c .before .before .byte .last .0) (c .before .before .byte .result)
-    (info-line whole (c .before .before .before .before .before .before .before .args .v) refl) (c .before .before .byte .ensures .0) (c .before .before .byte .ensures .1)
+    let start = c .before .before .before .before .before .before .before in
+    let a = start .args in
+    let r = c .before .before .byte in
+    wrote-whole (a .form) (a .at) (a .out .now) (a .lanes .now) (field infos (a .v)) (c .before .before .before .before .if1 .taken) (start .pre)
+    (a .v ∷ []) (r .last .0) (r .result)
+    (info-line whole (a .v) refl) (r .ensures .0) (r .ensures .1)
 
 push-byte-requires : tie.Need-push-byte-requires
 unfolding columnIn
@@ -21,8 +25,11 @@ push-byte-requires c κs = (c .before .before .before .before .before .pre, omeg
 returns-2 : tie.Need-returns-2
 unfolding inLine
 returns-2 c =
+    let a = c .before .before .before .before .before .before .before .before .before .before .args in
     let p = c .before .before .before .before .push-byte in
-    wrote-field (c .before .before .before .before .before .before .before .before .before .before .args .form) (c .before .before .before .before .before .before .before .before .before .before .args .at) (c .before .before .before .before .before .before .before .before .before .before .args .out .now) (c .before .before .before .before .before .before .before .before .before .before .args .lanes .now) (c .before .before .before .before .before .before .before .if1 .left) infos (c .before .before .before .before .before .before .before .before .before .before .args .v) (omega arith) refl (p .last .0) (p .last .1 .0) (p .ensures .0) (p .ensures .1)
+    wrote-field (a .form) (a .at) (a .out .now) (a .lanes .now) (c .before .before .before .before .before .before .before .if1 .left) infos (a .v)
+    (omega arith) refl (p .last .0) (p .last .1 .0) (p .ensures .0)
+    (p .ensures .1)
 
 pub write-info-spec : {M : Type 1} → statement M
 write-info-spec =

@@ -12,8 +12,12 @@ use Rattle.tokens.proofs.fields.write_parent_info.Tie as tie
 
 returns : tie.Need-returns
 returns c =
-    wrote-whole (c .before .before .before .before .before .before .before .args .form) (c .before .before .before .before .before .before .before .args .at) (c .before .before .before .before .before .before .before .args .out .now) (c .before .before .before .before .before .before .before .args .lanes .now) (field parents (c .before .before .before .before .before .before .before .args .v)) (c .before .before .before .before .if1 .taken) (c .before .before .before .before .before .before .before .pre .0) (c .before .before .before .before .before .before .before .args .v ∷ []) (c .before .before .byte .last .0) (c .before .before .byte .result)
-    ((field-line whole parents (c .before .before .before .before .before .before .before .args .v) refl (λ h. absurd (omega arith)) ∙ unsigned-last (c .before .before .before .before .before .before .before .args .v) (c .before .before .before .before .before .before .before .pre .1))) (c .before .before .byte .ensures .0) (c .before .before .byte .ensures .1)
+    let start = c .before .before .before .before .before .before .before in
+    let a = start .args in
+    let r = c .before .before .byte in
+    wrote-whole (a .form) (a .at) (a .out .now) (a .lanes .now) (field parents (a .v)) (c .before .before .before .before .if1 .taken) (start .pre .0)
+    (a .v ∷ []) (r .last .0) (r .result)
+    (field-line whole parents (a .v) refl (λ h. absurd (omega arith)) ∙ unsigned-last (a .v) (start .pre .1)) (r .ensures .0) (r .ensures .1)
 
 push-byte-requires : tie.Need-push-byte-requires
 unfolding columnIn
@@ -22,8 +26,11 @@ push-byte-requires c κs = (c .before .before .before .before .before .pre .0, o
 returns-2 : tie.Need-returns-2
 unfolding inLine
 returns-2 c =
+    let a = c .before .before .before .before .before .before .before .before .before .before .args in
     let p = c .before .before .before .before .push-byte in
-    wrote-field (c .before .before .before .before .before .before .before .before .before .before .args .form) (c .before .before .before .before .before .before .before .before .before .before .args .at) (c .before .before .before .before .before .before .before .before .before .before .args .out .now) (c .before .before .before .before .before .before .before .before .before .before .args .lanes .now) (c .before .before .before .before .before .before .before .if1 .left) parents (c .before .before .before .before .before .before .before .before .before .before .args .v) (omega arith) refl (p .last .0) (p .last .1 .0) (p .ensures .0) (p .ensures .1)
+    wrote-field (a .form) (a .at) (a .out .now) (a .lanes .now) (c .before .before .before .before .before .before .before .if1 .left) parents (a .v)
+    (omega arith) refl (p .last .0) (p .last .1 .0) (p .ensures .0)
+    (p .ensures .1)
 
 pub write-parent-info-spec : {M : Type 1} → statement M
 write-parent-info-spec =

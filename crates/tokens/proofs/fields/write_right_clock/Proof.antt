@@ -1,4 +1,4 @@
--- `write_right_clock` meets its contract: a right clock.
+-- `write_right_clock` meets its contract: a right clock in line, or onto its lane.
 use native.Mathlib.Omega.{arith}
 use mathlib.Core.Path.{refl}
 use Rattle.numbers.specs.Number.{unsigned}
@@ -11,8 +11,12 @@ use Rattle.tokens.proofs.fields.write_right_clock.Tie as tie
 
 returns : tie.Need-returns
 returns c =
-    wrote-whole (c .before .before .before .before .before .before .before .args .form) (c .before .before .before .before .before .before .before .args .at) (c .before .before .before .before .before .before .before .args .out .now) (c .before .before .before .before .before .before .before .args .lanes .now) (field rights (c .before .before .before .before .before .before .before .args .v)) (c .before .before .before .before .if1 .taken) (c .before .before .before .before .before .before .before .pre) (unsigned (c .before .before .before .before .before .before .before .args .v)) (c .before .before .number .last .0) (c .before .before .number .result)
-    (field-line whole rights (c .before .before .before .before .before .before .before .args .v) refl (λ h. absurd (omega arith))) (c .before .before .number .ensures .0) (c .before .before .number .ensures .1)
+    let start = c .before .before .before .before .before .before .before in
+    let a = start .args in
+    let r = c .before .before .number in
+    wrote-whole (a .form) (a .at) (a .out .now) (a .lanes .now) (field rights (a .v)) (c .before .before .before .before .if1 .taken) (start .pre)
+    (unsigned (a .v)) (r .last .0) (r .result)
+    (field-line whole rights (a .v) refl (λ h. absurd (omega arith))) (r .ensures .0) (r .ensures .1)
 
 push-difference-requires : tie.Need-push-difference-requires
 unfolding columnIn
@@ -21,8 +25,11 @@ push-difference-requires c κs = (c .before .before .before .before .before .pre
 returns-2 : tie.Need-returns-2
 unfolding inLine
 returns-2 c =
+    let a = c .before .before .before .before .before .before .before .before .before .before .args in
     let p = c .before .before .before .before .push-difference in
-    wrote-field (c .before .before .before .before .before .before .before .before .before .before .args .form) (c .before .before .before .before .before .before .before .before .before .before .args .at) (c .before .before .before .before .before .before .before .before .before .before .args .out .now) (c .before .before .before .before .before .before .before .before .before .before .args .lanes .now) (c .before .before .before .before .before .before .before .if1 .left) rights (c .before .before .before .before .before .before .before .before .before .before .args .v) (omega arith) refl (p .last .0) (p .last .1 .0) (p .ensures .0) (p .ensures .1)
+    wrote-field (a .form) (a .at) (a .out .now) (a .lanes .now) (c .before .before .before .before .before .before .before .if1 .left) rights (a .v)
+    (omega arith) refl (p .last .0) (p .last .1 .0) (p .ensures .0)
+    (p .ensures .1)
 
 pub write-right-clock-spec : {M : Type 1} → statement M
 write-right-clock-spec =

@@ -11,9 +11,14 @@ use Rattle.tokens.proofs.fields.write_string.Tie as tie
 
 returns : tie.Need-returns
 returns c =
-    let b = bytesIn (c .before .before .before .before .before .before .before .before .args .update .now) (c .before .before .before .before .before .before .before .before .args .part) in
-    wrote-whole (c .before .before .before .before .before .before .before .before .args .form) (c .before .before .before .before .before .before .before .before .args .at) (c .before .before .before .before .before .before .before .before .args .out .now) (c .before .before .before .before .before .before .before .before .args .lanes .now) (text b (c .before .before .before .before .before .before .before .before .args .units .0)) (c .before .before .before .before .if1 .taken) (c .before .before .before .before .before .before .before .before .pre) (led b) (c .before .before .led-part .last .0) (c .before .before .led-part .result)
-    (text-line whole b (c .before .before .before .before .before .before .before .before .args .units .0) refl) (c .before .before .led-part .ensures .0) (c .before .before .led-part .ensures .1)
+    let start = c .before .before .before .before .before .before .before .before in
+    let a = start .args in
+    let b = bytesIn (a .update .now) (a .part) in
+    let n = a .units .0 in
+    let r = c .before .before .led-part in
+    wrote-whole (a .form) (a .at) (a .out .now) (a .lanes .now) (text b n) (c .before .before .before .before .if1 .taken) (start .pre) (led b)
+    (r .last .0) (r .result) (text-line whole b n refl)
+    (r .ensures .0) (r .ensures .1)
 
 push-number-requires : tie.Need-push-number-requires
 unfolding columnIn
@@ -21,10 +26,13 @@ push-number-requires c κs = (c .before .before .before .before .before .before 
 
 returns-2 : tie.Need-returns-2
 returns-2 c =
-    let b = bytesIn (c .before .before .before .before .before .before .before .before .before .before .before .before .before .before .before .before .before .before .args .update .now) (c .before .before .before .before .before .before .before .before .before .before .before .before .before .before .before .before .before .before .args .part) in
+    let a = c .before .before .before .before .before .before .before .before .before .before .before .before .before .before .before .before .before .before .args in
+    let b = bytesIn (a .update .now) (a .part) in
     let s = c .before .before .before .before .before .before .before .before .before .before .before .put-text in
     let p = c .before .before .before .before .push-number in
-    wrote-text (c .before .before .before .before .before .before .before .before .before .before .before .before .before .before .before .before .before .before .args .form) (c .before .before .before .before .before .before .before .before .before .before .before .before .before .before .before .before .before .before .args .at) (c .before .before .before .before .before .before .before .before .before .before .before .before .before .before .before .before .before .before .args .out .now) (c .before .before .before .before .before .before .before .before .before .before .before .before .before .before .before .before .before .before .args .lanes .now) (c .before .before .before .before .before .before .before .before .before .before .before .before .before .before .if1 .left) b (c .before .before .before .before .before .before .before .before .before .before .before .before .before .before .before .before .before .before .args .units .0) (s .last .0) (s .last .1 .1 .0) (p .last .0) (p .last .1 .0)
+    wrote-text (a .form) (a .at) (a .out .now) (a .lanes .now)
+    (c .before .before .before .before .before .before .before .before .before .before .before .before .before .before .if1 .left) b (a .units .0)
+    (s .last .0) (s .last .1 .1 .0) (p .last .0) (p .last .1 .0)
     (s .ensures .0) (s .ensures .1) (p .ensures .0) (p .ensures .1)
 
 pub write-string-spec : {M : Type 1} → statement M

@@ -10,66 +10,117 @@ close-number-requires : tie.Need-close-number-requires
 unfolding inLine columnIn
 close-number-requires c κs = (c .before .before .before .before .pre, omega arith, refl, refl)
 
-to-1 : (c : tie.After-close-number) → Ended 1 (c .before .before .before .before .before .args .out .now) (c .before .before .before .before .before .args .lanes .now) (c .close-number .last .0) (c .close-number .last .1 .0)
-to-1 c = ended-on 0 (omega arith) (c .before .before .before .before .before .args .out .now) (c .before .before .before .before .before .args .lanes .now) (c .before .before .before .before .before .args .out .now) (c .before .before .before .before .before .args .lanes .now) (ended-none (c .before .before .before .before .before .args .out .now) (c .before .before .before .before .before .args .lanes .now) (c .before .before .before .before .before .pre)) (c .close-number .last .0) (c .close-number .last .1 .0) (c .close-number .ensures)
+abbrev start-1 : tie.After-close-number → tie.Start
+start-1 c = c .before .before .before .before .before
+
+to-1 : (c : tie.After-close-number) → Ended 1 (start-1 c .args .out .now) (start-1 c .args .lanes .now) (c .close-number .last .0)
+    (c .close-number .last .1 .0)
+to-1 c =
+    ended-on (ended-none (start-1 c .args .out .now) (start-1 c .args .lanes .now) (start-1 c .pre)) (omega arith) (c .close-number .last .0)
+    (c .close-number .last .1 .0) (c .close-number .ensures)
 
 close-difference-requires : tie.Need-close-difference-requires
 unfolding inLine columnIn
 close-difference-requires c κs = (to-1 (c .before .before .before .before .before .before) .tidy, omega arith, refl, refl)
 
-to-2 : (c : tie.After-close-difference) → Ended 2 (c .before .before .before .before .before .before .before .before .before .before .before .before .args .out .now) (c .before .before .before .before .before .before .before .before .before .before .before .before .args .lanes .now) (c .close-difference .last .0) (c .close-difference .last .1 .0)
-to-2 c = ended-on 1 (omega arith) (c .before .before .before .before .before .before .before .before .before .before .before .before .args .out .now) (c .before .before .before .before .before .before .before .before .before .before .before .before .args .lanes .now) (c .before .before .before .before .before .before .before .close-number .last .0) (c .before .before .before .before .before .before .before .close-number .last .1 .0) (to-1 (c .before .before .before .before .before .before .before)) (c .close-difference .last .0) (c .close-difference .last .1 .0) (c .close-difference .ensures)
+abbrev start-2 : tie.After-close-difference → tie.Start
+start-2 c = start-1 (c .before .before .before .before .before .before .before)
+
+to-2 : (c : tie.After-close-difference) → Ended 2 (start-2 c .args .out .now) (start-2 c .args .lanes .now) (c .close-difference .last .0)
+    (c .close-difference .last .1 .0)
+to-2 c =
+    ended-on (to-1 (c .before .before .before .before .before .before .before)) (omega arith) (c .close-difference .last .0)
+    (c .close-difference .last .1 .0) (c .close-difference .ensures)
 
 close-difference-requires-2 : tie.Need-close-difference-requires-2
 unfolding inLine columnIn
 close-difference-requires-2 c κs = (to-2 (c .before .before .before .before .before .before) .tidy, omega arith, refl, refl)
 
-to-3 : (c : tie.After-close-difference2) → Ended 3 (c .before .before .before .before .before .before .before .before .before .before .before .before .before .before .before .before .before .before .before .args .out .now) (c .before .before .before .before .before .before .before .before .before .before .before .before .before .before .before .before .before .before .before .args .lanes .now) (c .close-difference2 .last .0) (c .close-difference2 .last .1 .0)
-to-3 c = ended-on 2 (omega arith) (c .before .before .before .before .before .before .before .before .before .before .before .before .before .before .before .before .before .before .before .args .out .now) (c .before .before .before .before .before .before .before .before .before .before .before .before .before .before .before .before .before .before .before .args .lanes .now) (c .before .before .before .before .before .before .before .close-difference .last .0) (c .before .before .before .before .before .before .before .close-difference .last .1 .0) (to-2 (c .before .before .before .before .before .before .before)) (c .close-difference2 .last .0) (c .close-difference2 .last .1 .0) (c .close-difference2 .ensures)
+abbrev start-3 : tie.After-close-difference2 → tie.Start
+start-3 c = start-2 (c .before .before .before .before .before .before .before)
+
+to-3 : (c : tie.After-close-difference2) → Ended 3 (start-3 c .args .out .now) (start-3 c .args .lanes .now) (c .close-difference2 .last .0)
+    (c .close-difference2 .last .1 .0)
+to-3 c =
+    ended-on (to-2 (c .before .before .before .before .before .before .before)) (omega arith) (c .close-difference2 .last .0)
+    (c .close-difference2 .last .1 .0) (c .close-difference2 .ensures)
 
 close-byte-requires : tie.Need-close-byte-requires
 unfolding inLine columnIn
 close-byte-requires c κs = (to-3 (c .before .before .before .before .before .before) .tidy, omega arith, refl, refl)
 
-to-4 : (c : tie.After-close-byte) → Ended 4 (c .before .before .before .before .before .before .before .before .before .before .before .before .before .before .before .before .before .before .before .before .before .before .before .before .before .before .args .out .now) (c .before .before .before .before .before .before .before .before .before .before .before .before .before .before .before .before .before .before .before .before .before .before .before .before .before .before .args .lanes .now) (c .close-byte .last .0) (c .close-byte .last .1 .0)
-to-4 c = ended-on 3 (omega arith) (c .before .before .before .before .before .before .before .before .before .before .before .before .before .before .before .before .before .before .before .before .before .before .before .before .before .before .args .out .now) (c .before .before .before .before .before .before .before .before .before .before .before .before .before .before .before .before .before .before .before .before .before .before .before .before .before .before .args .lanes .now) (c .before .before .before .before .before .before .before .close-difference2 .last .0) (c .before .before .before .before .before .before .before .close-difference2 .last .1 .0) (to-3 (c .before .before .before .before .before .before .before)) (c .close-byte .last .0) (c .close-byte .last .1 .0) (c .close-byte .ensures)
+abbrev start-4 : tie.After-close-byte → tie.Start
+start-4 c = start-3 (c .before .before .before .before .before .before .before)
+
+to-4 : (c : tie.After-close-byte) → Ended 4 (start-4 c .args .out .now) (start-4 c .args .lanes .now) (c .close-byte .last .0)
+    (c .close-byte .last .1 .0)
+to-4 c =
+    ended-on (to-3 (c .before .before .before .before .before .before .before)) (omega arith) (c .close-byte .last .0) (c .close-byte .last .1 .0)
+    (c .close-byte .ensures)
 
 -- texts
-to-5 : (c : tie.After-close-byte) → Ended 5 (c .before .before .before .before .before .before .before .before .before .before .before .before .before .before .before .before .before .before .before .before .before .before .before .before .before .before .args .out .now) (c .before .before .before .before .before .before .before .before .before .before .before .before .before .before .before .before .before .before .before .before .before .before .before .before .before .before .args .lanes .now) (c .close-byte .last .0) (c .close-byte .last .1 .0)
+to-5 : (c : tie.After-close-byte) → Ended 5 (start-4 c .args .out .now) (start-4 c .args .lanes .now) (c .close-byte .last .0)
+    (c .close-byte .last .1 .0)
 unfolding inLine
-to-5 c = ended-line 4 (omega arith) (c .before .before .before .before .before .before .before .before .before .before .before .before .before .before .before .before .before .before .before .before .before .before .before .before .before .before .args .out .now) (c .before .before .before .before .before .before .before .before .before .before .before .before .before .before .before .before .before .before .before .before .before .before .before .before .before .before .args .lanes .now) (c .close-byte .last .0) (c .close-byte .last .1 .0) (to-4 c) refl
+to-5 c = ended-line (to-4 c) (omega arith) refl
 
 close-number-requires-2 : tie.Need-close-number-requires-2
 unfolding inLine columnIn
 close-number-requires-2 c κs = (to-5 (c .before .before .before .before .before .before) .tidy, omega arith, refl, refl)
 
-to-6 : (c : tie.After-close-number2) → Ended 6 (c .before .before .before .before .before .before .before .before .before .before .before .before .before .before .before .before .before .before .before .before .before .before .before .before .before .before .before .before .before .before .before .before .before .args .out .now) (c .before .before .before .before .before .before .before .before .before .before .before .before .before .before .before .before .before .before .before .before .before .before .before .before .before .before .before .before .before .before .before .before .before .args .lanes .now) (c .close-number2 .last .0) (c .close-number2 .last .1 .0)
-to-6 c = ended-on 5 (omega arith) (c .before .before .before .before .before .before .before .before .before .before .before .before .before .before .before .before .before .before .before .before .before .before .before .before .before .before .before .before .before .before .before .before .before .args .out .now) (c .before .before .before .before .before .before .before .before .before .before .before .before .before .before .before .before .before .before .before .before .before .before .before .before .before .before .before .before .before .before .before .before .before .args .lanes .now) (c .before .before .before .before .before .before .before .close-byte .last .0) (c .before .before .before .before .before .before .before .close-byte .last .1 .0) (to-5 (c .before .before .before .before .before .before .before)) (c .close-number2 .last .0) (c .close-number2 .last .1 .0) (c .close-number2 .ensures)
+abbrev start-6 : tie.After-close-number2 → tie.Start
+start-6 c = start-4 (c .before .before .before .before .before .before .before)
+
+to-6 : (c : tie.After-close-number2) → Ended 6 (start-6 c .args .out .now) (start-6 c .args .lanes .now) (c .close-number2 .last .0)
+    (c .close-number2 .last .1 .0)
+to-6 c =
+    ended-on (to-5 (c .before .before .before .before .before .before .before)) (omega arith) (c .close-number2 .last .0)
+    (c .close-number2 .last .1 .0) (c .close-number2 .ensures)
 
 close-byte-requires-2 : tie.Need-close-byte-requires-2
 unfolding inLine columnIn
 close-byte-requires-2 c κs = (to-6 (c .before .before .before .before .before .before) .tidy, omega arith, refl, refl)
 
-to-7 : (c : tie.After-close-byte2) → Ended 7 (c .before .before .before .before .before .before .before .before .before .before .before .before .before .before .before .before .before .before .before .before .before .before .before .before .before .before .before .before .before .before .before .before .before .before .before .before .before .before .before .before .args .out .now) (c .before .before .before .before .before .before .before .before .before .before .before .before .before .before .before .before .before .before .before .before .before .before .before .before .before .before .before .before .before .before .before .before .before .before .before .before .before .before .before .before .args .lanes .now) (c .close-byte2 .last .0) (c .close-byte2 .last .1 .0)
-to-7 c = ended-on 6 (omega arith) (c .before .before .before .before .before .before .before .before .before .before .before .before .before .before .before .before .before .before .before .before .before .before .before .before .before .before .before .before .before .before .before .before .before .before .before .before .before .before .before .before .args .out .now) (c .before .before .before .before .before .before .before .before .before .before .before .before .before .before .before .before .before .before .before .before .before .before .before .before .before .before .before .before .before .before .before .before .before .before .before .before .before .before .before .before .args .lanes .now) (c .before .before .before .before .before .before .before .close-number2 .last .0) (c .before .before .before .before .before .before .before .close-number2 .last .1 .0) (to-6 (c .before .before .before .before .before .before .before)) (c .close-byte2 .last .0) (c .close-byte2 .last .1 .0) (c .close-byte2 .ensures)
+abbrev start-7 : tie.After-close-byte2 → tie.Start
+start-7 c = start-6 (c .before .before .before .before .before .before .before)
+
+to-7 : (c : tie.After-close-byte2) → Ended 7 (start-7 c .args .out .now) (start-7 c .args .lanes .now) (c .close-byte2 .last .0)
+    (c .close-byte2 .last .1 .0)
+to-7 c =
+    ended-on (to-6 (c .before .before .before .before .before .before .before)) (omega arith) (c .close-byte2 .last .0) (c .close-byte2 .last .1 .0)
+    (c .close-byte2 .ensures)
 
 close-number-requires-3 : tie.Need-close-number-requires-3
 unfolding inLine columnIn
 close-number-requires-3 c κs = (to-7 (c .before .before .before .before .before .before) .tidy, omega arith, refl, refl)
 
-to-8 : (c : tie.After-close-number3) → Ended 8 (c .before .before .before .before .before .before .before .before .before .before .before .before .before .before .before .before .before .before .before .before .before .before .before .before .before .before .before .before .before .before .before .before .before .before .before .before .before .before .before .before .before .before .before .before .before .before .before .args .out .now) (c .before .before .before .before .before .before .before .before .before .before .before .before .before .before .before .before .before .before .before .before .before .before .before .before .before .before .before .before .before .before .before .before .before .before .before .before .before .before .before .before .before .before .before .before .before .before .before .args .lanes .now) (c .close-number3 .last .0) (c .close-number3 .last .1 .0)
-to-8 c = ended-on 7 (omega arith) (c .before .before .before .before .before .before .before .before .before .before .before .before .before .before .before .before .before .before .before .before .before .before .before .before .before .before .before .before .before .before .before .before .before .before .before .before .before .before .before .before .before .before .before .before .before .before .before .args .out .now) (c .before .before .before .before .before .before .before .before .before .before .before .before .before .before .before .before .before .before .before .before .before .before .before .before .before .before .before .before .before .before .before .before .before .before .before .before .before .before .before .before .before .before .before .before .before .before .before .args .lanes .now) (c .before .before .before .before .before .before .before .close-byte2 .last .0) (c .before .before .before .before .before .before .before .close-byte2 .last .1 .0) (to-7 (c .before .before .before .before .before .before .before)) (c .close-number3 .last .0) (c .close-number3 .last .1 .0) (c .close-number3 .ensures)
+abbrev start-8 : tie.After-close-number3 → tie.Start
+start-8 c = start-7 (c .before .before .before .before .before .before .before)
+
+to-8 : (c : tie.After-close-number3) → Ended 8 (start-8 c .args .out .now) (start-8 c .args .lanes .now) (c .close-number3 .last .0)
+    (c .close-number3 .last .1 .0)
+to-8 c =
+    ended-on (to-7 (c .before .before .before .before .before .before .before)) (omega arith) (c .close-number3 .last .0)
+    (c .close-number3 .last .1 .0) (c .close-number3 .ensures)
 
 same-length : tie.Need-same-length
 same-length c =
-    c .before .before .before .before .close-number3 .kept .0 ∙ c .before .before .before .before .before .before .before .before .before .before .before .close-byte2 .kept .0 ∙ c .before .before .before .before .before .before .before .before .before .before .before .before .before .before .before .before .before .before .close-number2 .kept .0 ∙ c .before .before .before .before .before .before .before .before .before .before .before .before .before .before .before .before .before .before .before .before .before .before .before .before .before .close-byte .kept .0 ∙ c .before .before .before .before .before .before .before .before .before .before .before .before .before .before .before .before .before .before .before .before .before .before .before .before .before .before .before .before .before .before .before .before .close-difference2 .kept .0 ∙ c .before .before .before .before .before .before .before .before .before .before .before .before .before .before .before .before .before .before .before .before .before .before .before .before .before .before .before .before .before .before .before .before .before .before .before .before .before .before .before .close-difference .kept .0
+    c .before .before .before .before .close-number3 .kept .0
+    ∙ c .before .before .before .before .before .before .before .before .before .before .before .close-byte2 .kept .0
+    ∙ c .before .before .before .before .before .before .before .before .before .before .before .before .before .before .before .before .before .before .close-number2 .kept .0
+    ∙ c .before .before .before .before .before .before .before .before .before .before .before .before .before .before .before .before .before .before .before .before .before .before .before .before .before .close-byte .kept .0
+    ∙ c .before .before .before .before .before .before .before .before .before .before .before .before .before .before .before .before .before .before .before .before .before .before .before .before .before .before .before .before .before .before .before .before .close-difference2 .kept .0
+    ∙ c .before .before .before .before .before .before .before .before .before .before .before .before .before .before .before .before .before .before .before .before .before .before .before .before .before .before .before .before .before .before .before .before .before .before .before .before .before .before .before .close-difference .kept .0
     ∙ c .before .before .before .before .before .before .before .before .before .before .before .before .before .before .before .before .before .before .before .before .before .before .before .before .before .before .before .before .before .before .before .before .before .before .before .before .before .before .before .before .before .before .before .before .before .before .close-number .kept .0
 
 same-length-2 : tie.Need-same-length-2
-same-length-2 c = to-8 (c .before .before .before .before) .tidy .size ∙ sym (c .before .before .before .before .before .before .before .before .before .before .before .before .before .before .before .before .before .before .before .before .before .before .before .before .before .before .before .before .before .before .before .before .before .before .before .before .before .before .before .before .before .before .before .before .before .before .before .before .before .before .before .pre .size)
+same-length-2 c = to-8 (c .before .before .before .before) .tidy .size ∙ sym (start-8 (c .before .before .before .before) .pre .size)
 
 returns : tie.Need-returns
-returns c = ended-all (c .before .before .before .before .before .before .before .before .before .before .before .before .before .before .before .before .before .before .before .before .before .before .before .before .before .before .before .before .before .before .before .before .before .before .before .before .before .before .before .before .before .before .before .before .before .before .before .before .before .before .before .args .out .now) (c .before .before .before .before .before .before .before .before .before .before .before .before .before .before .before .before .before .before .before .before .before .before .before .before .before .before .before .before .before .before .before .before .before .before .before .before .before .before .before .before .before .before .before .before .before .before .before .before .before .before .before .args .lanes .now) (c .before .before .before .before .close-number3 .last .0) (c .before .before .before .before .close-number3 .last .1 .0) (to-8 (c .before .before .before .before))
+returns c =
+    let p = c .before .before .before .before in
+    let a = start-8 p .args in
+    ended-all (a .out .now) (a .lanes .now) (p .close-number3 .last .0) (p .close-number3 .last .1 .0) (to-8 p)
 
 pub close-spec : {M : Type 1} → statement M
 close-spec =

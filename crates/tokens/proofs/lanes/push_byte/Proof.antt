@@ -1,88 +1,102 @@
 -- `push_byte` meets its contract, by the ways that a push goes.
-use Prim.Native.Nat.{_+_, _*_, _≤_, _<_}
 use native.Mathlib.Omega.{arith}
-use mathlib.Core.Path.{_≡_, sym, _∙_}
-use mathlib.Core.Bool.{true}
+use mathlib.Core.Path.{sym, _∙_}
 use borrow.Author.Tests.{not-true, not-false}
-use lib.ListN.{getD}
-use Rattle.runs.specs.declared.Column.the-variants.{Byte}
-use Rattle.runs.specs.Runs.{coding, keyMost}
-use Rattle.tokens.specs.Tokens.{columnIn}
-use Rattle.tokens.specs.Desk.{laneIn}
-use Rattle.tokens.proofs.Pushes.{fitted, way-shut, way-begun, way-same, way-ended, low, near-byte}
+use Rattle.runs.specs.Runs.{coding}
+use Rattle.tokens.proofs.Words.{key-low}
+use Rattle.tokens.proofs.Pushes.{Takes, way-shut, way-begun, way-same, way-ended, low, may-note, near-byte}
 use borrow.Author.Needs.{needs}
 use Rattle.tokens.proofs.lanes.push_byte.Statement.{statement}
 use Rattle.tokens.proofs.lanes.push_byte.Tie as tie
 
 slice-read-at : tie.Need-slice-read-at
-slice-read-at c = omega (arith, c .before .before .before .pre .0 .size, c .before .before .before .pre .1)
+slice-read-at c =
+    let start = c .before .before .before in
+    omega (arith, start .pre .0 .size, start .pre .1)
 
 slice-read-key : tie.Need-slice-read-key
-slice-read-key c = omega (arith, c .before .before .before .before .pre .0 .size, c .before .before .before .before .pre .1)
+slice-read-key c =
+    let start = c .before .before .before .before in
+    omega (arith, start .pre .0 .size, start .pre .1)
 
 slice-read-count : tie.Need-slice-read-count
-slice-read-count c = omega (arith, c .before .before .before .before .before .pre .0 .size, c .before .before .before .before .before .pre .1)
+slice-read-count c =
+    let start = c .before .before .before .before .before in
+    omega (arith, start .pre .0 .size, start .pre .1)
 
 returns : tie.Need-returns
-returns c = way-shut (c .before .before .before .before .before .before .before .before .args .out .now) (c .before .before .before .before .before .before .before .before .args .lanes .now) (c .before .before .before .before .before .before .before .before .args .k) (c .before .before .before .before .before .before .before .before .args .v) (c .before .before .before .before .before .before .before .before .pre .0) (c .before .before .before .before .before .before .before .before .pre .1) (sym (c .before .is-open .ensures) ∙ not-true (c .before .is-open .result) (c .if1 .taken))
+returns c =
+    let start = c .before .before .before .before .before .before .before .before in
+    let a = start .args in
+    way-shut (a .out .now) (a .lanes .now) (a .k) (a .v) (start .pre .0) (start .pre .1)
+    (sym (c .before .is-open .ensures) ∙ not-true (c .before .is-open .result) (c .if1 .taken))
 
--- it is open, and takes the value
-is-fitted : (c : tie.Else1) → fitted (getD (c .before .before .before .before .before .before .before .before .args .lanes .now) (5 * c .before .before .before .before .before .before .before .before .args .k) 0) (getD (c .before .before .before .before .before .before .before .before .args .lanes .now) (5 * c .before .before .before .before .before .before .before .before .args .k + 3) 0) ≡ true
-is-fitted c = sym (c .before .is-open .ensures) ∙ not-false (c .before .is-open .result) (c .if1 .left)
+-- it is taken
+abbrev start-taking : tie.Else1 → tie.Start
+start-taking c = c .before .before .before .before .before .before .before .before
 
-lows : (c : tie.Else1) → (getD (c .before .before .before .before .before .before .before .before .args .lanes .now) (5 * c .before .before .before .before .before .before .before .before .args .k) 0 < 4611686018427387904) × (getD (c .before .before .before .before .before .before .before .before .args .lanes .now) (5 * c .before .before .before .before .before .before .before .before .args .k + 3) 0 < 4611686018427387904)
-lows c = low (c .before .before .before .before .before .before .before .before .args .out .now) (c .before .before .before .before .before .before .before .before .args .lanes .now) (c .before .before .before .before .before .before .before .before .args .k) (c .before .before .before .before .before .before .before .before .args .v) (c .before .before .before .before .before .before .before .before .pre .0) (c .before .before .before .before .before .before .before .before .pre .1) (is-fitted c)
-
-most : (c : tie.Else1) → c .before .before .before .before .before .before .before .before .args .v ≤ coding (columnIn (c .before .before .before .before .before .before .before .before .args .k)) .most
+taking : (c : tie.Else1) → Takes (start-taking c .args .lanes .now) (start-taking c .args .lanes .now) (start-taking c .args .k)
+    (start-taking c .args .v) (c .before .before .wide .result) (c .before .before .wide .result)
 unfolding coding
-most c = rw (c .before .before .before .before .before .before .before .before .pre .2) (omega (arith, c .before .before .before .before .before .before .before .before .fits .v))
-
-key-is : (c : tie.Else1) → c .before .before .wide .result ≡ coding (columnIn (c .before .before .before .before .before .before .before .before .args .k)) .keyOf (getD (c .before .before .before .before .before .before .before .before .args .lanes .now) (5 * c .before .before .before .before .before .before .before .before .args .k + 1) 0) (c .before .before .before .before .before .before .before .before .args .v)
-unfolding coding
-key-is c = rw (c .before .before .before .before .before .before .before .before .pre .2) (c .before .before .wide .ensures)
-
-last-fits : (c : tie.Else1) → c .before .before .wide .result ≤ coding (columnIn (c .before .before .before .before .before .before .before .before .args .k)) .most
-last-fits c = rw (c .before .before .wide .ensures) (most c)
-
-key-fits : (c : tie.Else1) → c .before .before .wide .result ≤ keyMost (columnIn (c .before .before .before .before .before .before .before .before .args .k))
-unfolding keyMost
-key-fits c = rw (c .before .before .before .before .before .before .before .before .pre .2, c .before .before .wide .ensures) (omega (arith, c .before .before .before .before .before .before .before .before .fits .v))
+taking c =
+    let start = c .before .before .before .before .before .before .before .before in
+    let a = start .args in
+    record {
+      tidy = start .pre .0;
+      lane = start .pre .1;
+      fits = sym (c .before .is-open .ensures) ∙ not-false (c .before .is-open .result) (c .if1 .left);
+      most = rw (start .pre .2) (omega (arith, start .fits .v));
+      far = near-byte (a .lanes .now) (a .k) (a .v) (start .pre .0) (start .pre .1) (start .pre .2);
+      newest = c .before .before .wide .ensures;
+      step = rw (start .pre .2) (c .before .before .wide .ensures);
+    }
 
 note-requires : tie.Need-note-requires
-note-requires c κs = (c .before .before .before .before .before .before .before .before .before .before .pre .0, c .before .before .before .before .before .before .before .before .before .before .pre .1, last-fits (c .before .before), key-fits (c .before .before))
+note-requires c κs = may-note (taking (c .before .before))
 
 returns-2 : tie.Need-returns-2
-returns-2 c = way-begun (c .before .before .before .before .before .before .before .before .before .before .before .before .before .args .out .now) (c .before .before .before .before .before .before .before .before .before .before .before .before .before .args .lanes .now) (c .before .before .before .before .before .before .before .before .before .before .before .before .before .args .k) (c .before .before .before .before .before .before .before .before .before .before .before .before .before .args .v) (c .before .before .before .before .before .before .before .before .before .before .before .before .before .pre .0) (c .before .before .before .before .before .before .before .before .before .before .before .before .before .pre .1) (c .before .before .before .before .before .before .before .before .before .before .before .before .before .args .lanes .now) (is-fitted (c .before .before .before .before .before)) (most (c .before .before .before .before .before)) (near-byte (c .before .before .before .before .before .before .before .before .before .before .before .before .before .args .out .now) (c .before .before .before .before .before .before .before .before .before .before .before .before .before .args .lanes .now) (c .before .before .before .before .before .before .before .before .before .before .before .before .before .args .k) (c .before .before .before .before .before .before .before .before .before .before .before .before .before .args .v) (c .before .before .before .before .before .before .before .before .before .before .before .before .before .pre .0) (c .before .before .before .before .before .before .before .before .before .before .before .before .before .pre .1) (c .before .before .before .before .before .before .before .before .before .before .before .before .before .pre .2)) (c .before .before .before .before .before .before .before .wide .result) (c .before .before .before .before .before .before .before .wide .result) (c .before .before .before .before .before .before .before .wide .ensures) (key-is (c .before .before .before .before .before)) (c .before .before .note .last .0) (c .before .before .before .before .if2 .taken) (c .before .before .note .ensures)
+returns-2 c =
+    way-begun (taking (c .before .before .before .before .before))
+    (c .before .before .before .before .before .before .before .before .before .before .before .before .before .args .out .now)
+    (c .before .before .note .last .0) (c .before .before .before .before .if2 .taken) (c .before .before .note .ensures)
 
 add-note : tie.Need-add-note
-add-note c = omega (arith, lows (c .before .before .before))
+add-note c = omega (arith, low (taking (c .before .before .before)))
 
 note-requires-2 : tie.Need-note-requires-2
-note-requires-2 c κs = (c .before .before .before .before .before .before .before .before .before .before .before .pre .0, c .before .before .before .before .before .before .before .before .before .before .before .pre .1, last-fits (c .before .before .before), key-fits (c .before .before .before))
+note-requires-2 c κs = may-note (taking (c .before .before .before))
 
 returns-3 : tie.Need-returns-3
-returns-3 c = way-same (c .before .before .before .before .before .before .before .before .before .before .before .before .before .before .args .out .now) (c .before .before .before .before .before .before .before .before .before .before .before .before .before .before .args .lanes .now) (c .before .before .before .before .before .before .before .before .before .before .before .before .before .before .args .k) (c .before .before .before .before .before .before .before .before .before .before .before .before .before .before .args .v) (c .before .before .before .before .before .before .before .before .before .before .before .before .before .before .pre .0) (c .before .before .before .before .before .before .before .before .before .before .before .before .before .before .pre .1) (c .before .before .before .before .before .before .before .before .before .before .before .before .before .before .args .lanes .now) (is-fitted (c .before .before .before .before .before .before)) (most (c .before .before .before .before .before .before)) (near-byte (c .before .before .before .before .before .before .before .before .before .before .before .before .before .before .args .out .now) (c .before .before .before .before .before .before .before .before .before .before .before .before .before .before .args .lanes .now) (c .before .before .before .before .before .before .before .before .before .before .before .before .before .before .args .k) (c .before .before .before .before .before .before .before .before .before .before .before .before .before .before .args .v) (c .before .before .before .before .before .before .before .before .before .before .before .before .before .before .pre .0) (c .before .before .before .before .before .before .before .before .before .before .before .before .before .before .pre .1) (c .before .before .before .before .before .before .before .before .before .before .before .before .before .before .pre .2)) (c .before .before .before .before .before .before .before .before .wide .result) (c .before .before .before .before .before .before .before .before .wide .result) (c .before .before .before .before .before .before .before .before .wide .ensures) (key-is (c .before .before .before .before .before .before)) (c .before .before .note2 .last .0) (c .before .before .before .before .if3 .taken) (c .before .before .note2 .ensures)
-
-key-low : (c : tie.Else1) → getD (c .before .before .before .before .before .before .before .before .args .lanes .now) (5 * c .before .before .before .before .before .before .before .before .args .k + 2) 0 ≤ keyMost Byte
-unfolding laneIn
-key-low c = rw (c .before .before .before .before .before .before .before .before .pre .2) at (c .before .before .before .before .before .before .before .before .pre .0 .sound (c .before .before .before .before .before .before .before .before .args .k) (c .before .before .before .before .before .before .before .before .pre .1) .1)
-
-byte-run-requires : tie.Need-byte-run-requires
-byte-run-requires c κs = (lows (c .before .before .before) .0, key-low (c .before .before .before))
+returns-3 c =
+    way-same (taking (c .before .before .before .before .before .before))
+    (c .before .before .before .before .before .before .before .before .before .before .before .before .before .before .args .out .now)
+    (c .before .before .note2 .last .0) (c .before .before .before .before .if3 .taken) (c .before .before .note2 .ensures)
 
 sub-byte-run : tie.Need-sub-byte-run
 sub-byte-run c = omega (arith, c .before .before .if2 .left)
 
+byte-run-requires : tie.Need-byte-run-requires
+byte-run-requires c κs =
+    let start = c .before .before .before .before .before .before .before .before .before .before .before in
+    (low (taking (c .before .before .before)) .0, rw (start .pre .2) at (key-low (start .args .lanes .now) (start .args .k) (start .pre .0) (start .pre .1)))
+
 note-requires-3 : tie.Need-note-requires-3
-note-requires-3 c κs = (c .before .before .before .before .before .before .before .before .before .before .before .before .before .before .before .pre .0, c .before .before .before .before .before .before .before .before .before .before .before .before .before .before .before .pre .1, last-fits (c .before .before .before .before .before .before .before), key-fits (c .before .before .before .before .before .before .before))
+note-requires-3 c κs = may-note (taking (c .before .before .before .before .before .before .before))
 
 returns-4 : tie.Need-returns-4
 returns-4 c =
-    way-ended (c .before .before .before .before .before .before .before .before .before .before .before .before .before .before .before .before .before .before .args .out .now) (c .before .before .before .before .before .before .before .before .before .before .before .before .before .before .before .before .before .before .args .lanes .now) (c .before .before .before .before .before .before .before .before .before .before .before .before .before .before .before .before .before .before .args .k) (c .before .before .before .before .before .before .before .before .before .before .before .before .before .before .before .before .before .before .args .v) (c .before .before .before .before .before .before .before .before .before .before .before .before .before .before .before .before .before .before .pre .0) (c .before .before .before .before .before .before .before .before .before .before .before .before .before .before .before .before .before .before .pre .1) (c .before .before .before .before .before .before .before .before .before .before .before .before .before .before .before .before .before .before .args .lanes .now) (is-fitted (c .before .before .before .before .before .before .before .before .before .before)) (most (c .before .before .before .before .before .before .before .before .before .before)) (near-byte (c .before .before .before .before .before .before .before .before .before .before .before .before .before .before .before .before .before .before .args .out .now) (c .before .before .before .before .before .before .before .before .before .before .before .before .before .before .before .before .before .before .args .lanes .now) (c .before .before .before .before .before .before .before .before .before .before .before .before .before .before .before .before .before .before .args .k) (c .before .before .before .before .before .before .before .before .before .before .before .before .before .before .before .before .before .before .args .v) (c .before .before .before .before .before .before .before .before .before .before .before .before .before .before .before .before .before .before .pre .0) (c .before .before .before .before .before .before .before .before .before .before .before .before .before .before .before .before .before .before .pre .1) (c .before .before .before .before .before .before .before .before .before .before .before .before .before .before .before .before .before .before .pre .2)) (c .before .before .before .before .before .before .before .before .before .before .before .before .wide .result) (c .before .before .before .before .before .before .before .before .before .before .before .before .wide .result) (c .before .before .before .before .before .before .before .before .before .before .before .before .wide .ensures) (key-is (c .before .before .before .before .before .before .before .before .before .before)) (c .before .before .before .before .before .before .byte-run .result) (c .before .before .note3 .last .0) (c .before .before .before .before .before .before .byte-run .last .0) (c .before .before .before .before .before .before .before .before .before .if2 .left) (c .before .before .before .before .before .before .before .before .if3 .left)
-    (rw (c .before .before .before .before .before .before .before .before .before .before .before .before .before .before .before .before .before .before .pre .2) (c .before .before .before .before .before .before .byte-run .ensures .0)) (rw (c .before .before .before .before .before .before .before .before .before .before .before .before .before .before .before .before .before .before .pre .2) (c .before .before .before .before .before .before .byte-run .ensures .1)) (c .before .before .note3 .ensures)
+    let start = c .before .before .before .before .before .before .before .before .before .before .before .before .before .before .before .before .before .before in
+    let r = c .before .before .before .before .before .before .byte-run in
+    way-ended (taking (c .before .before .before .before .before .before .before .before .before .before)) (start .args .out .now) (r .result)
+    (c .before .before .note3 .last .0) (r .last .0) (c .before .before .before .before .before .before .before .before .before .if2 .left)
+    (c .before .before .before .before .before .before .before .before .if3 .left) (rw (start .pre .2) (r .ensures .0))
+    (rw (start .pre .2) (r .ensures .1)) (c .before .before .note3 .ensures)
 
 pub push-byte-spec : {M : Type 1} → statement M
 push-byte-spec =
     tie.close
     (tie.spec
-    (λ c. search needs) (λ c. search needs) slice-read-at (λ c. search needs) (λ c. search needs) slice-read-key (λ c. search needs) (λ c. search needs) slice-read-count (λ c κs. search needs) (λ c κs. search needs) returns note-requires (λ c. search needs) returns-2 add-note note-requires-2 (λ c. search needs) returns-3 sub-byte-run byte-run-requires note-requires-3 (λ c. search needs) (λ c. search needs) returns-4)
+    (λ c. search needs) (λ c. search needs) slice-read-at (λ c. search needs) (λ c. search needs) slice-read-key (λ c. search needs)
+    (λ c. search needs) slice-read-count (λ c κs. search needs) (λ c κs. search needs) returns note-requires
+    (λ c. search needs) returns-2 add-note note-requires-2 (λ c. search needs) returns-3 sub-byte-run byte-run-requires note-requires-3
+    (λ c. search needs) (λ c. search needs) returns-4)

@@ -20,12 +20,14 @@ slice-write-lanes c = omega (arith, c .before .before .before .before .before .b
 returns : tie.Need-returns
 unfolding laneIn
 returns c =
-    let a = c .before .before .before .before .before .before .before .before .args in
+    let start = c .before .before .before .before .before .before .before .before in
+    let a = start .args in
     let w = a .lanes .now in
     let b = bytesIn (a .update .now) (a .p) in
     let e = laneIn w 4 in
     let p = c .before .before .part in (
-      alone-is 4 (movedTo e (p .result)) (forward e b) w (set w 20 (p .result)) (moves 4 w (c .before .before .before .before .before .before .before .before .pre) (omega arith) (p .result)) (rw (p .ensures .0) (forward-ahead (a .out .now) e b)),
+      alone-is 4 (movedTo e (p .result)) (forward e b) w (set w 20 (p .result)) (moves 4 w (start .pre) (omega arith) (p .result))
+          (rw (p .ensures .0) (forward-ahead (a .out .now) e b)),
       p .ensures .1 ∙ laid-place (a .out .now) e b,
     )
 

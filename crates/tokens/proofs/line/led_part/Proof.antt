@@ -19,18 +19,34 @@ returns : tie.Need-returns
 returns c = let a = c .before .before .before .args in place-brim (a .out .now) (a .at) (led (bytesIn (a .update .now) (a .p))) (c .if1 .taken)
 
 -- head and bytes
-size : (c : tie.After-size-unsigned) → c .size-unsigned .result + c .before .bytes-inside .result ≡ length (led (bytesIn (c .before .before .before .before .before .args .update .now) (c .before .before .before .before .before .args .p)))
+abbrev start-size : tie.After-size-unsigned → tie.Start
+start-size c = c .before .before .before .before .before
+
+size : (c : tie.After-size-unsigned) → c .size-unsigned .result + c .before .bytes-inside .result ≡ length
+    (led (bytesIn (start-size c .args .update .now) (start-size c .args .p)))
 size c =
-    let b = bytesIn (c .before .before .before .before .before .args .update .now) (c .before .before .before .before .before .args .p) in
+    let start = c .before .before .before .before .before in
+    let b = bytesIn (start .args .update .now) (start .args .p) in
     let n = c .before .bytes-inside .ensures .0 in
     omega (arith, c .size-unsigned .ensures .0, ap (λ (k : ℕ). length (unsigned k)) n, n, led-length b)
 
 -- there is room
-room : (c : tie.Else2) → leb (c .before .before .before .before .before .before .before .args .at + (c .before .before .size-unsigned .result + c .before .before .before .bytes-inside .result)) (length (c .before .before .before .before .before .before .before .args .out .now)) ≡ true
+abbrev start-room : tie.Else2 → tie.Start
+start-room c = c .before .before .before .before .before .before .before
+
+room : (c : tie.Else2) → leb (start-room c .args .at + (c .before .before .size-unsigned .result + c .before .before .before .bytes-inside .result))
+    (length (start-room c .args .out .now)) ≡ true
 room c = let f = c .before .fits2 in sym (f .ensures) ∙ not-false (f .result) (c .if2 .left)
 
-fit : (c : tie.Else2) → c .before .before .before .before .before .before .before .args .at + (c .before .before .size-unsigned .result + c .before .before .before .bytes-inside .result) ≤ length (c .before .before .before .before .before .before .before .args .out .now)
-fit c = leb-true (c .before .before .before .before .before .before .before .args .at + (c .before .before .size-unsigned .result + c .before .before .before .bytes-inside .result)) (length (c .before .before .before .before .before .before .before .args .out .now)) (room c)
+abbrev start-fit : tie.Else2 → tie.Start
+start-fit c = c .before .before .before .before .before .before .before
+
+fit : (c : tie.Else2) → start-fit c .args .at + (c .before .before .size-unsigned .result + c .before .before .before .bytes-inside .result) ≤ length
+    (start-fit c .args .out .now)
+fit c =
+    let start = c .before .before .before .before .before .before .before in
+    leb-true (start .args .at + (c .before .before .size-unsigned .result + c .before .before .before .bytes-inside .result))
+    (length (start .args .out .now)) (room c)
 
 returns-2 : tie.Need-returns-2
 returns-2 c =
@@ -38,7 +54,8 @@ returns-2 c =
     let b = led (bytesIn (a .update .now) (a .p)) in
     let s = c .before .before .size-unsigned .result + c .before .before .before .bytes-inside .result in
     let f = c .before .fits2 in (
-      place-on (a .out .now) (a .at) b (a .at + s) (c .before .before .before .before .if1 .left) (ap (λ (k : ℕ). a .at + k) (size (c .before .before))),
+      place-on (a .out .now) (a .at) b (a .at + s) (c .before .before .before .before .if1 .left)
+          (ap (λ (k : ℕ). a .at + k) (size (c .before .before))),
       place-short (a .out .now) (a .at) b s (size (c .before .before)) (sym (f .ensures) ∙ not-true (f .result) (c .if2 .taken)),
     )
 
@@ -70,4 +87,5 @@ pub led-part-spec : {M : Type 1} → statement M
 led-part-spec =
     tie.close
     (tie.spec
-    returns (λ c κs. search needs) (λ c κs. search needs) (λ c. search needs) (λ c. search needs) (λ c κs. search needs) returns-2 write-unsigned-requires copy-requires (λ c. search needs) returns-3)
+    returns (λ c κs. search needs) (λ c κs. search needs) (λ c. search needs) (λ c. search needs)
+    (λ c κs. search needs) returns-2 write-unsigned-requires copy-requires (λ c. search needs) returns-3)

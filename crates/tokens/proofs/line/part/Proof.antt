@@ -27,7 +27,10 @@ returns-2 c =
     )
 
 -- there is room
-room : (c : tie.Else2) → leb (c .before .before .before .before .before .before .args .at + c .before .before .bytes-inside .result) (length (c .before .before .before .before .before .before .args .out .now)) ≡ true
+abbrev start-room : tie.Else2 → tie.Start
+start-room c = c .before .before .before .before .before .before
+
+room : (c : tie.Else2) → leb (start-room c .args .at + c .before .before .bytes-inside .result) (length (start-room c .args .out .now)) ≡ true
 room c = let f = c .before .fits2 in sym (f .ensures) ∙ not-false (f .result) (c .if2 .left)
 
 copy-requires : tie.Need-copy-requires
@@ -44,7 +47,8 @@ returns-3 c =
     let n = c .before .before .before .before .before .before .bytes-inside in
     let low = c .before .before .before .before .before .before .before .if1 .left in (
       place-on (a .out .now) (a .at) b (a .at + n .result) low (omega (arith, n .ensures .0)),
-      c .before .before .copy .ensures ∙ rw (part-slice u (a .p) (n .result) (n .ensures .0)) (place-laid (a .out .now) (a .at) b (n .result) low (n .ensures .0) (room (c .before .before .before .before))),
+      c .before .before .copy .ensures ∙ rw (part-slice u (a .p) (n .result) (n .ensures .0))
+          (place-laid (a .out .now) (a .at) b (n .result) low (n .ensures .0) (room (c .before .before .before .before))),
     )
 
 pub part-spec : {M : Type 1} → statement M
