@@ -28,7 +28,7 @@ module _ {out : List ℕ} {at : ℕ} where
       → InLine (a ++ b) out at out₂ at₂
   line-then {a} {b} {out₁} {at₁ = at₁} h k =
       let mid : freshLane whole at₁ ≡ putAll (freshLane whole at) a =
-          ap (λ (x : ℕ). freshLane whole x) (h .place) ∙ sym (line-place whole (in-line whole refl) at a)
+      ap (λ (x : ℕ). freshLane whole x) (h .place) ∙ sym (line-place whole (in-line whole refl) at a)
       in
       record {
         place = k .place ∙ ap (λ (e : Lane). putAll e b .run .at) mid ∙ ap (λ (e : Lane). e .run .at) (sym (put-append (freshLane whole at) a b));
