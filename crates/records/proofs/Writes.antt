@@ -9,24 +9,13 @@ use Rattle.numbers.specs.Number.{pick}
 use Rattle.block.specs.declared.Block.{Block}
 use Rattle.readings.specs.Sound.{bytesIn, linked}
 use Rattle.tokens.specs.Tokens.{client, left, right, info, parentInfo, text, len, var, buf}
-use Rattle.kept.specs.Plan.{sane, laterPart}
+use Rattle.block.specs.Kinds.{isItem}
+use Rattle.kept.specs.Plan.{sane, cutAt, restOf}
 use Rattle.records.specs.Records.{contentNumber, infoByte, name, leftTokens, rightTokens, parentTokens, keyTokens}
 use Rattle.records.specs.Records.{placeTokens, contentTokens, blockTokens}
 use Rattle.records.specs.Stops.{headTokens, rowTokens}
 
 -- ---- numbers
-
-pub deleted-number : (k : ℕ) → k ≡ 3 → contentNumber k ≡ 1
-unfolding contentNumber
-deleted-number k e = rw (eq-eqb k 3 e)
-
-pub binary-number : (k : ℕ) → k ≢ 3 → k ≡ 4 → contentNumber k ≡ 3
-unfolding contentNumber
-binary-number k n e = rw (ne-eqb k 3 n, eq-eqb k 4 e)
-
-pub text-number : (k : ℕ) → k ≢ 3 → k ≢ 4 → contentNumber k ≡ 4
-unfolding contentNumber
-text-number k n m = rw (ne-eqb k 3 n, ne-eqb k 4 m)
 
 pub info-byte-is : (b : Block) (c l r k : ℕ) → c ≡ contentNumber (b .kind) → l ≡ pick (b .«has_left») 128 0 → r ≡ pick (b .«has_right») 64 0
     → k ≡ pick (b .«has_key») 32 0
@@ -96,9 +85,13 @@ module _ (u : List ℕ) (b : Block) where
   unfolding contentTokens
   content-binary n h = rw (ne-eqb (b .kind) 3 n, eq-eqb (b .kind) 4 h)
 
-  pub content-text : b .kind ≢ 3 → b .kind ≢ 4 → contentTokens u b ≡ text (bytesIn u (b .part)) (b .length .0) ∷ []
+  pub content-text : b .kind ≢ 3 → b .kind ≢ 4 → b .kind ≡ 5 → contentTokens u b ≡ text (bytesIn u (b .part)) (b .length .0) ∷ []
   unfolding contentTokens
-  content-text n m = rw (ne-eqb (b .kind) 3 n, ne-eqb (b .kind) 4 m)
+  content-text n m h = rw (ne-eqb (b .kind) 3 n, ne-eqb (b .kind) 4 m, eq-eqb (b .kind) 5 h)
+
+  pub content-none : b .kind ≢ 3 → b .kind ≢ 4 → b .kind ≢ 5 → contentTokens u b ≡ []
+  unfolding contentTokens
+  content-none n m l = rw (ne-eqb (b .kind) 3 n, ne-eqb (b .kind) 4 m, ne-eqb (b .kind) 5 l)
 
   -- ---- a block
 
@@ -110,9 +103,13 @@ module _ (u : List ℕ) (b : Block) where
   unfolding blockTokens
   block-skip n h = rw (ne-eqb (b .kind) 1 n, eq-eqb (b .kind) 2 h)
 
-  pub block-item : b .kind ≢ 1 → b .kind ≢ 2 → blockTokens u b ≡ info (infoByte b) ∷ (placeTokens u b ++ contentTokens u b)
+  pub block-item : b .kind ≢ 1 → b .kind ≢ 2 → isItem (b .kind) ≡ true → blockTokens u b ≡ info (infoByte b) ∷ (placeTokens u b ++ contentTokens u b)
   unfolding blockTokens
-  block-item n m = rw (ne-eqb (b .kind) 1 n, ne-eqb (b .kind) 2 m)
+  block-item n m h = rw (ne-eqb (b .kind) 1 n, ne-eqb (b .kind) 2 m, h)
+
+  pub block-none : b .kind ≢ 1 → b .kind ≢ 2 → isItem (b .kind) ≡ false → blockTokens u b ≡ []
+  unfolding blockTokens
+  block-none n m h = rw (ne-eqb (b .kind) 1 n, ne-eqb (b .kind) 2 m, h)
 
   -- ---- a row that a plan names
 
@@ -124,11 +121,11 @@ module _ (u : List ℕ) (b : Block) where
   unfolding headTokens
   head-some count from n = rw (ne-eqb count 0 n)
 
-  pub row-none : (count from skip : ℕ) → sane b from skip ≡ false → rowTokens u count from skip b ≡ []
+  pub row-none : (count from skip : ℕ) → sane b (restOf b from skip) ≡ false → rowTokens u count from skip b ≡ []
   unfolding rowTokens
   row-none count from skip h = rw h
 
-  pub row-some : (count from skip : ℕ) → sane b from skip ≡ true
-      → rowTokens u count from skip b ≡ headTokens count from b ++ blockTokens u (laterPart b from skip)
+  pub row-some : (count from skip : ℕ) → sane b (restOf b from skip) ≡ true
+      → rowTokens u count from skip b ≡ headTokens count from b ++ blockTokens u (cutAt b (restOf b from skip))
   unfolding rowTokens
   row-some count from skip h = rw h

@@ -13,7 +13,7 @@ ghost use Rattle.numbers.specs.Limits.{maxClock};
 ghost use Rattle.text.specs.Utf8.{countedIn};
 ghost use Rattle.readings.specs.Sound.{bytesIn, linked};
 ghost use Rattle.tokens.specs.Desk.{Tidy, Wrote};
-ghost use Rattle.records.specs.Records.{contentNumber, infoByte, name, leftTokens, rightTokens, parentTokens, keyTokens};
+ghost use Rattle.records.specs.Records.{infoByte, name, leftTokens, rightTokens, parentTokens, keyTokens};
 ghost use Rattle.records.specs.Records.{placeTokens, contentTokens, blockTokens};
 ghost use Rattle.records.specs.Stops.{headTokens, rowTokens};
 
@@ -23,23 +23,11 @@ fn bit(there: bool, n: u8) -> u8
     if there { n } else { 0 }
 }
 
-fn content_number(kind: u8) -> u8
-    ensures { λ r. ⌜ (r ≡ contentNumber kind) × (r ≤ 4) ⌝ }
-{
-    if kind == block::DELETED {
-        return 1;
-    }
-    if kind == block::BINARY {
-        return 3;
-    }
-    4
-}
-
 // 128 for a left id, 64 for a right id, 32 for a key; the low bits are the content's number.
 fn info_byte(b: Block) -> u8
     ensures { λ r. ⌜ r ≡ infoByte b ⌝ }
 {
-    let content = content_number(b.kind);
+    let content = block::content_number(b.kind);
     let left = bit(b.has_left, 128);
     let right = bit(b.has_right, 64);
     let key = bit(b.has_key, 32);
@@ -195,10 +183,13 @@ fn write_content(
     if b.kind == block::BINARY {
         return tokens::line::led_part(out, update, at, part);
     }
-    tokens::fields::write_string(out, update, lanes, form, at, part, length)
+    if b.kind == block::TEXT {
+        return tokens::fields::write_string(out, update, lanes, form, at, part, length);
+    }
+    at
 }
 
-// A block: a GC, a Skip, or an item.
+// A block: a GC, a Skip, or an item; of anything else nothing is written.
 pub fn write_block(
     out: &mut [u8],
     update: &[u8],
@@ -219,6 +210,9 @@ pub fn write_block(
     if b.kind == block::SKIP {
         let skip = tokens::fields::write_info(out, lanes, form, at, 10);
         return tokens::line::number(out, skip, length.0);
+    }
+    if !block::is_item(b.kind) {
+        return at;
     }
     let item = tokens::fields::write_info(out, lanes, form, at, info_byte(b));
     let placed = write_place(out, update, lanes, form, item, b);
@@ -263,10 +257,11 @@ pub fn write_row(
 {
     let from = c.from;
     let skip = c.skip;
-    if !kept::cursor::is_sane(b, from, skip) {
+    let ends = kept::cursor::rest(b, from, skip);
+    if !kept::cursor::is_sane(b, ends) {
         return at;
     }
     let headed = write_head(out, lanes, form, at, c.head, from, b);
-    let piece = kept::cursor::cut(b, from, skip);
+    let piece = kept::cursor::cut(b, ends);
     write_block(out, update, lanes, form, headed, piece)
 }

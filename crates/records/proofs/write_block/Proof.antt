@@ -1,6 +1,8 @@
 -- `write_block` meets its contract: a GC, a Skip, or an item.
-use Rattle.tokens.proofs.Wrote.{wrote-then, wrote-var, wrote-is}
-use Rattle.records.proofs.Writes.{block-gc, block-skip, block-item}
+use mathlib.Core.Path.{sym, _∙_}
+use borrow.Author.Tests.{not-true, not-false}
+use Rattle.tokens.proofs.Wrote.{wrote-none, wrote-then, wrote-var, wrote-is}
+use Rattle.records.proofs.Writes.{block-gc, block-skip, block-item, block-none}
 use borrow.Author.Needs.{needs}
 use Rattle.records.proofs.write_block.Statement.{statement}
 use Rattle.records.proofs.write_block.Tie as tie
@@ -27,15 +29,28 @@ returns-2 c =
 
 returns-3 : tie.Need-returns-3
 returns-3 c =
+    let p1 = c .before in
+    let p2 = p1 .before in
+    let p4 = p2 .before .before in
+    let p10 = p4 .before .before .before .before .before .before in
+    let a = p10 .args in
+    let h = sym (p1 .is-item .ensures) ∙ not-true (p1 .is-item .result) (c .if3 .taken) in
+    wrote-is (block-none (a .update .now) (a .b) (p4 .if1 .left) (p2 .if2 .left) h) (wrote-none (p10 .pre))
+
+returns-4 : tie.Need-returns-4
+returns-4 c =
     let p4 = c .before .before .before .before in
     let p11 = p4 .before .before .before .before .before .before .before in
     let p18 = p11 .before .before .before .before .before .before .before in
     let p19 = p18 .before in
     let p22 = p19 .before .before .before in
-    let p24 = p22 .before .before in
-    let p30 = p24 .before .before .before .before .before .before in
-    let a = p30 .args in
-    wrote-is (block-item (a .update .now) (a .b) (p24 .if1 .left) (p22 .if2 .left))
+    let p23 = p22 .before in
+    let p24 = p23 .before in
+    let p26 = p24 .before .before in
+    let p32 = p26 .before .before .before .before .before .before in
+    let a = p32 .args in
+    let h = sym (p23 .is-item .ensures) ∙ not-false (p23 .is-item .result) (p22 .if3 .left) in
+    wrote-is (block-item (a .update .now) (a .b) (p26 .if1 .left) (p24 .if2 .left) h)
     (wrote-then (rw (p19 .info-byte .ensures) at (p18 .write-info3 .ensures)) (wrote-then (p11 .write-place .ensures) (p4 .write-content .ensures)))
 
 pub write-block-spec : {M : Type 1} → statement M
@@ -43,5 +58,5 @@ write-block-spec =
     tie.close
     (tie.spec
     (λ c κs. search needs) (λ c κs. search needs) (λ c. search needs) (λ c. search needs) returns (λ c κs. search needs) (λ c κs. search needs)
-    (λ c. search needs) (λ c. search needs) returns-2 (λ c κs. search needs) (λ c κs. search needs) (λ c κs. search needs) (λ c κs. search needs)
-    (λ c. search needs) (λ c. search needs) returns-3)
+    (λ c. search needs) (λ c. search needs) returns-2 (λ c κs. search needs) returns-3 (λ c κs. search needs) (λ c κs. search needs) (λ c κs. search needs)
+    (λ c κs. search needs) (λ c. search needs) (λ c. search needs) returns-4)

@@ -1,7 +1,7 @@
 -- `write_content` meets its contract: by the content, one token.
 use Rattle.readings.specs.Sound.{bytesIn}
-use Rattle.tokens.proofs.Wrote.{wrote-buf, wrote-is}
-use Rattle.records.proofs.Writes.{content-deleted, content-binary, content-text}
+use Rattle.tokens.proofs.Wrote.{wrote-none, wrote-buf, wrote-is}
+use Rattle.records.proofs.Writes.{content-deleted, content-binary, content-text, content-none}
 use borrow.Author.Needs.{needs}
 use Rattle.records.proofs.write_content.Statement.{statement}
 use Rattle.records.proofs.write_content.Tie as tie
@@ -29,13 +29,22 @@ returns-3 c =
     let p4 = c .before .before .before .before in
     let p7 = p4 .before .before .before in
     let p9 = p7 .before .before in
-    let p16 = p9 .before .before .before .before .before .before .before in
-    let a = p16 .args in
-    wrote-is (content-text (a .update .now) (a .b) (p9 .if1 .left) (p7 .if2 .left)) (p4 .write-string .ensures)
+    let p11 = p9 .before .before in
+    let p18 = p11 .before .before .before .before .before .before .before in
+    let a = p18 .args in
+    wrote-is (content-text (a .update .now) (a .b) (p11 .if1 .left) (p9 .if2 .left) (p7 .if3 .taken)) (p4 .write-string .ensures)
+
+returns-4 : tie.Need-returns-4
+returns-4 c =
+    let p2 = c .before .before in
+    let p4 = p2 .before .before in
+    let p11 = p4 .before .before .before .before .before .before .before in
+    let a = p11 .args in
+    wrote-is (content-none (a .update .now) (a .b) (p4 .if1 .left) (p2 .if2 .left) (c .if3 .left)) (wrote-none (p11 .pre))
 
 pub write-content-spec : {M : Type 1} → statement M
 write-content-spec =
     tie.close
     (tie.spec
     (λ c κs. search needs) (λ c. search needs) (λ c. search needs) returns (λ c κs. search needs) (λ c. search needs) returns-2
-    (λ c κs. search needs) (λ c. search needs) (λ c. search needs) returns-3)
+    (λ c κs. search needs) (λ c. search needs) (λ c. search needs) returns-3 returns-4)

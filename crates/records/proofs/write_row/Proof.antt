@@ -11,19 +11,23 @@ use Rattle.records.proofs.write_row.Tie as tie
 returns : tie.Need-returns
 returns c =
     let p1 = c .before in
-    let p7 = p1 .before .before .before .before .before .before in
-    let a = p7 .args in
-    let h = sym (p1 .is-sane .ensures) ∙ not-true (p1 .is-sane .result) (c .if1 .taken) in
+    let p2 = p1 .before in
+    let p8 = p2 .before .before .before .before .before .before in
+    let a = p8 .args in
+    let e = rw (p2 .rest .ensures) at (p1 .is-sane .ensures) in
+    let h = sym e ∙ not-true (p1 .is-sane .result) (c .if1 .taken) in
     wrote-is (row-none (a .update .now) (a .b) (a .c .head) (a .c .from .0) (a .c .skip .0) h)
-    (wrote-none (p7 .pre))
+    (wrote-none (p8 .pre))
 
 write-head-requires : tie.Need-write-head-requires
 write-head-requires c κs =
     let p2 = c .before .before in
     let p3 = p2 .before in
-    let p9 = p3 .before .before .before .before .before .before in
-    let a = p9 .args in
-    (p9 .pre, sane-limits (a .b) (a .c .from .0) (a .c .skip .0) (sym (p3 .is-sane .ensures) ∙ not-false (p3 .is-sane .result) (p2 .if1 .left)))
+    let p4 = p3 .before in
+    let p10 = p4 .before .before .before .before .before .before in
+    let a = p10 .args in
+    let e = rw (p4 .rest .ensures) at (p3 .is-sane .ensures) in
+    (p10 .pre, sane-limits (a .b) (a .c .from .0) (a .c .skip .0) (sym e ∙ not-false (p3 .is-sane .result) (p2 .if1 .left)))
 
 cut-requires : tie.Need-cut-requires
 cut-requires c κs =
@@ -38,11 +42,14 @@ returns-2 c =
     let p12 = p7 .before .before .before .before .before in
     let p15 = p12 .before .before .before in
     let p16 = p15 .before in
-    let p22 = p16 .before .before .before .before .before .before in
-    let a = p22 .args in
-    let h = sym (p16 .is-sane .ensures) ∙ not-false (p16 .is-sane .result) (p15 .if1 .left) in
+    let p17 = p16 .before in
+    let p23 = p17 .before .before .before .before .before .before in
+    let a = p23 .args in
+    let e = rw (p17 .rest .ensures) at (p16 .is-sane .ensures) in
+    let h = sym e ∙ not-false (p16 .is-sane .result) (p15 .if1 .left) in
+    let piece = rw (p17 .rest .ensures) at (p7 .cut .ensures) in
     wrote-is (row-some (a .update .now) (a .b) (a .c .head) (a .c .from .0) (a .c .skip .0) h)
-    (wrote-then (p12 .write-head .ensures) (rw (p7 .cut .ensures) at (p4 .write-block .ensures)))
+    (wrote-then (p12 .write-head .ensures) (rw piece at (p4 .write-block .ensures)))
 
 pub write-row-spec : {M : Type 1} → statement M
 write-row-spec =
