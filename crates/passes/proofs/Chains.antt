@@ -1,22 +1,28 @@
--- Lanes one after the other, each with what leads it: measured and written they are one chain of bytes.
+-- The lanes of a form with what leads them, measured and written: one chain of bytes.
 use Prim.Native.Nat.{ℕ, zero, suc, _+_, _*_, _≤_, _<_}
-use mathlib.Core.Path.{_≡_, refl, sym, ap, _∙_}
-use mathlib.Core.List.{List, [], _++_}
+use mathlib.Core.Path.{_≡_, refl, sym, ap, ap₂, _∙_}
+use mathlib.Core.List.{List, [], _∷_, _++_}
 use mathlib.Core.Bool.{Bool, true, false}
-use native.Mathlib.Nat.{suc-mul}
+use native.Mathlib.Nat.{suc-mul, add-zero}
 use native.Mathlib.Omega.{arith}
-use lib.Dec.{eqb}
-use lib.ListN.{length, getD, set, length-append, length-set}
-use lib.Seq.{sets, length-sets, getD-set-same, getD-set-other}
-use borrow.Author.Tests.{lt-ltb, eqb-true, eqb-false}
+use lib.Dec.{ltb}
+use lib.ListN.{length, getD, length-append}
+use lib.Seq.{sets, length-sets}
+use borrow.Author.Tests.{lt-ltb}
+use Rattle.numbers.specs.Number.{pick}
 use Rattle.numbers.proofs.Output.{sets-append}
 use Rattle.parts.specs.Brim.{brim}
-use Rattle.tokens.specs.Tokens.{Token, takenAll, lane}
+use Rattle.tokens.specs.Tokens.{Token, whole, inLine, lane}
+use Rattle.tokens.specs.Lanes.{Lane, freshLane, putAll, closed}
+use Rattle.tokens.specs.Desk.{putTokens, closedEach}
 use Rattle.tokens.proofs.Sizes.{lane-le}
-use Rattle.tokens.proofs.Fitting.{sizeAll, legalAll, takenAll-le}
-use Rattle.records.specs.Stops.{formOf}
-use Rattle.passes.specs.Forms.{Job, laneAt, bytesAt, leadAt, leadBytes, sizesFrom, onTo, totalFrom, endFrom, outFrom}
-use Rattle.passes.proofs.LeadBytes.{jobTokens, lead, lead-le, lead-end, lead-written, ends-at, writes}
+use Rattle.tokens.proofs.Laying.{end-line}
+use Rattle.tokens.proofs.Passes.{same-lane}
+use Rattle.tokens.proofs.Written.{Fits, lane-end, lane-written}
+use Rattle.tokens.proofs.Fitting.{sizeAll, legalAll, takenAll-le, fits-all}
+use Rattle.passes.specs.Forms.{freshFrom, placesOf, leadTokens, leadEnd, leadBytes, onTo, begunFrom, ledFrom, lastPlace}
+use Rattle.passes.proofs.LeadBytes.{lead, lead-le, lead-end, lead-written}
+use Rattle.passes.proofs.Apart.{From, from-none, from-less, from-both, tokens-between, lane-between, laneEnd, laneWritten, Behind, lanesWritten, lanes-none, lanes-next, lanes-put, none-put}
 
 pub size-le : (k : ℕ) (ts : List Token) → length (lane k ts) ≤ 21 * sizeAll ts
 size-le k ts = omega (arith, lane-le k ts, takenAll-le k ts)
@@ -27,15 +33,15 @@ chain z ts k zero = []
 chain z ts k (suc n) = lead z k ++ (lane k ts ++ chain z ts (k + 1) n)
 
 module _ (z : List ℕ) (ts : List Token) where
-  pub chain-none : (k : ℕ) → chain z ts k 0 ≡ []
+  chain-none : (k : ℕ) → chain z ts k 0 ≡ []
   unfolding chain
   chain-none k = refl
 
-  pub chain-more : (k n : ℕ) → chain z ts k (suc n) ≡ lead z k ++ (lane k ts ++ chain z ts (k + 1) n)
+  chain-more : (k n : ℕ) → chain z ts k (suc n) ≡ lead z k ++ (lane k ts ++ chain z ts (k + 1) n)
   unfolding chain
   chain-more k n = refl
 
-  pub chain-length : (k n : ℕ) → length (chain z ts k (suc n)) ≡ length (lead z k) + length (lane k ts) + length (chain z ts (k + 1) n)
+  chain-length : (k n : ℕ) → length (chain z ts k (suc n)) ≡ length (lead z k) + length (lane k ts) + length (chain z ts (k + 1) n)
   chain-length k n =
       omega (arith, ap length (chain-more k n), length-append (lead z k) (lane k ts ++ chain z ts (k + 1) n), length-append (lane k ts) (chain z ts (k + 1) n))
 
@@ -44,140 +50,180 @@ module _ (z : List ℕ) (ts : List Token) where
   chain-le k (suc n) =
       omega (arith, chain-length k n, lead-le z k, size-le k ts, chain-le (k + 1) n, suc-mul n (30 + 21 * sizeAll ts))
 
-  -- one lane more is no shorter
-  pub chain-part : (k n : ℕ) → length (chain z ts k n) ≤ length (chain z ts k (suc n))
-  chain-part k zero = omega (arith, ap length (chain-none k))
-  chain-part k (suc n) = omega (arith, chain-length k n, chain-length k (suc n), chain-part (k + 1) n)
+-- ---- where the lanes stand
 
--- ---- lanes of one form, their sizes and their places
+on-to-le : (at size : ℕ) → at ≤ onTo at size
+unfolding onTo
+on-to-le at size = go (ltb at brim) (ltb size brim)
+  where
+    go : (x y : Bool) → at ≤ pick x (pick y (at + size) at) at
+    go true true = omega arith
+    go true false = omega arith
+    go false y = omega arith
 
-abbrev pub OfForm : ℕ → ℕ → ℕ → Type 0
-OfForm f k n = (i : ℕ) → k ≤ i → i < k + n → formOf i ≡ f
+module _ (z : List ℕ) where
+  -- what leads a lane stands behind
+  lead-order : (k at : ℕ) → at ≤ leadEnd z k at
+  lead-order k at = tokens-between (leadTokens z k) (freshLane whole at) .order
+
+  begun-behind : (a k n at : ℕ) → a ≤ at → Behind a (begunFrom z k n at)
+  unfolding begunFrom
+  begun-behind a k zero at h = tt
+  begun-behind a k (suc n) at h =
+      let l = lead-order k at in
+      (omega arith, begun-behind a (k + 1) n (onTo (leadEnd z k at) (getD z k 0)) (omega (arith, on-to-le (leadEnd z k at) (getD z k 0))))
+
+  led-from : (k n at : ℕ) → From at (λ out. ledFrom out z k n at)
+  unfolding ledFrom
+  led-from k zero at = from-none at
+  led-from k (suc n) at =
+      let next = onTo (leadEnd z k at) (getD z k 0) in
+      from-both (λ out. leadBytes out z k at) (λ out. ledFrom out z (k + 1) n next) at (tokens-between (leadTokens z k) (freshLane whole at) .from)
+      (from-less (λ out. ledFrom out z (k + 1) n next) at next (omega (arith, lead-order k at, on-to-le (leadEnd z k at) (getD z k 0))) (led-from (k + 1) n next))
+
+  begun-more : (k n at : ℕ)
+      → begunFrom z k (suc n) at ≡ freshLane k (leadEnd z k at) ∷ begunFrom z (k + 1) n (onTo (leadEnd z k at) (getD z k 0))
+  unfolding begunFrom
+  begun-more k n at = refl
+
+  led-more : (out : List ℕ) (k n at : ℕ)
+      → ledFrom out z k (suc n) at ≡ ledFrom (leadBytes out z k at) z (k + 1) n (onTo (leadEnd z k at) (getD z k 0))
+  unfolding ledFrom
+  led-more out k n at = refl
+
+-- ---- lanes whose sizes are these
 
 abbrev pub Sized : List ℕ → List Token → ℕ → ℕ → Type 0
 Sized z ts k n = (i : ℕ) → k ≤ i → i < k + n → getD z i 0 ≡ length (lane i ts)
 
-module _ (j : Job) (f : ℕ) (legal : legalAll (jobTokens f j) ≡ true) where
+module _ (z : List ℕ) (ts : List Token) (legal : legalAll ts ≡ true) where
   -- far from the brim, from `at` on
-  abbrev pub Low : List ℕ → ℕ → ℕ → ℕ → Type 0
-  Low z k n at = at + length (chain z (jobTokens f j) k n) + 21 * sizeAll (jobTokens f j) + 30 < brim
+  abbrev pub Low : ℕ → ℕ → ℕ → Type 0
+  Low k n at = at + length (chain z ts k n) + 21 * sizeAll ts + 30 < brim
 
-  abbrev next : List ℕ → ℕ → ℕ → ℕ
-  next z k at = at + length (lead z k) + length (lane k (jobTokens f j))
+  abbrev next : ℕ → ℕ → ℕ
+  next k at = at + length (lead z k) + length (lane k ts)
 
-  -- ---- one lane more
+  -- ---- the first lane
 
-  module _ (z : List ℕ) (k n at : ℕ) (forms : OfForm f k (suc n)) (low : Low z k (suc n) at) where
-    own : formOf k ≡ f
-    own = forms k (omega arith) (omega arith)
-
-    later : OfForm f (k + 1) n
-    later i p q = forms i (omega arith) (omega arith)
-
+  module _ (k n at : ℕ) (low : Low k (suc n) at) where
     begin-low : at + 30 < brim
     begin-low = omega (arith, low)
 
-    lane-low : at + length (lead z k) + 21 * sizeAll (jobTokens f j) < brim
-    lane-low = omega (arith, low, chain-length z (jobTokens f j) k n)
+    lane-low : at + length (lead z k) + 21 * sizeAll ts < brim
+    lane-low = omega (arith, low, chain-length z ts k n)
 
-    next-low : Low z (k + 1) n (next z k at)
-    next-low = omega (arith, low, chain-length z (jobTokens f j) k n)
+    next-low : Low (k + 1) n (next k at)
+    next-low = omega (arith, low, chain-length z ts k n)
 
-    led-to : leadAt z k at .run .at ≡ at + length (lead z k)
+    led-to : leadEnd z k at ≡ at + length (lead z k)
     led-to = lead-end z k at begin-low
 
-    next-at : laneAt j k (leadAt z k at .run .at) .run .at ≡ next z k at
-    next-at = ap (λ (i : ℕ). laneAt j k i .run .at) led-to ∙ ends-at j f k (at + length (lead z k)) own legal lane-low
+    fits : Fits k (at + length (lead z k)) ts
+    fits = fits-all k (at + length (lead z k)) ts legal lane-low
 
-    next-out : (out : List ℕ) → at + length (chain z (jobTokens f j) k (suc n)) ≤ length out
-        → bytesAt (leadBytes out z k at) j k (leadAt z k at .run .at) ≡ sets (sets out at (lead z k)) (at + length (lead z k)) (lane k (jobTokens f j))
-    next-out out room =
-        let size = chain-length z (jobTokens f j) k n in
-        ap (λ (i : ℕ). bytesAt (leadBytes out z k at) j k i) led-to
-        ∙ ap (λ (o : List ℕ). bytesAt o j k (at + length (lead z k))) (lead-written z k at begin-low out (omega (arith, size)))
-        ∙ writes j f k (at + length (lead z k)) own legal lane-low (sets out at (lead z k)) (omega (arith, size, length-sets out at (lead z k)))
+    first-end : laneEnd (freshLane k (leadEnd z k at)) ts ≡ next k at
+    first-end = ap (λ (i : ℕ). laneEnd (freshLane k i) ts) led-to ∙ lane-end k (at + length (lead z k)) ts fits
 
-    next-total : getD z k 0 ≡ length (lane k (jobTokens f j)) → onTo (leadAt z k at .run .at) (getD z k 0) ≡ next z k at
+    first-out : (out : List ℕ) → at + length (chain z ts k (suc n)) ≤ length out
+        → laneWritten (leadBytes out z k at) (freshLane k (leadEnd z k at)) ts ≡ sets (sets out at (lead z k)) (at + length (lead z k)) (lane k ts)
+    first-out out room =
+        let size = chain-length z ts k n in
+        ap (λ (i : ℕ). laneWritten (leadBytes out z k at) (freshLane k i) ts) led-to
+        ∙ ap (λ (o : List ℕ). laneWritten o (freshLane k (at + length (lead z k))) ts) (lead-written z k at begin-low out (omega (arith, size)))
+        ∙ lane-written k (at + length (lead z k)) ts fits (sets out at (lead z k)) (omega (arith, size, length-sets out at (lead z k)))
+
+    first-size : getD z k 0 ≡ length (lane k ts) → onTo (leadEnd z k at) (getD z k 0) ≡ next k at
     unfolding onTo
-    next-total size =
-        let s = size-le k (jobTokens f j) in
+    first-size size =
+        let s = size-le k ts in
         let a = at + length (lead z k) in
-        let l = length (lane k (jobTokens f j)) in
+        let l = length (lane k ts) in
         rw (size, led-to, lt-ltb a brim (omega (arith, lane-low)), lt-ltb l brim (omega (arith, lane-low)))
 
-  -- ---- all lanes
+    -- what is left of the chain
+    rest-out : (out : List ℕ)
+        → sets (sets (sets out at (lead z k)) (at + length (lead z k)) (lane k ts)) (next k at) (chain z ts (k + 1) n) ≡ sets out at (chain z ts k (suc n))
+    rest-out out =
+        let a = lead z k in
+        let b = lane k ts in
+        let c = chain z ts (k + 1) n in
+        sym (sets-append b c (sets out at a) (at + length a)) ∙ sym (sets-append a (b ++ c) out at)
+        ∙ ap (λ (x : List ℕ). sets out at x) (sym (chain-more z ts k n))
 
-  pub ends-chain : (z : List ℕ) (k n at : ℕ) → OfForm f k n → Low z k n at → endFrom j z k n at ≡ at + length (chain z (jobTokens f j) k n)
-  unfolding endFrom
-  ends-chain z k zero at forms low = omega (arith, ap length (chain-none z (jobTokens f j) k))
-  ends-chain z k (suc n) at forms low =
-      ap (λ (i : ℕ). endFrom j z (k + 1) n i) (next-at z k n at forms low)
-      ∙ ends-chain z (k + 1) n (next z k at) (later z k n at forms low) (next-low z k n at forms low) ∙ omega (arith, chain-length z (jobTokens f j) k n)
+  -- ---- all lanes: the last need not be sized
 
-  pub totals-chain : (z : List ℕ) (k n at : ℕ) → OfForm f k n → Low z k n at → Sized z (jobTokens f j) k n
-      → totalFrom z k n at ≡ at + length (chain z (jobTokens f j) k n)
-  unfolding totalFrom
-  totals-chain z k zero at forms low sizes = omega (arith, ap length (chain-none z (jobTokens f j) k))
-  totals-chain z k (suc n) at forms low sizes =
-      ap (λ (i : ℕ). totalFrom z (k + 1) n i) (next-total z k n at forms low (sizes k (omega arith) (omega arith)))
-      ∙ totals-chain z (k + 1) n (next z k at) (later z k n at forms low) (next-low z k n at forms low) (λ i p q. sizes i (omega arith) (omega arith))
-      ∙ omega (arith, chain-length z (jobTokens f j) k n)
+  later : (k n : ℕ) → Sized z ts k (suc n) → Sized z ts (k + 1) n
+  later k n sizes i p q = sizes i (omega arith) (omega arith)
 
-  pub writes-chain : (z : List ℕ) (k n at : ℕ) (out : List ℕ) → OfForm f k n → Low z k n at → at + length (chain z (jobTokens f j) k n) ≤ length out
-      → outFrom j z k n at out ≡ sets out at (chain z (jobTokens f j) k n)
-  unfolding outFrom
-  writes-chain z k zero at out forms low room = ap (λ (b : List ℕ). sets out at b) (sym (chain-none z (jobTokens f j) k))
-  writes-chain z k (suc n) at out forms low room =
-      let ts = jobTokens f j in
-      let a = lead z k in
-      let b = lane k ts in
-      let c = chain z ts (k + 1) n in
-      let o = sets (sets out at a) (at + length a) b in
-      let size = chain-length z ts k n in
-      let same = length-sets (sets out at a) (at + length a) b ∙ length-sets out at a in
-      ap (λ (i : ℕ). outFrom j z (k + 1) n i (bytesAt (leadBytes out z k at) j k (leadAt z k at .run .at))) (next-at z k n at forms low)
-      ∙ ap (λ (x : List ℕ). outFrom j z (k + 1) n (next z k at) x) (next-out z k n at forms low out room)
-      ∙ writes-chain z (k + 1) n (next z k at) o (later z k n at forms low) (next-low z k n at forms low) (omega (arith, size, same))
-      ∙ sym (sets-append b c (sets out at a) (at + length a)) ∙ sym (sets-append a (b ++ c) out at)
-      ∙ ap (λ (x : List ℕ). sets out at x) (sym (chain-more z ts k n))
+  pub chain-written : (n k at : ℕ) (out : List ℕ) → Low k (suc n) at → Sized z ts k n → at + length (chain z ts k (suc n)) ≤ length out
+      → lanesWritten (ledFrom out z k (suc n) at) (begunFrom z k (suc n) at) ts ≡ sets out at (chain z ts k (suc n))
+  unfolding ledFrom begunFrom
+  chain-written zero k at out low sizes room =
+      let e = freshLane k (leadEnd z k at) in
+      let led = leadBytes out z k at in
+      let o = sets (sets out at (lead z k)) (at + length (lead z k)) (lane k ts) in
+      lanes-next ts e [] led tt ∙ lanes-none (laneWritten led e ts) ts ∙ first-out k 0 at low out room
+      ∙ ap (λ (c : List ℕ). sets o (next k at) c) (sym (chain-none z ts (k + 1))) ∙ rest-out k 0 at low out
+  chain-written (suc n) k at out low sizes room =
+      let e = freshLane k (leadEnd z k at) in
+      let led = leadBytes out z k at in
+      let on = onTo (leadEnd z k at) (getD z k 0) in
+      let es = begunFrom z (k + 1) (suc n) on in
+      let o = sets (sets out at (lead z k)) (at + length (lead z k)) (lane k ts) in
+      let size = first-size k (suc n) at low (sizes k (omega arith) (omega arith)) in
+      let end : laneEnd e ts ≤ on = omega (arith, size, first-end k (suc n) at low) in
+      let long = length-sets (sets out at (lead z k)) (at + length (lead z k)) (lane k ts) ∙ length-sets out at (lead z k) in
+      ap₂ (λ (o : List ℕ) (es : List Lane). lanesWritten o es ts) (led-more z out k (suc n) at) (begun-more z k (suc n) at)
+      ∙ lanes-next ts e es (ledFrom led z (k + 1) (suc n) on) (begun-behind z (laneEnd e ts) (k + 1) (suc n) on end)
+      ∙ ap (λ (o : List ℕ). lanesWritten o es ts)
+      (lane-between ts e .upto .swaps (λ o. ledFrom o z (k + 1) (suc n) on)
+      (from-less (λ o. ledFrom o z (k + 1) (suc n) on) (laneEnd e ts) on end (led-from z (k + 1) (suc n) on)) led)
+      ∙ ap (λ (o : List ℕ). lanesWritten (ledFrom o z (k + 1) (suc n) on) es ts) (first-out k (suc n) at low out room)
+      ∙ ap (λ (i : ℕ). lanesWritten (ledFrom o z (k + 1) (suc n) i) (begunFrom z (k + 1) (suc n) i) ts) size
+      ∙ chain-written n (k + 1) (next k at) o (next-low k (suc n) at low) (later k n sizes) (omega (arith, room, long, chain-length z ts k (suc n)))
+      ∙ rest-out k (suc n) at low out
 
-  -- ---- the sizes
+  -- the place of the last lane, if that is in line
+  last-more : (k n at : ℕ) → lastPlace (putTokens (begunFrom z k (suc (suc n)) at) ts)
+      ≡ lastPlace (putTokens (begunFrom z (k + 1) (suc n) (onTo (leadEnd z k at) (getD z k 0))) ts)
+  unfolding lastPlace
+  last-more k n at =
+      let e = freshLane k (leadEnd z k at) in
+      let on = onTo (leadEnd z k at) (getD z k 0) in
+      let f = freshLane (k + 1) (leadEnd z (k + 1) on) in
+      let es = begunFrom z (k + 1 + 1) n (onTo (leadEnd z (k + 1) on) (getD z (k + 1) 0)) in
+      rw (begun-more z k (suc n) at, begun-more z (k + 1) n on, lanes-put ts e (f ∷ es), lanes-put ts f es)
 
-  pub sizes-length : (k n : ℕ) (z : List ℕ) → length (sizesFrom j k n z) ≡ length z
-  unfolding sizesFrom
-  sizes-length k zero z = refl
-  sizes-length k (suc n) z = sizes-length (k + 1) n (set z k (laneAt j k 0 .run .at)) ∙ length-set z k (laneAt j k 0 .run .at)
+  pub chain-place : (n k at : ℕ) → Low k (suc n) at → Sized z ts k n → inLine (k + n) ≡ true
+      → lastPlace (putTokens (begunFrom z k (suc n) at) ts) ≡ at + length (chain z ts k (suc n))
+  unfolding lastPlace begunFrom
+  chain-place zero k at low sizes line =
+      let e = freshLane k (leadEnd z k at) in
+      let own : inLine (putAll e ts .lane) ≡ true = ap inLine (same-lane e ts ∙ sym (add-zero k)) ∙ line in
+      ap lastPlace (lanes-put ts e [] ∙ ap (λ (es : List Lane). putAll e ts ∷ es) (none-put ts))
+      ∙ ap (λ (e : Lane). e .run .at) (end-line [] (putAll e ts) own .0) ∙ first-end k 0 at low
+      ∙ omega (arith, chain-length z ts k 0, ap length (chain-none z ts (k + 1)))
+  chain-place (suc n) k at low sizes line =
+      let on = onTo (leadEnd z k at) (getD z k 0) in
+      last-more k n at
+      ∙ ap (λ (i : ℕ). lastPlace (putTokens (begunFrom z (k + 1) (suc n) i) ts)) (first-size k (suc n) at low (sizes k (omega arith) (omega arith)))
+      ∙ chain-place n (k + 1) (next k at) (next-low k (suc n) at low) (later k n sizes) (ap inLine (omega arith) ∙ line)
+      ∙ omega (arith, chain-length z ts k (suc n))
 
-  pub sizes-before : (k n : ℕ) (z : List ℕ) (i : ℕ) → i < k → getD (sizesFrom j k n z) i 0 ≡ getD z i 0
-  unfolding sizesFrom
-  sizes-before k zero z i h = refl
-  sizes-before k (suc n) z i h =
-      let s = laneAt j k 0 .run .at in
-      sizes-before (k + 1) n (set z k s) i (omega arith) ∙ getD-set-other z k i s 0 (λ e. omega arith)
+-- ---- lanes measured
 
-  pub sizes-chain : (k n : ℕ) (z : List ℕ) → 21 * sizeAll (jobTokens f j) < brim → OfForm f k n → k + n ≤ length z
-      → Sized (sizesFrom j k n z) (jobTokens f j) k n
-  unfolding sizesFrom
-  sizes-chain k zero z low forms room i p q = absurd (omega arith)
-  sizes-chain k (suc n) z low forms room i p q = go (eqb i k) refl (sizes-chain (k + 1) n (set z k here) low (λ i p q. forms i (omega arith) (omega arith)) still i)
-    where
-      here : ℕ
-      here = laneAt j k 0 .run .at
+module _ (ts : List Token) where
+  abbrev measuredFrom : ℕ → ℕ → List Lane
+  measuredFrom k n = closedEach (putTokens (freshFrom k n) ts)
 
-      still : k + 1 + n ≤ length (set z k here)
-      still = omega (arith, room, length-set z k here)
+  pub measured-more : (k n : ℕ) → closedEach (putTokens (freshFrom k (suc n)) ts) ≡ closed (putAll (freshLane k 0) ts) ∷ closedEach (putTokens (freshFrom (k + 1) n) ts)
+  unfolding freshFrom closedEach
+  measured-more k n = ap (λ (es : List Lane). closedEach es) (lanes-put ts (freshLane k 0) (freshFrom (k + 1) n))
 
-      measured : here ≡ length (lane k (jobTokens f j))
-      measured = ends-at j f k 0 (forms k (omega arith) (omega arith)) legal (omega (arith, low)) ∙ omega arith
-
-      go : (b : Bool) → eqb i k ≡ b
-          → (k + 1 ≤ i → i < k + 1 + n → getD (sizesFrom j (k + 1) n (set z k here)) i 0 ≡ length (lane i (jobTokens f j)))
-          → getD (sizesFrom j (k + 1) n (set z k here)) i 0 ≡ length (lane i (jobTokens f j))
-      go true e more =
-          let x : i ≡ k = eqb-true i k e in
-          sizes-before (k + 1) n (set z k here) i (omega arith)
-          ∙ rw x (getD-set-same z k here 0 (omega arith) ∙ measured)
-      go false e more =
-          let x = eqb-false i k e in
-          let y : k + 1 ≤ i = omega arith in
-          more y (omega arith)
+  pub measured-place : (n k i : ℕ) → i < n → getD (placesOf (closedEach (putTokens (freshFrom k n) ts))) i 0 ≡ laneEnd (freshLane (k + i) 0) ts
+  unfolding placesOf
+  measured-place zero k i h = absurd (omega arith)
+  measured-place (suc n) k zero h = rw (measured-more k n, add-zero k)
+  measured-place (suc n) k (suc i) h =
+      rw (measured-more k n) (measured-place n (k + 1) i (omega arith) ∙ ap (λ (j : ℕ). laneEnd (freshLane j 0) ts) (omega arith))

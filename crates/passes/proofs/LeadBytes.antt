@@ -1,5 +1,5 @@
--- One lane of a form: what leads it and the lane itself, each by where it ends and what it writes.
-use Prim.Native.Nat.{ℕ, _+_, _*_, _≤_, _<_}
+-- What leads a lane, by where it ends and what it writes, and whether a lane measured has a difference that could not be spelled.
+use Prim.Native.Nat.{ℕ, _+_, _≤_, _<_}
 use mathlib.Core.Path.{_≡_, refl, sym, ap, _∙_}
 use mathlib.Core.List.{List, [], _∷_}
 use mathlib.Core.Bool.{Bool, true, false}
@@ -13,21 +13,31 @@ use Rattle.parts.specs.Brim.{brim}
 use Rattle.runs.specs.declared.Column.{Column}
 use Rattle.runs.specs.declared.Column.the-variants.{Number, Difference, Byte}
 use Rattle.runs.specs.Runs.{coding, spellable}
-use Rattle.tokens.specs.Lanes.{Lane}
-use Rattle.tokens.specs.Tokens.{Token, var, clients, texts, lens, whole, takenAll, inLine, columnIn, lane}
+use Rattle.tokens.specs.Tokens.{Token, var, clients, texts, lens, whole, takenAll, inLine, columnIn}
 use Rattle.tokens.specs.Bytes.{nearIn}
-use Rattle.tokens.specs.Lanes.{freshLane}
+use Rattle.tokens.specs.Lanes.{Lane, freshLane, putAll, laidAll, closed}
 use Rattle.tokens.proofs.Laying.{moved-on, bytes-laid}
 use Rattle.tokens.proofs.Gathered.{put-line, laid-line}
 use Rattle.tokens.proofs.Taking.{in-line}
-use Rattle.tokens.proofs.Written.{Fits, lane-end, lane-far, line-near, lane-written}
-use Rattle.tokens.proofs.Fitting.{sizeOf, sizeAll, legalAll, takenAll-le, fits-all}
-use Rattle.records.specs.Stops.{formOf}
-use Rattle.encoder.specs.Passes.{tokensFor, laneFor, bytesFor}
-use Rattle.passes.specs.Forms.{Job, laneAt, bytesAt, textSize, isBare, leadTokens, leadAt, leadBytes}
+use Rattle.tokens.proofs.Written.{Fits, lane-far, line-near}
+use Rattle.tokens.proofs.Fitting.{sizeOf, sizeAll, takenAll-le}
+use Rattle.passes.specs.Forms.{textSize, isBare, leadTokens, leadEnd, leadBytes}
 
-abbrev pub jobTokens : ℕ → Job → List Token
-jobTokens f j = tokensFor f (j .update) (j .rows) (j .plan) (j .sections) (j .ranges)
+-- ---- tokens in line, from a place on
+
+module _ (ts : List Token) (at : ℕ) (low : at + length (takenAll whole ts) < brim) where
+  pub line-end : putAll (freshLane whole at) ts .run .at ≡ at + length (takenAll whole ts)
+  line-end =
+      let b = takenAll whole ts in
+      ap (λ (e : Lane). e .run .at)
+      (put-line (freshLane whole at) ts (in-line whole refl) low
+      ∙ sym (moved-on [] (freshLane whole at) b (at + length b) (omega (arith, low)) refl))
+
+  pub line-written : (out : List ℕ) → at + length (takenAll whole ts) ≤ length out → laidAll out (freshLane whole at) ts ≡ sets out at (takenAll whole ts)
+  line-written out room =
+      let b = takenAll whole ts in
+      laid-line out (freshLane whole at) ts (in-line whole refl) low room
+      ∙ sym (bytes-laid out (freshLane whole at) b (length b) (omega (arith, low)) refl (le-leb (at + length b) (length out) room))
 
 -- ---- what leads a lane
 
@@ -52,23 +62,19 @@ unfolding lead
 lead-le z k = omega (arith, takenAll-le whole (leadTokens z k), lead-size z k)
 
 module _ (z : List ℕ) (k at : ℕ) (low : at + 30 < brim) where
-  lead-low : at + length (lead z k) < brim
+  lead-low : at + length (takenAll whole (leadTokens z k)) < brim
+  unfolding lead
   lead-low = omega (arith, lead-le z k)
 
-  pub lead-end : leadAt z k at .run .at ≡ at + length (lead z k)
+  pub lead-end : leadEnd z k at ≡ at + length (lead z k)
   unfolding lead
-  lead-end =
-      ap (λ (e : Lane). e .run .at)
-      (put-line (freshLane whole at) (leadTokens z k) (in-line whole refl) lead-low
-      ∙ sym (moved-on [] (freshLane whole at) (lead z k) (at + length (lead z k)) (omega (arith, lead-low)) refl))
+  lead-end = line-end (leadTokens z k) at lead-low
 
   pub lead-written : (out : List ℕ) → at + length (lead z k) ≤ length out → leadBytes out z k at ≡ sets out at (lead z k)
   unfolding lead
-  lead-written out room =
-      laid-line out (freshLane whole at) (leadTokens z k) (in-line whole refl) lead-low room
-      ∙ sym (bytes-laid out (freshLane whole at) (lead z k) (length (lead z k)) (omega (arith, lead-low)) refl (le-leb (at + length (lead z k)) (length out) room))
+  lead-written out room = line-written (leadTokens z k) at lead-low out room
 
--- ---- a lane
+-- ---- a lane measured
 
 -- numbers and bytes can all be spelled
 always-number : (p : ℕ) (vs : List ℕ) → spellable (coding Number) p vs ≡ true
@@ -81,37 +87,24 @@ unfolding spellable coding
 always-byte p [] = refl
 always-byte p (v ∷ vs) = always-byte v vs
 
-module _ (j : Job) (f k at : ℕ) (own : formOf k ≡ f) (legal : legalAll (jobTokens f j) ≡ true) (low : at + 21 * sizeAll (jobTokens f j) < brim) where
-  fits : Fits k at (jobTokens f j)
-  fits = fits-all k at (jobTokens f j) legal low
-
-  pub ends-at : laneAt j k at .run .at ≡ at + length (lane k (jobTokens f j))
-  unfolding laneFor
-  ends-at = rw own (lane-end k at (jobTokens f j) fits)
-
-  pub writes : (out : List ℕ) → at + length (lane k (jobTokens f j)) ≤ length out → bytesAt out j k at ≡ sets out at (lane k (jobTokens f j))
-  unfolding bytesFor
-  writes out room = rw own (lane-written k at (jobTokens f j) fits out room)
+module _ (k at : ℕ) (ts : List Token) (fits : Fits k at ts) where
+  abbrev far : Bool
+  far = closed (putAll (freshLane k at) ts) .far
 
   -- in line, and in a column of numbers or bytes, nothing is too far
-  pub far-line : inLine k ≡ true → laneAt j k at .far ≡ false
-  unfolding laneFor
-  far-line i = rw own (line-near k at (jobTokens f j) fits i)
+  pub far-line : inLine k ≡ true → closed (putAll (freshLane k at) ts) .far ≡ false
+  far-line i = line-near k at ts fits i
 
-  pub far-column : inLine k ≡ false → laneAt j k at .far ≡ pick (spellable (coding (columnIn k)) 0 (takenAll k (jobTokens f j))) false true
-  unfolding laneFor
-  far-column i = rw own (lane-far k at (jobTokens f j) fits i)
-
-  pub far-difference : inLine k ≡ false → columnIn k ≡ Difference → laneAt j k at .far ≡ pick (nearIn k (jobTokens f j)) false true
+  pub far-difference : inLine k ≡ false → columnIn k ≡ Difference → closed (putAll (freshLane k at) ts) .far ≡ pick (nearIn k ts) false true
   unfolding nearIn
-  far-difference i c = rw (← c) (far-column i)
+  far-difference i c = rw (← c) (lane-far k at ts fits i)
 
-  far-like : (c : Column) → inLine k ≡ false → columnIn k ≡ c → spellable (coding c) 0 (takenAll k (jobTokens f j)) ≡ true → laneAt j k at .far ≡ false
+  far-like : (c : Column) → inLine k ≡ false → columnIn k ≡ c → spellable (coding c) 0 (takenAll k ts) ≡ true → far ≡ false
   far-like c i e h =
-      far-column i ∙ ap (λ (c : Column). pick (spellable (coding c) 0 (takenAll k (jobTokens f j))) false true) e ∙ ap (λ (b : Bool). pick b false true) h
+      lane-far k at ts fits i ∙ ap (λ (c : Column). pick (spellable (coding c) 0 (takenAll k ts)) false true) e ∙ ap (λ (b : Bool). pick b false true) h
 
-  pub far-number : inLine k ≡ false → columnIn k ≡ Number → laneAt j k at .far ≡ false
-  far-number i e = far-like Number i e (always-number 0 (takenAll k (jobTokens f j)))
+  pub far-number : inLine k ≡ false → columnIn k ≡ Number → closed (putAll (freshLane k at) ts) .far ≡ false
+  far-number i e = far-like Number i e (always-number 0 (takenAll k ts))
 
-  pub far-byte : inLine k ≡ false → columnIn k ≡ Byte → laneAt j k at .far ≡ false
-  far-byte i e = far-like Byte i e (always-byte 0 (takenAll k (jobTokens f j)))
+  pub far-byte : inLine k ≡ false → columnIn k ≡ Byte → closed (putAll (freshLane k at) ts) .far ≡ false
+  far-byte i e = far-like Byte i e (always-byte 0 (takenAll k ts))

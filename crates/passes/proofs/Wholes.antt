@@ -1,24 +1,31 @@
--- All lanes of a form: those before the last measured, they have no more than the form's size, and all written they are the form's bytes.
+-- All lanes of a form, measured and written, and behind them numbers without columns, in line: the form's bytes.
 use Prim.Native.Nat.{ℕ, suc, _+_, _*_, _^_, _≤_, _<_}
-use mathlib.Core.Path.{_≡_, refl, sym, ap, subst, _∙_}
+use mathlib.Core.Path.{_≡_, refl, sym, ap, ap₂, subst, _∙_}
 use mathlib.Core.Logic.{_⊎_, inl, inr}
-use mathlib.Core.List.{List, _++_, append-assoc, append-nil}
+use mathlib.Core.List.{List, [], _∷_, _++_, append-assoc, append-nil}
 use mathlib.Core.Bool.{Bool, true, false}
+use native.Mathlib.Nat.{zero-add}
 use native.Mathlib.Omega.{arith}
 use lib.Dec.{eqb}
 use lib.ListN.{length, getD, length-append}
-use lib.Seq.{sets}
-use borrow.Author.Tests.{lt-ltb, ne-eqb}
+use lib.Seq.{sets, length-sets}
+use borrow.Author.Tests.{lt-ltb}
 use Rattle.numbers.specs.Number.{pick, unsigned}
 use Rattle.numbers.proofs.Laws.{unsigned-last}
+use Rattle.numbers.proofs.Output.{sets-append}
+use Rattle.readings.specs.Sound.{All}
 use Rattle.parts.specs.Brim.{brim}
-use Rattle.tokens.specs.Tokens.{Token, texts, units, whole, led, taken, takenAll, inLine, columnIn, lane}
+use Rattle.tokens.specs.Tokens.{Token, var, lefts, rights, texts, units, rest, whole, led, taken, takenAll, inLine, columnIn, lane}
 use Rattle.tokens.specs.Bytes.{form1, form2, bytesOf, nearIn, near}
-use Rattle.tokens.proofs.Fitting.{sizeAll, legalAll}
-use Rattle.records.specs.Stops.{formOf}
-use Rattle.passes.specs.Forms.{Job, firstLane, lanesOf, ledOf, textSize, isBare, leadTokens, sizesFrom, farFrom, totalFrom, endFrom, outFrom}
-use Rattle.passes.proofs.LeadBytes.{jobTokens, lead, far-line, far-difference, far-number, far-byte}
-use Rattle.passes.proofs.Chains.{chain, chain-le, chain-part, OfForm, Sized, Low, size-le, ends-chain, totals-chain, writes-chain, sizes-chain}
+use Rattle.tokens.specs.Lanes.{Lane, freshLane, putAll, laidAll, closed}
+use Rattle.tokens.specs.Desk.{putTokens, closedEach}
+use Rattle.tokens.proofs.Written.{Fits, lane-end}
+use Rattle.tokens.proofs.Fitting.{legal, sizeOf, sizeAll, legalAll, takenAll-le, size-append, fits-all}
+use Rattle.passes.specs.Forms.{firstLane, lanesOf, freshFrom, measured, placesOf, anyFar, sizesFor, farFor, textSize, isBare, leadTokens, begun, ledBytes, lastPlace, endFor, outFor}
+use Rattle.passes.proofs.Apart.{laneEnd, lanesWritten, none-put}
+use Rattle.passes.proofs.LeadBytes.{line-end, line-written, lead, far-line, far-difference, far-number, far-byte}
+use Rattle.passes.proofs.Plain.{Plain, var-skipped, lane-same, plain-taken, plain-bytes, near-same}
+use Rattle.passes.proofs.Chains.{size-le, chain, chain-le, Sized, Low, chain-written, chain-place, measured-more, measured-place}
 
 -- ---- the chain of a form's lanes is the form
 
@@ -58,132 +65,216 @@ by-form : (P : ℕ → Type 0) → P 1 → P 2 → (f : ℕ) → IsForm f → P 
 by-form P one two f (inl e) = subst P (sym e) one
 by-form P one two f (inr e) = subst P (sym e) two
 
-lanes1 : OfForm 1 (firstLane 1) (lanesOf 1)
-unfolding firstLane lanesOf formOf
-lanes1 i p q = let e : i ≡ whole = omega arith in rw e
+-- those before the last: no lane is led by the size of the last
+unfoldable before : ℕ → ℕ
+before f = pick (eqb f 1) 0 8
 
-lanes2 : OfForm 2 (firstLane 2) (lanesOf 2)
-unfolding firstLane lanesOf formOf
-lanes2 i p q = rw (ne-eqb i whole (λ e. omega arith))
+last-lane : (f : ℕ) → IsForm f → lanesOf f ≡ suc (before f)
+unfolding lanesOf before
+last-lane f form = by-form (λ (f : ℕ). lanesOf f ≡ suc (before f)) refl refl f form
 
-pub lanes-of : (f : ℕ) → IsForm f → OfForm f (firstLane f) (lanesOf f)
-lanes-of f form = by-form (λ (f : ℕ). OfForm f (firstLane f) (lanesOf f)) lanes1 lanes2 f form
+last-line : (f : ℕ) → IsForm f → inLine (firstLane f + before f) ≡ true
+unfolding firstLane before inLine
+last-line f form = by-form (λ (f : ℕ). inLine (firstLane f + before f) ≡ true) refl refl f form
 
--- one lane more than are led
-last-lane : (f : ℕ) → IsForm f → lanesOf f ≡ suc (ledOf f)
-unfolding lanesOf ledOf
-last-lane f form = by-form (λ (f : ℕ). lanesOf f ≡ suc (ledOf f)) refl refl f form
-
-leds-of : (f : ℕ) → IsForm f → OfForm f (firstLane f) (ledOf f)
-leds-of f form i p q = lanes-of f form i p (omega (arith, last-lane f form))
+-- ---- tokens in a form, the sizes of its lanes being z
 
 module _ (z : List ℕ) (ts : List Token) where
   abbrev Made : ℕ → Type 0
-  Made f = Sized z ts (firstLane f) (ledOf f) → 21 * sizeAll ts < brim → chain z ts (firstLane f) (lanesOf f) ≡ bytesOf f ts
+  Made f = Sized z ts (firstLane f) (before f) → 21 * sizeAll ts < brim → chain z ts (firstLane f) (suc (before f)) ≡ bytesOf f ts
 
   made1 : Made 1
-  unfolding firstLane lanesOf bytesOf
+  unfolding firstLane before bytesOf
   made1 s low = chain1 z ts
 
   made2 : Made 2
-  unfolding firstLane lanesOf ledOf bytesOf
+  unfolding firstLane before bytesOf
   made2 s low = chain2 z ts s low
 
   chain-form : (f : ℕ) → IsForm f → Made f
   chain-form f form = by-form (λ (f : ℕ). Made f) made1 made2 f form
 
   abbrev Short : ℕ → Type 0
-  Short f = length (chain z ts (firstLane f) (lanesOf f)) ≤ 9 * (30 + 21 * sizeAll ts)
+  Short f = length (chain z ts (firstLane f) (suc (before f))) ≤ 9 * (30 + 21 * sizeAll ts)
 
   short1 : Short 1
-  unfolding firstLane lanesOf
+  unfolding firstLane before
   short1 = omega (arith, chain-le z ts 9 1)
 
   short2 : Short 2
-  unfolding firstLane lanesOf
+  unfolding firstLane before
   short2 = omega (arith, chain-le z ts 0 9)
 
   chain-short : (f : ℕ) → IsForm f → Short f
   chain-short f form = by-form (λ (f : ℕ). Short f) short1 short2 f form
 
-lanes-within : (f : ℕ) → IsForm f → firstLane f + lanesOf f ≤ 10
-unfolding firstLane lanesOf
-lanes-within f form = by-form (λ (f : ℕ). firstLane f + lanesOf f ≤ 10) one two f form
+module _ (f : ℕ) (form : IsForm f) (z : List ℕ) (ts : List Token) (sizes : Sized z ts (firstLane f) (before f)) (legal : legalAll ts ≡ true)
+    (few : sizeAll ts < 2 ^ 54) where
+  made : chain z ts (firstLane f) (suc (before f)) ≡ bytesOf f ts
+  made = chain-form z ts f form sizes (omega arith)
+
+  low : Low z ts legal (firstLane f) (suc (before f)) 0
+  low = omega (arith, few, chain-short z ts f form)
+
+  bytes-le : length (bytesOf f ts) ≤ 9 * (30 + 21 * sizeAll ts)
+  bytes-le = omega (arith, ap length made, chain-short z ts f form)
+
+  lanes-place : lastPlace (putTokens (begun f z) ts) ≡ length (bytesOf f ts)
+  lanes-place =
+      rw (last-lane f form)
+      (chain-place z ts legal (before f) (firstLane f) 0 low sizes (last-line f form) ∙ omega (arith, ap length made))
+
+  lanes-out : (out : List ℕ) → length (bytesOf f ts) ≤ length out → lanesWritten (ledBytes f z out) (begun f z) ts ≡ sets out 0 (bytesOf f ts)
+  lanes-out out room =
+      rw (last-lane f form)
+      (chain-written z ts legal (before f) (firstLane f) 0 out low sizes (omega (arith, ap length made)) ∙ ap (λ (b : List ℕ). sets out 0 b) made)
+
+-- ---- measured
+
+module _ (ts : List Token) where
+  far-more : (k n : ℕ) → anyFar (closedEach (putTokens (freshFrom k (suc n)) ts))
+      ≡ pick (closed (putAll (freshLane k 0) ts) .far) true (anyFar (closedEach (putTokens (freshFrom (k + 1) n) ts)))
+  unfolding anyFar
+  far-more k n = ap anyFar (measured-more ts k n)
+
+  far-none : (k : ℕ) → anyFar (closedEach (putTokens (freshFrom k 0) ts)) ≡ false
+  unfolding freshFrom closedEach anyFar
+  far-none k = ap (λ (es : List Lane). anyFar (closedEach es)) (none-put ts)
+
+  module _ (legal : legalAll ts ≡ true) (low : 21 * sizeAll ts < brim) where
+    fits : (k : ℕ) → Fits k 0 ts
+    fits k = fits-all k 0 ts legal (omega arith)
+
+    far2 : anyFar (measured ts) ≡ pick (near 2 ts) false true
+    unfolding measured near inLine columnIn
+    far2 =
+        rw (
+          far-more 0 7,
+          far-more 1 6,
+          far-more 2 5,
+          far-more 3 4,
+          far-more 4 3,
+          far-more 5 2,
+          far-more 6 1,
+          far-more 7 0,
+          far-none 8,
+          far-number 0 0 ts (fits 0) refl refl,
+          far-difference 1 0 ts (fits 1) refl refl,
+          far-difference 2 0 ts (fits 2) refl refl,
+          far-byte 3 0 ts (fits 3) refl refl,
+          far-line 4 0 ts (fits 4) refl,
+          far-number 5 0 ts (fits 5) refl refl,
+          far-byte 6 0 ts (fits 6) refl refl,
+          far-number 7 0 ts (fits 7) refl refl,
+        )
+        (go (nearIn 1 ts) (nearIn 2 ts))
+      where
+        go : (a b : Bool) → pick (pick a false true) true (pick (pick b false true) true false) ≡ pick (pick a b false) false true
+        go true true = refl
+        go true false = refl
+        go false true = refl
+        go false false = refl
+
+    far-form : (f : ℕ) → IsForm f → farFor f ts ≡ pick (near f ts) false true
+    unfolding farFor near
+    far-form f form = by-form (λ (f : ℕ). farFor f ts ≡ pick (near f ts) false true) refl far2 f form
+
+    size-at : (k : ℕ) → k < 8 → getD (placesOf (measured ts)) k 0 ≡ length (lane k ts)
+    unfolding measured
+    size-at k h =
+        measured-place ts 8 0 k h ∙ ap (λ (i : ℕ). laneEnd (freshLane i 0) ts) (zero-add k) ∙ lane-end k 0 ts (fits k) ∙ zero-add (length (lane k ts))
+
+-- ---- tokens, and numbers without columns behind them
+
+legal-front : (a b : List Token) → legalAll (a ++ b) ≡ true → legalAll a ≡ true
+unfolding legalAll
+legal-front [] b h = refl
+legal-front (t ∷ a) b h = go (legal t) h (λ p. legal-front a b p)
   where
-    one : firstLane 1 + lanesOf 1 ≤ 10
-    one = omega arith
+    go : (x : Bool) → pick x (legalAll (a ++ b)) false ≡ true → (legalAll (a ++ b) ≡ true → legalAll a ≡ true) → pick x (legalAll a) false ≡ true
+    go true p more = more p
+    go false p more = p
 
-    two : firstLane 2 + lanesOf 2 ≤ 10
-    two = omega arith
+module _ (f : ℕ) (form : IsForm f) (n : ℕ) (ts ds : List Token) (plain : All Plain ds) (lawful : legalAll (var n ∷ (ts ++ ds)) ≡ true)
+    (few : sizeAll (var n ∷ (ts ++ ds)) < 2 ^ 54) (z₀ : List ℕ) where
+  abbrev us : List Token
+  us = var n ∷ ts
 
--- ---- whether a difference could not be spelled
+  abbrev all : List Token
+  all = var n ∷ (ts ++ ds)
 
-module _ (j : Job) where
-  abbrev Far : ℕ → Type 0
-  Far f = legalAll (jobTokens f j) ≡ true → 21 * sizeAll (jobTokens f j) < brim
-      → farFrom j (firstLane f) (ledOf f) false ≡ pick (near f (jobTokens f j)) false true
+  abbrev z : List ℕ
+  z = sizesFor f ts z₀
 
-  far1 : Far 1
-  unfolding firstLane ledOf farFrom near
-  far1 legal low = refl
+  legal-us : legalAll us ≡ true
+  legal-us = legal-front us ds lawful
 
-  far2 : Far 2
-  unfolding firstLane ledOf farFrom near formOf inLine columnIn
-  far2 legal low =
-      let l : 0 + 21 * sizeAll (jobTokens 2 j) < brim = omega arith in
-      rw (
-        far-number j 2 0 0 refl legal l refl refl,
-        far-difference j 2 1 0 refl legal l refl refl,
-        far-difference j 2 2 0 refl legal l refl refl,
-        far-byte j 2 3 0 refl legal l refl refl,
-        far-line j 2 4 0 refl legal l refl,
-        far-number j 2 5 0 refl legal l refl refl,
-        far-byte j 2 6 0 refl legal l refl refl,
-        far-number j 2 7 0 refl legal l refl refl,
-      )
-      (go (nearIn 1 (jobTokens 2 j)) (nearIn 2 (jobTokens 2 j)))
-    where
-      go : (a b : Bool)
-          → (let c = pick (pick a false true) true (pick b false true) in
-          pick (pick (pick (pick (pick c true false) true false) true false) true false) true false ≡ pick (pick a b false) false true)
-      go true true = refl
-      go true false = refl
-      go false true = refl
-      go false false = refl
+  legal-ts : legalAll ts ≡ true
+  unfolding legalAll legal
+  legal-ts = legal-us
 
--- ---- a job in a form
+  size-all : sizeAll all ≡ sizeAll us + sizeAll ds
+  size-all = size-append us ds
 
-module _ (j : Job) (f : ℕ) (form : IsForm f) (legal : legalAll (jobTokens f j) ≡ true) (few : sizeAll (jobTokens f j) < 2 ^ 54) where
-  pub far-is : farFrom j (firstLane f) (ledOf f) false ≡ pick (near f (jobTokens f j)) false true
-  far-is = by-form (λ (f : ℕ). Far j f) (far1 j) (far2 j) f form legal (omega arith)
+  size-us : sizeAll us ≡ 10 + sizeAll ts
+  unfolding sizeAll sizeOf
+  size-us = refl
 
-  module _ (z₀ : List ℕ) (ten : 10 ≤ length z₀) where
-    abbrev z : List ℕ
-    z = sizesFrom j (firstLane f) (ledOf f) z₀
+  low-ts : 21 * sizeAll ts < brim
+  low-ts = omega (arith, few, size-all, size-us)
 
-    sizes-are : Sized z (jobTokens f j) (firstLane f) (ledOf f)
-    sizes-are = sizes-chain j f legal (firstLane f) (ledOf f) z₀ (omega arith) (leds-of f form) (omega (arith, last-lane f form, lanes-within f form))
+  -- what a lane before the last takes of all, it takes of ts
+  all-taken : (k : ℕ) → k < rest → takenAll k all ≡ takenAll k ts
+  all-taken k h = plain-taken us ds plain k h ∙ var-skipped n ts k h
 
-    made : chain z (jobTokens f j) (firstLane f) (lanesOf f) ≡ bytesOf f (jobTokens f j)
-    made = chain-form z (jobTokens f j) f form sizes-are (omega arith)
+  abbrev Sizes : ℕ → Type 0
+  Sizes f = Sized (sizesFor f ts z₀) us (firstLane f) (before f)
 
-    low : Low j f legal z (firstLane f) (lanesOf f) 0
-    low = omega (arith, few, chain-short z (jobTokens f j) f form)
+  sizes1 : Sizes 1
+  unfolding firstLane before
+  sizes1 i p q = absurd (omega arith)
 
-    -- without the last lane
-    part : length (chain z (jobTokens f j) (firstLane f) (ledOf f)) ≤ length (chain z (jobTokens f j) (firstLane f) (lanesOf f))
-    part = rw (last-lane f form) (chain-part z (jobTokens f j) (firstLane f) (ledOf f))
+  sizes2 : Sizes 2
+  unfolding firstLane before sizesFor
+  sizes2 i p q = size-at ts legal-ts low-ts i (omega arith) ∙ ap length (lane-same i ts us (sym (var-skipped n ts i (omega arith))))
 
-    pub total-le : totalFrom (sizesFrom j (firstLane f) (ledOf f) z₀) (firstLane f) (ledOf f) 0 ≤ length (bytesOf f (jobTokens f j))
-    total-le =
-        let t = totals-chain j f legal z (firstLane f) (ledOf f) 0 (leds-of f form) (omega (arith, low, part)) sizes-are in
-        omega (arith, t, part, ap length made)
+  sizes-are : Sizes f
+  sizes-are = by-form (λ (f : ℕ). Sizes f) sizes1 sizes2 f form
 
-    pub end-is : endFrom j (sizesFrom j (firstLane f) (ledOf f) z₀) (firstLane f) (lanesOf f) 0 ≡ length (bytesOf f (jobTokens f j))
-    end-is = ends-chain j f legal z (firstLane f) (lanesOf f) 0 (lanes-of f form) low ∙ omega (arith, ap length made)
+  few-us : sizeAll us < 2 ^ 54
+  few-us = omega (arith, few, size-all)
 
-    pub out-is : (out : List ℕ) → length (bytesOf f (jobTokens f j)) ≤ length out
-        → outFrom j (sizesFrom j (firstLane f) (ledOf f) z₀) (firstLane f) (lanesOf f) 0 out ≡ sets out 0 (bytesOf f (jobTokens f j))
-    out-is out room =
-        writes-chain j f legal z (firstLane f) (lanesOf f) 0 out (lanes-of f form) low (omega (arith, ap length made))
-        ∙ ap (λ (b : List ℕ). sets out 0 b) made
+  abbrev line : List ℕ
+  line = takenAll whole ds
+
+  all-bytes : bytesOf f all ≡ bytesOf f us ++ line
+  all-bytes = plain-bytes us ds plain f
+
+  all-length : length (bytesOf f all) ≡ length (bytesOf f us) + length line
+  all-length = ap length all-bytes ∙ length-append (bytesOf f us) line
+
+  line-low : length (bytesOf f us) + length line < brim
+  line-low = omega (arith, bytes-le f form z us sizes-are legal-us few-us, few, size-all, takenAll-le whole ds)
+
+  place : lastPlace (putTokens (begun f z) us) ≡ length (bytesOf f us)
+  place = lanes-place f form z us sizes-are legal-us few-us
+
+  pub far-is : farFor f ts ≡ pick (near f (var n ∷ (ts ++ ds))) false true
+  far-is =
+      far-form ts legal-ts low-ts f form
+      ∙ ap (λ (b : Bool). pick b false true) (sym (near-same f all ts (all-taken lefts (omega arith)) (all-taken rights (omega arith))))
+
+  pub end-is : endFor f (sizesFor f ts z₀) (var n ∷ ts) ds ≡ length (bytesOf f (var n ∷ (ts ++ ds)))
+  unfolding endFor
+  end-is = ap (λ (i : ℕ). putAll (freshLane whole i) ds .run .at) place ∙ line-end ds (length (bytesOf f us)) line-low ∙ sym all-length
+
+  pub out-is : (out : List ℕ) → length (bytesOf f (var n ∷ (ts ++ ds))) ≤ length out
+      → outFor f (sizesFor f ts z₀) (var n ∷ ts) ds out ≡ sets out 0 (bytesOf f (var n ∷ (ts ++ ds)))
+  unfolding outFor
+  out-is out room =
+      let b = bytesOf f us in
+      let o = sets out 0 b in
+      ap₂ (λ (o : List ℕ) (i : ℕ). laidAll o (freshLane whole i) ds) (lanes-out f form z us sizes-are legal-us few-us out (omega (arith, all-length))) place
+      ∙ line-written ds (length b) line-low o (omega (arith, all-length, length-sets out 0 b))
+      ∙ ap (λ (i : ℕ). sets o i line) (sym (zero-add (length b))) ∙ sym (sets-append b line out 0)
+      ∙ ap (λ (x : List ℕ). sets out 0 x) (sym all-bytes)

@@ -1,12 +1,12 @@
--- A diff with the number 0 was made: form, update and vector were good, nothing was cut inside a pair, every difference could be spelled.
-use Prim.Native.Nat.{ℕ}
+-- A diff with the number 0 was made: form, update and vector were good, nothing was cut inside a pair, every difference could be spelled, the bytes fit.
+use Prim.Native.Nat.{ℕ, _≤_}
 use mathlib.Core.Path.{_≡_, refl, sym, ap, _∙_}
 use mathlib.Core.Bool.{Bool, true, false}
 use mathlib.Core.List.{List}
 use native.Mathlib.Omega.{arith}
 use lib.Dec.{leb, eqb}
 use lib.ListN.{length}
-use borrow.Author.Tests.{eqb-true, eqb-false}
+use borrow.Author.Tests.{eqb-true, eqb-false, leb-true}
 use Rattle.numbers.specs.Number.{pick, none, nowhere}
 use Rattle.numbers.specs.Output.{verdict}
 use Rattle.grammar.specs.Course.{Course, item, over, stopped, ending}
@@ -38,6 +38,7 @@ pub record Done (form : ℕ) (u v : List ℕ) (to m n room : ℕ) : Type 0 where
   pub read : reading form u m n .refusal .number ≡ 0
   pub vector : Reads v
   pub why : diffWhy to u (entriesIn v) (reading form u m n .blocks) (reading form u m n .ranges) ≡ 0
+  pub fits : length (diffBytes to u (entriesIn v) (reading form u m n .blocks) (reading form u m n .ranges)) ≤ room
   pub bytes : diffOf form u v to m n room .bytes ≡ diffBytes to u (entriesIn v) (reading form u m n .blocks) (reading form u m n .ranges)
   pub source : diffOf form u v to m n room .reading ≡ reading form u m n
 
@@ -49,12 +50,22 @@ not-refused why room b z = go (eqb why 0) refl z
     go true e z = eqb-true why 0 e
     go false e z = z
 
+had-room : (why room : ℕ) (b : List ℕ) → verdict why room b ≡ 0 → length b ≤ room
+unfolding verdict
+had-room why room b z = go (eqb why 0) refl (leb (length b) room) refl z
+  where
+    go : (x : Bool) → eqb why 0 ≡ x → (y : Bool) → leb (length b) room ≡ y → pick x (pick y 0 10) why ≡ 0 → length b ≤ room
+    go true e true l z = leb-true (length b) room l
+    go true e false l z = absurd (omega (arith, z))
+    go false e y l z = absurd (eqb-false why 0 e z)
+
 module _ (u v : List ℕ) (to room : ℕ) (r : Reading) where
   abbrev bytes : List ℕ
   bytes = diffBytes to u (entriesIn v) (r .blocks) (r .ranges)
 
   record Made (d : Diffed) : Type 0 where
     why : diffWhy to u (entriesIn v) (r .blocks) (r .ranges) ≡ 0
+    fits : length (diffBytes to u (entriesIn v) (r .blocks) (r .ranges)) ≤ room
     same : d ≡ record { refusal = none; bytes = diffBytes to u (entriesIn v) (r .blocks) (r .ranges); reading = r }
 
   made : kept u (entriesIn v) to room r .refusal .number ≡ 0 → Made (kept u (entriesIn v) to room r)
@@ -65,7 +76,9 @@ module _ (u v : List ℕ) (to room : ℕ) (r : Reading) where
           → pick x (record { refusal = none; bytes = bytes; reading = r }) (refusedWith (nowhere (whyNot u (entriesIn v) to room r))) .refusal .number
           ≡ 0
           → Made (pick x (record { refusal = none; bytes = bytes; reading = r }) (refusedWith (nowhere (whyNot u (entriesIn v) to room r))))
-      go true e z = record { why = not-refused _ room bytes (eqb-true (whyNot u (entriesIn v) to room r) 0 e); same = refl }
+      go true e z =
+          let zero = eqb-true (whyNot u (entriesIn v) to room r) 0 e in
+          record { why = not-refused _ room bytes zero; fits = had-room _ room bytes zero; same = refl }
       go false e z = absurd (eqb-false (whyNot u (entriesIn v) to room r) 0 e z)
 
   record MadeAfter (d : Diffed) : Type 0 where
@@ -88,7 +101,7 @@ module _ (u v : List ℕ) (to room : ℕ) (r : Reading) where
           let reads = reads-then z in
           let same = vector-read u to room r v reads in
           let k = made (ap (λ (d : Diffed). d .refusal .number) (sym same) ∙ z) in
-          record { read = eqb-true (r .refusal .number) 0 e; vector = reads; made = record { why = k .why; same = same ∙ k .same } }
+          record { read = eqb-true (r .refusal .number) 0 e; vector = reads; made = record { why = k .why; fits = k .fits; same = same ∙ k .same } }
       go false e z = absurd (eqb-false (r .refusal .number) 0 e z)
 
 module _ (form : ℕ) (u v : List ℕ) (to m n room : ℕ) where
@@ -110,6 +123,7 @@ module _ (form : ℕ) (u v : List ℕ) (to m n room : ℕ) where
             read = k .read;
             vector = k .vector;
             why = k .made .why;
+            fits = k .made .fits;
             bytes = ap (λ (d : Diffed). d .bytes) all;
             source = ap (λ (d : Diffed). d .reading) all;
           }

@@ -1,8 +1,9 @@
--- Theorems about diffs: a diff is read again (Few, Done, Wholes, Reread), in either form the same (Forms); which entries of a vector count (Elsewhere);
--- what a diff has where the other side has everything or nothing (Ends); and case E (CaseE).
+-- Theorems about diffs: when one is done (Done, Doable); it is read again (Few, Wholes, Reread), in either form the same (Forms); which entries of a
+-- vector count (Elsewhere); what a diff has where the other side has everything or nothing (Ends); and case E (CaseE).
 pub mod Elsewhere
 pub mod Few
 pub mod Done
+pub mod Doable
 pub mod Ends
 pub mod Wholes
 pub mod Reread

@@ -35,6 +35,7 @@ use Rattle.diffs.specs.Promises.{Diffed, diffOf}
 use Rattle.rereading.specs.Vectors.{entriesIn}
 use Rattle.rereading.specs.Again.{keptBy, ReadAgain}
 use Rattle.rereading.proofs.Few.{few-tokens}
+use Rattle.rereading.proofs.Doable.{both-good}
 use Rattle.rereading.proofs.Done.{Done, done}
 use Rattle.rereading.proofs.Wholes.{AllRead, in-time, all-read}
 
@@ -98,19 +99,6 @@ module _ (to : ℕ) (u : List ℕ) (ss : List Section) (rs : List Range) (k : Ke
 
 -- ---- a diff
 
-record Good (to : ℕ) (u : List ℕ) (ss : List Section) (rs : List Range) : Type 0 where
-  clean : anyTorn u ss ≡ false
-  close : near to (updateTokens to u ss rs) ≡ true
-
-good : (to : ℕ) (u : List ℕ) (ss : List Section) (rs : List Range)
-    → _≡_ {A = ℕ} (pick (anyTorn u ss) 9 (pick (near to (updateTokens to u ss rs)) 0 13)) 0 → Good to u ss rs
-good to u ss rs z = go (anyTorn u ss) (near to (updateTokens to u ss rs)) refl refl z
-  where
-    go : (x y : Bool) → anyTorn u ss ≡ x → near to (updateTokens to u ss rs) ≡ y → _≡_ {A = ℕ} (pick x 9 (pick y 0 13)) 0 → Good to u ss rs
-    go true y t c z = absurd (omega (arith, z))
-    go false true t c z = record { clean = t; close = c }
-    go false false t c z = absurd (omega (arith, z))
-
 module _ (form : ℕ) (u v : List ℕ) (to m n room : ℕ) where
   abbrev R : Reading
   R = reading form u m n
@@ -125,12 +113,12 @@ module _ (form : ℕ) (u v : List ℕ) (to m n room : ℕ) where
       (reading to (diffBytes to u (entriesIn v) (R .blocks) (R .ranges)) m′ n′)
   unfolding diffWhy diffBytes diffTokens
   from-reading h a small m′ n′ rows ranges =
-      let g = good to u (keptBy v R) (R .ranges) (h .why) in
+      let g = both-good (anyTorn u (keptBy v R)) (near to (updateTokens to u (keptBy v R) (R .ranges))) (h .why) in
       let k = subst (λ (bs : List Block). Clean u (sectionsOf (entriesIn v) bs) → Kept u (sectionsOf (entriesIn v) bs)) (sym (a .blocks))
-      (kept-sections form u (entriesIn v)) (clean-sections u (keptBy v R) (g .clean)) in
+      (kept-sections form u (entriesIn v)) (clean-sections u (keptBy v R) (g .0)) in
       let l = subst KeptRanges (sym (a .ranges)) (kept-ranges form u (a .middle) n) in
       let few : length (R .ranges) ≤ length u = omega (arith, ap length (a .ranges), found-few form u (a .middle) n) in
-      found to u (keptBy v R) (R .ranges) k l (h .target) (a .short) few (g .close) small m′ n′ rows ranges
+      found to u (keptBy v R) (R .ranges) k l (h .target) (a .short) few (g .1) small m′ n′ rows ranges
 
   pub reread : diffOf form u v to m n room .refusal .number ≡ 0 → length (diffOf form u v to m n room .bytes) ≤ maxUpdate
       → (m′ n′ : ℕ) → pieceCount (keptBy v (diffOf form u v to m n room .reading)) ≤ m′ → length (diffOf form u v to m n room .reading .ranges) ≤ n′

@@ -22,13 +22,11 @@ use Rattle.kept.specs.Kept.{clientOf, sectionsOf}
 use Rattle.kept.specs.Cut.{anyTorn}
 use Rattle.records.specs.Records.{updateTokens}
 use Rattle.encoder.specs.Passes.{outcomeFor, wordsFor}
-use Rattle.passes.specs.Forms.{Job, job}
-use Rattle.passes.proofs.LeadBytes.{jobTokens}
 use Rattle.passes.proofs.Wholes.{IsForm}
 use Rattle.writing.specs.Diff.{diffTokens, diffBytes, diffWhy}
-use Rattle.writing.specs.Writing.{plannedAnswer, plannedOut, noPlan, jobFor, keptAnswer, keptOut}
+use Rattle.writing.specs.Writing.{Job, job, plannedAnswer, plannedOut, noPlan, jobFor, keptAnswer, keptOut}
 use Rattle.writing.proofs.Rows.{torn-is, tokens-are}
-use Rattle.writing.proofs.Planned.{farWhy, answer-planned, out-planned}
+use Rattle.writing.proofs.Planned.{jobTokens, farWhy, answer-planned, out-planned}
 
 -- ---- a job whose tokens are these
 

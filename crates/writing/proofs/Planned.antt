@@ -1,24 +1,30 @@
 -- Planned rows in a form: the answer and the bytes are those of a writer of the form's bytes, refused with 13 where a difference cannot be spelled.
-use Prim.Native.Nat.{ℕ, _^_, _≤_, _<_}
+use Prim.Native.Nat.{ℕ, _+_, _^_, _≤_, _<_}
 use mathlib.Core.Path.{_≡_, refl, sym, ap, _∙_}
 use mathlib.Core.Bool.{Bool, true, false}
-use mathlib.Core.List.{List, []}
+use mathlib.Core.List.{List, [], _∷_, _++_}
 use native.Mathlib.Nat.{zero-add}
 use native.Mathlib.Omega.{arith}
 use lib.Dec.{ltb, leb, eqb}
-use lib.ListN.{length, take, replicate, length-replicate}
+use lib.ListN.{length, take, replicate}
 use lib.Seq.{sets}
 use borrow.Author.Tests.{ltb-true, ltb-false, lt-leb, le-leb, leb-true, eqb-true, eqb-false}
 use Rattle.numbers.specs.Number.{pick}
 use Rattle.numbers.specs.Output.{padded, verdict, refusal, done, written, put}
 use Rattle.numbers.proofs.Output.{take-sets, refused-answer, refused-bytes, done-answer, done-bytes}
-use Rattle.tokens.specs.Tokens.{Token}
+use Rattle.readings.specs.Sound.{All}
+use Rattle.tokens.specs.Tokens.{Token, var}
 use Rattle.tokens.specs.Bytes.{bytesOf, near}
 use Rattle.tokens.proofs.Fitting.{sizeAll, legalAll}
-use Rattle.passes.specs.Forms.{Job, firstLane, lanesOf, ledOf, totalFrom, outFrom}
-use Rattle.passes.proofs.LeadBytes.{jobTokens}
-use Rattle.passes.proofs.Wholes.{IsForm, far-is, total-le, end-is, out-is}
-use Rattle.writing.specs.Writing.{sizesOf, endOf, plannedWhy, plannedAnswer, plannedOut}
+use Rattle.records.proofs.Deletes.{deletes-plain}
+use Rattle.passes.specs.Forms.{outFor}
+use Rattle.passes.proofs.Plain.{Plain, var-plain}
+use Rattle.passes.proofs.Wholes.{IsForm, far-is, end-is, out-is}
+use Rattle.writing.specs.Writing.{Job, plannedIn, deletesIn, sizesIn, endIn, plannedWhy, plannedAnswer, plannedOut}
+
+-- all tokens of a job
+abbrev pub jobTokens : ℕ → Job → List Token
+jobTokens form j = var (j .sections) ∷ (plannedIn j ++ deletesIn form j)
 
 -- 13 where form 2 needs a difference that it cannot spell
 abbrev pub farWhy : ℕ → List Token → ℕ
@@ -34,14 +40,13 @@ verdict-fits why n b h = go (eqb why 0) refl (leb (length b) n) refl h
     go true e false f h = absurd (omega (arith, h))
     go false e y f h = absurd (eqb-false why 0 e h)
 
--- the steps' tests are the verdict's: what has no room for a part has none for all
-tests-verdict : (room part size : ℕ) → part ≤ size → _≡_ {A = ℕ} (pick (ltb room part) 10 (pick (ltb room size) 10 0)) (pick (leb size room) 0 10)
-tests-verdict room part size h = go (ltb room part) refl (ltb room size) refl
+-- the step's test is the verdict's
+test-verdict : (room size : ℕ) → _≡_ {A = ℕ} (pick (ltb room size) 10 0) (pick (leb size room) 0 10)
+test-verdict room size = go (ltb room size) refl
   where
-    go : (x : Bool) → ltb room part ≡ x → (y : Bool) → ltb room size ≡ y → _≡_ {A = ℕ} (pick x 10 (pick y 10 0)) (pick (leb size room) 0 10)
-    go true e y f = rw (lt-leb size room (omega (arith, h, ltb-true room part e)))
-    go false e true f = rw (lt-leb size room (ltb-true room size f))
-    go false e false f = rw (le-leb size room (ltb-false room size f))
+    go : (y : Bool) → ltb room size ≡ y → _≡_ {A = ℕ} (pick y 10 0) (pick (leb size room) 0 10)
+    go true f = rw (lt-leb size room (ltb-true room size f))
+    go false f = rw (le-leb size room (ltb-false room size f))
 
 stored : (out b : List ℕ) → length b ≤ length out → take (length b) (sets out 0 b) ≡ b
 stored out b h = ap (λ (n : ℕ). take n (sets out 0 b)) (sym (zero-add (length b))) ∙ take-sets out b 0 (omega (arith, h))
@@ -53,22 +58,22 @@ module _ (j : Job) (f : ℕ) (form : IsForm f) (legal : legalAll (jobTokens f j)
   abbrev why : ℕ
   why = farWhy f (jobTokens f j)
 
-  ten : 10 ≤ length (replicate {A = ℕ} 10 0)
-  ten = omega (arith, length-replicate {A = ℕ} 10 0)
+  abbrev ds : List Token
+  ds = deletesIn f j
 
-  end-at : endOf j f ≡ length bytes
-  end-at = end-is j f form legal few (replicate 10 0) ten
+  plain : All Plain ds
+  plain = deletes-plain Plain var-plain f (j .ranges)
+
+  end-at : endIn j f ≡ length bytes
+  end-at = end-is f form (j .sections) (plannedIn j) ds plain legal few (replicate 8 0)
 
   why-is : (room : ℕ) → plannedWhy j f room ≡ verdict why room bytes
   unfolding plannedWhy verdict
-  why-is room = rw (far-is j f form legal few, end-at) (go (near f (jobTokens f j)))
+  why-is room = rw (far-is f form (j .sections) (plannedIn j) ds plain legal few (replicate 8 0), end-at) (go (near f (jobTokens f j)))
     where
-      part : ℕ
-      part = totalFrom (sizesOf j f) (firstLane f) (ledOf f) 0
-
-      go : (x : Bool) → _≡_ {A = ℕ} (pick (pick x false true) 13 (pick (ltb room part) 10 (pick (ltb room (length bytes)) 10 0)))
+      go : (x : Bool) → _≡_ {A = ℕ} (pick (pick x false true) 13 (pick (ltb room (length bytes)) 10 0))
           (pick (eqb (pick x 0 13) 0) (pick (leb (length bytes) room) 0 10) (pick x 0 13))
-      go true = tests-verdict room part (length bytes) (total-le j f form legal few (replicate 10 0) ten)
+      go true = test-verdict room (length bytes)
       go false = refl
 
   pub answer-planned : (room : ℕ) → plannedAnswer j f room ≡ written (farWhy f (jobTokens f j)) room (bytesOf f (jobTokens f j))
@@ -88,10 +93,10 @@ module _ (j : Job) (f : ℕ) (form : IsForm f) (legal : legalAll (jobTokens f j)
       v = verdict why (length out) bytes
 
       laid : List ℕ
-      laid = outFrom j (sizesOf j f) (firstLane f) (lanesOf f) 0 out
+      laid = outFor f (sizesIn j f) (var (j .sections) ∷ plannedIn j) ds out
 
       laid-is : length bytes ≤ length out → take (length bytes) laid ≡ bytes
-      laid-is h = ap (take (length bytes)) (out-is j f form legal few (replicate 10 0) ten out h) ∙ stored out bytes h
+      laid-is h = ap (take (length bytes)) (out-is f form (j .sections) (plannedIn j) ds plain legal few (replicate 8 0) out h) ∙ stored out bytes h
 
       go : (x : Bool) → eqb v 0 ≡ x → padded (length out) (pick x (take (length bytes) laid) []) ≡ put why (length out) bytes
       go true e =

@@ -24,7 +24,7 @@ use Rattle.kept.proofs.SectionsTorn.{plan-torn}
 use Rattle.records.specs.Records.{blockTokens, piecesTokens, startOf, sectionTokens, sectionsTokens, deleteTokens, updateTokens}
 use Rattle.records.specs.Stops.{headTokens, rowTokens, stopsTokens}
 use Rattle.records.proofs.Stops.{stopTokens, stops-none, stops-in}
-use Rattle.encoder.specs.Passes.{outcomeOf, outcomeFor, wordsFor, tokensFor}
+use Rattle.encoder.specs.Passes.{outcomeOf, outcomeFor, wordsFor, plannedTokens}
 
 head-opened : (count from : ℕ) (b : Block) (n c : ℕ) → count ≡ suc n → b .client ≡ c
     → headTokens count from b ≡ var (suc n) ∷ (client c ∷ (var (b .clock + from) ∷ []))
@@ -103,8 +103,9 @@ module _ (u : List ℕ) (v : List Entry) (w : List ℕ) (bs : List Block) (short
 
   pub tokens-are : (rows : List Block) (t : ℕ) (rs : List Range) → take (length bs) rows ≡ bs → length bs ≤ length rows
       → anyTorn u (sectionsOf v bs) ≡ false
-      → tokensFor t u rows (wordsFor u v w bs) (outcomeFor u v w bs .sections) rs ≡ updateTokens t u (sectionsOf v bs) rs
-  unfolding tokensFor updateTokens
+      → var (outcomeFor u v w bs .sections) ∷ (plannedTokens u rows (wordsFor u v w bs) (outcomeFor u v w bs .sections) ++ deleteTokens t rs)
+      ≡ updateTokens t u (sectionsOf v bs) rs
+  unfolding plannedTokens updateTokens
   tokens-are rows t rs same fits untorn =
       let n = outcomeFor u v w bs .sections in
       let ss = sectionsOf v bs in

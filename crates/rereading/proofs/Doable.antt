@@ -1,0 +1,63 @@
+-- A diff is done exactly where it can be: the number is 0 if form, update and vector are good, no cut falls inside a pair, no difference is too far and
+-- the bytes fit, and only then.
+use Prim.Native.Nat.{ℕ}
+use mathlib.Core.Path.{_≡_, refl, ap, _∙_}
+use mathlib.Core.Bool.{Bool, true, false}
+use mathlib.Core.List.{List}
+use native.Mathlib.Omega.{arith}
+use borrow.Author.Tests.{eq-eqb}
+use Rattle.numbers.specs.Number.{pick, none, nowhere}
+use Rattle.numbers.proofs.Output.{verdict-done}
+use Rattle.vector.specs.Vector.{vectorOf}
+use Rattle.tokens.specs.Bytes.{near}
+use Rattle.kept.specs.Cut.{anyTorn}
+use Rattle.updates.specs.Promises.{Reading, reading}
+use Rattle.writing.specs.Diff.{diffTokens, diffBytes, diffWhy}
+use Rattle.diffs.specs.Promises.{Diffed, refusedWith, whyNot, kept, against, afterReading, diffOf}
+use Rattle.rereading.specs.Vectors.{entriesIn}
+use Rattle.rereading.specs.Again.{keptBy}
+use Rattle.rereading.specs.Doable.{Doable}
+use Rattle.rereading.proofs.Elsewhere.{vector-read}
+use Rattle.rereading.proofs.Done.{done}
+
+-- neither 9 nor 13
+pub both-good : (torn close : Bool) → _≡_ {A = ℕ} (pick torn 9 (pick close 0 13)) 0 → (torn ≡ false) × (close ≡ true)
+both-good true close z = absurd (omega (arith, z))
+both-good false true z = (refl, refl)
+both-good false false z = absurd (omega (arith, z))
+
+module _ (form : ℕ) (u v : List ℕ) (to m n room : ℕ) where
+  abbrev R : Reading
+  R = reading form u m n
+
+  abbrev made : Diffed
+  made = record { refusal = none; bytes = diffBytes to u (entriesIn v) (R .blocks) (R .ranges); reading = R }
+
+  module _ (h : Doable form u v to m n room) where
+    why-none : diffWhy to u (entriesIn v) (R .blocks) (R .ranges) ≡ 0
+    unfolding diffWhy
+    why-none = rw (h .untorn, h .close)
+
+    kept-made : kept u (entriesIn v) to room R ≡ made
+    unfolding kept whyNot
+    kept-made =
+        rw (verdict-done (diffWhy to u (entriesIn v) (R .blocks) (R .ranges)) room (diffBytes to u (entriesIn v) (R .blocks) (R .ranges)) why-none (h .fits))
+
+    -- the bytes are the diff's, and the reading is the update's
+    pub diff-made : diffOf form u v to m n room
+        ≡ record { refusal = none; bytes = diffBytes to u (entriesIn v) (reading form u m n .blocks) (reading form u m n .ranges); reading = reading form u m n }
+    unfolding diffOf afterReading
+    diff-made =
+        ap (λ (x : Bool). pick x (afterReading u (vectorOf v) to room R) (refusedWith (nowhere 12))) (h .target)
+        ∙ ap (λ (x : Bool). pick x (against u (vectorOf v) to room R) (refusedWith (R .refusal))) (eq-eqb (R .refusal .number) 0 (h .read))
+        ∙ vector-read u to room R v (h .vector) ∙ kept-made
+
+    pub diff-done : diffOf form u v to m n room .refusal .number ≡ 0
+    diff-done = ap (λ (d : Diffed). d .refusal .number) diff-made
+
+  pub done-only : diffOf form u v to m n room .refusal .number ≡ 0 → Doable form u v to m n room
+  unfolding diffWhy
+  done-only z =
+      let d = done form u v to m n room z in
+      let good = both-good (anyTorn u (keptBy v R)) (near to (diffTokens to u (entriesIn v) (R .blocks) (R .ranges))) (d .why) in
+      record { target = d .target; read = d .read; vector = d .vector; untorn = good .0; close = good .1; fits = d .fits }
