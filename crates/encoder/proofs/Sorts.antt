@@ -12,8 +12,6 @@ use Rattle.text.proofs.Units as Units₁
 use Rattle.text.proofs.Units.Laws as Units₂
 use Rattle.text.proofs.Bytes as text·Bytes₁
 use Rattle.text.proofs.Bytes.Laws as text·Bytes₂
-use Rattle.tokens.proofs.Lane as Lane₁
-use Rattle.tokens.proofs.Lane.Laws as Lane₂
 use Rattle.kept.proofs.cursor.Cursor as Cursor₁
 use Rattle.kept.proofs.cursor.Cursor.Laws as Cursor₂
 use Rattle.kept.proofs.plan.Planning as Planning₁
@@ -41,18 +39,6 @@ text·bytes = record {
   copy = λ M 𝓤 H A W. LL.copy text·Bytes₁.the-type text·Bytes₂.the-copy 𝓤 H A W;
   makes = λ M 𝓤 H A W. LL.makes text·Bytes₁.the-type text·Bytes₂.the-plain 𝓤 H A;
   lawful = λ M 𝓤 H A W. LL.lawful text·Bytes₁.the-type text·Bytes₂.the-laws 𝓤 H A W;
-  last = λ x. tt;
-  silent = λ x w. refl;
-}
-
-abbrev pub lane : Kind
-lane = record {
-  row = Lane₁.the-row;
-  val = LL.val Lane₁.the-type Lane₂.the-laws;
-  tells = LL.tells Lane₁.the-type Lane₂.the-laws;
-  copy = λ M 𝓤 H A W. LL.copy Lane₁.the-type Lane₂.the-copy 𝓤 H A W;
-  makes = λ M 𝓤 H A W. LL.makes Lane₁.the-type Lane₂.the-plain 𝓤 H A;
-  lawful = λ M 𝓤 H A W. LL.lawful Lane₁.the-type Lane₂.the-laws 𝓤 H A W;
   last = λ x. tt;
   silent = λ x w. refl;
 }

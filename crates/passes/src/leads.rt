@@ -81,10 +81,10 @@ pub fn open(out: &mut [u8], lanes: &mut [u64], sizes: &[u64], form: u8) -> usize
     at
 }
 
-// The ends of all lanes.
+// The ends of all lanes; the lane in line has none, wherever it stands.
 pub fn close(out: &mut [u8], lanes: &mut [u64], form: u8)
     requires { ⌜ Tidy (now lanes) ⌝ }
-    ensures { λ _. ⌜ (at : ℕ) → now (out .exit) ≡ laidEnds (now (out .entry)) (deskIn form (now (lanes .entry)) at) ⌝ }
+    ensures { λ _. ⌜ now (out .exit) ≡ laidEnds (now (out .entry)) (deskIn form (now (lanes .entry)) 0) ⌝ }
 {
     if form == 1 {
         return;

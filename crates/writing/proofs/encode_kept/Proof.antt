@@ -41,9 +41,8 @@ use Rattle.numbers.specs.declared.Written.{Written}
 use Rattle.encoder.specs.Passes.{outcomeFor, wordsFor}
 use Rattle.kept.specs.Plan.{entriesOf}
 use Rattle.numbers.specs.Output.{padded, refusal}
-use Rattle.passes.specs.Forms.{job}
 use Rattle.ranges.specs.Table.{rowsFrom}
-use Rattle.writing.specs.Writing.{keptAnswer, keptOut, plannedAnswer, plannedOut}
+use Rattle.writing.specs.Writing.{job, keptAnswer, keptOut, plannedAnswer, plannedOut}
 use Rattle.encoder.proofs.Sorts.{outcome, outcome-sections}
 use Rattle.table.proofs.Sorts.{block}
 use Rattle.writing.proofs.Sorts.{written}

@@ -1,7 +1,7 @@
--- `writing::encode_planned` meets its contract: the lanes before the last are measured; then it is 13, or 10, or all lanes are written.
+-- `writing::encode_planned` meets its contract: measured, then written; 13 if a difference is too far, 10 if there is no room.
 -- A walk of its MIR by hand (tools/walkgen.py walk). Assumes nothing.
 use mathlib.Core.Path.{_≡_, refl}
-use Prim.Native.Nat.{ℕ, _+_, _-_, _*_, _≤_}
+use Prim.Native.Nat.{ℕ, _*_, _≤_}
 use native.Mathlib.Omega.{arith}
 use borrow.Author.Tests.{ltb-false}
 use mathlib.Core.Bool.{false}
@@ -33,38 +33,29 @@ use denote.Triple.Spec.{tripleOf}
 use denote.Triple.Table.{entered, cited}
 use denote.Triple.Walked.{needs, walkOf, ends-at}
 use Rattle.walks.proofs.Rows.{Has, byte, word}
-use Rattle.walks.proofs.Refs.{Seat, seatOf, Arg, val, mut, pass, Held, tab, refs, back, vals, ends, enters, leaves, calls-by}
+use Rattle.walks.proofs.Refs.{Seat, seatOf, Arg, val, mut, pass, Held, tab, refs, back, vals, ends, enters, leaves, knows, calls-by}
 use Rattle.walks.proofs.Params.{Form, by-value, by-mut, by-ref, stays, goes, spells, tells}
 use Rattle.walks.proofs.Own.{own-seat, array-typed, own-lends, own-back}
 use Rattle.walks.proofs.Walk.{has, bare, retyped, Envs, envOf, locals, alloc-all, free-all, meets}
 use Rattle.walks.proofs.Flow.{flat, tests, skip-on, return-on}
 use Rattle.block.specs.declared.Block.{Block}
 use Rattle.numbers.specs.declared.Written.{Written}
+use Rattle.encoder.specs.Passes.{plannedTokens}
 use Rattle.numbers.specs.Output.{done, padded, refusal}
-use Rattle.passes.specs.Forms.{endFrom, firstLane, job, lanesOf, ledOf, outFrom, sizesFrom}
+use Rattle.passes.specs.Forms.{endFor, outFor, sizesFor}
 use Rattle.ranges.specs.Table.{rowsFrom}
-use Rattle.writing.specs.Writing.{plannedAnswer, plannedOut}
+use Rattle.records.specs.Records.{deleteTokens}
+use Rattle.tokens.specs.Tokens.{var}
+use Rattle.writing.specs.Writing.{job, plannedAnswer, plannedOut}
 use Rattle.table.proofs.Sorts.{block}
 use Rattle.writing.proofs.Sorts.{written}
-use Rattle.writing.proofs.Cards.{Passes·leads·first-lane, Passes·leads·lanes-end, Passes·leads·led-end, Passes·measure, Numbers·refuse, Passes·leads·total, Passes·write, Numbers·finish, passes·leads·first-lane!, passes·leads·lanes-end!, passes·leads·led-end!, passes·measure!, numbers·refuse!, passes·leads·total-sizes!, passes·write-sizes!, numbers·finish! }
-use Rattle.passes.proofs.leads.first_lane.Symbol as passes·leads·first-lane-def
-use Rattle.passes.proofs.leads.first_lane.Symbol.{name as #passes·leads·first-lane}
-use Rattle.passes.proofs.leads.first_lane.Met as passes·leads·first-lane-thm
-use Rattle.passes.proofs.leads.lanes_end.Symbol as passes·leads·lanes-end-def
-use Rattle.passes.proofs.leads.lanes_end.Symbol.{name as #passes·leads·lanes-end}
-use Rattle.passes.proofs.leads.lanes_end.Met as passes·leads·lanes-end-thm
-use Rattle.passes.proofs.leads.led_end.Symbol as passes·leads·led-end-def
-use Rattle.passes.proofs.leads.led_end.Symbol.{name as #passes·leads·led-end}
-use Rattle.passes.proofs.leads.led_end.Met as passes·leads·led-end-thm
+use Rattle.writing.proofs.Cards.{Passes·measure, Numbers·refuse, Passes·write, Numbers·finish, passes·measure!, numbers·refuse!, passes·write-sizes!, numbers·finish! }
 use Rattle.passes.proofs.measure.Symbol as passes·measure-def
 use Rattle.passes.proofs.measure.Symbol.{name as #passes·measure}
 use Rattle.passes.proofs.measure.Met as passes·measure-thm
 use Rattle.numbers.proofs.refuse.Symbol as numbers·refuse-def
 use Rattle.numbers.proofs.refuse.Symbol.{name as #numbers·refuse}
 use Rattle.numbers.proofs.refuse.Met as numbers·refuse-thm
-use Rattle.passes.proofs.leads.total.Symbol as passes·leads·total-def
-use Rattle.passes.proofs.leads.total.Symbol.{name as #passes·leads·total}
-use Rattle.passes.proofs.leads.total.Met as passes·leads·total-thm
 use Rattle.passes.proofs.write.Symbol as passes·write-def
 use Rattle.passes.proofs.write.Symbol.{name as #passes·write}
 use Rattle.passes.proofs.write.Met as passes·write-thm
@@ -75,8 +66,7 @@ use Rattle.writing.proofs.encode_planned.Key.{name as #it}
 use Rattle.writing.proofs.encode_planned as f
 use Rattle.writing.proofs.encode_planned.Statement as stated
 use Rattle.writing.proofs.encode_planned.Code as code
-use lib.ListN.{length-replicate}
-use Rattle.writing.proofs.Exits.{lanes-least, led-least, out-length, sizes-length, exit-far, exit-total, exit-end, exit-done}
+use Rattle.writing.proofs.Exits.{exit-far, exit-end, exit-done}
 
 abbrev fs : List (Form 5)
 fs = by-ref 0 tt byte ∷ by-value byte ∷ by-ref 1 tt block ∷ by-ref 2 tt word ∷ by-value word ∷ by-ref 3 tt word ∷ by-value word ∷ by-mut 4 tt byte ∷ []
@@ -146,99 +136,81 @@ module _ {M : Type 1} (𝓤 : URA M) (H : Heap 𝓤) (A : Atoms 𝓤) (W : Given
   exits : (r : Written) (out₁ : List ℕ) → Has written r → Right r out₁ → ent 𝓤 (sem 𝓤 H A (refs (hs out₁))) (Post (written .val r))
   exits r out₁ g e = leaves 𝓤 H A W (ps out₁) (refl, tt) written r g (Right r out₁) e (Post (written .val r)) (λ fit. ends-at 𝓤 H A f.ended (stays fs) (f.clauses 𝓤 H A mem run) W ((κs, qs, bounds, a, at-entry), tt) (written .val r) r (ends (ps out₁)) fit)
 
-  module _ (𝓣 : Tables 𝓤 H) (known-passes·leads·first-lane : Triple 𝓤 (𝓣 .C #passes·leads·first-lane) (Passes·leads·first-lane 𝓤 H A mem run)) (known-passes·leads·lanes-end : Triple 𝓤 (𝓣 .C #passes·leads·lanes-end) (Passes·leads·lanes-end 𝓤 H A mem run)) (known-passes·leads·led-end : Triple 𝓤 (𝓣 .C #passes·leads·led-end) (Passes·leads·led-end 𝓤 H A mem run)) (known-passes·measure : Triple 𝓤 (𝓣 .C #passes·measure) (Passes·measure 𝓤 H A mem run)) (known-numbers·refuse : Triple 𝓤 (𝓣 .C #numbers·refuse) (Numbers·refuse 𝓤 H A mem run)) (known-passes·leads·total : Triple 𝓤 (𝓣 .C #passes·leads·total) (Passes·leads·total 𝓤 H A mem run)) (known-passes·write : Triple 𝓤 (𝓣 .C #passes·write) (Passes·write 𝓤 H A mem run)) (known-numbers·finish : Triple 𝓤 (𝓣 .C #numbers·finish) (Numbers·finish 𝓤 H A mem run)) where
+  -- what is measured, where it ends, and what is written
+  abbrev sizes : List ℕ
+  sizes = sizesFor form₀ (plannedTokens update₀ rows₀ plan₀ sections₀) (replicate 8 0)
+
+  abbrev end : ℕ
+  end = endFor form₀ sizes (var sections₀ ∷ plannedTokens update₀ rows₀ plan₀ sections₀) (deleteTokens form₀ (rowsFrom ranges₀ 0 n₀))
+
+  abbrev bytes : List ℕ
+  bytes = outFor form₀ sizes (var sections₀ ∷ plannedTokens update₀ rows₀ plan₀ sections₀) (deleteTokens form₀ (rowsFrom ranges₀ 0 n₀)) out₀
+
+  module _ (𝓣 : Tables 𝓤 H) (known-passes·measure : Triple 𝓤 (𝓣 .C #passes·measure) (Passes·measure 𝓤 H A mem run)) (known-numbers·refuse : Triple 𝓤 (𝓣 .C #numbers·refuse) (Numbers·refuse 𝓤 H A mem run)) (known-passes·write : Triple 𝓤 (𝓣 .C #passes·write) (Passes·write 𝓤 H A mem run)) (known-numbers·finish : Triple 𝓤 (𝓣 .C #numbers·finish) (Numbers·finish 𝓤 H A mem run)) where
     walk : ((3 * n₀ ≤ length ranges₀) × (5 * sections₀ ≤ length plan₀)) → ent 𝓤 (onEntry 𝓤 H A f.signature κs qs a at-entry) (WpFn 𝓤 H (𝓣 .C) (𝓣 .Λ) fn (vals (ps out₀)) Post)
     walk req =
         qed W (raw (onEntry 𝓤 H A f.signature κs qs a at-entry) ∷ []) ∵ use1 W (‵ (refs (hs out₀))) (enters 𝓤 H A W (ps out₀)) $ enter ! (𝓣 .C) (𝓣 .Λ) fn (vals (ps out₀)) _ $
-        alloc-all ! (fn .locals) (λ l₀ l₁ l₂ l₃ l₄ l₅ l₆ l₇ l₈ l₉ l₁₀ l₁₁ l₁₂ l₁₃ l₁₄ l₁₅ l₁₆ l₁₇ l₁₈ l₁₉ l₂₀ l₂₁ l₂₂ l₂₃ l₂₄ l₂₅ l₂₆ l₂₇ l₂₈ l₂₉ l₃₀ l₃₁ l₃₂ l₃₃ l₃₄ l₃₅. let ls : List ℕ = l₀ ∷ l₁ ∷ l₂ ∷ l₃ ∷ l₄ ∷ l₅ ∷ l₆ ∷ l₇ ∷ l₈ ∷ l₉ ∷ l₁₀ ∷ l₁₁ ∷ l₁₂ ∷ l₁₃ ∷ l₁₄ ∷ l₁₅ ∷ l₁₆ ∷ l₁₇ ∷ l₁₈ ∷ l₁₉ ∷ l₂₀ ∷ l₂₁ ∷ l₂₂ ∷ l₂₃ ∷ l₂₄ ∷ l₂₅ ∷ l₂₆ ∷ l₂₇ ∷ l₂₈ ∷ l₂₉ ∷ l₃₀ ∷ l₃₁ ∷ l₃₂ ∷ l₃₃ ∷ l₃₄ ∷ l₃₅ ∷ [] in let En : Envs = envOf (fn .locals) ls in
-        params1 ! $ pass1 ! (init ! 68 refl (tt, (tt, (record { fits = are .0 .0 .1 .0 }, tt)))) $ pass1 ! (init ! 66 refl (byte .lawful M 𝓤 H A W .typed form₀ _ (are .1 .0) .0)) $ pass1 ! (init ! 64 refl (tt, (tt, (record { fits = are .1 .1 .0 .0 .1 .0 }, tt)))) $ pass1 ! (init ! 62 refl (tt, (tt, (record { fits = are .1 .1 .1 .0 .0 .1 .0 }, tt)))) $ pass1 ! (init ! 60 refl (word .lawful M 𝓤 H A W .typed sections₀ _ (are .1 .1 .1 .1 .0) .0)) $ pass1 ! (init ! 58 refl (tt, (tt, (record { fits = are .1 .1 .1 .1 .1 .0 .0 .1 .0 }, tt)))) $ pass1 ! (init ! 56 refl (word .lawful M 𝓤 H A W .typed n₀ _ (are .1 .1 .1 .1 .1 .1 .0) .0)) $ pass1 ! (init ! 54 refl (tt, (tt, (record { fits = are .1 .1 .1 .1 .1 .1 .1 .0 .0 .1 .0 }, tt)))) $ pass0 ! $ move ! (72 ∷ []) $
-        -- [the references; _35 at 1; _34 at 3; _33 at 5; _32 at 7; _31 at 9; _30 at 11; _29 at 13; _28 at 15; _27 at 17; _26 at 19; _25 at 21; _24 at 23; _23 at 25; _22 at 27; _21 at 29; _20 at 31; _19 at 33; _18 at 35; _17 at 37; _16 at 39; _15 at 41; _14 at 43; _13 at 45; _12 at 47; _11 at 49; _10 at 51; _9 at 53; _8 at 55; _7 at 57; _6 at 59; _5 at 61; _4 at 63; _3 at 65; _2 at 67; _1 at 69; _0 at 71]
-        array-typed ! word 10 0 (refl, lit< tt) (λ ty₉.
-        assigns ! (rep ! 10 (lit ! tt)) (from ! (stop !)) (init ! 53 refl (ty₉ .0)) $
-        assigns ! (addr ! (from ! (stop !))) (from ! (stop !)) (init ! 37 refl (tt, tt)) $
-        assigns ! (agg ! (and-then ! (load ! (from ! (stop !)) (look ! 37 refl)) (and-then ! (lit ! tt) (no-more !)))) (from ! (stop !)) (init ! 51 refl (tt, (tt, (record { fits = lit< tt }, tt)))) $
-        move ! (0 ∷ 53 ∷ []) $ own-lends ! tt word tt 10 10 (omega (arith)) 0 l₉ (refl, lit< tt) (lit< tt, lit< tt) (hs out₀) (λ ν₉ δ₉. move ! (0 ∷ 2 ∷ 3 ∷ 4 ∷ 5 ∷ 6 ∷ 7 ∷ 8 ∷ 9 ∷ 10 ∷ 11 ∷ 12 ∷ 13 ∷ 14 ∷ 15 ∷ 16 ∷ 17 ∷ 18 ∷ 19 ∷ 20 ∷ 21 ∷ 22 ∷ 23 ∷ 24 ∷ 25 ∷ 26 ∷ 27 ∷ 28 ∷ 29 ∷ 30 ∷ 31 ∷ 32 ∷ 33 ∷ 34 ∷ 35 ∷ 36 ∷ 37 ∷ 38 ∷ 39 ∷ 40 ∷ 41 ∷ 42 ∷ 43 ∷ 44 ∷ 45 ∷ 46 ∷ 47 ∷ 48 ∷ 49 ∷ 50 ∷ 51 ∷ 52 ∷ 53 ∷ 1 ∷ []) $
-        calls-by ! (fmOf 𝓤 H (W .laws) 𝓣) ([]) (tab word (own-seat l₉ 10 ν₉ δ₉) (replicate 10 0) ∷ hs out₀) (passes·leads·first-lane! 𝓤 H A mem run (𝓣 .C) known-passes·leads·first-lane form₀ (are .1 .0)) refl (λ P. and-then ! (load ! (from ! (stop !)) (look ! 67 refl)) (no-more !)) (λ g₁.
-        land ! (from ! (stop !)) (init ! 49 refl (g₁ .1 .0)) $
-        calls-by ! (fmOf 𝓤 H (W .laws) 𝓣) ([]) (tab word (own-seat l₉ 10 ν₉ δ₉) (replicate 10 0) ∷ hs out₀) (passes·leads·lanes-end! 𝓤 H A mem run (𝓣 .C) known-passes·leads·lanes-end form₀ (are .1 .0)) refl (λ P. and-then ! (load ! (from ! (stop !)) (look ! 67 refl)) (no-more !)) (λ g₂.
-        land ! (from ! (stop !)) (init ! 47 refl (g₂ .1 .0)) $
-        calls-by ! (fmOf 𝓤 H (W .laws) 𝓣) ([]) (tab word (own-seat l₉ 10 ν₉ δ₉) (replicate 10 0) ∷ hs out₀) (passes·leads·led-end! 𝓤 H A mem run (𝓣 .C) known-passes·leads·led-end form₀ (are .1 .0)) refl (λ P. and-then ! (load ! (from ! (stop !)) (look ! 67 refl)) (no-more !)) (λ g₃.
-        land ! (from ! (stop !)) (init ! 45 refl (g₃ .1 .0)) $
-        assigns ! (addr ! (from ! (fld ! refl (hop ! (look-in ! 51 (sub ! 0 refl (whole !))) (stop !))))) (from ! (stop !)) (init ! 35 refl (tt, tt)) $
-        assigns ! (agg ! (and-then ! (load ! (from ! (stop !)) (look ! 35 refl)) (and-then ! (load ! (from ! (fld ! refl (stop !))) (look-in ! 51 (sub ! 1 refl (whole !)))) (no-more !)))) (from ! (stop !)) (init ! 33 refl (tt, (tt, (record { fits = lit< tt }, tt)))) $
-        calls-by ! (fmOf 𝓤 H (W .laws) 𝓣) (0 ∷ 1 ∷ 2 ∷ 3 ∷ 4 ∷ []) (tab word (own-seat l₉ 10 ν₉ δ₉) (replicate 10 0) ∷ hs out₀) (passes·measure! 𝓤 H A mem run (𝓣 .C) known-passes·measure (own-seat l₉ 10 ν₉ δ₉) (replicate 10 0) at-update update₀ at-rows rows₀ at-plan plan₀ sections₀ (are .1 .1 .1 .1 .0) at-ranges ranges₀ n₀ (are .1 .1 .1 .1 .1 .1 .0) (firstLane form₀) (g₁ .0) (firstLane form₀ + ledOf form₀) (g₃ .0) (omega (arith, length-replicate {A = ℕ} 10 0), req .0, req .1, led-least form₀ .0, led-least form₀ .1)) refl (λ P. and-then ! (load ! (from ! (stop !)) (look ! 33 refl)) (and-then ! (load ! (from ! (stop !)) (look ! 69 refl)) (and-then ! (load ! (from ! (stop !)) (look ! 65 refl)) (and-then ! (load ! (from ! (stop !)) (look ! 63 refl)) (and-then ! (load ! (from ! (stop !)) (look ! 61 refl)) (and-then ! (load ! (from ! (stop !)) (look ! 59 refl)) (and-then ! (load ! (from ! (stop !)) (look ! 57 refl)) (and-then ! (load ! (from ! (stop !)) (look ! 49 refl)) (and-then ! (load ! (from ! (stop !)) (look ! 45 refl)) (no-more !)))))))))) (λ g₄.
-        land ! (from ! (stop !)) (init ! 43 refl (g₄ .1 .0)) $
-        assigns ! (of-opd ! (load ! (from ! (stop !)) (look ! 43 refl))) (from ! (stop !)) (init ! 31 refl (g₄ .1 .0)) $
-        tests ! (load ! (from ! (stop !)) (look ! 31 refl))  -- farFrom (job update₀ rows₀ plan₀ sections₀ (rowsFrom ranges₀ 0 n₀)) (firstLane form₀) ((firstLane form₀ + ledOf form₀) - (firstLane form₀)) false
+        alloc-all ! (fn .locals) (λ l₀ l₁ l₂ l₃ l₄ l₅ l₆ l₇ l₈ l₉ l₁₀ l₁₁ l₁₂ l₁₃ l₁₄ l₁₅ l₁₆ l₁₇ l₁₈ l₁₉ l₂₀ l₂₁ l₂₂ l₂₃ l₂₄ l₂₅ l₂₆ l₂₇. let ls : List ℕ = l₀ ∷ l₁ ∷ l₂ ∷ l₃ ∷ l₄ ∷ l₅ ∷ l₆ ∷ l₇ ∷ l₈ ∷ l₉ ∷ l₁₀ ∷ l₁₁ ∷ l₁₂ ∷ l₁₃ ∷ l₁₄ ∷ l₁₅ ∷ l₁₆ ∷ l₁₇ ∷ l₁₈ ∷ l₁₉ ∷ l₂₀ ∷ l₂₁ ∷ l₂₂ ∷ l₂₃ ∷ l₂₄ ∷ l₂₅ ∷ l₂₆ ∷ l₂₇ ∷ [] in let En : Envs = envOf (fn .locals) ls in
+        params1 ! $ pass1 ! (init ! 52 refl (tt, (tt, (record { fits = are .0 .0 .1 .0 }, tt)))) $ pass1 ! (init ! 50 refl (byte .lawful M 𝓤 H A W .typed form₀ _ (are .1 .0) .0)) $ pass1 ! (init ! 48 refl (tt, (tt, (record { fits = are .1 .1 .0 .0 .1 .0 }, tt)))) $ pass1 ! (init ! 46 refl (tt, (tt, (record { fits = are .1 .1 .1 .0 .0 .1 .0 }, tt)))) $ pass1 ! (init ! 44 refl (word .lawful M 𝓤 H A W .typed sections₀ _ (are .1 .1 .1 .1 .0) .0)) $ pass1 ! (init ! 42 refl (tt, (tt, (record { fits = are .1 .1 .1 .1 .1 .0 .0 .1 .0 }, tt)))) $ pass1 ! (init ! 40 refl (word .lawful M 𝓤 H A W .typed n₀ _ (are .1 .1 .1 .1 .1 .1 .0) .0)) $ pass1 ! (init ! 38 refl (tt, (tt, (record { fits = are .1 .1 .1 .1 .1 .1 .1 .0 .0 .1 .0 }, tt)))) $ pass0 ! $ move ! (56 ∷ []) $
+        -- [the references; _27 at 1; _26 at 3; _25 at 5; _24 at 7; _23 at 9; _22 at 11; _21 at 13; _20 at 15; _19 at 17; _18 at 19; _17 at 21; _16 at 23; _15 at 25; _14 at 27; _13 at 29; _12 at 31; _11 at 33; _10 at 35; _9 at 37; _8 at 39; _7 at 41; _6 at 43; _5 at 45; _4 at 47; _3 at 49; _2 at 51; _1 at 53; _0 at 55]
+        array-typed ! word 8 0 (refl, lit< tt) (λ ty₉.
+        assigns ! (rep ! 8 (lit ! tt)) (from ! (stop !)) (init ! 37 refl (ty₉ .0)) $
+        assigns ! (addr ! (from ! (stop !))) (from ! (stop !)) (init ! 29 refl (tt, tt)) $
+        assigns ! (agg ! (and-then ! (load ! (from ! (stop !)) (look ! 29 refl)) (and-then ! (lit ! tt) (no-more !)))) (from ! (stop !)) (init ! 35 refl (tt, (tt, (record { fits = lit< tt }, tt)))) $
+        move ! (0 ∷ 37 ∷ []) $ own-lends ! tt word tt 8 8 (omega (arith)) 0 l₉ (refl, lit< tt) (lit< tt, lit< tt) (hs out₀) (λ ν₉ δ₉. move ! (0 ∷ 2 ∷ 3 ∷ 4 ∷ 5 ∷ 6 ∷ 7 ∷ 8 ∷ 9 ∷ 10 ∷ 11 ∷ 12 ∷ 13 ∷ 14 ∷ 15 ∷ 16 ∷ 17 ∷ 18 ∷ 19 ∷ 20 ∷ 21 ∷ 22 ∷ 23 ∷ 24 ∷ 25 ∷ 26 ∷ 27 ∷ 28 ∷ 29 ∷ 30 ∷ 31 ∷ 32 ∷ 33 ∷ 34 ∷ 35 ∷ 36 ∷ 37 ∷ 1 ∷ []) $
+        assigns ! (addr ! (from ! (fld ! refl (hop ! (look-in ! 35 (sub ! 0 refl (whole !))) (stop !))))) (from ! (stop !)) (init ! 27 refl (tt, tt)) $
+        assigns ! (agg ! (and-then ! (load ! (from ! (stop !)) (look ! 27 refl)) (and-then ! (load ! (from ! (fld ! refl (stop !))) (look-in ! 35 (sub ! 1 refl (whole !)))) (no-more !)))) (from ! (stop !)) (init ! 25 refl (tt, (tt, (record { fits = lit< tt }, tt)))) $
+        calls-by ! (fmOf 𝓤 H (W .laws) 𝓣) (0 ∷ 1 ∷ 2 ∷ 3 ∷ []) (tab word (own-seat l₉ 8 ν₉ δ₉) (replicate 8 0) ∷ hs out₀) (passes·measure! 𝓤 H A mem run (𝓣 .C) known-passes·measure (own-seat l₉ 8 ν₉ δ₉) (replicate 8 0) at-update update₀ at-rows rows₀ at-plan plan₀ sections₀ (are .1 .1 .1 .1 .0) form₀ (are .1 .0) (refl, req .1)) refl (λ P. and-then ! (load ! (from ! (stop !)) (look ! 25 refl)) (and-then ! (load ! (from ! (stop !)) (look ! 53 refl)) (and-then ! (load ! (from ! (stop !)) (look ! 49 refl)) (and-then ! (load ! (from ! (stop !)) (look ! 47 refl)) (and-then ! (load ! (from ! (stop !)) (look ! 45 refl)) (and-then ! (load ! (from ! (stop !)) (look ! 51 refl)) (no-more !))))))) (λ g₁.
+        land ! (from ! (stop !)) (init ! 33 refl (g₁ .1 .0)) $
+        assigns ! (of-opd ! (load ! (from ! (stop !)) (look ! 33 refl))) (from ! (stop !)) (init ! 23 refl (g₁ .1 .0)) $
+        tests ! (load ! (from ! (stop !)) (look ! 23 refl))  -- farFor form₀ (plannedTokens update₀ rows₀ plan₀ sections₀)
+        (λ y₂.
+        flat ! $
+        assigns ! (addr ! (from ! (fld ! refl (hop ! (look-in ! 39 (sub ! 0 refl (whole !))) (stop !))))) (from ! (stop !)) (init ! 21 refl (tt, tt)) $
+        flat ! $
+        assigns ! (agg ! (and-then ! (load ! (from ! (stop !)) (look ! 21 refl)) (and-then ! (load ! (from ! (fld ! refl (stop !))) (look-in ! 39 (sub ! 1 refl (whole !)))) (no-more !)))) (from ! (stop !)) (init ! 19 refl (tt, (tt, (record { fits = are .1 .1 .1 .1 .1 .1 .1 .0 .0 .1 .0 }, tt)))) $
+        flat ! $
+        calls-by ! (fmOf 𝓤 H (W .laws) 𝓣) (5 ∷ []) (tab word (own-seat l₉ 8 ν₉ δ₉) sizes ∷ hs out₀) (numbers·refuse! 𝓤 H A mem run (𝓣 .C) known-numbers·refuse at-out out₀ 13 (refl, lit< tt)) refl (λ P. and-then ! (load ! (from ! (stop !)) (look ! 19 refl)) (and-then ! (lit ! tt) (no-more !))) (λ g₃.
+        land ! (from ! (stop !)) (init ! 55 refl (g₃ .1 .0)) $
+        move ! (0 ∷ 37 ∷ []) $ own-back ! tt word 8 8 (omega (arith)) 0 sizes l₉ ν₉ δ₉ (hs (padded (length out₀) [])) $ move ! (0 ∷ 2 ∷ 3 ∷ 4 ∷ 5 ∷ 6 ∷ 7 ∷ 8 ∷ 9 ∷ 10 ∷ 11 ∷ 12 ∷ 13 ∷ 14 ∷ 15 ∷ 16 ∷ 17 ∷ 18 ∷ 19 ∷ 20 ∷ 21 ∷ 22 ∷ 23 ∷ 24 ∷ 25 ∷ 26 ∷ 27 ∷ 28 ∷ 29 ∷ 30 ∷ 31 ∷ 32 ∷ 33 ∷ 34 ∷ 35 ∷ 36 ∷ 37 ∷ 1 ∷ []) $
+        return-on ! Post refl (look ! 55 refl) $
+        free-all ! (_ ∷ []) En (has _ ∷ has _ ∷ has _ ∷ has _ ∷ has _ ∷ has _ ∷ has _ ∷ has _ ∷ has _ ∷ has _ ∷ has _ ∷ has _ ∷ bare ∷ has _ ∷ has _ ∷ has _ ∷ has _ ∷ has _ ∷ has _ ∷ []) [] $ by ! (exits (refusal 13) (padded (length out₀) []) (g₃ .0) (exit-far (job update₀ rows₀ plan₀ sections₀ (rowsFrom ranges₀ 0 n₀)) form₀ out₀ y₂))))
+        (λ y₂.
+        skip-on ! $
+        knows ! (tab word (own-seat l₉ 8 ν₉ δ₉) sizes ∷ hs out₀) (λ sz.
+        assigns ! (addr ! (from ! (fld ! refl (hop ! (look-in ! 39 (sub ! 0 refl (whole !))) (stop !))))) (from ! (stop !)) (init ! 17 refl (tt, tt)) $
+        assigns ! (agg ! (and-then ! (load ! (from ! (stop !)) (look ! 17 refl)) (and-then ! (load ! (from ! (fld ! refl (stop !))) (look-in ! 39 (sub ! 1 refl (whole !)))) (no-more !)))) (from ! (stop !)) (init ! 15 refl (tt, (tt, (record { fits = are .1 .1 .1 .1 .1 .1 .1 .0 .0 .1 .0 }, tt)))) $
+        assigns ! (addr ! (from ! (fld ! refl (hop ! (look-in ! 35 (sub ! 0 refl (whole !))) (stop !))))) (from ! (stop !)) (init ! 13 refl (tt, tt)) $
+        assigns ! (agg ! (and-then ! (load ! (from ! (stop !)) (look ! 13 refl)) (and-then ! (load ! (from ! (fld ! refl (stop !))) (look-in ! 35 (sub ! 1 refl (whole !)))) (no-more !)))) (from ! (stop !)) (init ! 11 refl (tt, (tt, (record { fits = lit< tt }, tt)))) $
+        calls-by ! (fmOf 𝓤 H (W .laws) 𝓣) (5 ∷ 0 ∷ 1 ∷ 2 ∷ 3 ∷ 4 ∷ []) (tab word (own-seat l₉ 8 ν₉ δ₉) sizes ∷ hs out₀) (passes·write-sizes! 𝓤 H A mem run (𝓣 .C) known-passes·write at-out out₀ (own-seat l₉ 8 ν₉ δ₉) sizes at-update update₀ at-rows rows₀ at-plan plan₀ sections₀ (are .1 .1 .1 .1 .0) at-ranges ranges₀ n₀ (are .1 .1 .1 .1 .1 .1 .0) form₀ (are .1 .0) (sz .0, req .0, req .1)) refl (λ P. and-then ! (load ! (from ! (stop !)) (look ! 15 refl)) (and-then ! (load ! (from ! (stop !)) (look ! 11 refl)) (and-then ! (load ! (from ! (stop !)) (look ! 53 refl)) (and-then ! (load ! (from ! (stop !)) (look ! 49 refl)) (and-then ! (load ! (from ! (stop !)) (look ! 47 refl)) (and-then ! (load ! (from ! (stop !)) (look ! 45 refl)) (and-then ! (load ! (from ! (stop !)) (look ! 43 refl)) (and-then ! (load ! (from ! (stop !)) (look ! 41 refl)) (and-then ! (load ! (from ! (stop !)) (look ! 51 refl)) (no-more !)))))))))) (λ g₄.
+        land ! (from ! (stop !)) (init ! 31 refl (g₄ .1 .0)) $
+        knows ! (tab word (own-seat l₉ 8 ν₉ δ₉) sizes ∷ hs bytes) (λ sy.
+        assigns ! (of-opd ! (load ! (from ! (fld ! refl (stop !))) (look-in ! 39 (sub ! 1 refl (whole !))))) (from ! (stop !)) (init ! 9 refl (tt, record { fits = are .1 .1 .1 .1 .1 .1 .1 .0 .0 .1 .0 })) $
+        assigns ! (bin ! (load ! (from ! (stop !)) (look ! 9 refl)) (load ! (from ! (stop !)) (look ! 31 refl)) tt) (from ! (stop !)) (store ! 23 refl (tt, tt)) $
+        tests ! (load ! (from ! (stop !)) (look ! 23 refl))  -- ltb (at-out .count) end
         (λ y₅.
         flat ! $
-        assigns ! (addr ! (from ! (fld ! refl (hop ! (look-in ! 55 (sub ! 0 refl (whole !))) (stop !))))) (from ! (stop !)) (init ! 29 refl (tt, tt)) $
+        assigns ! (addr ! (from ! (fld ! refl (hop ! (look-in ! 39 (sub ! 0 refl (whole !))) (stop !))))) (from ! (stop !)) (init ! 7 refl (tt, tt)) $
         flat ! $
-        assigns ! (agg ! (and-then ! (load ! (from ! (stop !)) (look ! 29 refl)) (and-then ! (load ! (from ! (fld ! refl (stop !))) (look-in ! 55 (sub ! 1 refl (whole !)))) (no-more !)))) (from ! (stop !)) (init ! 27 refl (tt, (tt, (record { fits = are .1 .1 .1 .1 .1 .1 .1 .0 .0 .1 .0 }, tt)))) $
+        assigns ! (agg ! (and-then ! (load ! (from ! (stop !)) (look ! 7 refl)) (and-then ! (load ! (from ! (fld ! refl (stop !))) (look-in ! 39 (sub ! 1 refl (whole !)))) (no-more !)))) (from ! (stop !)) (init ! 5 refl (tt, (tt, (record { fits = are .1 .1 .1 .1 .1 .1 .1 .0 .0 .1 .0 }, tt)))) $
         flat ! $
-        calls-by ! (fmOf 𝓤 H (W .laws) 𝓣) (5 ∷ []) (tab word (own-seat l₉ 10 ν₉ δ₉) (sizesFrom (job update₀ rows₀ plan₀ sections₀ (rowsFrom ranges₀ 0 n₀)) (firstLane form₀) ((firstLane form₀ + ledOf form₀) - (firstLane form₀)) (replicate 10 0)) ∷ hs out₀) (numbers·refuse! 𝓤 H A mem run (𝓣 .C) known-numbers·refuse at-out out₀ 13 (refl, lit< tt)) refl (λ P. and-then ! (load ! (from ! (stop !)) (look ! 27 refl)) (and-then ! (lit ! tt) (no-more !))) (λ g₆.
-        land ! (from ! (stop !)) (init ! 71 refl (g₆ .1 .0)) $
-        move ! (0 ∷ 53 ∷ []) $ own-back ! tt word 10 10 (omega (arith)) 0 (sizesFrom (job update₀ rows₀ plan₀ sections₀ (rowsFrom ranges₀ 0 n₀)) (firstLane form₀) ((firstLane form₀ + ledOf form₀) - (firstLane form₀)) (replicate 10 0)) l₉ ν₉ δ₉ (hs (padded (length out₀) [])) $ move ! (0 ∷ 2 ∷ 3 ∷ 4 ∷ 5 ∷ 6 ∷ 7 ∷ 8 ∷ 9 ∷ 10 ∷ 11 ∷ 12 ∷ 13 ∷ 14 ∷ 15 ∷ 16 ∷ 17 ∷ 18 ∷ 19 ∷ 20 ∷ 21 ∷ 22 ∷ 23 ∷ 24 ∷ 25 ∷ 26 ∷ 27 ∷ 28 ∷ 29 ∷ 30 ∷ 31 ∷ 32 ∷ 33 ∷ 34 ∷ 35 ∷ 36 ∷ 37 ∷ 38 ∷ 39 ∷ 40 ∷ 41 ∷ 42 ∷ 43 ∷ 44 ∷ 45 ∷ 46 ∷ 47 ∷ 48 ∷ 49 ∷ 50 ∷ 51 ∷ 52 ∷ 53 ∷ 1 ∷ []) $
-        return-on ! Post refl (look ! 71 refl) $
-        free-all ! (_ ∷ []) En (has _ ∷ has _ ∷ has _ ∷ has _ ∷ has _ ∷ has _ ∷ has _ ∷ has _ ∷ has _ ∷ has _ ∷ has _ ∷ has _ ∷ has _ ∷ has _ ∷ has _ ∷ bare ∷ bare ∷ has _ ∷ has _ ∷ has _ ∷ has _ ∷ has _ ∷ has _ ∷ []) [] $ by ! (exits (refusal 13) (padded (length out₀) []) (g₆ .0) (exit-far (job update₀ rows₀ plan₀ sections₀ (rowsFrom ranges₀ 0 n₀)) form₀ out₀ y₅))))
+        calls-by ! (fmOf 𝓤 H (W .laws) 𝓣) (5 ∷ []) (tab word (own-seat l₉ 8 ν₉ δ₉) sizes ∷ hs bytes) (numbers·refuse! 𝓤 H A mem run (𝓣 .C) known-numbers·refuse at-out bytes 10 (refl, lit< tt)) refl (λ P. and-then ! (load ! (from ! (stop !)) (look ! 5 refl)) (and-then ! (lit ! tt) (no-more !))) (λ g₆.
+        land ! (from ! (stop !)) (init ! 55 refl (g₆ .1 .0)) $
+        move ! (0 ∷ 37 ∷ []) $ own-back ! tt word 8 8 (omega (arith)) 0 sizes l₉ ν₉ δ₉ (hs (padded (length bytes) [])) $ move ! (0 ∷ 2 ∷ 3 ∷ 4 ∷ 5 ∷ 6 ∷ 7 ∷ 8 ∷ 9 ∷ 10 ∷ 11 ∷ 12 ∷ 13 ∷ 14 ∷ 15 ∷ 16 ∷ 17 ∷ 18 ∷ 19 ∷ 20 ∷ 21 ∷ 22 ∷ 23 ∷ 24 ∷ 25 ∷ 26 ∷ 27 ∷ 28 ∷ 29 ∷ 30 ∷ 31 ∷ 32 ∷ 33 ∷ 34 ∷ 35 ∷ 36 ∷ 37 ∷ 1 ∷ []) $
+        return-on ! Post refl (look ! 55 refl) $
+        free-all ! (_ ∷ []) En (has _ ∷ has _ ∷ has _ ∷ has _ ∷ has _ ∷ has _ ∷ has _ ∷ has _ ∷ has _ ∷ has _ ∷ has _ ∷ has _ ∷ has _ ∷ has _ ∷ has _ ∷ has _ ∷ has _ ∷ bare ∷ bare ∷ has _ ∷ has _ ∷ has _ ∷ has _ ∷ has _ ∷ has _ ∷ has _ ∷ []) [] $ by ! (exits (refusal 10) (padded (length bytes) []) (g₆ .0) (exit-end (job update₀ rows₀ plan₀ sections₀ (rowsFrom ranges₀ 0 n₀)) form₀ out₀ y₂ (sy .1 .0) y₅))))
         (λ y₅.
         skip-on ! $
-        assigns ! (addr ! (from ! (fld ! refl (hop ! (look-in ! 51 (sub ! 0 refl (whole !))) (stop !))))) (from ! (stop !)) (init ! 25 refl (tt, tt)) $
-        assigns ! (agg ! (and-then ! (load ! (from ! (stop !)) (look ! 25 refl)) (and-then ! (load ! (from ! (fld ! refl (stop !))) (look-in ! 51 (sub ! 1 refl (whole !)))) (no-more !)))) (from ! (stop !)) (init ! 23 refl (tt, (tt, (record { fits = lit< tt }, tt)))) $
-        calls-by ! (fmOf 𝓤 H (W .laws) 𝓣) (0 ∷ []) (tab word (own-seat l₉ 10 ν₉ δ₉) (sizesFrom (job update₀ rows₀ plan₀ sections₀ (rowsFrom ranges₀ 0 n₀)) (firstLane form₀) ((firstLane form₀ + ledOf form₀) - (firstLane form₀)) (replicate 10 0)) ∷ hs out₀) (passes·leads·total-sizes! 𝓤 H A mem run (𝓣 .C) known-passes·leads·total (own-seat l₉ 10 ν₉ δ₉) (sizesFrom (job update₀ rows₀ plan₀ sections₀ (rowsFrom ranges₀ 0 n₀)) (firstLane form₀) ((firstLane form₀ + ledOf form₀) - (firstLane form₀)) (replicate 10 0)) (firstLane form₀) (g₁ .0) (firstLane form₀ + ledOf form₀) (g₃ .0) (few, led-least form₀ .0, led-least form₀ .1)) refl (λ P. and-then ! (load ! (from ! (stop !)) (look ! 23 refl)) (and-then ! (load ! (from ! (stop !)) (look ! 49 refl)) (and-then ! (load ! (from ! (stop !)) (look ! 45 refl)) (no-more !)))) (λ g₇.
-        land ! (from ! (stop !)) (init ! 41 refl (g₇ .1 .0)) $
-        assigns ! (of-opd ! (load ! (from ! (fld ! refl (stop !))) (look-in ! 55 (sub ! 1 refl (whole !))))) (from ! (stop !)) (init ! 21 refl (tt, record { fits = are .1 .1 .1 .1 .1 .1 .1 .0 .0 .1 .0 })) $
-        assigns ! (bin ! (load ! (from ! (stop !)) (look ! 21 refl)) (load ! (from ! (stop !)) (look ! 41 refl)) tt) (from ! (stop !)) (store ! 31 refl (tt, tt)) $
-        tests ! (load ! (from ! (stop !)) (look ! 31 refl))  -- ltb (at-out .count) (totalFrom (sizesFrom (job update₀ rows₀ plan₀ sections₀ (rowsFrom ranges₀ 0 n₀)) (firstLane form₀) ((firstLane form₀ + ledOf form₀) - (firstLane form₀)) (replicate 10 0)) (firstLane form₀) ((firstLane form₀ + ledOf form₀) - (firstLane form₀)) 0)
-        (λ y₈.
-        flat ! $
-        assigns ! (addr ! (from ! (fld ! refl (hop ! (look-in ! 55 (sub ! 0 refl (whole !))) (stop !))))) (from ! (stop !)) (init ! 19 refl (tt, tt)) $
-        flat ! $
-        assigns ! (agg ! (and-then ! (load ! (from ! (stop !)) (look ! 19 refl)) (and-then ! (load ! (from ! (fld ! refl (stop !))) (look-in ! 55 (sub ! 1 refl (whole !)))) (no-more !)))) (from ! (stop !)) (init ! 17 refl (tt, (tt, (record { fits = are .1 .1 .1 .1 .1 .1 .1 .0 .0 .1 .0 }, tt)))) $
-        flat ! $
-        calls-by ! (fmOf 𝓤 H (W .laws) 𝓣) (5 ∷ []) (tab word (own-seat l₉ 10 ν₉ δ₉) (sizesFrom (job update₀ rows₀ plan₀ sections₀ (rowsFrom ranges₀ 0 n₀)) (firstLane form₀) ((firstLane form₀ + ledOf form₀) - (firstLane form₀)) (replicate 10 0)) ∷ hs out₀) (numbers·refuse! 𝓤 H A mem run (𝓣 .C) known-numbers·refuse at-out out₀ 10 (refl, lit< tt)) refl (λ P. and-then ! (load ! (from ! (stop !)) (look ! 17 refl)) (and-then ! (lit ! tt) (no-more !))) (λ g₉.
-        land ! (from ! (stop !)) (init ! 71 refl (g₉ .1 .0)) $
-        move ! (0 ∷ 53 ∷ []) $ own-back ! tt word 10 10 (omega (arith)) 0 (sizesFrom (job update₀ rows₀ plan₀ sections₀ (rowsFrom ranges₀ 0 n₀)) (firstLane form₀) ((firstLane form₀ + ledOf form₀) - (firstLane form₀)) (replicate 10 0)) l₉ ν₉ δ₉ (hs (padded (length out₀) [])) $ move ! (0 ∷ 2 ∷ 3 ∷ 4 ∷ 5 ∷ 6 ∷ 7 ∷ 8 ∷ 9 ∷ 10 ∷ 11 ∷ 12 ∷ 13 ∷ 14 ∷ 15 ∷ 16 ∷ 17 ∷ 18 ∷ 19 ∷ 20 ∷ 21 ∷ 22 ∷ 23 ∷ 24 ∷ 25 ∷ 26 ∷ 27 ∷ 28 ∷ 29 ∷ 30 ∷ 31 ∷ 32 ∷ 33 ∷ 34 ∷ 35 ∷ 36 ∷ 37 ∷ 38 ∷ 39 ∷ 40 ∷ 41 ∷ 42 ∷ 43 ∷ 44 ∷ 45 ∷ 46 ∷ 47 ∷ 48 ∷ 49 ∷ 50 ∷ 51 ∷ 52 ∷ 53 ∷ 1 ∷ []) $
-        return-on ! Post refl (look ! 71 refl) $
-        free-all ! (_ ∷ []) En (has _ ∷ has _ ∷ has _ ∷ has _ ∷ has _ ∷ has _ ∷ has _ ∷ has _ ∷ has _ ∷ has _ ∷ has _ ∷ has _ ∷ has _ ∷ has _ ∷ has _ ∷ has _ ∷ bare ∷ has _ ∷ has _ ∷ has _ ∷ has _ ∷ bare ∷ bare ∷ has _ ∷ has _ ∷ has _ ∷ has _ ∷ has _ ∷ []) [] $ by ! (exits (refusal 10) (padded (length out₀) []) (g₉ .0) (exit-total (job update₀ rows₀ plan₀ sections₀ (rowsFrom ranges₀ 0 n₀)) form₀ out₀ y₅ y₈))))
-        (λ y₈.
-        skip-on ! $
-        assigns ! (addr ! (from ! (fld ! refl (hop ! (look-in ! 55 (sub ! 0 refl (whole !))) (stop !))))) (from ! (stop !)) (init ! 15 refl (tt, tt)) $
-        assigns ! (agg ! (and-then ! (load ! (from ! (stop !)) (look ! 15 refl)) (and-then ! (load ! (from ! (fld ! refl (stop !))) (look-in ! 55 (sub ! 1 refl (whole !)))) (no-more !)))) (from ! (stop !)) (init ! 13 refl (tt, (tt, (record { fits = are .1 .1 .1 .1 .1 .1 .1 .0 .0 .1 .0 }, tt)))) $
-        assigns ! (addr ! (from ! (fld ! refl (hop ! (look-in ! 51 (sub ! 0 refl (whole !))) (stop !))))) (from ! (stop !)) (init ! 11 refl (tt, tt)) $
-        assigns ! (agg ! (and-then ! (load ! (from ! (stop !)) (look ! 11 refl)) (and-then ! (load ! (from ! (fld ! refl (stop !))) (look-in ! 51 (sub ! 1 refl (whole !)))) (no-more !)))) (from ! (stop !)) (init ! 9 refl (tt, (tt, (record { fits = lit< tt }, tt)))) $
-        calls-by ! (fmOf 𝓤 H (W .laws) 𝓣) (5 ∷ 0 ∷ 1 ∷ 2 ∷ 3 ∷ 4 ∷ []) (tab word (own-seat l₉ 10 ν₉ δ₉) (sizesFrom (job update₀ rows₀ plan₀ sections₀ (rowsFrom ranges₀ 0 n₀)) (firstLane form₀) ((firstLane form₀ + ledOf form₀) - (firstLane form₀)) (replicate 10 0)) ∷ hs out₀) (passes·write-sizes! 𝓤 H A mem run (𝓣 .C) known-passes·write at-out out₀ (own-seat l₉ 10 ν₉ δ₉) (sizesFrom (job update₀ rows₀ plan₀ sections₀ (rowsFrom ranges₀ 0 n₀)) (firstLane form₀) ((firstLane form₀ + ledOf form₀) - (firstLane form₀)) (replicate 10 0)) at-update update₀ at-rows rows₀ at-plan plan₀ sections₀ (are .1 .1 .1 .1 .0) at-ranges ranges₀ n₀ (are .1 .1 .1 .1 .1 .1 .0) (firstLane form₀) (g₁ .0) (firstLane form₀ + lanesOf form₀) (g₂ .0) (few, req .0, req .1, lanes-least form₀ .0, lanes-least form₀ .1)) refl (λ P. and-then ! (load ! (from ! (stop !)) (look ! 13 refl)) (and-then ! (load ! (from ! (stop !)) (look ! 9 refl)) (and-then ! (load ! (from ! (stop !)) (look ! 69 refl)) (and-then ! (load ! (from ! (stop !)) (look ! 65 refl)) (and-then ! (load ! (from ! (stop !)) (look ! 63 refl)) (and-then ! (load ! (from ! (stop !)) (look ! 61 refl)) (and-then ! (load ! (from ! (stop !)) (look ! 59 refl)) (and-then ! (load ! (from ! (stop !)) (look ! 57 refl)) (and-then ! (load ! (from ! (stop !)) (look ! 49 refl)) (and-then ! (load ! (from ! (stop !)) (look ! 47 refl)) (no-more !))))))))))) (λ g₁₀.
-        land ! (from ! (stop !)) (init ! 39 refl (g₁₀ .1 .0)) $
-        assigns ! (of-opd ! (load ! (from ! (fld ! refl (stop !))) (look-in ! 55 (sub ! 1 refl (whole !))))) (from ! (stop !)) (store ! 21 refl (tt, record { fits = are .1 .1 .1 .1 .1 .1 .1 .0 .0 .1 .0 })) $
-        assigns ! (bin ! (load ! (from ! (stop !)) (look ! 21 refl)) (load ! (from ! (stop !)) (look ! 39 refl)) tt) (from ! (stop !)) (store ! 31 refl (tt, tt)) $
-        tests ! (load ! (from ! (stop !)) (look ! 31 refl))  -- ltb (at-out .count) (endFrom (job update₀ rows₀ plan₀ sections₀ (rowsFrom ranges₀ 0 n₀)) (sizesFrom (job update₀ rows₀ plan₀ sections₀ (rowsFrom ranges₀ 0 n₀)) (firstLane form₀) ((firstLane form₀ + ledOf form₀) - (firstLane form₀)) (replicate 10 0)) (firstLane form₀) ((firstLane form₀ + lanesOf form₀) - (firstLane form₀)) 0)
-        (λ y₁₁.
-        flat ! $
-        assigns ! (addr ! (from ! (fld ! refl (hop ! (look-in ! 55 (sub ! 0 refl (whole !))) (stop !))))) (from ! (stop !)) (init ! 7 refl (tt, tt)) $
-        flat ! $
-        assigns ! (agg ! (and-then ! (load ! (from ! (stop !)) (look ! 7 refl)) (and-then ! (load ! (from ! (fld ! refl (stop !))) (look-in ! 55 (sub ! 1 refl (whole !)))) (no-more !)))) (from ! (stop !)) (init ! 5 refl (tt, (tt, (record { fits = are .1 .1 .1 .1 .1 .1 .1 .0 .0 .1 .0 }, tt)))) $
-        flat ! $
-        calls-by ! (fmOf 𝓤 H (W .laws) 𝓣) (5 ∷ []) (tab word (own-seat l₉ 10 ν₉ δ₉) (sizesFrom (job update₀ rows₀ plan₀ sections₀ (rowsFrom ranges₀ 0 n₀)) (firstLane form₀) ((firstLane form₀ + ledOf form₀) - (firstLane form₀)) (replicate 10 0)) ∷ hs (outFrom (job update₀ rows₀ plan₀ sections₀ (rowsFrom ranges₀ 0 n₀)) (sizesFrom (job update₀ rows₀ plan₀ sections₀ (rowsFrom ranges₀ 0 n₀)) (firstLane form₀) ((firstLane form₀ + ledOf form₀) - (firstLane form₀)) (replicate 10 0)) (firstLane form₀) ((firstLane form₀ + lanesOf form₀) - (firstLane form₀)) 0 out₀)) (numbers·refuse! 𝓤 H A mem run (𝓣 .C) known-numbers·refuse at-out (outFrom (job update₀ rows₀ plan₀ sections₀ (rowsFrom ranges₀ 0 n₀)) (sizesFrom (job update₀ rows₀ plan₀ sections₀ (rowsFrom ranges₀ 0 n₀)) (firstLane form₀) ((firstLane form₀ + ledOf form₀) - (firstLane form₀)) (replicate 10 0)) (firstLane form₀) ((firstLane form₀ + lanesOf form₀) - (firstLane form₀)) 0 out₀) 10 (refl, lit< tt)) refl (λ P. and-then ! (load ! (from ! (stop !)) (look ! 5 refl)) (and-then ! (lit ! tt) (no-more !))) (λ g₁₂.
-        land ! (from ! (stop !)) (init ! 71 refl (g₁₂ .1 .0)) $
-        move ! (0 ∷ 53 ∷ []) $ own-back ! tt word 10 10 (omega (arith)) 0 (sizesFrom (job update₀ rows₀ plan₀ sections₀ (rowsFrom ranges₀ 0 n₀)) (firstLane form₀) ((firstLane form₀ + ledOf form₀) - (firstLane form₀)) (replicate 10 0)) l₉ ν₉ δ₉ (hs (padded (length (outFrom (job update₀ rows₀ plan₀ sections₀ (rowsFrom ranges₀ 0 n₀)) (sizesFrom (job update₀ rows₀ plan₀ sections₀ (rowsFrom ranges₀ 0 n₀)) (firstLane form₀) ((firstLane form₀ + ledOf form₀) - (firstLane form₀)) (replicate 10 0)) (firstLane form₀) ((firstLane form₀ + lanesOf form₀) - (firstLane form₀)) 0 out₀)) [])) $ move ! (0 ∷ 2 ∷ 3 ∷ 4 ∷ 5 ∷ 6 ∷ 7 ∷ 8 ∷ 9 ∷ 10 ∷ 11 ∷ 12 ∷ 13 ∷ 14 ∷ 15 ∷ 16 ∷ 17 ∷ 18 ∷ 19 ∷ 20 ∷ 21 ∷ 22 ∷ 23 ∷ 24 ∷ 25 ∷ 26 ∷ 27 ∷ 28 ∷ 29 ∷ 30 ∷ 31 ∷ 32 ∷ 33 ∷ 34 ∷ 35 ∷ 36 ∷ 37 ∷ 38 ∷ 39 ∷ 40 ∷ 41 ∷ 42 ∷ 43 ∷ 44 ∷ 45 ∷ 46 ∷ 47 ∷ 48 ∷ 49 ∷ 50 ∷ 51 ∷ 52 ∷ 53 ∷ 1 ∷ []) $
-        return-on ! Post refl (look ! 71 refl) $
-        free-all ! (_ ∷ []) En (has _ ∷ has _ ∷ has _ ∷ has _ ∷ has _ ∷ has _ ∷ has _ ∷ has _ ∷ has _ ∷ has _ ∷ has _ ∷ has _ ∷ has _ ∷ has _ ∷ has _ ∷ has _ ∷ has _ ∷ has _ ∷ has _ ∷ has _ ∷ has _ ∷ bare ∷ bare ∷ has _ ∷ has _ ∷ has _ ∷ bare ∷ bare ∷ has _ ∷ has _ ∷ has _ ∷ has _ ∷ has _ ∷ has _ ∷ []) [] $ by ! (exits (refusal 10) (padded (length (outFrom (job update₀ rows₀ plan₀ sections₀ (rowsFrom ranges₀ 0 n₀)) (sizesFrom (job update₀ rows₀ plan₀ sections₀ (rowsFrom ranges₀ 0 n₀)) (firstLane form₀) ((firstLane form₀ + ledOf form₀) - (firstLane form₀)) (replicate 10 0)) (firstLane form₀) ((firstLane form₀ + lanesOf form₀) - (firstLane form₀)) 0 out₀)) []) (g₁₂ .0) (exit-end (job update₀ rows₀ plan₀ sections₀ (rowsFrom ranges₀ 0 n₀)) form₀ out₀ y₅ y₈ y₁₁))))
-        (λ y₁₁.
-        skip-on ! $
-        assigns ! (addr ! (from ! (fld ! refl (hop ! (look-in ! 55 (sub ! 0 refl (whole !))) (stop !))))) (from ! (stop !)) (init ! 3 refl (tt, tt)) $
-        assigns ! (agg ! (and-then ! (load ! (from ! (stop !)) (look ! 3 refl)) (and-then ! (load ! (from ! (fld ! refl (stop !))) (look-in ! 55 (sub ! 1 refl (whole !)))) (no-more !)))) (from ! (stop !)) (init ! 1 refl (tt, (tt, (record { fits = are .1 .1 .1 .1 .1 .1 .1 .0 .0 .1 .0 }, tt)))) $
-        calls-by ! (fmOf 𝓤 H (W .laws) 𝓣) (5 ∷ []) (tab word (own-seat l₉ 10 ν₉ δ₉) (sizesFrom (job update₀ rows₀ plan₀ sections₀ (rowsFrom ranges₀ 0 n₀)) (firstLane form₀) ((firstLane form₀ + ledOf form₀) - (firstLane form₀)) (replicate 10 0)) ∷ hs (outFrom (job update₀ rows₀ plan₀ sections₀ (rowsFrom ranges₀ 0 n₀)) (sizesFrom (job update₀ rows₀ plan₀ sections₀ (rowsFrom ranges₀ 0 n₀)) (firstLane form₀) ((firstLane form₀ + ledOf form₀) - (firstLane form₀)) (replicate 10 0)) (firstLane form₀) ((firstLane form₀ + lanesOf form₀) - (firstLane form₀)) 0 out₀)) (numbers·finish! 𝓤 H A mem run (𝓣 .C) known-numbers·finish at-out (outFrom (job update₀ rows₀ plan₀ sections₀ (rowsFrom ranges₀ 0 n₀)) (sizesFrom (job update₀ rows₀ plan₀ sections₀ (rowsFrom ranges₀ 0 n₀)) (firstLane form₀) ((firstLane form₀ + ledOf form₀) - (firstLane form₀)) (replicate 10 0)) (firstLane form₀) ((firstLane form₀ + lanesOf form₀) - (firstLane form₀)) 0 out₀) (endFrom (job update₀ rows₀ plan₀ sections₀ (rowsFrom ranges₀ 0 n₀)) (sizesFrom (job update₀ rows₀ plan₀ sections₀ (rowsFrom ranges₀ 0 n₀)) (firstLane form₀) ((firstLane form₀ + ledOf form₀) - (firstLane form₀)) (replicate 10 0)) (firstLane form₀) ((firstLane form₀ + lanesOf form₀) - (firstLane form₀)) 0) (g₁₀ .0) (used y₁₁)) refl (λ P. and-then ! (load ! (from ! (stop !)) (look ! 1 refl)) (and-then ! (load ! (from ! (stop !)) (look ! 39 refl)) (no-more !))) (λ g₁₃.
-        land ! (from ! (stop !)) (init ! 71 refl (g₁₃ .1 .0)) $
-        move ! (0 ∷ 53 ∷ []) $ own-back ! tt word 10 10 (omega (arith)) 0 (sizesFrom (job update₀ rows₀ plan₀ sections₀ (rowsFrom ranges₀ 0 n₀)) (firstLane form₀) ((firstLane form₀ + ledOf form₀) - (firstLane form₀)) (replicate 10 0)) l₉ ν₉ δ₉ (hs (padded (length (outFrom (job update₀ rows₀ plan₀ sections₀ (rowsFrom ranges₀ 0 n₀)) (sizesFrom (job update₀ rows₀ plan₀ sections₀ (rowsFrom ranges₀ 0 n₀)) (firstLane form₀) ((firstLane form₀ + ledOf form₀) - (firstLane form₀)) (replicate 10 0)) (firstLane form₀) ((firstLane form₀ + lanesOf form₀) - (firstLane form₀)) 0 out₀)) (take (endFrom (job update₀ rows₀ plan₀ sections₀ (rowsFrom ranges₀ 0 n₀)) (sizesFrom (job update₀ rows₀ plan₀ sections₀ (rowsFrom ranges₀ 0 n₀)) (firstLane form₀) ((firstLane form₀ + ledOf form₀) - (firstLane form₀)) (replicate 10 0)) (firstLane form₀) ((firstLane form₀ + lanesOf form₀) - (firstLane form₀)) 0) (outFrom (job update₀ rows₀ plan₀ sections₀ (rowsFrom ranges₀ 0 n₀)) (sizesFrom (job update₀ rows₀ plan₀ sections₀ (rowsFrom ranges₀ 0 n₀)) (firstLane form₀) ((firstLane form₀ + ledOf form₀) - (firstLane form₀)) (replicate 10 0)) (firstLane form₀) ((firstLane form₀ + lanesOf form₀) - (firstLane form₀)) 0 out₀)))) $ move ! (0 ∷ 2 ∷ 3 ∷ 4 ∷ 5 ∷ 6 ∷ 7 ∷ 8 ∷ 9 ∷ 10 ∷ 11 ∷ 12 ∷ 13 ∷ 14 ∷ 15 ∷ 16 ∷ 17 ∷ 18 ∷ 19 ∷ 20 ∷ 21 ∷ 22 ∷ 23 ∷ 24 ∷ 25 ∷ 26 ∷ 27 ∷ 28 ∷ 29 ∷ 30 ∷ 31 ∷ 32 ∷ 33 ∷ 34 ∷ 35 ∷ 36 ∷ 37 ∷ 38 ∷ 39 ∷ 40 ∷ 41 ∷ 42 ∷ 43 ∷ 44 ∷ 45 ∷ 46 ∷ 47 ∷ 48 ∷ 49 ∷ 50 ∷ 51 ∷ 52 ∷ 53 ∷ 1 ∷ []) $
-        returns-within ! Post refl (look ! 71 refl) $
-        free-all ! (_ ∷ []) En (has _ ∷ has _ ∷ has _ ∷ has _ ∷ has _ ∷ has _ ∷ has _ ∷ has _ ∷ has _ ∷ has _ ∷ has _ ∷ has _ ∷ has _ ∷ has _ ∷ has _ ∷ has _ ∷ has _ ∷ has _ ∷ has _ ∷ has _ ∷ has _ ∷ bare ∷ bare ∷ has _ ∷ has _ ∷ has _ ∷ bare ∷ bare ∷ has _ ∷ has _ ∷ has _ ∷ has _ ∷ bare ∷ bare ∷ has _ ∷ has _ ∷ []) [] $ by ! (exits (done (endFrom (job update₀ rows₀ plan₀ sections₀ (rowsFrom ranges₀ 0 n₀)) (sizesFrom (job update₀ rows₀ plan₀ sections₀ (rowsFrom ranges₀ 0 n₀)) (firstLane form₀) ((firstLane form₀ + ledOf form₀) - (firstLane form₀)) (replicate 10 0)) (firstLane form₀) ((firstLane form₀ + lanesOf form₀) - (firstLane form₀)) 0)) (padded (length (outFrom (job update₀ rows₀ plan₀ sections₀ (rowsFrom ranges₀ 0 n₀)) (sizesFrom (job update₀ rows₀ plan₀ sections₀ (rowsFrom ranges₀ 0 n₀)) (firstLane form₀) ((firstLane form₀ + ledOf form₀) - (firstLane form₀)) (replicate 10 0)) (firstLane form₀) ((firstLane form₀ + lanesOf form₀) - (firstLane form₀)) 0 out₀)) (take (endFrom (job update₀ rows₀ plan₀ sections₀ (rowsFrom ranges₀ 0 n₀)) (sizesFrom (job update₀ rows₀ plan₀ sections₀ (rowsFrom ranges₀ 0 n₀)) (firstLane form₀) ((firstLane form₀ + ledOf form₀) - (firstLane form₀)) (replicate 10 0)) (firstLane form₀) ((firstLane form₀ + lanesOf form₀) - (firstLane form₀)) 0) (outFrom (job update₀ rows₀ plan₀ sections₀ (rowsFrom ranges₀ 0 n₀)) (sizesFrom (job update₀ rows₀ plan₀ sections₀ (rowsFrom ranges₀ 0 n₀)) (firstLane form₀) ((firstLane form₀ + ledOf form₀) - (firstLane form₀)) (replicate 10 0)) (firstLane form₀) ((firstLane form₀ + lanesOf form₀) - (firstLane form₀)) 0 out₀))) (g₁₃ .0) (exit-done (job update₀ rows₀ plan₀ sections₀ (rowsFrom ranges₀ 0 n₀)) form₀ out₀ y₅ y₈ y₁₁)))))))))))))))
+        assigns ! (addr ! (from ! (fld ! refl (hop ! (look-in ! 39 (sub ! 0 refl (whole !))) (stop !))))) (from ! (stop !)) (init ! 3 refl (tt, tt)) $
+        assigns ! (agg ! (and-then ! (load ! (from ! (stop !)) (look ! 3 refl)) (and-then ! (load ! (from ! (fld ! refl (stop !))) (look-in ! 39 (sub ! 1 refl (whole !)))) (no-more !)))) (from ! (stop !)) (init ! 1 refl (tt, (tt, (record { fits = are .1 .1 .1 .1 .1 .1 .1 .0 .0 .1 .0 }, tt)))) $
+        calls-by ! (fmOf 𝓤 H (W .laws) 𝓣) (5 ∷ []) (tab word (own-seat l₉ 8 ν₉ δ₉) sizes ∷ hs bytes) (numbers·finish! 𝓤 H A mem run (𝓣 .C) known-numbers·finish at-out bytes end (g₄ .0) (fits (sy .1 .0) y₅)) refl (λ P. and-then ! (load ! (from ! (stop !)) (look ! 1 refl)) (and-then ! (load ! (from ! (stop !)) (look ! 31 refl)) (no-more !))) (λ g₇.
+        land ! (from ! (stop !)) (init ! 55 refl (g₇ .1 .0)) $
+        move ! (0 ∷ 37 ∷ []) $ own-back ! tt word 8 8 (omega (arith)) 0 sizes l₉ ν₉ δ₉ (hs (padded (length bytes) (take end bytes))) $ move ! (0 ∷ 2 ∷ 3 ∷ 4 ∷ 5 ∷ 6 ∷ 7 ∷ 8 ∷ 9 ∷ 10 ∷ 11 ∷ 12 ∷ 13 ∷ 14 ∷ 15 ∷ 16 ∷ 17 ∷ 18 ∷ 19 ∷ 20 ∷ 21 ∷ 22 ∷ 23 ∷ 24 ∷ 25 ∷ 26 ∷ 27 ∷ 28 ∷ 29 ∷ 30 ∷ 31 ∷ 32 ∷ 33 ∷ 34 ∷ 35 ∷ 36 ∷ 37 ∷ 1 ∷ []) $
+        returns-within ! Post refl (look ! 55 refl) $
+        free-all ! (_ ∷ []) En (has _ ∷ has _ ∷ has _ ∷ has _ ∷ has _ ∷ has _ ∷ has _ ∷ has _ ∷ has _ ∷ has _ ∷ has _ ∷ has _ ∷ has _ ∷ has _ ∷ has _ ∷ has _ ∷ has _ ∷ bare ∷ bare ∷ has _ ∷ has _ ∷ has _ ∷ has _ ∷ has _ ∷ bare ∷ bare ∷ has _ ∷ has _ ∷ []) [] $ by ! (exits (done end) (padded (length bytes) (take end bytes)) (g₇ .0) (exit-done (job update₀ rows₀ plan₀ sections₀ (rowsFrom ranges₀ 0 n₀)) form₀ out₀ y₂ (sy .1 .0) y₅))))))))))))
       where
-        few : 10 ≤ length (sizesFrom (job update₀ rows₀ plan₀ sections₀ (rowsFrom ranges₀ 0 n₀)) (firstLane form₀) ((firstLane form₀ + ledOf form₀) - (firstLane form₀)) (replicate 10 0))
-        few = omega (arith, sizes-length (job update₀ rows₀ plan₀ sections₀ (rowsFrom ranges₀ 0 n₀)) ((firstLane form₀ + ledOf form₀) - (firstLane form₀)) (firstLane form₀) (replicate 10 0), length-replicate {A = ℕ} 10 0)
-
-        used : ltb (length out₀) (endFrom (job update₀ rows₀ plan₀ sections₀ (rowsFrom ranges₀ 0 n₀)) (sizesFrom (job update₀ rows₀ plan₀ sections₀ (rowsFrom ranges₀ 0 n₀)) (firstLane form₀) ((firstLane form₀ + ledOf form₀) - (firstLane form₀)) (replicate 10 0)) (firstLane form₀) ((firstLane form₀ + lanesOf form₀) - (firstLane form₀)) 0) ≡ false
-            → endFrom (job update₀ rows₀ plan₀ sections₀ (rowsFrom ranges₀ 0 n₀)) (sizesFrom (job update₀ rows₀ plan₀ sections₀ (rowsFrom ranges₀ 0 n₀)) (firstLane form₀) ((firstLane form₀ + ledOf form₀) - (firstLane form₀)) (replicate 10 0)) (firstLane form₀) ((firstLane form₀ + lanesOf form₀) - (firstLane form₀)) 0 ≤ length (outFrom (job update₀ rows₀ plan₀ sections₀ (rowsFrom ranges₀ 0 n₀)) (sizesFrom (job update₀ rows₀ plan₀ sections₀ (rowsFrom ranges₀ 0 n₀)) (firstLane form₀) ((firstLane form₀ + ledOf form₀) - (firstLane form₀)) (replicate 10 0)) (firstLane form₀) ((firstLane form₀ + lanesOf form₀) - (firstLane form₀)) 0 out₀)
-        used y = omega (arith, ltb-false (length out₀) (endFrom (job update₀ rows₀ plan₀ sections₀ (rowsFrom ranges₀ 0 n₀)) (sizesFrom (job update₀ rows₀ plan₀ sections₀ (rowsFrom ranges₀ 0 n₀)) (firstLane form₀) ((firstLane form₀ + ledOf form₀) - (firstLane form₀)) (replicate 10 0)) (firstLane form₀) ((firstLane form₀ + lanesOf form₀) - (firstLane form₀)) 0) y, out-length (job update₀ rows₀ plan₀ sections₀ (rowsFrom ranges₀ 0 n₀)) (sizesFrom (job update₀ rows₀ plan₀ sections₀ (rowsFrom ranges₀ 0 n₀)) (firstLane form₀) ((firstLane form₀ + ledOf form₀) - (firstLane form₀)) (replicate 10 0)) ((firstLane form₀ + lanesOf form₀) - (firstLane form₀)) (firstLane form₀) 0 out₀)
+        fits : length bytes ≡ length out₀ → ltb (length out₀) end ≡ false → end ≤ length bytes
+        fits l y = omega (arith, ltb-false (length out₀) end y, l)
 
 pub encode-planned-spec : {M : Type 1} → stated.statement M
 unfolding code.routine tablesOf
@@ -250,11 +222,7 @@ encode-planned-spec 𝓤 H 𝓜 𝓖 𝓡 =
     (meets 𝓤 H A W f.ended (stays fs) (goes 𝓤 H A W fs) (f.clauses 𝓤 H A (𝓜 .mem) (𝓡 .run)) 𝓣 code.function (spells fs) (tells fs)
     (λ κs qs bounds a _ are. needs 𝓤 _ _
     (walk 𝓤 H A W (𝓜 .mem) (𝓡 .run) κs qs bounds a are 𝓣
-    (cited 𝓤 H (Passes·leads·first-lane 𝓤 H A (𝓜 .mem) (𝓡 .run)) 𝓜 𝓡 code.env #passes·leads·first-lane passes·leads·first-lane-def.routine code.calls-passes·leads·first-lane (passes·leads·first-lane-thm.met 𝓤 H 𝓜 𝓖 𝓡))
-    (cited 𝓤 H (Passes·leads·lanes-end 𝓤 H A (𝓜 .mem) (𝓡 .run)) 𝓜 𝓡 code.env #passes·leads·lanes-end passes·leads·lanes-end-def.routine code.calls-passes·leads·lanes-end (passes·leads·lanes-end-thm.met 𝓤 H 𝓜 𝓖 𝓡))
-    (cited 𝓤 H (Passes·leads·led-end 𝓤 H A (𝓜 .mem) (𝓡 .run)) 𝓜 𝓡 code.env #passes·leads·led-end passes·leads·led-end-def.routine code.calls-passes·leads·led-end (passes·leads·led-end-thm.met 𝓤 H 𝓜 𝓖 𝓡))
     (cited 𝓤 H (Passes·measure 𝓤 H A (𝓜 .mem) (𝓡 .run)) 𝓜 𝓡 code.env #passes·measure passes·measure-def.routine code.calls-passes·measure (passes·measure-thm.met 𝓤 H 𝓜 𝓖 𝓡))
     (cited 𝓤 H (Numbers·refuse 𝓤 H A (𝓜 .mem) (𝓡 .run)) 𝓜 𝓡 code.env #numbers·refuse numbers·refuse-def.routine code.calls-numbers·refuse (numbers·refuse-thm.met 𝓤 H 𝓜 𝓖 𝓡))
-    (cited 𝓤 H (Passes·leads·total 𝓤 H A (𝓜 .mem) (𝓡 .run)) 𝓜 𝓡 code.env #passes·leads·total passes·leads·total-def.routine code.calls-passes·leads·total (passes·leads·total-thm.met 𝓤 H 𝓜 𝓖 𝓡))
     (cited 𝓤 H (Passes·write 𝓤 H A (𝓜 .mem) (𝓡 .run)) 𝓜 𝓡 code.env #passes·write passes·write-def.routine code.calls-passes·write (passes·write-thm.met 𝓤 H 𝓜 𝓖 𝓡))
     (cited 𝓤 H (Numbers·finish 𝓤 H A (𝓜 .mem) (𝓡 .run)) 𝓜 𝓡 code.env #numbers·finish numbers·finish-def.routine code.calls-numbers·finish (numbers·finish-thm.met 𝓤 H 𝓜 𝓖 𝓡)))))
