@@ -1,6 +1,6 @@
 -- What callees do at given arguments (tools/walkgen.py cards; `Told`, what the contract says where it gives no equations, by hand). Assumes that each meets its contract.
 use mathlib.Core.Path.{_≡_, refl}
-use Prim.Native.Nat.{ℕ}
+use Prim.Native.Nat.{ℕ, _/_}
 use mathlib.Core.List.{List, [], _∷_}
 use lib.Dec.{eqb}
 use lib.ListN.{length}
@@ -21,7 +21,7 @@ use Rattle.numbers.specs.declared.Refusal.{Refusal}
 use Rattle.cells.specs.Cells.{Small, stateIn}
 use Rattle.numbers.specs.Number.{pick}
 use Rattle.leftover.specs.Leftover as leftover
-use Rattle.strict.specs.Promises.{beforehand, ReadStrictly}
+use Rattle.strict.specs.Promises.{beforehand, strictly, ReadStrictly}
 use Rattle.updates.specs.Promises.{answer, refused, rowsOf, wordsOf}
 use Rattle.reader.proofs.Sorts.{refusal}
 use Rattle.table.proofs.Sorts.{block}
@@ -32,6 +32,8 @@ use Rattle.strict.proofs.refuse as strict·refuse-fn
 use Rattle.strict.proofs.refuse.Symbol.{name as #strict·refuse}
 use Rattle.strict.proofs.read_over as strict·read-over-fn
 use Rattle.strict.proofs.read_over.Symbol.{name as #strict·read-over}
+use Rattle.strict.proofs.read_update_strict as strict·read-update-strict-fn
+use Rattle.strict.proofs.read_update_strict.Symbol.{name as #strict·read-update-strict}
 use Rattle.unread.proofs.lowest as unread·lowest-fn
 use Rattle.unread.proofs.lowest.Symbol.{name as #unread·lowest}
 
@@ -44,6 +46,9 @@ module _ {M : Type 1} (𝓤 : URA M) (H : Heap 𝓤) (A : Atoms 𝓤) (mem : Mem
 
   abbrev pub Strict·read-over : Contract 𝓤
   Strict·read-over = tripleOf 𝓤 H A strict·read-over-fn.signature (strict·read-over-fn.spec 𝓤 H A mem run)
+
+  abbrev pub Strict·read-update-strict : Contract 𝓤
+  Strict·read-update-strict = tripleOf 𝓤 H A strict·read-update-strict-fn.signature (strict·read-update-strict-fn.spec 𝓤 H A mem run)
 
   abbrev pub Unread·lowest : Contract 𝓤
   Unread·lowest = tripleOf 𝓤 H A unread·lowest-fn.signature (unread·lowest-fn.spec 𝓤 H A mem run)
@@ -105,4 +110,18 @@ module _ {M : Type 1} (𝓤 : URA M) (H : Heap 𝓤) (A : Atoms 𝓤) (mem : Mem
       ensured = λ x r ws. unread·lowest-fn.clauses 𝓤 H A mem run (x .0) (x .3) .ensures tt r (atExit unread·lowest-fn.ended (x .0) (x .3) ws);
       out = λ ns v. id⊢ 𝓤 _;
       said = λ ns r ws. since 𝓤 (λ e. (e, tt));
+    }
+
+    pub strict·read-update-strict! : Triple 𝓤 (C #strict·read-update-strict) Strict·read-update-strict → (form₀ : ℕ) (g-form : Has byte form₀) (at-update : Seat) (update₀ : List ℕ) (at-rows : Seat) (rows₀ : List Block) (at-ranges : Seat) (ranges₀ : List ℕ) → Card 𝓤 H A C #strict·read-update-strict (val byte form₀ g-form ∷ pass byte at-update update₀ ∷ mut block at-rows rows₀ (rowsOf (length rows₀) (strictly form₀ update₀ (length rows₀) (length ranges₀ / 3))) ∷ mut word at-ranges ranges₀ (wordsOf (length ranges₀) (strictly form₀ update₀ (length rows₀) (length ranges₀ / 3))) ∷ []) update (answer (strictly form₀ update₀ (length rows₀) (length ranges₀ / 3)))
+    strict·read-update-strict! known form₀ g-form at-update update₀ at-rows rows₀ at-ranges ranges₀ = record {
+      contract = Strict·read-update-strict;
+      known = known;
+      ghost = λ x. (x, tt);
+      args = λ ns. refl;
+      asked = emp 𝓤;
+      asks = id⊢ 𝓤 _;
+      into = λ ns. id⊢ 𝓤 _;
+      ensured = λ x r ws. strict·read-update-strict-fn.clauses 𝓤 H A mem run (x .0) (x .3) .ensures tt r (atExit strict·read-update-strict-fn.ended (x .0) (x .3) ws);
+      out = λ ns v. id⊢ 𝓤 _;
+      said = λ ns r ws. since 𝓤 (λ e. (e .0, (e .1, (e .2, tt))));
     }
