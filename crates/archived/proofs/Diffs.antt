@@ -1,13 +1,13 @@
 -- Our own files are fit for the archive: what `encode_diff` and `encode_update` write reads strictly, in either form, as today's reading reads it.
 use Prim.Native.Nat.{ℕ, _≤_}
-use mathlib.Core.Path.{_≡_, refl, sym, ap, subst, _∙_}
+use mathlib.Core.Path.{_≡_, refl, sym, ap, subst}
 use mathlib.Core.Bool.{Bool, true, false}
 use mathlib.Core.List.{List}
 use native.Mathlib.Omega.{arith}
 use lib.Dec.{ltb, eqb}
 use lib.ListN.{length, getD}
 use borrow.Author.Tests.{eqb-false}
-use Rattle.numbers.specs.Number.{pick, none}
+use Rattle.numbers.specs.Number.{pick}
 use Rattle.numbers.specs.declared.Refusal.{Refusal}
 use Rattle.numbers.specs.Limits.{maxUpdate}
 use Rattle.leftover.specs.Leftover.{left, lowestLeft}

@@ -8,11 +8,10 @@ use mathlib.Core.List.{List}
 use native.Mathlib.Omega.{arith}
 use lib.Dec.{ltb, eqb}
 use lib.ListN.{length}
-use borrow.Author.Tests.{eqb-true, eqb-false, ltb-true, ltb-false, eq-eqb, ne-eqb, le-ltb}
-use Rattle.numbers.specs.declared.Refusal.{Refusal}
+use borrow.Author.Tests.{eqb-true, eqb-false, ltb-true, ltb-false, ne-eqb, le-ltb}
 use Rattle.numbers.specs.Number.{pick, none, nowhere}
 use Rattle.numbers.specs.Limits.{maxUpdate}
-use Rattle.grammar.specs.Course.{Course, item, over, stopped, fit, items, ending}
+use Rattle.grammar.specs.Course.{Course, item, over, stopped, fit, ending}
 use Rattle.grammar.specs.Numbered as grammar
 use Rattle.decoder.specs.Update.{blocksOf, deleteSet}
 use Rattle.ranges.specs.Ranges.{Range}

@@ -1,23 +1,22 @@
 -- What each way out of strict reading says, with no machine: what today's reading says there, and that the two conditions were met or not.
-use Prim.Native.Nat.{ℕ, zero, suc, _-_, _/_, _≤_, _<_}
+use Prim.Native.Nat.{ℕ, zero, suc, _-_, _/_}
 use mathlib.Core.Path.{_≡_, refl, sym, ap, subst, _∙_}
-use mathlib.Core.Logic.{_≢_, _⊎_, inl, inr}
+use mathlib.Core.Logic.{_≢_}
 use mathlib.Core.Bool.{Bool, true, false}
 use mathlib.Core.List.{List, [], _∷_, _++_}
 use native.Mathlib.Omega.{arith}
 use lib.Dec.{ltb, eqb}
 use lib.ListN.{length, take, replicate, getD}
-use borrow.Author.Tests.{eq-eqb, ne-eqb, eqb-true, eqb-false, lt-ltb, le-ltb}
+use borrow.Author.Tests.{eq-eqb, ne-eqb, eqb-true, eqb-false, lt-ltb}
 use Rattle.numbers.specs.declared.Refusal.{Refusal}
 use Rattle.numbers.specs.Number.{pick, none, nowhere}
 use Rattle.block.specs.declared.Block.{Block}
 use Rattle.table.specs.Rows.{clearedFrom}
 use Rattle.grammar.specs.Course.{Run, item, over, stopped, Course, fit, ending}
 use Rattle.grammar.specs.Numbered as numbered
-use Rattle.ranges.specs.Ranges.{Range}
-use Rattle.decoder.specs.States.{State, movedTo}
+use Rattle.decoder.specs.States.{State}
 use Rattle.decoder.specs.Update.{placed, inColumns, blocksOf, deleteSet}
-use Rattle.leftover.specs.Leftover.{Stretch, stretch, columnsAt, columnsLeft, setEnd, left, lower, lowest, lowestLeft}
+use Rattle.leftover.specs.Leftover.{stretch, columnsAt, columnsLeft, setEnd, left, lower, lowest, lowestLeft}
 use Rattle.cells.specs.Cells.{stateIn}
 use Rattle.deletes.specs.declared.Set.the-variants as set
 use Rattle.deletes.specs.DeleteSet.{taken, setOf, wordsOf as setWords}
@@ -25,7 +24,7 @@ use Rattle.reader.specs.declared.Filled.the-variants as filled
 use Rattle.reader.specs.Reader.{filledOf, rowsOf as filledRows, Stands}
 use Rattle.updates.specs.declared.Update.{Update}
 use Rattle.updates.specs.Promises.{Reading, refused, early, reading, answer, rowsOf, wordsOf}
-use Rattle.updates.proofs.Laws.{Says, rows-none, words-none, on-blocks, on-set, on-ranges}
+use Rattle.updates.proofs.Laws.{Says, on-blocks, on-set, on-ranges}
 use Rattle.agreement.specs.Numbered.{Stops}
 use Rattle.agreement.proofs.Courses.{fit-stops}
 use Rattle.agreement.proofs.Numbered.{blocks-numbered, deletes-numbered}

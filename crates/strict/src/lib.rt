@@ -38,7 +38,7 @@ fn refuse(rows: &mut [Block], ranges: &mut [u64], why: Refusal) -> Update
     updates::none(why)
 }
 
-// Over words that are lent: they hold the columns, behind the last block as everywhere.
+// Over words that are lent: behind the last block they hold where each column stands.
 fn read_over(
     form: u8,
     update: &[u8],

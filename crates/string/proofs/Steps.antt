@@ -11,12 +11,11 @@ use Rattle.numbers.specs.declared.Read.{Read}
 use Rattle.numbers.specs.declared.Read.the-variants as read
 use Rattle.numbers.specs.declared.Signed.{Signed}
 use Rattle.numbers.specs.declared.Signed.the-variants as signed
-use Rattle.numbers.specs.Number.{pick, none, readUnsigned, readSigned}
+use Rattle.numbers.specs.Number.{pick, readUnsigned, readSigned}
 use Rattle.numbers.specs.Limits.{maxValue, maxCount}
 use Rattle.text.specs.declared.Part.{Part}
-use Rattle.text.specs.declared.Taken.{Taken}
 use Rattle.text.specs.declared.Taken.the-variants as units
-use Rattle.text.specs.Utf8.{wellFormed, unitsOf, takeUnits}
+use Rattle.text.specs.Utf8.{unitsOf}
 use Rattle.text.proofs.Cutting.{found}
 use Rattle.text.proofs.Slices.{slice-front, slice-rest}
 use Rattle.runs.specs.declared.Column.the-variants as columns
