@@ -28,6 +28,8 @@
 // 11  no block n, or it has no binary or text
 // 12  form not 1 or 2
 // 13  form 2, or a difference column, needs a difference outside -2^30 to 2^30-1
+// 14  strict reading: the flag of form 2 is not 0
+// 15  strict reading: a byte stays unread
 //
 // Places: the byte that is blamed, counted from 0 in the update, or in the bytes that a number or a column is read from:
 //
@@ -37,6 +39,7 @@
 // - 4: the section's client.
 // - 5, 8 for a block's row, 3 for a block's end: the block's info byte. 8 for a range's row, 3 for a range's end: the first byte of the range's clock.
 // - 6, 7: the first byte of the text, not of its length.
+// - 14: the flag, which is byte 0. 15: the lowest byte that stays unread.
 //
 // In form 2 a section's client and an info byte are drawn from runs too. Where no byte is blamed the place is 0: 9 to 13, 8 for order steps, an update
 // over WAIROKABI_MAX_UPDATE, whatever a state vector is refused by. Place 0 may be blamed too: form 1 has its count of sections there, and an update of no
@@ -137,6 +140,15 @@ typedef struct wairokabi_update {
 // Reads an update of form 1 or 2. The blocks kept stand in `rows` in reading order, one a row; the delete ranges in normal form (highest client first,
 // clocks rising, none empty, none touching) in `ranges`, three words each: client, clock, length. 12, 3, then the first refusal of reading: 1 to 8.
 wairokabi_update wairokabi_read_update(
+    uint8_t form,
+    const uint8_t *update, size_t update_count,
+    wairokabi_block *rows, size_t rows_count,
+    uint64_t *ranges, size_t ranges_count);
+
+// Reads an update as `read_update` does, for the archive: no byte of it may stay unexplained. The flag of form 2 has to be 0 (14, once it is there, before
+// the columns are cut), and no byte of the rest or of any column may stay unread (15, last of all): nothing behind the delete set, no text that no text
+// takes, no run that nothing is drawn from; what is left of a run that was begun is none. 12, 3, 14, then the first refusal of reading, then 15.
+wairokabi_update wairokabi_read_update_strict(
     uint8_t form,
     const uint8_t *update, size_t update_count,
     wairokabi_block *rows, size_t rows_count,

@@ -164,6 +164,20 @@ static void refusals(void) {
     fill();
     u = wairokabi_read_update(1, GONE, sizeof GONE, rows, ROWS, words, 2);
     EXPECT(refused(u.refusal, 8, 9) && u.ranges == 0 && zero_rows(0) && words[0] == 0 && words[1] == 0);
+    // strictly: C is whole, a byte behind it is left over, D's flag is not to be 1
+    uint8_t behind[sizeof C + 1] = {0}, flagged[sizeof D];
+    memcpy(behind, C, sizeof C);
+    memcpy(flagged, D, sizeof D);
+    flagged[0] = 1;
+    fill();
+    u = wairokabi_read_update_strict(1, C, sizeof C, rows, ROWS, words, WORDS);
+    EXPECT(done(u.refusal) && u.blocks == 1 && zero_rows(1) && zero_words(0));
+    fill();
+    u = wairokabi_read_update_strict(1, behind, sizeof behind, rows, ROWS, words, WORDS);
+    EXPECT(refused(u.refusal, 15, sizeof C) && u.blocks == 0 && zero_rows(0) && zero_words(0));
+    fill();
+    u = wairokabi_read_update_strict(2, flagged, sizeof flagged, rows, ROWS, words, WORDS);
+    EXPECT(refused(u.refusal, 14, 0) && u.blocks == 0 && zero_rows(0) && zero_words(0));
     wairokabi_diff d = encode_diff(1, C, sizeof C, HAS_ONE, sizeof HAS_ONE, 1, sizeof E - 1);
     EXPECT(refused(d.refusal, 10, 0) && d.bytes == 0 && d.blocks == 0 && zero_rows(0) && zero_words(0));
     EXPECT(zero_bytes(out, 0, sizeof E - 1) && out[sizeof E - 1] == 0xa5);

@@ -56,8 +56,8 @@ const written = (bytes, room) => BigInt(bytes.length) > room ? nowhere(10) : { n
 const writeUnsigned = (value, room) => value >= 2n ** 63n ? nowhere(3) : written(unsigned(value), room)
 const writeSigned = (minus, x, room) => x >= 2n ** 62n ? nowhere(3) : written(signed(minus, x), room)
 
-// ---- columns, read: a function that draws, which gives { number, place } or { number: 0, value, from }: `from` is the first byte of the run that the value
-// comes from, and the place of what is refused for its value. Beside 3 and 7, for whoever compares, what is refused.
+// ---- columns, read: a function that draws, which gives { number, place } or { number: 0, value, from, to }: `from` is the first byte of the run that the
+// value comes from, and the place of what is refused for its value, `to` where the run ends. Beside 3 and 7, for whoever compares, what is refused.
 
 // A run's count that is refused lies at its own first byte.
 const readCount = (s, at) => {
@@ -90,7 +90,7 @@ const numbers = (s, from = 0n) => {
       value = r.magnitude
     }
     left--
-    return { number: 0, value, from: first }
+    return { number: 0, value, from: first, to: Number(at) }
   }
 }
 
@@ -126,7 +126,7 @@ const differences = s => {
     left = nextLeft - 1n
     difference = nextDifference
     last = value
-    return { number: 0, value, from: first }
+    return { number: 0, value, from: first, to: Number(at) }
   }
 }
 
@@ -143,6 +143,7 @@ const bytes = s => {
         endless = true
         first = at
         value = BigInt(s[at])
+        at++
       } else {
         const c = readCount(s, BigInt(at) + 1n)
         if (c.number !== 0) return c
@@ -153,7 +154,7 @@ const bytes = s => {
       }
     }
     if (!endless) left--
-    return { number: 0, value, from: first }
+    return { number: 0, value, from: first, to: at }
   }
 }
 
@@ -205,7 +206,8 @@ const take = (chars, k, units) => {
   return k
 }
 
-// Opens a text column: its length, bytes and UTF-8 are looked at. Gives { number, place } or { number: 0, draw }; a drawn text has its place in the column.
+// Opens a text column: its length, bytes and UTF-8 are looked at. Gives { number, place } or { number: 0, draw, start }; a drawn text has its place in the
+// column, and the run of its unit length.
 // What is not UTF-8 lies at the first byte of the text. A text that its units do not fit lies where it would begin, also where no byte is left.
 const texts = s => {
   const length = readUnsigned(s, 0n)
@@ -229,9 +231,9 @@ const texts = s => {
     }
     const value = text.slice(place, placeOf(next))
     k = next
-    return { number: 0, value, place: start + place, units: u.value }
+    return { number: 0, value, place: start + place, units: u.value, from: u.from, to: u.to }
   }
-  return { number: 0, draw }
+  return { number: 0, draw, start }
 }
 
 const readTexts = (s, times) => {

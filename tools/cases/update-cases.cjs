@@ -1,4 +1,4 @@
-// A case of the update stream for operations 13, 14, 15 and 18, with the line that is expected: from the model, and compared with Yjs.
+// A case of the update stream for operations 13, 14, 15, 18 and 21, with the line that is expected: from the model, and compared with Yjs.
 'use strict'
 const model = require('./update-model.cjs')
 const yjs = require('./yjs.cjs')
@@ -47,6 +47,17 @@ const read = (form, update, blockRows = 512, rangeRows = 1024) => {
     [first(r), ...(r.number === 0 ? tables(r) : []), 'zero'])
 }
 
+// Strictly: as it is otherwise, or 14, or 15 once all was read.
+const strict = (form, update, blockRows = 512, rangeRows = 1024) => {
+  const r = model.readUpdate(form, update, blockRows, rangeRows, true)
+  const otherwise = model.readUpdate(form, update, blockRows, rangeRows)
+  if (r.number === 15 ? otherwise.number !== 0 : r.number !== 14 && r.number !== otherwise.number) throw new Error(`strictly ${r.number} of ${hex(update)}`)
+  // what stands before bytes that are left may be all of an update
+  if (form === 1 || form === 2) held(update, r, other => model.readUpdate(form, other, blockRows, rangeRows, true), { bare: r.number === 15 })
+  return add(21, [limited('form', form, 255), limited('block rows', blockRows, 512), limited('range rows', rangeRows, 1024), sized(update, LONG)],
+    [first(r), ...(r.number === 0 ? tables(r) : []), 'zero'])
+}
+
 const content = (form, n, update) => {
   if (form === 1 || form === 2) whole(form, update)
   const r = model.content(form, BigInt(n), update)
@@ -56,7 +67,7 @@ const content = (form, n, update) => {
 const list = input => add(18, [sized(input, LONG)], ['0', hex(Buffer.from(model.listing(input), 'ascii')), 'zero'])
 
 module.exports = {
-  readVector, read, content, list, whole, tables, stream, output, refused,
+  readVector, read, strict, content, list, whole, tables, stream, output, refused,
   told: () => [
     `cases of an operation: ${told(counts)}`,
     `the number of a line: ${told(refused)}; at another place than 0: ${told(placed)}`,

@@ -35,17 +35,26 @@ const within = (value, most, place, what) => value > most ? refuse(3, place, { w
 
 // ---- bytes with a place in them
 
-const cursor = (s, at) => {
+// What is read is marked: `mark` gets where it begins and where it ends.
+const cursor = (s, at, mark = () => {}) => {
+  const to = next => {
+    mark(at, next)
+    at = next
+  }
   const unsigned = what => {
     const r = model.readUnsigned(s, BigInt(at))
     if (r.number !== 0) refuse(r.number, r.place, { what })
-    at = Number(r.next)
+    to(Number(r.next))
     return r.value
   }
   return {
     // Where the next thing that is read has its first byte.
     place: () => at,
-    byte: () => at < s.length ? s[at++] : refuse(1, s.length),
+    byte: () => {
+      if (at >= s.length) refuse(1, s.length)
+      to(at + 1)
+      return s[at - 1]
+    },
     unsigned,
     limited: (most, what) => {
       const place = at
@@ -53,6 +62,13 @@ const cursor = (s, at) => {
     },
     // That many bytes of any number, as { place, bytes }.
     part: size => {
+      if (BigInt(at) + size > BigInt(s.length)) refuse(1, s.length)
+      const part = { place: at, bytes: Number(size) }
+      to(at + part.bytes)
+      return part
+    },
+    // A column is passed, and its own draws mark what they read.
+    column: size => {
       if (BigInt(at) + size > BigInt(s.length)) refuse(1, s.length)
       const part = { place: at, bytes: Number(size) }
       at += part.bytes
@@ -64,8 +80,8 @@ const cursor = (s, at) => {
 // ---- the two forms' fields, under the same names in the same order. A section's client and an info byte come with their place, a range with its clock's:
 // what is refused later, 4, 5, 8 and an end, lies there.
 
-const form1 = update => {
-  const rest = cursor(update, 0)
+const form1 = (update, mark) => {
+  const rest = cursor(update, 0, mark)
   const client = () => {
     const place = rest.place()
     return { value: rest.limited(CLIENT, 'client'), place }
@@ -102,20 +118,23 @@ const form1 = update => {
 
 const COLUMNS = ['key', 'client', 'left', 'right', 'info', 'text', 'parent', 'type', 'length']
 
-const form2 = update => {
-  const rest = cursor(update, 0)
-  rest.byte() // the flag, of any value
+const form2 = (update, mark, strict) => {
+  const rest = cursor(update, 0, mark)
+  const flag = rest.byte() // of any value, strictly 0
+  if (strict && flag !== 0) refuse(14, 0)
   const parts = {}
   const columns = {}
   for (const name of COLUMNS) {
-    const part = rest.part(rest.unsigned('column length'))
+    const part = rest.column(rest.unsigned('column length'))
     parts[name] = part
     columns[name] = update.slice(part.place, part.place + part.bytes)
   }
   // A column's own places, from its first byte on, are so many further on in the update.
   const drawn = (name, draw) => () => {
     const r = draw()
-    return r.number !== 0 ? refuse(r.number, parts[name].place + r.place, { column: true, what: r.what, value: r.value }) : r
+    if (r.number !== 0) refuse(r.number, parts[name].place + r.place, { column: true, what: r.what, value: r.value })
+    mark(parts[name].place + r.from, parts[name].place + r.to)
+    return r
   }
   // Values with their place: the first byte of their run.
   const values = (name, column) => {
@@ -127,6 +146,7 @@ const form2 = update => {
   }
   const texts = model.texts(columns.text)
   if (texts.number !== 0) refuse(texts.number, parts.text.place + texts.place, { column: true, what: 'text opened' })
+  mark(parts.text.place, parts.text.place + texts.start)
   const text = drawn('text', texts.draw)
   const client = values('client', model.numbers)
   const left = values('left', model.differences)
@@ -152,7 +172,9 @@ const form2 = update => {
     },
     text: () => {
       const t = text()
-      return { part: { place: parts.text.place + t.place, bytes: t.value.length }, units: t.units }
+      const place = parts.text.place + t.place
+      mark(place, place + t.value.length)
+      return { part: { place, bytes: t.value.length }, units: t.units }
     },
     parentInfo: () => parent().value,
     length: () => {
@@ -216,13 +238,17 @@ const joined = ranges => {
 
 const NO_LIMIT = Infinity
 // The information beside the answer is for whoever compares: `masked` says that an info byte had content number 0 and other bits; `deleteClients` has the
-// delete-set clients as they were named.
-const readUpdate = (form, update, blockRows = NO_LIMIT, rangeRows = NO_LIMIT) => {
+// delete-set clients as they were named. Strictly (W-205) the flag is 0, and every byte is marked as read in the end.
+const readUpdate = (form, update, blockRows = NO_LIMIT, rangeRows = NO_LIMIT, strict = false) => {
   let masked = false
+  const unread = strict ? new Set(update.keys()) : null
+  const mark = (from, to) => {
+    if (strict) for (let k = from; k < to; k++) unread.delete(k)
+  }
   const r = answer(() => {
     if (form !== 1 && form !== 2) refuse(12, 0)
     if (update.length > UPDATE) refuse(3, 0)
-    const f = form === 1 ? form1(update) : form2(update)
+    const f = form === 1 ? form1(update, mark) : form2(update, mark, strict)
     const { rest } = f
     const blocks = []
     const clients = new Set()
@@ -259,6 +285,8 @@ const readUpdate = (form, update, blockRows = NO_LIMIT, rangeRows = NO_LIMIT) =>
         ranges.push({ client, clock, length })
       }
     }
+    // strictly, no byte of the update may stay that nothing read
+    if (strict && unread.size > 0) refuse(15, Math.min(...unread))
     return { blocks, ranges: joined(ranges), rangesRead: ranges.length, deleteClients }
   })
   return { ...r, masked }

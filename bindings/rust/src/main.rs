@@ -51,6 +51,7 @@ struct Words {
     plain: Vec<String>,
     help: bool,
     long: bool,
+    strict: bool,
     to: Option<String>,
     out: Option<String>,
 }
@@ -64,6 +65,7 @@ impl Words {
             match word.as_str() {
                 "-h" | "--help" => words.help = true,
                 "--long" => words.long = true,
+                "--strict" => words.strict = true,
                 "--to" => words.to = Some(next()?.ok_or_else(|| not_run("--to needs a form"))?),
                 "--out" => words.out = Some(next()?.ok_or_else(|| not_run("--out needs a file"))?),
                 option if option.starts_with("--") => return Err(not_run(format!("{option}: no such option; see --help"))),
@@ -125,7 +127,8 @@ impl Asked {
     /// A refusal in words, with the name of what was refused, and under it where the byte lies that it blames.
     fn refused(&self, refused: Refused) -> Stop {
         let (mut rows, mut ranges) = self.tables();
-        let whose = if read_update(self.form, &self.update.bytes, &mut rows, &mut ranges).err() == Some(refused) {
+        let update = &self.update.bytes;
+        let whose = if read_update(self.form, update, &mut rows, &mut ranges).err() == Some(refused) || matches!(refused.number(), 14 | 15) {
             format!("{}: ", self.update.name)
         } else if read_state_vector(&self.vector.bytes, &mut [Entry::default(); MAX_CLIENTS]).err() == Some(refused) {
             format!("{}: ", self.vector.name)
@@ -156,13 +159,18 @@ fn run(words: Words) -> Result<Vec<u8>, Stop> {
     }
     let plain: Vec<&str> = words.plain.iter().map(String::as_str).collect();
     let command = plain[0];
-    let misplaced = [("--long", words.long, "list"), ("--to", words.to.is_some(), "diff"), ("--out", words.out.is_some(), "diff content")];
+    let misplaced = [
+        ("--long", words.long, "list"),
+        ("--strict", words.strict, "check"),
+        ("--to", words.to.is_some(), "diff"),
+        ("--out", words.out.is_some(), "diff content"),
+    ];
     if let Some((option, ..)) = misplaced.iter().find(|(_, given, of)| *given && !of.split(' ').any(|c| c == command)) {
         return Err(not_run(format!("{command} takes no {option}; see --help")));
     }
     match plain[..] {
-        ["check", form, update] => check(&Asked::of(form, update, None)?),
-        ["check", form, update, vector] => check(&Asked::of(form, update, Some(vector))?),
+        ["check", form, update] => check(&Asked::of(form, update, None)?, words.strict),
+        ["check", form, update, vector] => check(&Asked::of(form, update, Some(vector))?, words.strict),
         ["list", form, update] => listing(&Asked::of(form, update, None)?, words.long),
         ["content", form, update, n] => {
             let n = n.parse().map_err(|_| not_run(format!("{n}: not the number of a block; see --help")))?;
@@ -181,10 +189,16 @@ fn run(words: Words) -> Result<Vec<u8>, Stop> {
 
 // ---- answers
 
-fn check(asked: &Asked) -> Result<Vec<u8>, Stop> {
+/// Strictly, an update is read as the archive reads it: a flag that is not 0, or a byte that stays unread, is refused.
+fn check(asked: &Asked, strict: bool) -> Result<Vec<u8>, Stop> {
     let (form, bytes) = (asked.form, &asked.update.bytes);
+    if strict {
+        let (mut rows, mut ranges) = asked.tables();
+        read_update_strict(form, bytes, &mut rows, &mut ranges).map_err(|r| asked.refused(r))?;
+    }
     let (rows, numbers) = measured(form, bytes).map_err(|r| asked.refused(r))?;
-    let mut text = format!("{} reads in form {form}: {}, {numbers}\n", asked.update.name, many(bytes.len(), "byte"));
+    let how = if strict { " strictly" } else { "" };
+    let mut text = format!("{} reads{how} in form {form}: {}, {numbers}\n", asked.update.name, many(bytes.len(), "byte"));
     // bytes that are not read are accepted, so an update may read as nothing in the wrong form
     let other = if form == 1 { 2 } else { 1 };
     if let (0, Ok((1.., numbers))) = (rows, measured(other, bytes)) {

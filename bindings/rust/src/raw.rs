@@ -215,6 +215,16 @@ extern "C" {
         ranges_count: usize,
     ) -> Update;
 
+    pub fn wairokabi_read_update_strict(
+        form: u8,
+        update: *const u8,
+        update_count: usize,
+        rows: *mut Block,
+        rows_count: usize,
+        ranges: *mut u64,
+        ranges_count: usize,
+    ) -> Update;
+
     pub fn wairokabi_content(form: u8, update: *const u8, update_count: usize, n: usize) -> Where;
 
     pub fn wairokabi_encode_diff(

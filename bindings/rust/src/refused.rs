@@ -22,7 +22,7 @@ pub struct Refused {
 }
 
 impl Refused {
-    /// The number: 1 to 13.
+    /// The number: 1 to 15.
     pub fn number(self) -> u8 {
         self.number
     }
@@ -35,6 +35,7 @@ impl Refused {
     /// - 4: the section's client.
     /// - 5, 8 for a block's row, 3 for a block's end: the block's info byte. 8 for a range's row, 3 for a range's end: the first byte of the range's clock.
     /// - 6, 7: the first byte of the text, not of its length.
+    /// - 14: the flag, which is byte 0. 15: the lowest byte that stays unread.
     ///
     /// In form 2 a section's client and an info byte are drawn from runs too. `None` where no byte is blamed: 9 to 13, 8 for the order, an update over
     /// [`MAX_UPDATE`](crate::MAX_UPDATE), a state vector, a text that is counted or cut, and what is to be written.
@@ -58,6 +59,8 @@ impl Refused {
             11 => "no block n, or it has no binary or text",
             12 => "form not 1 or 2",
             13 => "form 2, or a difference column, needs a difference outside -2^30 to 2^30-1",
+            14 => "strict reading: the flag of form 2 is not 0",
+            15 => "strict reading: a byte stays unread",
             _ => "a number that this binding does not know",
         }
     }

@@ -127,6 +127,35 @@ pub fn read_update<'t>(form: u8, update: &[u8], rows: &'t mut [Block], ranges: &
     Ok(Update { blocks: &rows[..answer.blocks], ranges: &ranges[..answer.ranges] })
 }
 
+/// Reads an update as [`read_update`] does, for the archive: no byte of it may stay unexplained. Refused by 12, 3, 14 (the flag of form 2 is not 0), then
+/// the first refusal of reading, then 15 (a byte stays unread, the lowest of them is blamed).
+///
+/// ```
+/// use wairokabi::{read_update, read_update_strict, Block, Range};
+///
+/// let c = [0x01, 0x01, 0x05, 0x00, 0x04, 0x01, 0x01, 0x74, 0x02, 0x68, 0x69, 0x00];
+/// let (mut rows, mut ranges) = ([Block::default(); 4], [Range::default(); 4]);
+/// assert_eq!(read_update_strict(1, &c, &mut rows, &mut ranges)?.blocks.len(), 1);
+///
+/// let behind = [&c[..], &[0x07]].concat();
+/// assert_eq!(read_update(1, &behind, &mut rows, &mut ranges)?.blocks.len(), 1);
+/// let refused = read_update_strict(1, &behind, &mut rows, &mut ranges).unwrap_err();
+/// assert_eq!((refused.number(), refused.at()), (15, Some(12)));
+/// assert_eq!(rows[0], Block::default());
+/// # Ok::<(), wairokabi::Refused>(())
+/// ```
+pub fn read_update_strict<'t>(form: u8, update: &[u8], rows: &'t mut [Block], ranges: &'t mut [Range]) -> Result<Update<'t>, Refused> {
+    let answer = unsafe {
+        raw::wairokabi_read_update_strict(form, update.as_ptr(), update.len(), rows.as_mut_ptr(), rows.len(), words(ranges), count(ranges))
+    };
+    // the flag is byte 0
+    if answer.refusal.number == 14 {
+        done_at(answer.refusal)?;
+    }
+    done_reading(answer.refusal, form, update)?;
+    Ok(Update { blocks: &rows[..answer.blocks], ranges: &ranges[..answer.ranges] })
+}
+
 /// The text or binary of block n, from 0 in reading order: that part of the update itself, not a copy. Refused by 12, 3, reading's, then 11.
 ///
 /// ```

@@ -50,6 +50,27 @@ fn updates_are_refused() {
 
 /// An end over the limit: of a block it blames the info byte, of a range its clock.
 #[test]
+fn strictly_no_byte_stays() {
+    let strict = |form, update: &[u8]| {
+        let mut l = lent(ROWS, ROWS, 0);
+        let answer = read_update_strict(form, update, &mut l.rows, &mut l.ranges).map(|u| (u.blocks.len(), u.ranges.len()));
+        assert!(answer.is_ok() || zero(&l.rows) && zero(&l.ranges));
+        answer
+    };
+    assert_eq!((strict(1, &C), strict(2, &D), strict(1, &GONE)), (Ok((1, 0)), Ok((1, 0)), Ok((1, 2))));
+    for end in 0..D.len() {
+        assert_eq!(why(strict(2, &D[..end])), (1, Some(end)));
+    }
+    assert_eq!(why(strict(1, &[&C[..], &[0x07]].concat())), (15, Some(C.len())));
+    assert_eq!(why(strict(2, &[&D[..], &[0x07]].concat())), (15, Some(D.len())));
+    assert_eq!(why(strict(2, &[&[0x01], &D[1..]].concat())), (14, Some(0)));
+    assert_eq!(why(strict(2, &[0x01])), (14, Some(0)));
+    assert_eq!(why(strict(3, &[0x01])), (12, None));
+    // a text that no block takes, and its unit length behind it
+    assert_eq!(why(strict(2, &[0, 0, 0, 0, 0, 0, 3, 1, 0x61, 1, 0, 0, 0, 0, 0])), (15, Some(8)));
+}
+
+#[test]
 fn ends_are_refused() {
     refuses(1, &[0x01, 0x01, 0x05, 0xff, 0xff, 0xff, 0xff, 0x07, 0x00, 0x01], 3, Some(8));
     refuses(1, &[0x00, 0x01, 0x05, 0x01, 0xff, 0xff, 0xff, 0xff, 0x07, 0x01], 3, Some(4));

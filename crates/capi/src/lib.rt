@@ -22,6 +22,7 @@ use wairokabi::Unsigned;
 ghost use mathlib.Core.Path.{_≡_};
 ghost use Rattle.wairokabi.specs.Promises.{ReadUnsigned, ReadSigned, WriteUnsigned, WriteSigned, CountUnits, TakeText, CutText, OpenNumbers, NextNumber, OpenDifferences, NextDifference, OpenBytes, NextByte, OpenText, NextText, WriteNumbers, WriteDifferences, WriteBytes, WriteTexts, ReadStateVector};
 ghost use Rattle.updates.specs.Promises.{ReadUpdate};
+ghost use Rattle.strict.specs.Promises.{ReadStrictly};
 ghost use Rattle.contents.specs.Promises.{whereOf};
 ghost use Rattle.listed.specs.Listed.{Lists};
 ghost use Rattle.diffs.specs.Promises.{Diffs, emptyVector};
@@ -39,6 +40,18 @@ pub extern "C" fn wairokabi_read_update(
     ensures { λ r. ⌜ ReadUpdate form (now (update .entry)) (now (rows .entry)) (now (ranges .entry)) r (now (rows .exit)) (now (ranges .exit)) ⌝ }
 {
     updates::read_update(form, update, rows, ranges)
+}
+
+#[no_mangle]
+pub extern "C" fn wairokabi_read_update_strict(
+    form: u8,
+    update: &[u8],
+    rows: &mut [Block],
+    ranges: &mut [u64],
+) -> Update
+    ensures { λ r. ⌜ ReadStrictly form (now (update .entry)) (now (rows .entry)) (now (ranges .entry)) r (now (rows .exit)) (now (ranges .exit)) ⌝ }
+{
+    strict::read_update_strict(form, update, rows, ranges)
 }
 
 // Where the part lies that `content` hands back: C cannot be handed a part of the update itself.

@@ -24,6 +24,7 @@ fn case(
         16 => diff_cases::read(source, place, bytes, sink, used),
         17 => sort_cases::read(source, place, bytes, sink, used),
         18 => listings::read(source, place, bytes, sink, used),
+        21 => strict_cases::read(source, place, bytes, sink, used),
         _ => number_cases::case(operation, source, place, bytes, sink, used),
     }
 }

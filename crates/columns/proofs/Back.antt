@@ -62,9 +62,23 @@ why-says c vs h = go (within (c .most) vs) (storable c 0 vs) (spellable c 0 vs) 
     go true false d h = absurd (omega arith)
     go false b d h = absurd (omega arith)
 
--- After the values, m draws more give what R makes of where the bytes end and of the last value.
-module _ {c : Coding} {P : Type 0} {next : List ℕ → P → Draw P} (r : Reader c next) (m : ℕ) (R : ℕ → ℕ → Reading)
-    (end : (s : List ℕ) (from b p k : ℕ) → Step c b p k → reads (next s) m (r .place true (length s) from p k 0) ≡ R (length s) p) where
+-- ---- a draw at a time
+
+-- draws give these values one after the other, and of the place after them End holds
+abbrev pub Gives : {P : Type 0} → (P → Draw P) → (P → Type 0) → P → List ℕ → Type 0
+Gives next End c [] = End c
+Gives {P} next End c (v ∷ vs) = (d : P) × (next c ≡ drew v d) × Gives next End d vs
+
+-- so a reading gives them, and then what it gives from that place on
+pub gives-reads : {P : Type 0} (next : P → Draw P) (m : ℕ) (r : Reading) (vs : List ℕ) (c : P) → Gives next (λ d. reads next m d ≡ r) c vs
+    → reads next (length vs + m) c ≡ onto vs r
+unfolding reads andThen
+gives-reads next m r [] c h = rw zero-add h
+gives-reads next m r (v ∷ vs) c h = rw (suc-add, h .1) (ap (onto (v ∷ [])) (gives-reads next m r vs (h .0) (h .2)))
+
+-- The values are drawn, and then End holds of where the bytes end, of the last value and of the place.
+module _ {c : Coding} {P : Type 0} {next : List ℕ → P → Draw P} (r : Reader c next) (End : List ℕ → ℕ → P → Type 0)
+    (end : (s : List ℕ) (from b p k : ℕ) → Step c b p k → End s p (r .place true (length s) from p k 0)) where
   -- after the value p, whose key k stood n + 1 times so far: how often it still stands, whether its run is the last, and the bytes after the run
   record Ahead (p k n : ℕ) (vs : List ℕ) : Type 0 where
     more : ℕ
@@ -74,25 +88,27 @@ module _ {c : Coding} {P : Type 0} {next : List ℕ → P → Draw P} (r : Reade
     bytes : over c p k n vs ≡ spelled c ends k (n + more) ++ rest
     fits : stored c ends (n + more) ≡ true
     gives : (done : List ℕ) (from : ℕ)
-        → reads (next (done ++ rest)) (length vs + m) (r .place ends (length done) from p k more) ≡ onto vs (R (length (done ++ rest)) (getD (p ∷ vs) (length vs) 0))
+        → Gives (next (done ++ rest)) (End (done ++ rest) (getD (p ∷ vs) (length vs) 0)) (r .place ends (length done) from p k more) vs
 
   -- a run begins
   first : (pre vs : List ℕ) (from p l v : ℕ) → Step c p v (c .keyOf p v) → c .near (c .keyOf p v) ≡ true → Ahead v (c .keyOf p v) 0 vs
-      → reads (next (pre ++ over c v (c .keyOf p v) 0 vs)) (suc (length vs) + m) (r .place false (length pre) from p l 0)
-      ≡ onto (v ∷ vs) (R (length (pre ++ over c v (c .keyOf p v) 0 vs)) (getD (v ∷ vs) (length vs) 0))
-  unfolding reads andThen
+      → Gives (next (pre ++ over c v (c .keyOf p v) 0 vs)) (End (pre ++ over c v (c .keyOf p v) 0 vs) (getD (v ∷ vs) (length vs) 0))
+      (r .place false (length pre) from p l 0) (v ∷ vs)
   first pre vs from p l v st near a =
       let k : ℕ = c .keyOf p v in
       let b : List ℕ = spelled c (a .ends) k (a .more) in
       let bytes : over c v k 0 vs ≡ b ++ a .rest = rw zero-add at (a .bytes) in
-      rw (suc-add, bytes, r .begins pre (a .rest) (a .ends) from p l v k (a .more) (a .follows) st near (rw zero-add at (a .fits)))
-      (rw (← append-assoc pre b (a .rest)) (ap (onto (v ∷ [])) (a .gives (pre ++ b) (length pre))))
+      rw bytes (
+        r .place (a .ends) (length (pre ++ b)) (length pre) v k (a .more),
+        r .begins pre (a .rest) (a .ends) from p l v k (a .more) (a .follows) st near (rw zero-add at (a .fits)),
+        rw (← append-assoc pre b (a .rest)) (a .gives (pre ++ b) (length pre)),
+      )
 
   abbrev All : List ℕ → Type 0
   All vs = (b p k n : ℕ) → Step c b p k → within (c .most) vs ≡ true → overFits c p k n vs ≡ true → spellable c p vs ≡ true → Ahead p k n vs
 
   ahead : (vs : List ℕ) → All vs
-  unfolding over within overFits spellable reads andThen
+  unfolding over within overFits spellable
   ahead [] b p k n st w f s = record {
     more = 0;
     ends = true;
@@ -100,7 +116,7 @@ module _ {c : Coding} {P : Type 0} {next : List ℕ → P → Draw P} (r : Reade
     follows = nothing;
     bytes = rw (add-zero, append-nil);
     fits = rw add-zero f;
-    gives = λ done from. rw (append-nil, zero-add) (end done from b p k st);
+    gives = λ done from. rw append-nil (end done from b p k st);
   }
   ahead (v ∷ vs) b p k n st w f s = go (ahead vs) (eqb (c .keyOf p v) k) refl f
     where
@@ -126,7 +142,7 @@ module _ {c : Coding} {P : Type 0} {next : List ℕ → P → Draw P} (r : Reade
             follows = a .follows;
             bytes = rw e (rw eq at (a .bytes));
             fits = rw eq at (a .fits);
-            gives = λ done from. rw (suc-add, r .goes (done ++ a .rest) (a .ends) (length done) from p v k (a .more) st′) (ap (onto (v ∷ [])) (a .gives done from));
+            gives = λ done from. (r .place (a .ends) (length done) from v k (a .more), r .goes (done ++ a .rest) (a .ends) (length done) from p v k (a .more) st′, a .gives done from);
           }
       go rec false e f =
           let f′ = both (c .fits n) (overFits c v (c .keyOf p v) 0 vs) f in
@@ -144,8 +160,7 @@ module _ {c : Coding} {P : Type 0} {next : List ℕ → P → Draw P} (r : Reade
 
   -- a column with a value
   pub some : (pre vs : List ℕ) (from l v : ℕ) → why c (v ∷ vs) ≡ 0
-      → reads (next (pre ++ column c (v ∷ vs))) (length (v ∷ vs) + m) (r .place false (length pre) from 0 l 0)
-      ≡ onto (v ∷ vs) (R (length (pre ++ column c (v ∷ vs))) (getD (v ∷ vs) (length vs) 0))
+      → Gives (next (pre ++ column c (v ∷ vs))) (End (pre ++ column c (v ∷ vs)) (getD (v ∷ vs) (length vs) 0)) (r .place false (length pre) from 0 l 0) (v ∷ vs)
   unfolding column opened within storable spellable
   some pre vs from l v h =
       let y = why-says c (v ∷ vs) h in
@@ -155,13 +170,21 @@ module _ {c : Coding} {P : Type 0} {next : List ℕ → P → Draw P} (r : Reade
       first pre vs from 0 l v st (s .0) (ahead vs 0 v (c .keyOf 0 v) 0 st (w .1) (y .1) (s .1))
 
 module _ {c : Coding} {P : Type 0} {next : List ℕ → P → Draw P} (r : Reader c next) (pre : List ℕ) (from l : ℕ) where
+  -- the values are drawn, and what holds of a place where the bytes end holds then
+  pub gives-back : (End : List ℕ → P → Type 0) → ((s : List ℕ) (e : Bool) (from p k : ℕ) → End s (r .place e (length s) from p k 0))
+      → (vs : List ℕ) → why c vs ≡ 0 → Gives (next (pre ++ column c vs)) (End (pre ++ column c vs)) (r .place false (length pre) from 0 l 0) vs
+  unfolding column opened
+  gives-back End end [] h = rw append-nil (end pre false from 0 l)
+  gives-back End end (v ∷ vs) h = some r (λ s x d. End s d) (λ s from b p k st. end s true from p k) pre vs from l v h
+
   -- the values are read
   pub reads-back : (vs : List ℕ) → why c vs ≡ 0
       → reads (next (pre ++ column c vs)) (length vs) (r .place false (length pre) from 0 l 0) ≡ record { values = vs; refusal = none }
   unfolding reads
-  reads-back [] h = refl
-  reads-back (v ∷ vs) h =
-      rw (add-zero, append-nil) at (some r 0 (λ _ _. record { values = []; refusal = none }) (λ s from b p k st. refl) pre vs from l v h)
+  reads-back vs h =
+      rw (add-zero, append-nil) at
+      (gives-reads (next (pre ++ column c vs)) 0 (record { values = []; refusal = none }) vs (r .place false (length pre) from 0 l 0)
+      (gives-back (λ s d. reads (next s) 0 d ≡ record { values = []; refusal = none }) (λ s e from p k. refl) vs h))
 
   -- a column of no values gives none
   pub reads-none : (m : ℕ) → next pre (r .place false (length pre) from 0 l 0) ≡ stop (atEnd pre)
@@ -174,6 +197,7 @@ module _ {c : Coding} {P : Type 0} {next : List ℕ → P → Draw P} (r : Reade
       → (vs : List ℕ) (m : ℕ) → why c vs ≡ 0
       → reads (next (pre ++ column c vs)) (length vs + suc m) (r .place false (length pre) from 0 l 0) ≡ record { values = vs; refusal = atEnd (pre ++ column c vs) }
   unfolding reads andThen
-  reads-end stops [] m h = rw zero-add (reads-none m (stops pre false from 0 l))
-  reads-end stops (v ∷ vs) m h =
-      rw append-nil at (some r (suc m) (λ n _. record { values = []; refusal = record { number = 1; place = n } }) (λ s from b p k st. rw (stops s true from p k)) pre vs from l v h)
+  reads-end stops vs m h =
+      rw append-nil at
+      (gives-reads (next (pre ++ column c vs)) (suc m) (record { values = []; refusal = atEnd (pre ++ column c vs) }) vs (r .place false (length pre) from 0 l 0)
+      (gives-back (λ s d. reads (next s) (suc m) d ≡ record { values = []; refusal = atEnd s }) (λ s e from p k. rw (stops s e from p k)) vs h))

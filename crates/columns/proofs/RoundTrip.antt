@@ -31,7 +31,7 @@ use Rattle.columns.specs.Byte as byte
 use Rattle.runs.specs.Byte as byte-run
 use Rattle.runs.specs.Runs.{column, why, coding, fitsLessTwo, fitsLessOne, nearKey}
 use Rattle.columns.specs.Reading.{Draw, drew, stop, andThen, reads, numberDraw, differenceDraw, byteDraw, readNumbers, readDifferences, readBytes}
-use Rattle.columns.proofs.Back.{both, atEnd, Step, Follows, nothing, others, spelled, stored, Reader, some, reads-back, reads-none, reads-end}
+use Rattle.columns.proofs.Back.{both, atEnd, Step, Follows, nothing, others, spelled, stored, Reader, Gives, gives-reads, some, gives-back, reads-back, reads-none, reads-end}
 
 -- the count after a signed number or a byte
 count-back : (p s q : List ℕ) (x : ℕ) → x < 2 ^ 63
@@ -110,6 +110,11 @@ unfolding numberDraw number.nextNumber number.begun
 number-stops s e from p k = rw (signed-end s)
 
 module _ (p vs : List ℕ) (h : why (coding columns.Number) vs ≡ 0) where
+  -- a draw at a time, and then no byte is left
+  pub number-drawn-back : Gives (number-next (p ++ column (coding columns.Number) vs)) (λ d. d .at ≡ length (p ++ column (coding columns.Number) vs)) (number.startAt (length p)) vs
+  unfolding number-reader
+  number-drawn-back = gives-back number-reader p (length p) 0 (λ s d. d .at ≡ length s) (λ s e from q k. refl) vs h
+
   pub number-back : readNumbers (length vs) (p ++ column (coding columns.Number) vs) (number.startAt (length p)) ≡ record { values = vs; refusal = none }
   unfolding number-reader
   number-back = reads-back number-reader p (length p) 0 vs h
@@ -213,6 +218,10 @@ unfolding differenceDraw difference.nextDifference difference.begun
 difference-stops s e from p k = rw (signed-end s)
 
 module _ (p vs : List ℕ) (h : why (coding columns.Difference) vs ≡ 0) where
+  pub difference-drawn-back : Gives (difference-next (p ++ column (coding columns.Difference) vs)) (λ d. d .at ≡ length (p ++ column (coding columns.Difference) vs)) (difference.startAt (length p)) vs
+  unfolding difference-reader
+  difference-drawn-back = gives-back difference-reader p (length p) zeroKey (λ s d. d .at ≡ length s) (λ s e from q k. refl) vs h
+
   pub difference-back : readDifferences (length vs) (p ++ column (coding columns.Difference) vs) (difference.startAt (length p)) ≡ record { values = vs; refusal = none }
   unfolding difference-reader
   difference-back = reads-back difference-reader p (length p) zeroKey vs h
@@ -290,6 +299,15 @@ unfolding reads andThen byteDraw byte.nextByte
 endless s at from k zero = refl
 endless s at from k (suc m) = rw (endless s at from k m)
 
+byte-at-end : (s : List ℕ) (e : Bool) (from p k : ℕ) → byte-here e (length s) from p k 0 .at ≡ length s
+byte-at-end s true from p k = refl
+byte-at-end s false from p k = refl
+
+pub byte-drawn-back : (p vs : List ℕ) → why (coding columns.Byte) vs ≡ 0
+    → Gives (byte-next (p ++ column (coding columns.Byte) vs)) (λ d. d .at ≡ length (p ++ column (coding columns.Byte) vs)) (byte.startAt (length p)) vs
+unfolding byte-reader
+byte-drawn-back p vs h = gives-back byte-reader p (length p) 0 (λ s d. d .at ≡ length s) byte-at-end vs h
+
 pub byte-back : (p vs : List ℕ) → why (coding columns.Byte) vs ≡ 0
     → readBytes (length vs) (p ++ column (coding columns.Byte) vs) (byte.startAt (length p)) ≡ record { values = vs; refusal = none }
 unfolding byte-reader
@@ -300,7 +318,10 @@ pub byte-on : (p vs : List ℕ) (v m : ℕ) → why (coding columns.Byte) (v ∷
     ≡ record { values = (v ∷ vs) ++ replicate m (getD (v ∷ vs) (length vs) 0); refusal = none }
 unfolding byte-reader coding
 byte-on p vs v m h =
-    some byte-reader m (λ _ x. record { values = replicate m x; refusal = none }) (λ s from b x k st. rw (st .key) (endless s (length s) from k m)) p vs (length p) 0 v h
+    let last : ℕ = getD (v ∷ vs) (length vs) 0 in
+    gives-reads (byte-next (p ++ column (coding columns.Byte) (v ∷ vs))) m (record { values = replicate m last; refusal = none }) (v ∷ vs) (byte.startAt (length p))
+    (some byte-reader (λ s x d. reads (byte-next s) m d ≡ record { values = replicate m x; refusal = none })
+    (λ s from b x k st. rw (st .key) (endless s (length s) from k m)) p vs (length p) 0 v h)
 
 pub byte-none : (p : List ℕ) (m : ℕ)
     → readBytes (suc m) (p ++ column (coding columns.Byte) []) (byte.startAt (length p)) ≡ record { values = []; refusal = atEnd (p ++ column (coding columns.Byte) []) }

@@ -1,6 +1,6 @@
 -- Form 1: written tokens are drawn again, each in line.
 use Prim.Native.Nat.{ℕ, _+_, _^_, _≤_, _<_}
-use mathlib.Core.Path.{_≡_, refl}
+use mathlib.Core.Path.{_≡_, refl, sym}
 use mathlib.Core.Bool.{true}
 use mathlib.Core.List.{List, [], _∷_, _++_}
 use native.Mathlib.Omega.{arith}
@@ -8,14 +8,16 @@ use lib.ListN.{length}
 use Rattle.numbers.specs.Number.{unsigned}
 use Rattle.text.specs.Utf8.{wellFormed, unitsOf}
 use Rattle.grammar.specs.Grammar as grammar
-use Rattle.grammar.specs.Course.{got}
+use Rattle.grammar.specs.Course.{got, Run, item, over, stopped, run, ending}
+use Rattle.grammar.specs.Blocks.{allBlocks}
 use Rattle.decoder.specs.Line.{upTo, numberOf, checked, line}
 use Rattle.decoder.specs.Update.{blocksOf}
+use Rattle.leftover.specs.Leftover.{Stretch, columnsLeft, Spent}
 use Rattle.readings.specs.Sound.{bytesIn}
 use Rattle.tokens.specs.Tokens.{Token, field, text, var, buf, led, inlined, taken, takenAll, inLine, lane, whole}
 use Rattle.tokens.specs.Bytes.{form1}
 use Rattle.draws.specs.Draws.{laneField, Draws, most, isField, Legal, AllLegal, Lined, DrawnAgain}
-use Rattle.draws.proofs.Standing.{From, past, past-length, var-here, byte-here, behind, partOf, led-bytes, led-past, bytes-here, bytes-read}
+use Rattle.draws.proofs.Standing.{From, at-end, past, past-length, var-here, byte-here, behind, partOf, led-bytes, led-past, bytes-here, bytes-read}
 use Rattle.draws.proofs.Fields.{by-field, bounded-in}
 
 -- ---- a token
@@ -51,37 +53,44 @@ module _ (u : List ℕ) (l : length u < 2 ^ 62) where
   few : (at : ℕ) (b q : List ℕ) → From u at (led b ++ q) → length b < 2 ^ 63
   few at b q h = omega (arith, past-length u (behind at b) b q (led-bytes u at b q h))
 
-  line-from : (ts : List Token) → AllLegal ts → (at : ℕ) → From u at (takenAll whole ts) → (t : ℕ) × Draws (line 1 u) u at ts t
+  line-from : (ts : List Token) → AllLegal ts → (at : ℕ) → From u at (takenAll whole ts) → (t : ℕ) × Draws (line 1 u) u at ts t × From u t []
   unfolding AllLegal Legal Draws takenAll taken line numberOf
-  line-from [] a at h = (at, refl)
+  line-from [] a at h = (at, refl, h)
   line-from (field k v ∷ ts) a at h =
       let q : List ℕ = takenAll whole ts in
       let m : ℕ = at + length (inlined k v) in
       let r = line-from ts (a .1) m (past u at (inlined k v) q h) in
-      (r .0, (at, m, field-here u at q k v (a .0 .0) (a .0 .1) h, r .1))
+      (r .0, (at, m, field-here u at q k v (a .0 .0) (a .0 .1) h, r .1), r .2)
   line-from (text b n ∷ ts) a at h =
       let q : List ℕ = takenAll whole ts in
       let m : ℕ = behind at b + length b in
       let r = line-from ts (a .1) m (led-past u at b q h) in
       let e = rw (a .0 .1) at (text-here u at q b (a .0 .0) (few at b q h) h) in
-      (r .0, (partOf (behind at b) b, m, e, bytes-here u at b q h, r .1))
+      (r .0, (partOf (behind at b) b, m, e, bytes-here u at b q h, r .1), r .2)
   line-from (var v ∷ ts) a at h =
       let q : List ℕ = takenAll whole ts in
       let m : ℕ = at + length (unsigned v) in
       let r = line-from ts (a .1) m (past u at (unsigned v) q h) in
-      (r .0, (at, m, var-here u at v q h (a .0), r .1))
+      (r .0, (at, m, var-here u at v q h (a .0), r .1), r .2)
   line-from (buf b ∷ ts) a at h =
       let q : List ℕ = takenAll whole ts in
       let m : ℕ = behind at b + length b in
       let r = line-from ts (a .1) m (led-past u at b q h) in
-      (r .0, (partOf (behind at b) b, m, bytes-read u at b q h (a .0), bytes-here u at b q h, r .1))
+      (r .0, (partOf (behind at b) b, m, bytes-read u at b q h (a .0), bytes-here u at b q h, r .1), r .2)
 
 lined : (form : ℕ) (u : List ℕ) → Lined form u (line form u) (λ at. at)
 unfolding line numberOf upTo
 lined form u = record { bounds = λ n at. refl; any = λ v p at m e. e }
 
+-- form 1 has no columns
+ending-none : {S E A : Type 0} (c : Run S E A) → _≡_ {A = List Stretch} (ending c (λ s. []) (λ why. [])) []
+unfolding ending
+ending-none (item e p c) = ending-none c
+ending-none (over a s) = refl
+ending-none (stopped why) = refl
+
 pub line-draws : (ts : List Token) → AllLegal ts → length (form1 ts) < 2 ^ 62 → DrawnAgain 1 (form1 ts) ts
-unfolding form1 lane inLine blocksOf
+unfolding form1 lane inLine blocksOf columnsLeft Spent
 line-draws ts a l =
     let r = line-from (takenAll whole ts) l ts a 0 (record { inside = omega arith; here = refl }) in
     record {
@@ -92,6 +101,11 @@ line-draws ts a l =
       first = 0;
       last = r .0;
       drawn = r .1;
+      left = λ s. [];
+      stays = λ v p s m e. refl;
+      columns = sym (ending-none (run (line 1 (takenAll whole ts)) allBlocks 0));
+      spent = tt;
+      whole = at-end (takenAll whole ts) (r .0) (r .2);
       leave = λ c. c;
       leaves = λ b p c. refl;
       leaves-over = λ s. refl;

@@ -1,7 +1,7 @@
 -- What stands in bytes from a place on, and what is read there in line: a number, a byte, bytes led by their length.
 use Prim.Native.Nat.{ℕ, suc, _+_, _-_, _^_, _≤_, _<_}
 use mathlib.Core.Path.{_≡_, sym, ap, _∙_}
-use mathlib.Core.List.{List, _∷_, _++_, append-assoc}
+use mathlib.Core.List.{List, [], _∷_, _++_, append-assoc}
 use native.Mathlib.Omega.{arith}
 use lib.ListN.{length, take, drop, getD, length-append, length-drop}
 use lib.Seq.{slice, length-take-le, drop-append-seam, take-append-seam, drop-drop, take-add, drop-at, drop-cons}
@@ -19,6 +19,10 @@ use Rattle.tokens.specs.Tokens.{led}
 pub record From (u : List ℕ) (at : ℕ) (q : List ℕ) : Type 0 where
   pub inside : at ≤ length u
   pub here : drop at u ≡ q
+
+-- where nothing stands, the bytes end
+pub at-end : (u : List ℕ) (at : ℕ) → From u at [] → at ≡ length u
+at-end u at h = omega (arith, h .inside, length-drop at u, ap length (h .here))
 
 module _ (u : List ℕ) (at : ℕ) (a q : List ℕ) (h : From u at (a ++ q)) where
   pub past-length : at + length a + length q ≡ length u

@@ -12,6 +12,7 @@ use Rattle.runs.specs.declared.Column.the-variants.{Number, Difference, Byte}
 use Rattle.runs.specs.Runs.{columnOf}
 use Rattle.string.specs.String.{textHead, textColumn}
 use Rattle.string.proofs.TextTrip.{joined, unitsEach}
+use Rattle.grammar.specs.Grammar as grammar
 use Rattle.grammar.specs.Grammar.{_>>=_}
 use Rattle.grammar.specs.Course.{Drawn, got, not, onDrawn, run}
 use Rattle.decoder.specs.Line.{upTo, bounded, varAt, numberOf, line}
@@ -19,13 +20,14 @@ use Rattle.decoder.specs.States.{State, movedTo, withText}
 use Rattle.decoder.specs.Columned.{onto, numberIn, columned}
 use Rattle.decoder.specs.Opening.{heads, standing, withOpened, textOpened, onHeads, openedOf}
 use Rattle.decoder.specs.Update.{placed, inColumns, blocksOf}
+use Rattle.leftover.specs.Leftover.{columnsAt, columnsLeft}
 use Rattle.tokens.specs.Tokens.{Token, takenAll, inLine, columnIn, lane, clients, lefts, rights, infos, parents, lens, rest}
 use Rattle.tokens.specs.Bytes.{form2, near}
 use Rattle.draws.specs.Draws.{AllLegal, Lined, DrawnAgain}
-use Rattle.draws.proofs.Standing.{From, past, byte-here}
+use Rattle.draws.proofs.Standing.{From, at-end, past, byte-here}
 use Rattle.draws.proofs.Values.{textsOf, texted}
 use Rattle.draws.proofs.Whys.{Whys, whys}
-use Rattle.draws.proofs.Columns.{Holds, columns-from}
+use Rattle.draws.proofs.Columns.{Holds, columns-from, columns-spent}
 use Rattle.draws.proofs.Opening.{ledAll, Cuts, cut-here, partsIn, endIn, cuts}
 use Rattle.draws.proofs.Giving.{numbers-cut, differences-cut, bytes-cut, GivesOpened, texts-cut}
 
@@ -76,6 +78,18 @@ module _ (ts : List Token) (a : AllLegal ts) (w : Whys ts) (u : List ℕ) (l : l
         parent = bytes-cut (takenAll parents ts) (x .1 .1 .1 .1 .1 .1 .0) (w .parent);
         len = numbers-cut (takenAll lens ts) (x .1 .1 .1 .1 .1 .1 .1 .1 .0) (w .len);
         rest = x .1 .1 .1 .1 .1 .1 .1 .1 .1;
+        ends =
+            record {
+              client = x .1 .0 .rest .inside;
+              left = x .1 .1 .0 .rest .inside;
+              right = x .1 .1 .1 .0 .rest .inside;
+              info = x .1 .1 .1 .1 .0 .rest .inside;
+              text = x .1 .1 .1 .1 .1 .0 .rest .inside;
+              parent = x .1 .1 .1 .1 .1 .1 .0 .rest .inside;
+              len = x .1 .1 .1 .1 .1 .1 .1 .1 .0 .rest .inside;
+              keys-none = omega arith;
+              types-none = omega arith;
+            };
       }
 
 columns-open : (ts : List Token) → AllLegal ts → near 2 ts ≡ true → length ts ≤ maxCount → length (form2 ts) < 2 ^ 62
@@ -117,8 +131,21 @@ lined u = record { bounds = λ n s. bound n s (varAt u (s .at)); any = λ v p s 
     stands s (got a e) = refl
     stands s (not why) = refl
 
+-- a number in line leaves the columns as they are
+columns-stay : (u : List ℕ) (v p : ℕ) (s m : State) → columned u (grammar.number grammar.any) s ≡ got (v, p) m → columnsAt m ≡ columnsAt s
+unfolding columned numberIn line numberOf onto columnsAt
+columns-stay u v p s m e = go (varAt u (s .at)) e
+  where
+    state : Drawn State (ℕ × ℕ) → State
+    state (got a t) = t
+    state (not why) = s
+
+    go : (d : Drawn ℕ (ℕ × ℕ)) → onto s d ≡ got (v, p) m → columnsAt m ≡ columnsAt s
+    go (got a t) e = ap (λ (x : Drawn State (ℕ × ℕ)). columnsAt (state x)) (sym e)
+    go (not why) e = ap (λ (x : Drawn State (ℕ × ℕ)). columnsAt (state x)) (sym e)
+
 pub columns-draw : (ts : List Token) → AllLegal ts → near 2 ts ≡ true → length ts ≤ maxCount → length (form2 ts) < 2 ^ 62 → DrawnAgain 2 (form2 ts) ts
-unfolding blocksOf inColumns onDrawn placed
+unfolding blocksOf inColumns onDrawn placed columnsLeft takenAll
 columns-draw ts a n few l =
     let o = columns-open ts a n few l in
     let r = columns-from (form2 ts) ts a (o .0) (o .2) in
@@ -134,4 +161,9 @@ columns-draw ts a n few l =
       leaves = λ b p c. refl;
       leaves-over = λ s. refl;
       blocks = rw (o .1);
+      left = columnsAt;
+      stays = columns-stay (form2 ts);
+      columns = rw (o .1);
+      spent = columns-spent (form2 ts) (r .0) (r .2);
+      whole = at-end (form2 ts) (r .0 .at) (r .2 .rest);
     }

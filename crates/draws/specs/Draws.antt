@@ -12,10 +12,11 @@ use Rattle.text.specs.Utf8.{wellFormed, unitsOf}
 use Rattle.block.specs.declared.Block.{Block}
 use Rattle.grammar.specs.Grammar as grammar
 use Rattle.grammar.specs.Grammar.{Number}
-use Rattle.grammar.specs.Course.{got, Reader, Run, item, over, Course, run}
+use Rattle.grammar.specs.Course.{got, Reader, Run, item, over, Course, run, ending}
 use Rattle.grammar.specs.Blocks.{allBlocks}
 use Rattle.decoder.specs.Line.{bounded, line}
 use Rattle.decoder.specs.Update.{blocksOf}
+use Rattle.leftover.specs.Leftover.{Stretch, columnsLeft, Spent}
 use Rattle.readings.specs.Sound.{bytesIn}
 use Rattle.tokens.specs.Tokens.{Token, field, text, var, buf, clients, lefts, rights, infos, parents, lens}
 
@@ -64,7 +65,7 @@ pub record Lined {S : Type 0} (form : ℕ) (u : List ℕ) (r : Reader S) (place 
   pub bounds : (n : ℕ) (s : S) → r (grammar.number (grammar.upTo n)) s ≡ bounded n (r (grammar.number grammar.any) s)
   pub any : (v p : ℕ) (s m : S) → r (grammar.number grammar.any) s ≡ got (v, p) m → line form u (grammar.number grammar.any) (place s) ≡ got (v, p) (place m)
 
--- the bytes u of a form have a reader, and a state that their blocks are read from; from there it draws the tokens
+-- the bytes u of a form have a reader, and a state that their blocks are read from; from there it draws the tokens, and no byte is left
 pub record DrawnAgain (form : ℕ) (u : List ℕ) (ts : List Token) : Type 1 where
   pub State : Type 0
   pub reader : Reader State
@@ -78,3 +79,9 @@ pub record DrawnAgain (form : ℕ) (u : List ℕ) (ts : List Token) : Type 1 whe
   pub leaves : (b : Block) (p : ℕ) (c : Run State Block (Unit {0})) → leave (item b p c) ≡ item b p (leave c)
   pub leaves-over : (s : State) → leave (over tt s) ≡ over tt (place s)
   pub blocks : blocksOf form u ≡ leave (run reader allBlocks first)
+  -- what is left of the columns at a state, which a number without a column does not change; at the last nothing is, and it is the end
+  pub left : State → List Stretch
+  pub stays : (v p : ℕ) (s m : State) → reader (grammar.number grammar.any) s ≡ got (v, p) m → left m ≡ left s
+  pub columns : columnsLeft form u ≡ ending (run reader allBlocks first) left (λ why. [])
+  pub spent : Spent (left last)
+  pub whole : place last ≡ length u

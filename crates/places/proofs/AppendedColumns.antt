@@ -192,6 +192,10 @@ module _ (u w : List ℕ) where
 
   -- ---- the blocks
 
-  pub columns-stay : Stays (placed (inColumns u)) (placed (inColumns (u ++ w)))
+  -- with the state that they end in
+  pub states-stay : Stays (inColumns u) (inColumns (u ++ w))
   unfolding inColumns
-  columns-stay = placed-stays _ _ (drawn-stays I _ _ _ _ opening-keeps (λ x. run-stays I (columned u) (columned (u ++ w)) columned-keeps allBlocks))
+  states-stay = drawn-stays I _ _ _ _ opening-keeps (λ x. run-stays I (columned u) (columned (u ++ w)) columned-keeps allBlocks)
+
+  pub columns-stay : Stays (placed (inColumns u)) (placed (inColumns (u ++ w)))
+  columns-stay = placed-stays _ _ states-stay

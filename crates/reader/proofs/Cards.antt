@@ -1,6 +1,7 @@
 -- What callees do at given arguments (tools/walkgen.py cards; `Told`, what the contract says where it gives no equations, by hand). Assumes that each meets its
 -- contract.
 use mathlib.Core.Path.{_≡_, refl}
+use mathlib.Core.Logic.{_≢_}
 use Prim.Native.Nat.{ℕ, _≤_}
 use mathlib.Core.List.{List, [], _∷_}
 use lib.ListN.{length, replicate}
@@ -20,11 +21,13 @@ use Rattle.block.specs.declared.Block.{Block}
 use Rattle.update.specs.declared.Spot.{Spot}
 use Rattle.cells.specs.Cells.{Small}
 use Rattle.item.specs.Row.{Narrow, rowIn}
-use Rattle.update.specs.Steps.{comes, Fine, Starts, Stepped}
+use Rattle.grammar.specs.Course.{fit}
+use Rattle.decoder.specs.Update.{inColumns, blocksOf}
+use Rattle.update.specs.Steps.{reads, comes, Fine, Starts, Stepped}
 use Rattle.numbers.specs.Limits.{maxClients}
 use Rattle.numbers.specs.Output.{padded}
 use Rattle.vector.specs.Vector.{clientsIn, clocksIn, entriesOf, kept, vectorOf}
-use Rattle.reader.specs.Reader.{filledOf, rowsOf}
+use Rattle.reader.specs.Reader.{filledOf, rowsOf, Stands}
 use Rattle.reader.proofs.Sorts.{update·spot, update·step, begun, filled, entries}
 use Rattle.table.proofs.Sorts.{block}
 use Rattle.update.proofs.begin as update·begin-fn
@@ -35,6 +38,8 @@ use Rattle.item.proofs.row_in as item·row-in-fn
 use Rattle.item.proofs.row_in.Symbol.{name as #item·row-in}
 use Rattle.reader.proofs.read_sections as reader·read-sections-fn
 use Rattle.reader.proofs.read_sections.Symbol.{name as #reader·read-sections}
+use Rattle.reader.proofs.read_blocks_over as reader·read-blocks-over-fn
+use Rattle.reader.proofs.read_blocks_over.Symbol.{name as #reader·read-blocks-over}
 use Rattle.vector.proofs.read_entries as vector·read-entries-fn
 use Rattle.vector.proofs.read_entries.Symbol.{name as #vector·read-entries}
 
@@ -50,6 +55,9 @@ module _ {M : Type 1} (𝓤 : URA M) (H : Heap 𝓤) (A : Atoms 𝓤) (mem : Mem
 
   abbrev pub Reader·read-sections : Contract 𝓤
   Reader·read-sections = tripleOf 𝓤 H A reader·read-sections-fn.signature (reader·read-sections-fn.spec 𝓤 H A mem run)
+
+  abbrev pub Reader·read-blocks-over : Contract 𝓤
+  Reader·read-blocks-over = tripleOf 𝓤 H A reader·read-blocks-over-fn.signature (reader·read-blocks-over-fn.spec 𝓤 H A mem run)
 
   abbrev pub Vector·read-entries : Contract 𝓤
   Vector·read-entries = tripleOf 𝓤 H A vector·read-entries-fn.signature (vector·read-entries-fn.spec 𝓤 H A mem run)
@@ -101,7 +109,7 @@ module _ {M : Type 1} (𝓤 : URA M) (H : Heap 𝓤) (A : Atoms 𝓤) (mem : Mem
       said = λ ns r ws. since 𝓤 (λ e. (e, tt));
     }
 
-    pub reader·read-sections! : Triple 𝓤 (C #reader·read-sections) Reader·read-sections → (form₀ : ℕ) (g-form : Has byte form₀) (at-update : Seat) (update₀ : List ℕ) (at-w : Seat) (w₀ : List ℕ) (at-rows : Seat) (rows₀ : List Block) (first₀ : Spot) (g-first : Has update·spot first₀) → (Small w₀ × Fine (replicate 64 0) first₀) → Told 𝓤 H A C #reader·read-sections (val byte form₀ g-form ∷ pass byte at-update update₀ ∷ mut word at-w w₀ w₀ ∷ mut block at-rows rows₀ rows₀ ∷ val update·spot first₀ g-first ∷ []) filled (λ r ws. (r ≡ filledOf (length rows₀) (comes form₀ update₀ (replicate 64 0) w₀ first₀)) × (ws .1 .1 .1 .0 ≡ rowsOf (length rows₀) (comes form₀ update₀ (replicate 64 0) w₀ first₀)))
+    pub reader·read-sections! : Triple 𝓤 (C #reader·read-sections) Reader·read-sections → (form₀ : ℕ) (g-form : Has byte form₀) (at-update : Seat) (update₀ : List ℕ) (at-w : Seat) (w₀ : List ℕ) (at-rows : Seat) (rows₀ : List Block) (first₀ : Spot) (g-first : Has update·spot first₀) → (Small w₀ × Fine (replicate 64 0) first₀) → Told 𝓤 H A C #reader·read-sections (val byte form₀ g-form ∷ pass byte at-update update₀ ∷ mut word at-w w₀ w₀ ∷ mut block at-rows rows₀ rows₀ ∷ val update·spot first₀ g-first ∷ []) filled (λ r ws. (r ≡ filledOf (length rows₀) (comes form₀ update₀ (replicate 64 0) w₀ first₀)) × (ws .1 .1 .1 .0 ≡ rowsOf (length rows₀) (comes form₀ update₀ (replicate 64 0) w₀ first₀)) × Stands (fit (length rows₀) (reads form₀ update₀ (replicate 64 0) w₀ first₀)) (ws .1 .1 .0) × Small (ws .1 .1 .0))
     reader·read-sections! known form₀ g-form at-update update₀ at-w w₀ at-rows rows₀ first₀ g-first h = record {
       loose = record {
         contract = Reader·read-sections;
@@ -112,6 +120,22 @@ module _ {M : Type 1} (𝓤 : URA M) (H : Heap 𝓤) (A : Atoms 𝓤) (mem : Mem
         asks = factI 𝓤 (Small w₀ × Fine (replicate 64 0) first₀) (emp 𝓤) h;
         into = λ ns. id⊢ 𝓤 _;
         ensured = λ x r ws. reader·read-sections-fn.clauses 𝓤 H A mem run (x .0) (x .3) .ensures tt r (atExit reader·read-sections-fn.ended (x .0) (x .3) ws);
+        out = λ ns v. id⊢ 𝓤 _;
+      };
+      said = λ ns r ws. since 𝓤 (λ e. e);
+    }
+
+    pub reader·read-blocks-over! : Triple 𝓤 (C #reader·read-blocks-over) Reader·read-blocks-over → (form₀ : ℕ) (g-form : Has byte form₀) (at-update : Seat) (update₀ : List ℕ) (at-w : Seat) (w₀ : List ℕ) (at-rows : Seat) (rows₀ : List Block) → (Small w₀) → Told 𝓤 H A C #reader·read-blocks-over (val byte form₀ g-form ∷ pass byte at-update update₀ ∷ mut word at-w w₀ w₀ ∷ mut block at-rows rows₀ rows₀ ∷ []) filled (λ r ws. (r ≡ filledOf (length rows₀) (blocksOf form₀ update₀)) × (ws .1 .1 .1 .0 ≡ rowsOf (length rows₀) (blocksOf form₀ update₀)) × (form₀ ≢ 1 → Stands (fit (length rows₀) (inColumns update₀)) (ws .1 .1 .0)) × Small (ws .1 .1 .0))
+    reader·read-blocks-over! known form₀ g-form at-update update₀ at-w w₀ at-rows rows₀ h = record {
+      loose = record {
+        contract = Reader·read-blocks-over;
+        known = known;
+        ghost = λ x. (x, tt);
+        args = λ ns. refl;
+        asked = fact 𝓤 (Small w₀);
+        asks = factI 𝓤 (Small w₀) (emp 𝓤) h;
+        into = λ ns. id⊢ 𝓤 _;
+        ensured = λ x r ws. reader·read-blocks-over-fn.clauses 𝓤 H A mem run (x .0) (x .3) .ensures tt r (atExit reader·read-blocks-over-fn.ended (x .0) (x .3) ws);
         out = λ ns v. id⊢ 𝓤 _;
       };
       said = λ ns r ws. since 𝓤 (λ e. e);

@@ -1,5 +1,5 @@
 -- The reader's laws, with no machine: what a step makes of what is known of the rows, and what the rows are at each way out. Assumes nothing.
-use mathlib.Core.Path.{_≡_, refl, sym, _∙_, ap}
+use mathlib.Core.Path.{_≡_, refl, sym, subst, _∙_, ap}
 use Prim.Native.Nat.{ℕ, zero, suc, _+_, _-_, _<_, _≤_}
 use native.Mathlib.Omega.{arith}
 use native.Mathlib.Numerals.{add-one}
@@ -10,10 +10,12 @@ use Rattle.numbers.specs.declared.Refusal.{Refusal}
 use Rattle.block.specs.declared.Block.{Block}
 use Rattle.block.specs.Row.{noBlock}
 use Rattle.table.specs.Rows.{clearedFrom, filledFrom}
-use Rattle.grammar.specs.Course.{Course, item, over, stopped, fit, items, ending}
+use Rattle.grammar.specs.Course.{Run, Course, item, over, stopped, fit, items, ending}
+use Rattle.decoder.specs.States.{State, movedTo}
+use Rattle.cells.specs.Cells.{stateIn}
 use Rattle.reader.specs.declared.Filled.{Filled}
 use Rattle.reader.specs.declared.Filled.the-variants.{Rows, Refused}
-use Rattle.reader.specs.Reader.{filledOf, rowsOf}
+use Rattle.reader.specs.Reader.{filledOf, rowsOf, Stands}
 
 -- ---- how a course ends, as a value
 pub data Last : Type 0 where
@@ -142,3 +144,53 @@ module _ (N : ℕ) (c₀ : Course Block) where
 
           taken : length (take n rows) ≡ n
           taken = length-take-le n rows (omega (arith, known .0, size))
+
+-- ---- where the words stand: with n of N rows filled and c to come, words that stand where c ends stand where all of it does
+
+module _ (N : ℕ) (c₀ : Run State Block (Unit {0})) where
+  abbrev pub Onward : ℕ → Run State Block (Unit {0}) → Type 0
+  Onward n c = (v : List ℕ) → Stands (fit (N - n) c) v → Stands (fit N c₀) v
+
+  pub onward-first : Onward 0 c₀
+  onward-first v h = subst (λ (k : ℕ). Stands (fit k c₀) v) all h
+    where
+      all : N - 0 ≡ N
+      all = omega (arith)
+
+  stands-stopped : (k : ℕ) (why : Refusal) (v : List ℕ) → Stands {E = Block} {A = Unit {0}} (fit k (stopped why)) v
+  unfolding fit Stands
+  stands-stopped zero why v = tt
+  stands-stopped (suc k) why v = tt
+
+  pub stands-none : (why : Refusal) → c₀ ≡ stopped why → (v : List ℕ) → Stands (fit N c₀) v
+  stands-none why e v = subst (λ (x : Run State Block (Unit {0})). Stands (fit N x) v) (sym e) (stands-stopped N why v)
+
+  module _ (n : ℕ) (c : Run State Block (Unit {0})) (on : Onward n c) where
+    pub onward-passed : (rest : Run State Block (Unit {0})) → c ≡ rest → Onward n rest
+    onward-passed rest e v h = on v (subst (λ (x : Run State Block (Unit {0})). Stands (fit (N - n) x) v) (sym e) h)
+
+    module _ (b : Block) (p : ℕ) (rest : Run State Block (Unit {0})) (e : c ≡ item b p rest) where
+      pub onward-kept : n < N → Onward (n + 1) rest
+      unfolding fit Stands
+      onward-kept l v h = onward-passed (item b p rest) e v (subst (λ (k : ℕ). Stands (fit k (item b p rest)) v) less h)
+        where
+          less : suc (N - (n + 1)) ≡ N - n
+          less = omega (arith, l)
+
+      pub stands-full : N ≤ n → (v : List ℕ) → Stands (fit N c₀) v
+      unfolding fit Stands
+      stands-full l v = onward-passed (item b p rest) e v (subst (λ (k : ℕ). Stands (fit k (item b p rest)) v) none-left tt)
+        where
+          none-left : 0 ≡ N - n
+          none-left = omega (arith, l)
+
+    pub stands-refused : (why : Refusal) → c ≡ stopped why → (v : List ℕ) → Stands (fit N c₀) v
+    stands-refused why e v = onward-passed (stopped why) e v (stands-stopped (N - n) why v)
+
+    pub stands-end : (v : List ℕ) (at : ℕ) → c ≡ over tt (movedTo (stateIn v) at) → Stands (fit N c₀) v
+    unfolding fit Stands
+    stands-end v at e = onward-passed (over tt (movedTo (stateIn v) at)) e v (here (N - n))
+      where
+        here : (k : ℕ) → Stands {E = Block} {A = Unit {0}} (fit k (over tt (movedTo (stateIn v) at))) v
+        here zero = refl
+        here (suc k) = refl

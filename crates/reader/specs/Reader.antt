@@ -1,10 +1,13 @@
--- What so many rows hold of the blocks of an update: the blocks, then rows without one; or no block at all after a refusal.
+-- What so many rows hold of the blocks of an update: the blocks, then rows without one; or no block at all after a refusal. And where the words then stand.
 use Prim.Native.Nat.{ℕ, _-_}
+use mathlib.Core.Path.{_≡_}
 use mathlib.Core.List.{List, _++_}
 use lib.ListN.{length, replicate}
 use Rattle.block.specs.declared.Block.{Block}
 use Rattle.block.specs.Row.{noBlock}
-use Rattle.grammar.specs.Course.{Course, fit, items, ending}
+use Rattle.grammar.specs.Course.{Run, item, over, stopped, Course, fit, items, ending}
+use Rattle.decoder.specs.States.{State, movedTo}
+use Rattle.cells.specs.Cells.{stateIn}
 use Rattle.reader.specs.declared.Filled.{Filled}
 use Rattle.reader.specs.declared.Filled.the-variants.{Rows, Refused}
 
@@ -13,3 +16,9 @@ filledOf n c = ending (fit n c) (λ at. Rows (length (items (fit n c))) at) (λ 
 
 unfoldable pub rowsOf : ℕ → Course Block → List Block
 rowsOf n c = ending (fit n c) (λ at. items (fit n c) ++ replicate (n - length (items (fit n c))) noBlock) (λ why. replicate n noBlock)
+
+-- the words v hold the columns as they are where the run ends, if it does
+unfoldable pub Stands : {E A : Type 0} → Run State E A → List ℕ → Type 0
+Stands (item e p c) v = Stands c v
+Stands (over a s) v = s ≡ movedTo (stateIn v) (s .at)
+Stands (stopped why) v = Unit {0}

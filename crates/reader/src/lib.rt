@@ -1,10 +1,12 @@
 // The blocks of an update, read into lent rows.
 ghost use mathlib.Core.Path.{_≡_};
+ghost use mathlib.Core.Logic.{_≢_};
 ghost use lib.ListN.{length, replicate};
 ghost use Rattle.cells.specs.Cells.{Small};
-ghost use Rattle.decoder.specs.Update.{blocksOf};
-ghost use Rattle.update.specs.Steps.{comes, Fine};
-ghost use Rattle.reader.specs.Reader.{filledOf, rowsOf};
+ghost use Rattle.grammar.specs.Course.{fit};
+ghost use Rattle.decoder.specs.Update.{inColumns, blocksOf};
+ghost use Rattle.update.specs.Steps.{reads, comes, Fine};
+ghost use Rattle.reader.specs.Reader.{filledOf, rowsOf, Stands};
 use block::Block;
 use numbers::Refusal;
 use update::Begun;
@@ -17,11 +19,13 @@ pub enum Filled {
     Refused(Refusal),
 }
 
-// From the first section on, where the words stand.
+// From the first section on, where the words stand; they stand behind the last block then.
 fn read_sections(form: u8, update: &[u8], w: &mut [u64], rows: &mut [Block], first: Spot) -> Filled
     requires { ⌜ Small (now w) × Fine (replicate 64 0) first ⌝ }
     ensures { λ r. ⌜ (r ≡ filledOf (length (now (rows .entry))) (comes form (now (update .entry)) (replicate 64 0) (now (w .entry)) first))
-        × (now (rows .exit) ≡ rowsOf (length (now (rows .entry))) (comes form (now (update .entry)) (replicate 64 0) (now (w .entry)) first)) ⌝ }
+        × (now (rows .exit) ≡ rowsOf (length (now (rows .entry))) (comes form (now (update .entry)) (replicate 64 0) (now (w .entry)) first))
+        × Stands (fit (length (now (rows .entry))) (reads form (now (update .entry)) (replicate 64 0) (now (w .entry)) first)) (now (w .exit))
+        × Small (now (w .exit)) ⌝ }
 {
     let mut fields = [0u64; 21];
     let r = &mut fields[..];
@@ -54,13 +58,14 @@ fn read_sections(form: u8, update: &[u8], w: &mut [u64], rows: &mut [Block], fir
     }
 }
 
-// The blocks of an update in the first rows; the others have none. After a refusal no row has one.
-pub fn read_blocks(form: u8, update: &[u8], rows: &mut [Block]) -> Filled
+// The blocks of an update in the first rows; the others have none. After a refusal no row has one. Of form 2 the words hold the columns as they are behind
+// the last block.
+pub fn read_blocks_over(form: u8, update: &[u8], w: &mut [u64], rows: &mut [Block]) -> Filled
+    requires { ⌜ Small (now w) ⌝ }
     ensures { λ r. ⌜ (r ≡ filledOf (length (now (rows .entry))) (blocksOf form (now (update .entry))))
-        × (now (rows .exit) ≡ rowsOf (length (now (rows .entry))) (blocksOf form (now (update .entry)))) ⌝ }
+        × (now (rows .exit) ≡ rowsOf (length (now (rows .entry))) (blocksOf form (now (update .entry))))
+        × (form ≢ 1 → Stands (fit (length (now (rows .entry))) (inColumns (now (update .entry)))) (now (w .exit))) × Small (now (w .exit)) ⌝ }
 {
-    let mut words = [0u64; 67];
-    let w = &mut words[..];
     match update::begin(form, update, w) {
         Begun::At(first) => read_sections(form, update, w, rows, first),
         Begun::Refused(why) => {
@@ -68,4 +73,14 @@ pub fn read_blocks(form: u8, update: &[u8], rows: &mut [Block]) -> Filled
             Filled::Refused(why)
         }
     }
+}
+
+// The same, over words of its own.
+pub fn read_blocks(form: u8, update: &[u8], rows: &mut [Block]) -> Filled
+    ensures { λ r. ⌜ (r ≡ filledOf (length (now (rows .entry))) (blocksOf form (now (update .entry))))
+        × (now (rows .exit) ≡ rowsOf (length (now (rows .entry))) (blocksOf form (now (update .entry)))) ⌝ }
+{
+    let mut words = [0u64; 67];
+    let w = &mut words[..];
+    read_blocks_over(form, update, w, rows)
 }

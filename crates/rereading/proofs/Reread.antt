@@ -1,13 +1,13 @@
 -- A diff is read again, with rows enough, if it is not longer than an update may be: the same delete ranges, and the records of the pieces kept.
 use Prim.Native.Nat.{ℕ, _≤_}
 use mathlib.Core.Path.{_≡_, refl, sym, ap, subst, _∙_}
-use mathlib.Core.Logic.{_⊎_, inl, inr}
+use mathlib.Core.Logic.{_⊎_, inl, inr, _≢_}
 use mathlib.Core.Bool.{Bool, true, false}
 use mathlib.Core.List.{List, [], _∷_}
 use native.Mathlib.Omega.{arith}
 use lib.Dec.{eqb}
-use lib.ListN.{length}
-use borrow.Author.Tests.{eqb-true}
+use lib.ListN.{length, getD}
+use borrow.Author.Tests.{eqb-true, ne-eqb}
 use Rattle.numbers.specs.Number.{pick, none}
 use Rattle.numbers.specs.Limits.{maxUpdate}
 use Rattle.block.specs.declared.Block.{Block}
@@ -15,10 +15,11 @@ use Rattle.grammar.specs.Course.{items}
 use Rattle.ranges.specs.Ranges.{Range}
 use Rattle.decoder.specs.Update.{blocksOf}
 use Rattle.agreement.proofs.Readings.{read-on}
+use Rattle.leftover.specs.Leftover.{left, Spent}
 use Rattle.updates.specs.Promises.{Reading, refused, withRanges, withBlocks, known, reading}
 use Rattle.readings.specs.Sound.{All}
 use Rattle.tokens.specs.Tokens.{Token}
-use Rattle.tokens.specs.Bytes.{bytesOf, near}
+use Rattle.tokens.specs.Bytes.{form2, bytesOf, near}
 use Rattle.draws.proofs.Drawn.{draws}
 use Rattle.kept.specs.Kept.{Piece, Section, sectionsOf, pieceCount}
 use Rattle.kept.specs.Cut.{torn, tornPieces, anyTorn}
@@ -28,7 +29,7 @@ use Rattle.written.specs.Written.{AllAlike, sectionsRead}
 use Rattle.written.specs.Kept.{Kept, Clean, KeptRanges}
 use Rattle.written.proofs.LegalUpdate.{update-legal}
 use Rattle.written.proofs.Keeping.{kept-sections, kept-ranges}
-use Rattle.written.proofs.Whole.{written-reads, records-alike, reading-written}
+use Rattle.written.proofs.Whole.{written-reads, records-alike, reading-written, nothing-left}
 use Rattle.writing.specs.Diff.{diffTokens, diffBytes, diffWhy}
 use Rattle.writing.proofs.SmallRanges.{found-few}
 use Rattle.diffs.specs.Promises.{Diffed, diffOf}
@@ -75,6 +76,7 @@ clean-sections u (s ∷ ss) e = go (tornPieces u (s .pieces)) refl e (clean-sect
 record Found (to : ℕ) (u d : List ℕ) (ss : List Section) (rs : List Range) (r : Reading) : Type 0 where
   same : r ≡ record { refusal = none; blocks = items (blocksOf to d); ranges = rs }
   alike : AllAlike d (items (blocksOf to d)) u (sectionsRead u ss)
+  spent : Spent (left to d)
 
 module _ (to : ℕ) (u : List ℕ) (ss : List Section) (rs : List Range) (k : Kept u ss) (l : KeptRanges rs) where
   abbrev ts : List Token
@@ -95,6 +97,7 @@ module _ (to : ℕ) (u : List ℕ) (ss : List Section) (rs : List Range) (k : Ke
             ∙ reading-written to d u ss rs (drawn .place (drawn .last)) reads {X = Reading} (λ bs rs. record { refusal = none; blocks = bs; ranges = rs }) (λ why. refused why)
             m n rows ranges (l .normal);
         alike = records-alike to d u ss rs (drawn .place (drawn .last)) reads;
+        spent = nothing-left to d u ss rs (drawn .place (drawn .last)) reads (drawn .whole);
       }
 
 -- ---- a diff
@@ -149,3 +152,19 @@ module _ (form : ℕ) (u v : List ℕ) (to m n room : ℕ) where
       let a = all-read form u m n (h .read) in
       let rows : pieceCount (keptBy v R) ≤ m = omega (arith, sections-count (entriesIn v) (R .blocks), a .rows) in
       reread z small m n (subst (λ (r : Reading). pieceCount (keptBy v r) ≤ m) s rows) (subst (λ (r : Reading). length (r .ranges) ≤ n) s (a .range-rows))
+
+  -- ---- and no byte of it stays unread
+
+  pub reread-whole : diffOf form u v to m n room .refusal .number ≡ 0 → length (diffOf form u v to m n room .bytes) ≤ maxUpdate
+      → Spent (left to (diffOf form u v to m n room .bytes))
+  reread-whole z small =
+      let h = done form u v to m n room z in
+      let a = all-read form u m n (h .read) in
+      let rows : pieceCount (keptBy v R) ≤ m = omega (arith, sections-count (entriesIn v) (R .blocks), a .rows) in
+      subst (λ (x : List ℕ). Spent (left to x)) (sym (h .bytes))
+      (from-reading h a (subst (λ (x : List ℕ). length x ≤ maxUpdate) (h .bytes) small) m n rows (a .range-rows) .spent)
+
+  -- in form 2 it begins with 0
+  pub reread-flag : diffOf form u v to m n room .refusal .number ≡ 0 → to ≢ 1 → getD (diffOf form u v to m n room .bytes) 0 0 ≡ 0
+  unfolding diffBytes bytesOf form2
+  reread-flag z other = ap (λ (x : List ℕ). getD x 0 0) (done form u v to m n room z .bytes) ∙ rw (ne-eqb to 1 other) refl

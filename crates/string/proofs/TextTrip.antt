@@ -129,10 +129,10 @@ middle a b c = rw (take-append-add a (b ++ c) (length b), take-append-seam b c) 
 
 module _ (p t us : List ℕ) where
   -- where the text begins
-  abbrev begins : ℕ
+  abbrev pub begins : ℕ
   begins = length p + length (unsigned (length t))
 
-  abbrev textsAt : Place
+  abbrev pub textsAt : Place
   textsAt = placeAt begins (begins + length t) (startAt (begins + length t))
 
   text-spelled : p ++ textColumn t us ≡ (p ++ unsigned (length t)) ++ (t ++ columnOf columns.Number us)
@@ -142,10 +142,10 @@ module _ (p t us : List ℕ) where
   begins-length : length (p ++ unsigned (length t)) ≡ begins
   begins-length = length-append p (unsigned (length t))
 
-  text-slice : slice begins (begins + length t) (p ++ textColumn t us) ≡ t
+  pub text-slice : slice begins (begins + length t) (p ++ textColumn t us) ≡ t
   text-slice = rw (text-spelled, ← begins-length) (middle (p ++ unsigned (length t)) t (columnOf columns.Number us))
 
-  text-size : length (p ++ textColumn t us) ≡ begins + length t + length (columnOf columns.Number us)
+  pub text-size : length (p ++ textColumn t us) ≡ begins + length t + length (columnOf columns.Number us)
   text-size =
       ap length text-spelled ∙ length-append (p ++ unsigned (length t)) (t ++ columnOf columns.Number us)
       ∙ ap₂ (λ (m n : ℕ). m + n) begins-length (length-append t (columnOf columns.Number us)) ∙ omega arith
@@ -154,12 +154,12 @@ module _ (p t us : List ℕ) where
   unfolding textColumn textHead
   text-read h = rw (append-assoc (unsigned (length t)) t (columnOf columns.Number us)) (read-unsigned-back p (t ++ columnOf columns.Number us) (length t) h)
 
-  text-opens : length t < 2 ^ 63 → wellFormed t ≡ true → openText (p ++ textColumn t us) (length p) ≡ At textsAt
+  pub text-opens : length t < 2 ^ 63 → wellFormed t ≡ true → openText (p ++ textColumn t us) (length p) ≡ At textsAt
   unfolding openText opened
   text-opens h e = rw (text-read h, le-ltb (length (p ++ textColumn t us) - begins) (length t) (omega (arith, text-size)), text-slice, e)
 
   -- the unit lengths stand behind the text
-  units-at : length (p ++ textHead t) ≡ begins + length t
+  pub units-at : length (p ++ textHead t) ≡ begins + length t
   units-at = omega (arith, length-append p (textHead t), head-length t)
 
   module _ (k : ℕ) (r : Reading) (units : readNumbers k ((p ++ textHead t) ++ columnOf columns.Number us) (startAt (length (p ++ textHead t))) ≡ r) where

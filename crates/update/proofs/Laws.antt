@@ -35,7 +35,7 @@ use Rattle.update.specs.declared.Spot.{Spot}
 use Rattle.update.specs.declared.Begun.{Begun}
 use Rattle.update.specs.declared.Begun.the-variants as begun
 use Rattle.update.specs.declared.Step.the-variants.{Block, On, Done, Refused}
-use Rattle.update.specs.Steps.{toCome, comes, after, begins, Fine, left, Steady, Stepped, First, Counted, Starts}
+use Rattle.update.specs.Steps.{toCome, reads, after, begins, Fine, left, Steady, Stepped, First, Counted, Starts}
 
 -- ---- a number drawn
 
@@ -79,28 +79,24 @@ module _ {E A : Type 0} (form : ℕ) (u : List ℕ) (n : Number) (k : ℕ × ℕ
 
 -- ---- ways out
 
--- what the fields have to come, read from the words w on
-abbrev Reads : ℕ → List ℕ → List ℕ → List ℕ → Spot → Run State row.Block (Unit {0})
-Reads form u m w s = run (fields form u) (toCome m s) (stateIn w)
-
 module _ (form : ℕ) (u m w r : List ℕ) (s : Spot) (m₁ w₁ r₁ : List ℕ) (small : Small w₁) (memory : length m₁ ≡ length m) (row-length : length r₁ ≡ length r) where
-  pub refuses : (why : Refusal) → Reads form u m w s ≡ stopped why → Stepped form u m w r s m₁ w₁ r₁ (Refused why)
-  unfolding comes after Steady placed
-  refuses why e = record { told = ap placed e; steady = tt; small = small; memory = memory; row = row-length }
+  pub refuses : (why : Refusal) → reads form u m w s ≡ stopped why → Stepped form u m w r s m₁ w₁ r₁ (Refused why)
+  unfolding after Steady
+  refuses why e = record { told = e; steady = tt; small = small; memory = memory; row = row-length }
 
-  pub goes-on : (t : Spot) → Reads form u m w s ≡ Reads form u m₁ w₁ t → Fine m₁ t → left t < left s → Stepped form u m w r s m₁ w₁ r₁ (On t)
-  unfolding comes after Steady
-  goes-on t e fine less = record { told = ap placed e; steady = (fine, less); small = small; memory = memory; row = row-length }
+  pub goes-on : (t : Spot) → reads form u m w s ≡ reads form u m₁ w₁ t → Fine m₁ t → left t < left s → Stepped form u m w r s m₁ w₁ r₁ (On t)
+  unfolding after Steady
+  goes-on t e fine less = record { told = e; steady = (fine, less); small = small; memory = memory; row = row-length }
 
-  pub keeps : (p : ℕ) (t : Spot) → Reads form u m w s ≡ item (rowIn r₁) p (Reads form u m₁ w₁ t) → Fine m₁ t → Narrow r₁ → left t < left s
+  pub keeps : (p : ℕ) (t : Spot) → reads form u m w s ≡ item (rowIn r₁) p (reads form u m₁ w₁ t) → Fine m₁ t → Narrow r₁ → left t < left s
       → Stepped form u m w r s m₁ w₁ r₁ (Block p t)
-  unfolding comes after Steady placed
-  keeps p t e fine narrow less = record { told = ap placed e; steady = (fine, narrow, less); small = small; memory = memory; row = row-length }
+  unfolding after Steady
+  keeps p t e fine narrow less = record { told = e; steady = (fine, narrow, less); small = small; memory = memory; row = row-length }
 
 -- ---- the end
 
 pub ends : (form : ℕ) (u m w r : List ℕ) (s : Spot) → s .blocks ≡ 0 → s .sections ≡ 0 → Small w → Stepped form u m w r s m w r (Done (atIn w))
-unfolding comes toCome after Steady placed run blocks sections _>>=_ stateIn
+unfolding reads toCome after Steady run blocks sections _>>=_ stateIn
 ends form u m w r s b n small = record { told = rw (b, n) refl; steady = tt; small = small; memory = refl; row = refl }
 
 -- ---- a section's head
@@ -123,41 +119,42 @@ module _ (form : ℕ) (u m w : List ℕ) (s : Spot) (none : s .blocks ≡ 0) (so
       one-more : s .sections ≡ suc (s .sections - 1)
       one-more = omega (arith, some)
 
-  from-here : {x : Run State row.Block (Unit {0})} → run (fields form u) start (stateIn w) ≡ x → Reads form u m w s ≡ x
+  from-here : {x : Run State row.Block (Unit {0})} → run (fields form u) start (stateIn w) ≡ x → reads form u m w s ≡ x
+  unfolding reads
   from-here e = ap (λ (x : Grammar row.Block (Unit {0})). run (fields form u) x (stateIn w)) at-section ∙ e
 
-  pub no-count : (v : List ℕ) → given v drawn.Refused ≡ fields form u (grammar.number (grammar.upTo (s .room))) (stateIn w) → Reads form u m w s ≡ stopped (whyIn v)
+  pub no-count : (v : List ℕ) → given v drawn.Refused ≡ fields form u (grammar.number (grammar.upTo (s .room))) (stateIn w) → reads form u m w s ≡ stopped (whyIn v)
   no-count v e = from-here (refused form u _ _ w v e)
 
   module _ (w₁ : List ℕ) (k : ℕ) (ek : given w₁ (drawn.Number k) ≡ fields form u (grammar.number (grammar.upTo (s .room))) (stateIn w)) where
-    counted : Reads form u m w s ≡ run (fields form u) (ask (grammar.number grammar.client) (rest k)) (stateIn w₁)
+    counted : reads form u m w s ≡ run (fields form u) (ask (grammar.number grammar.client) (rest k)) (stateIn w₁)
     counted = from-here (asked form u _ _ w w₁ k ek)
 
-    pub no-client : (v : List ℕ) → given v drawn.Refused ≡ fields form u (grammar.number grammar.client) (stateIn w₁) → Reads form u m w s ≡ stopped (whyIn v)
+    pub no-client : (v : List ℕ) → given v drawn.Refused ≡ fields form u (grammar.number grammar.client) (stateIn w₁) → reads form u m w s ≡ stopped (whyIn v)
     no-client v e = counted ∙ refused form u _ _ w₁ v e
 
     module _ (w₂ : List ℕ) (c : ℕ) (ec : given w₂ (drawn.Number c) ≡ fields form u (grammar.number grammar.client) (stateIn w₁)) where
-      named : Reads form u m w s ≡ run (fields form u) (rest k (c, placeIn w₂)) (stateIn w₂)
+      named : reads form u m w s ≡ run (fields form u) (rest k (c, placeIn w₂)) (stateIn w₂)
       named = counted ∙ asked form u _ _ w₁ w₂ c ec
 
-      pub again : among c (take (s .seen) m) ≡ true → Reads form u m w s ≡ stopped (record { number = 4; place = placeIn w₂ })
+      pub again : among c (take (s .seen) m) ≡ true → reads form u m w s ≡ stopped (record { number = 4; place = placeIn w₂ })
       unfolding run
       again h = named ∙ rw h refl
 
       module _ (new : among c (take (s .seen) m) ≡ false) where
-        clocked : Reads form u m w s ≡ run (fields form u) (ask (grammar.number (grammar.upTo maxClock)) (λ a. blocks k c (a .0) >>= λ _. sections (s .sections - 1) (take (s .seen) m ++ (c ∷ [])) (s .room - k))) (stateIn w₂)
+        clocked : reads form u m w s ≡ run (fields form u) (ask (grammar.number (grammar.upTo maxClock)) (λ a. blocks k c (a .0) >>= λ _. sections (s .sections - 1) (take (s .seen) m ++ (c ∷ [])) (s .room - k))) (stateIn w₂)
         unfolding _>>=_
         clocked = named ∙ rw new refl
 
-        pub no-clock : (v : List ℕ) → given v drawn.Refused ≡ fields form u (grammar.number (grammar.upTo maxClock)) (stateIn w₂) → Reads form u m w s ≡ stopped (whyIn v)
+        pub no-clock : (v : List ℕ) → given v drawn.Refused ≡ fields form u (grammar.number (grammar.upTo maxClock)) (stateIn w₂) → reads form u m w s ≡ stopped (whyIn v)
         no-clock v e = clocked ∙ refused form u _ _ w₂ v e
 
         module _ (w₃ : List ℕ) (clock : ℕ) (el : given w₃ (drawn.Number clock) ≡ fields form u (grammar.number (grammar.upTo maxClock)) (stateIn w₂)) (fine : Fine m s) where
           abbrev head : Spot
           head = record { sections = s .sections - 1; blocks = k; room = s .room - k; seen = s .seen + 1; client = c; clock = clock }
 
-          pub headed : Reads form u m w s ≡ Reads form u (set m (s .seen) c) w₃ head
-          unfolding toCome
+          pub headed : reads form u m w s ≡ reads form u (set m (s .seen) c) w₃ head
+          unfolding reads toCome
           headed =
               clocked ∙ asked form u _ _ w₂ w₃ clock el
               ∙ ap (λ (cs : List ℕ). run (fields form u) (blocks k c clock >>= λ _. sections (s .sections - 1) cs (s .room - k)) (stateIn w₃)) seen-now
@@ -192,8 +189,8 @@ module _ (form : ℕ) (u m w : List ℕ) (s : Spot) (some : 1 ≤ s .blocks) whe
   abbrev next : row.Block × ℕ → Grammar row.Block (Unit {0})
   next b = pick (ltb maxClock (s .clock + b .0 .length .0)) (stop 3 (b .1)) (kept (b .0) (b .1) (blocks (s .blocks - 1) (s .client) (s .clock + b .0 .length .0)))
 
-  at-block : Reads form u m w s ≡ andThen (andThen (run (fields form u) (block (s .client) (s .clock)) (stateIn w)) (λ b t. run (fields form u) (next b) t)) Behind
-  unfolding toCome blocks
+  at-block : reads form u m w s ≡ andThen (andThen (run (fields form u) (block (s .client) (s .clock)) (stateIn w)) (λ b t. run (fields form u) (next b) t)) Behind
+  unfolding reads toCome blocks
   at-block =
       ap (λ (j : ℕ). run (fields form u) (blocks j (s .client) (s .clock) >>= behind) (stateIn w)) one-more
       ∙ run-bind (fields form u) (blocks (suc (s .blocks - 1)) (s .client) (s .clock)) behind (stateIn w)
@@ -203,16 +200,16 @@ module _ (form : ℕ) (u m w : List ℕ) (s : Spot) (some : 1 ≤ s .blocks) whe
       one-more = omega (arith, some)
 
   module _ (v q : List ℕ) where
-    pub no-block : blockOnto v q drawn.Refused ≡ run (fields form u) (block (s .client) (s .clock)) (stateIn w) → Reads form u m w s ≡ stopped (whyIn v)
+    pub no-block : blockOnto v q drawn.Refused ≡ run (fields form u) (block (s .client) (s .clock)) (stateIn w) → reads form u m w s ≡ stopped (whyIn v)
     unfolding blockOnto andThen
     no-block e = at-block ∙ rw (← e) refl
 
     module _ (p : ℕ) (e : blockOnto v q (drawn.Number p) ≡ run (fields form u) (block (s .client) (s .clock)) (stateIn w)) where
-      had : Reads form u m w s ≡ andThen (run (fields form u) (next (rowIn q, p)) (stateIn v)) Behind
+      had : reads form u m w s ≡ andThen (run (fields form u) (next (rowIn q, p)) (stateIn v)) Behind
       unfolding blockOnto andThen
       had = at-block ∙ rw (← e) refl
 
-      pub too-far : maxClock < s .clock + rowIn q .length .0 → Reads form u m w s ≡ stopped (record { number = 3; place = p })
+      pub too-far : maxClock < s .clock + rowIn q .length .0 → reads form u m w s ≡ stopped (record { number = 3; place = p })
       unfolding run andThen
       too-far h = had ∙ rw (lt-ltb maxClock (s .clock + rowIn q .length .0) h) refl
 
@@ -220,18 +217,18 @@ module _ (form : ℕ) (u m w : List ℕ) (s : Spot) (some : 1 ≤ s .blocks) whe
         abbrev ended : Spot
         ended = record { sections = s .sections; blocks = s .blocks - 1; room = s .room; seen = s .seen; client = s .client; clock = s .clock + rowIn q .length .0 }
 
-        then-comes : andThen (run (fields form u) (blocks (s .blocks - 1) (s .client) (s .clock + rowIn q .length .0)) (stateIn v)) Behind ≡ Reads form u m v ended
-        unfolding toCome
+        then-comes : andThen (run (fields form u) (blocks (s .blocks - 1) (s .client) (s .clock + rowIn q .length .0)) (stateIn v)) Behind ≡ reads form u m v ended
+        unfolding reads toCome
         then-comes = sym (run-bind (fields form u) (blocks (s .blocks - 1) (s .client) (s .clock + rowIn q .length .0)) behind (stateIn v))
 
-        short : Reads form u m w s ≡ andThen (run (fields form u) (kept (rowIn q) p (blocks (s .blocks - 1) (s .client) (s .clock + rowIn q .length .0))) (stateIn v)) Behind
+        short : reads form u m w s ≡ andThen (run (fields form u) (kept (rowIn q) p (blocks (s .blocks - 1) (s .client) (s .clock + rowIn q .length .0))) (stateIn v)) Behind
         short = had ∙ rw (le-ltb maxClock (s .clock + rowIn q .length .0) near) refl
 
-        pub drops : dropped (rowIn q) ≡ true → Reads form u m w s ≡ Reads form u m v ended
+        pub drops : dropped (rowIn q) ≡ true → reads form u m w s ≡ reads form u m v ended
         unfolding kept
         drops d = short ∙ rw d then-comes
 
-        pub has : dropped (rowIn q) ≡ false → Reads form u m w s ≡ item (rowIn q) p (Reads form u m v ended)
+        pub has : dropped (rowIn q) ≡ false → reads form u m w s ≡ item (rowIn q) p (reads form u m v ended)
         unfolding kept run andThen
         has d = short ∙ rw d (ap (item (rowIn q) p) then-comes)
 
@@ -254,13 +251,13 @@ first n = record { sections = n; blocks = 0; room = maxBlocks; seen = 0; client 
 
 module _ (form : ℕ) (u w v : List ℕ) (small : Small v) where
   pub uncounted : given v drawn.Refused ≡ fields form u (grammar.number (grammar.upTo maxClients)) (stateIn w) → Counted form u w v (begun.Refused (whyIn v))
-  unfolding begins First placed allBlocks _>>=_
-  uncounted e = record { told = λ m. ap placed (refused form u _ _ w v e); first = λ m l. tt; small = small }
+  unfolding begins First allBlocks _>>=_
+  uncounted e = record { told = λ m. refused form u _ _ w v e; first = λ m l. tt; small = small }
 
   pub count : (n : ℕ) → n ≤ maxClients → given v (drawn.Number n) ≡ fields form u (grammar.number (grammar.upTo maxClients)) (stateIn w) → Counted form u w v (begun.At (first n))
-  unfolding begins First comes toCome blocks allBlocks _>>=_
+  unfolding begins First reads toCome blocks allBlocks _>>=_
   count n few e = record {
-    told = λ m. ap placed (asked form u _ _ w v n e);
+    told = λ m. asked form u _ _ w v n e;
     first = λ m l. record { seen = omega (arith, few, l); room = omega arith; blocks = omega arith; clock = omega arith };
     small = small;
   }
@@ -268,7 +265,7 @@ module _ (form : ℕ) (u w v : List ℕ) (small : Small v) where
 -- form 1 is read from its first byte on
 pub starts-line : (form : ℕ) (u w v : List ℕ) (x : Begun) → form ≡ 1 → atIn w ≡ 0 → Counted form u w v x → Starts form u v x
 unfolding blocksOf stateIn
-starts-line form u w v x f z c = record { told = λ m. first-byte ∙ c .told m; first = c .first; small = c .small }
+starts-line form u w v x f z c = record { told = λ m. first-byte ∙ ap placed (c .told m); columns = λ m other. absurd (other f); first = c .first; small = c .small }
   where
     first-byte : blocksOf form u ≡ placed (run (fields form u) allBlocks (stateIn w))
     first-byte = rw (f) (sym (placed-line u allBlocks (stateIn w) ∙ ap (λ (at : ℕ). run (line 1 u) allBlocks at) z))
@@ -276,11 +273,17 @@ starts-line form u w v x f z c = record { told = λ m. first-byte ∙ c .told m;
 module _ (form : ℕ) (u v : List ℕ) (other : form ≢ 1) where
   pub unopened : Small v → openedIn v drawn.Refused ≡ openedOf u → Starts form u v (begun.Refused (whyIn v))
   unfolding blocksOf inColumns onDrawn placed openedIn begins First
-  unopened small e = record { told = λ m. rw (ne-eqb form 1 other, ← e) refl; first = λ m l. tt; small = small }
+  unopened small e = record { told = λ m. rw (ne-eqb form 1 other, ← e) refl; columns = λ m o. rw (← e) refl; first = λ m l. tt; small = small }
 
   pub starts-columned : (n : ℕ) (w : List ℕ) (x : Begun) → openedIn v (drawn.Number n) ≡ openedOf u → Counted form u v w x → Starts form u w x
   unfolding blocksOf inColumns onDrawn openedIn
-  starts-columned n w x e c = record { told = λ m. behind-columns ∙ c .told m; first = c .first; small = c .small }
+  starts-columned n w x e c =
+      record {
+        told = λ m. rw (ne-eqb form 1 other) (ap placed (behind-columns ∙ c .told m));
+        columns = λ m o. behind-columns ∙ c .told m;
+        first = c .first;
+        small = c .small;
+      }
     where
-      behind-columns : blocksOf form u ≡ placed (run (fields form u) allBlocks (stateIn v))
-      behind-columns = rw (ne-eqb form 1 other, ← e) (ap placed (sym (run-columned form u other allBlocks (stateIn v))))
+      behind-columns : inColumns u ≡ run (fields form u) allBlocks (stateIn v)
+      behind-columns = rw (← e) (sym (run-columned form u other allBlocks (stateIn v)))

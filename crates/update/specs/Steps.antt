@@ -1,15 +1,17 @@
 -- One step of reading an update's blocks: what is to come before it is what it gives, and then what is to come after it.
 use Prim.Native.Nat.{ℕ, _+_, _*_, _≤_, _<_}
 use mathlib.Core.Path.{_≡_}
+use mathlib.Core.Logic.{_≢_}
 use mathlib.Core.List.{List}
 use lib.ListN.{length, take}
 use Rattle.numbers.specs.Limits.{maxClock, maxBlocks}
 use Rattle.block.specs.declared.Block as row
 use Rattle.grammar.specs.Grammar.{Grammar, _>>=_}
-use Rattle.grammar.specs.Course.{Course, item, over, stopped, run}
+use Rattle.grammar.specs.Course.{Course, Run, item, over, stopped, run}
 use Rattle.grammar.specs.Blocks.{blocks, sections, allBlocks}
+use Rattle.decoder.specs.States.{State, movedTo}
 use Rattle.decoder.specs.Columned.{fields}
-use Rattle.decoder.specs.Update.{placed, blocksOf}
+use Rattle.decoder.specs.Update.{placed, inColumns, blocksOf}
 use Rattle.cells.specs.Cells.{stateIn, Small}
 use Rattle.item.specs.Row.{rowIn, Narrow}
 use Rattle.update.specs.declared.Spot.{Spot}
@@ -22,20 +24,23 @@ use Rattle.update.specs.declared.Step.the-variants.{Block, On, Done, Ref
 unfoldable pub toCome : List ℕ → Spot → Grammar row.Block (Unit {0})
 toCome m s = blocks (s .blocks) (s .client) (s .clock) >>= λ _. sections (s .sections) (take (s .seen) m) (s .room)
 
--- read from the words w on
+-- read from the words w on, up to a state; and up to that state's place
+unfoldable pub reads : ℕ → List ℕ → List ℕ → List ℕ → Spot → Run State row.Block (Unit {0})
+reads form u m w s = run (fields form u) (toCome m s) (stateIn w)
+
 unfoldable pub comes : ℕ → List ℕ → List ℕ → List ℕ → Spot → Course row.Block
-comes form u m w s = placed (run (fields form u) (toCome m s) (stateIn w))
+comes form u m w s = placed (reads form u m w s)
 
 -- ---- what a step gives, with the memory m, the words w and the row r that it leaves
 
-unfoldable pub after : ℕ → List ℕ → List ℕ → List ℕ → List ℕ → Step → Course row.Block
-after form u m w r (Block p t) = item (rowIn r) p (comes form u m w t)
-after form u m w r (On t) = comes form u m w t
-after form u m w r (Done at) = over tt at
+unfoldable pub after : ℕ → List ℕ → List ℕ → List ℕ → List ℕ → Step → Run State row.Block (Unit {0})
+after form u m w r (Block p t) = item (rowIn r) p (reads form u m w t)
+after form u m w r (On t) = reads form u m w t
+after form u m w r (Done at) = over tt (movedTo (stateIn w) at)
 after form u m w r (Refused why) = stopped why
 
-unfoldable pub begins : ℕ → List ℕ → List ℕ → List ℕ → Begun → Course row.Block
-begins form u m w (begun.At s) = comes form u m w s
+unfoldable pub begins : ℕ → List ℕ → List ℕ → List ℕ → Begun → Run State row.Block (Unit {0})
+begins form u m w (begun.At s) = reads form u m w s
 begins form u m w (begun.Refused why) = stopped why
 
 -- ---- what steps keep up
@@ -60,7 +65,7 @@ Steady m r s (Refused why) = Unit {0}
 
 -- a step from the memory m, the words w and the row r to those with ₁
 pub record Stepped (form : ℕ) (u m w r : List ℕ) (s : Spot) (m₁ w₁ r₁ : List ℕ) (x : Step) : Type 0 where
-  pub told : comes form u m w s ≡ after form u m₁ w₁ r₁ x
+  pub told : reads form u m w s ≡ after form u m₁ w₁ r₁ x
   pub steady : Steady m₁ r₁ s x
   pub small : Small w₁
   pub memory : length m₁ ≡ length m
@@ -72,12 +77,13 @@ First m (begun.Refused why) = Unit {0}
 
 -- the section count: all blocks from the words w on, to the words v
 pub record Counted (form : ℕ) (u w v : List ℕ) (x : Begun) : Type 0 where
-  pub told : (m : List ℕ) → placed (run (fields form u) allBlocks (stateIn w)) ≡ begins form u m v x
+  pub told : (m : List ℕ) → run (fields form u) allBlocks (stateIn w) ≡ begins form u m v x
   pub first : (m : List ℕ) → 64 ≤ length m → First m x
   pub small : Small v
 
--- the beginning, whatever the memory m of 64 words and the words were, to the words w
+-- the beginning, whatever the memory m of 64 words and the words were, to the words w; form 2 also with the state that it ends in
 pub record Starts (form : ℕ) (u w : List ℕ) (x : Begun) : Type 0 where
-  pub told : (m : List ℕ) → blocksOf form u ≡ begins form u m w x
+  pub told : (m : List ℕ) → blocksOf form u ≡ placed (begins form u m w x)
+  pub columns : (m : List ℕ) → form ≢ 1 → inColumns u ≡ begins form u m w x
   pub first : (m : List ℕ) → 64 ≤ length m → First m x
   pub small : Small w

@@ -48,14 +48,14 @@ fn lend(form: u8, update: &[u8], n: usize, lent: usize, sink: &mut [u8], used: u
 }
 
 // What a case asks beside its update: the form, and how many rows and words are lent.
-struct Asked {
-    form: u8,
-    rows: usize,
-    words: usize,
-    place: Place,
+pub struct Asked {
+    pub form: u8,
+    pub rows: usize,
+    pub words: usize,
+    pub place: Place,
 }
 
-fn arguments(source: &mut [u8], place: Place) -> Asked {
+pub fn arguments(source: &mut [u8], place: Place) -> Asked {
     let form = input::number(source, place, 255);
     let rows = input::number(source, form.place, 512);
     let ranges = input::number(source, rows.place, 1024);

@@ -16,7 +16,7 @@ pub struct Update {
 }
 
 // What is refused before anything is read: 12, an unknown form; 3, an update over its length. 0 is neither.
-fn refused_early(form: u8, update: &[u8]) -> u8
+pub fn refused_early(form: u8, update: &[u8]) -> u8
     ensures { λ r. ⌜ r ≡ early form (now (update .entry)) ⌝ }
 {
     if form != 1 {
@@ -31,7 +31,7 @@ fn refused_early(form: u8, update: &[u8]) -> u8
 }
 
 // A refusal, and counts of 0.
-fn none(why: Refusal) -> Update
+pub fn none(why: Refusal) -> Update
     ensures { λ r. ⌜ r ≡ answer (refused why) ⌝ }
 {
     Update {

@@ -52,13 +52,14 @@ module _ {S A B : Type 0} (R : A → B → Type 0) where
   goes-left place leave on end (b ∷ bs) c m g =
       (g .0, g .1, leave (g .2), ap leave (g .3) ∙ on (g .0) (g .1) (g .2), g .4, goes-left place leave on end bs (g .2) m (g .5))
 
-module _ {A B : Type 0} (R : A → B → Type 0) (m : ℕ) where
-  pub goes-ending : {X : Type 0} (done : ℕ → X) (refused : Refusal → X) (bs : List B) (c : Course A) → Goes R bs c (over tt m)
+module _ {S A B : Type 0} (R : A → B → Type 0) (m : S) where
+  pub goes-ending : {X : Type 0} (done : S → X) (refused : Refusal → X) (bs : List B) (c : Run S A (Unit {0})) → Goes R bs c (over tt m)
       → ending c done refused ≡ done m
   unfolding Goes ending
-  goes-ending done refused [] c g = ap (λ (x : Course A). ending x done refused) g
-  goes-ending done refused (b ∷ bs) c g = ap (λ (x : Course A). ending x done refused) (g .3) ∙ goes-ending done refused bs (g .2) (g .5)
+  goes-ending done refused [] c g = ap (λ (x : Run S A (Unit {0})). ending x done refused) g
+  goes-ending done refused (b ∷ bs) c g = ap (λ (x : Run S A (Unit {0})). ending x done refused) (g .3) ∙ goes-ending done refused bs (g .2) (g .5)
 
+module _ {A B : Type 0} (R : A → B → Type 0) (m : ℕ) where
   pub goes-fit : (bs : List B) (n : ℕ) (c : Course A) → length bs ≤ n → Goes R bs c (over tt m) → fit n c ≡ c
   unfolding Goes fit
   goes-fit [] n c l g = rw g

@@ -12,6 +12,7 @@ pub mod Cuts
 pub mod Pieces
 pub mod Sections
 pub mod Deletes
+pub mod Left
 pub mod Legals
 pub mod LegalUpdate
 pub mod Whole

@@ -1,6 +1,6 @@
 -- What was written is read again: where the tokens of an update are drawn, its records and its delete ranges are read.
 use Prim.Native.Nat.{ℕ, suc, _+_, _≤_}
-use mathlib.Core.Path.{_≡_, refl, ap, ap₂, _∙_}
+use mathlib.Core.Path.{_≡_, refl, sym, ap, ap₂, subst, _∙_}
 use mathlib.Core.List.{List, [], _∷_, map}
 use native.Mathlib.Omega.{arith}
 use lib.ListN.{length, length-append}
@@ -12,6 +12,7 @@ use Rattle.grammar.specs.Course.{Course, fit, items, ending}
 use Rattle.grammar.specs.Blocks.{allBlocks}
 use Rattle.decoder.specs.Update.{blocksOf, deleteSet}
 use Rattle.ranges.specs.Ranges.{Range, Normal, normal}
+use Rattle.leftover.specs.Leftover.{setEnd, left, Spent}
 use Rattle.draws.specs.Draws.{Draws, DrawnAgain}
 use Rattle.draws.proofs.Splits.{split}
 use Rattle.kept.specs.Kept.{Piece, Section, pieceCount}
@@ -21,6 +22,7 @@ use Rattle.written.specs.Kept.{clientIn, Kept, KeptRanges}
 use Rattle.written.proofs.Courses.{draw-on, within-on, goes-from, goes-left, goes-ending, goes-fit, goes-alike, goes-same}
 use Rattle.written.proofs.Sections.{all-new, sections-read}
 use Rattle.written.proofs.Deletes.{deletes-read, normal-same}
+use Rattle.written.proofs.Left.{deletes-stay}
 
 pub written-reads : (form : ℕ) (d u : List ℕ) (ss : List Section) (rs : List Range) (x : DrawnAgain form d (updateTokens form u ss rs)) → Kept u ss → KeptRanges rs
     → WrittenReads form d u ss rs (x .place (x .last))
@@ -37,6 +39,7 @@ written-reads form d u ss rs x k kept =
       between = x .place m;
       blocks = goes-from (AlikeIn d u) (sectionsRead u ss) _ _ _ (x .blocks) (goes-left (AlikeIn d u) (x .place) (x .leave) (x .leaves) (x .leaves-over) (sectionsRead u ss) _ m goes);
       ranges = deletes-read (x .lined) rs m (x .last) kept (two .then);
+      spent = subst Spent (deletes-stay r d (x .left) (x .stays) form rs m (x .last) (two .then) ∙ sym (x .columns ∙ goes-ending (AlikeIn d u) m (x .left) (λ why. []) (sectionsRead u ss) _ goes)) (x .spent);
     }
 
 -- ---- what a caller makes of it
@@ -79,6 +82,14 @@ module _ (form : ℕ) (d u : List ℕ) (ss : List Section) (rs : List Range) (t 
 
   pub ranges-end : {X : Type 0} (done : ℕ → X) (refused : Refusal → X) → ending (deleteSet form d (reads .between)) done refused ≡ done t
   ranges-end done refused = goes-ending (λ (a b : Range). a ≡ b) t done refused rs ds (reads .ranges)
+
+  -- where the delete set ends the update, no byte of it is left
+  pub nothing-left : t ≡ length d → Spent (left form d)
+  unfolding left setEnd Spent
+  nothing-left end = (omega (arith, end, set-end), reads .spent)
+    where
+      set-end : setEnd form d ≡ t
+      set-end = blocks-end (λ at. ending (deleteSet form d at) (λ e. e) (λ why. length d)) (λ why. length d) ∙ ranges-end (λ e. e) (λ why. length d)
 
   -- a reading with rows enough, as `reading` of the crate updates has it: `whole` is made of the blocks and of the ranges, `refused` of a refusal
   module _ {X : Type 0} (whole : List Block → List Range → X) (refused : Refusal → X) where

@@ -10,6 +10,7 @@ use Rattle.block.specs.Rows.{nameIs, keyIs, withPart, withoutKey}
 use Rattle.ranges.specs.Ranges.{Range}
 use Rattle.grammar.specs.Course.{Run, item, over}
 use Rattle.decoder.specs.Update.{blocksOf, deleteSet}
+use Rattle.leftover.specs.Leftover.{columnsLeft, Spent}
 use Rattle.readings.specs.Sound.{bytesIn, linked, Sound}
 use Rattle.kept.specs.Kept.{Piece, Section}
 use Rattle.kept.specs.Cut.{cutRow}
@@ -65,8 +66,10 @@ Goes {S} {A} R (b ∷ bs) c rest = (a : A) × (p : ℕ) × (on : Run S A (Unit {
 abbrev pub AlikeIn : List ℕ → List ℕ → Block → Block → Type 0
 AlikeIn d u b c = Alike d b u c
 
--- the update d of a form is read: its blocks are the records of the sections, up to a place from where its delete set is the ranges, up to the place t
+-- the update d of a form is read: its blocks are the records of the sections, up to a place from where its delete set is the ranges, up to the place t; and no
+-- byte of its columns is left
 pub record WrittenReads (form : ℕ) (d u : List ℕ) (ss : List Section) (rs : List Range) (t : ℕ) : Type 0 where
   pub between : ℕ
   pub blocks : Goes (AlikeIn d u) (sectionsRead u ss) (blocksOf form d) (over tt between)
   pub ranges : Goes (λ (a b : Range). a ≡ b) rs (deleteSet form d between) (over tt t)
+  pub spent : Spent (columnsLeft form d)

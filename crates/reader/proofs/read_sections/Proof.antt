@@ -47,12 +47,13 @@ use Rattle.reader.specs.declared.Filled.the-variants.{Rows as Filled·Ro
 use Rattle.update.specs.declared.Spot.{Spot}
 use Rattle.cells.specs.Cells.{Small}
 use Rattle.item.specs.Row.{rowIn}
-use Rattle.reader.specs.Reader.{filledOf, rowsOf}
+use Rattle.reader.specs.Reader.{filledOf, rowsOf, Stands}
 use Rattle.table.specs.Rows.{clearedFrom}
-use Rattle.update.specs.Steps.{Fine, comes, left}
-use Rattle.grammar.specs.Course.{Course}
-use Rattle.update.proofs.Answers.{on-block, on-on, on-done, on-refused}
-use Rattle.reader.proofs.Course.{Known, at-first, passed, kept, on-full, on-end, on-refusal}
+use Rattle.update.specs.Steps.{Fine, reads, comes, left}
+use Rattle.decoder.specs.States.{State}
+use Rattle.grammar.specs.Course.{Course, Run, fit}
+use Rattle.update.proofs.Answers.{on-block, on-on, on-done, on-refused, reads-block, reads-on, reads-done, reads-refused}
+use Rattle.reader.proofs.Course.{Known, at-first, passed, kept, on-full, on-end, on-refusal, Onward, onward-first, onward-passed, onward-kept, stands-full, stands-refused, stands-end}
 use Rattle.reader.proofs.Sorts.{update·spot, refusal, refusal-has, update·step, update·step·block-0, update·step·block-1, update·step·on-0, update·step·done-0, update·step·refused-0, update·step-cases, filled, filled·rows-has, filled·refused-has}
 use Rattle.table.proofs.Sorts.{block}
 use Rattle.reader.proofs.Cards.{Update·next, Item·row-in, update·next!, item·row-in-r! }
@@ -94,6 +95,7 @@ record Turn (form₀ : ℕ) (update₀ : List ℕ) (w₀ : List ℕ) (rows₀ : 
   small : Small w
   fine : Fine memory v10
   known : Known (length rows₀) (comes form₀ update₀ (replicate 64 0) w₀ first₀) v11 rows (comes form₀ update₀ memory w v10)
+  onward : Onward (length rows₀) (reads form₀ update₀ (replicate 64 0) w₀ first₀) v11 (reads form₀ update₀ memory w v10)
 
 module _ {M : Type 1} (𝓤 : URA M) (H : Heap 𝓤) (A : Atoms 𝓤) (W : Given 𝓤 H A) (mem : Memory → SProp 𝓤) (run : Routine → Fun 𝓤) (κs : Lfts 3) (qs : Shares 3) (bounds : AllOutlive 3 (f.signature .outlives) κs) (a : Args f.signature κs)
     (are : Are (typesAt (f.signature .params) κs) (Ises (typesAt (f.signature .params) κs)) a (valss (typesAt (f.signature .params) κs) (spells fs κs) a)) where
@@ -136,7 +138,7 @@ module _ {M : Type 1} (𝓤 : URA M) (H : Heap 𝓤) (A : Atoms 𝓤) (W : Given
 
   -- the contract
   abbrev Right : Filled → List ℕ → List Block → Type 0
-  Right r w₁ rows₁ = (r ≡ filledOf (length rows₀) (comes form₀ update₀ (replicate 64 0) w₀ first₀)) × (rows₁ ≡ rowsOf (length rows₀) (comes form₀ update₀ (replicate 64 0) w₀ first₀))
+  Right r w₁ rows₁ = (r ≡ filledOf (length rows₀) (comes form₀ update₀ (replicate 64 0) w₀ first₀)) × (rows₁ ≡ rowsOf (length rows₀) (comes form₀ update₀ (replicate 64 0) w₀ first₀)) × Stands (fit (length rows₀) (reads form₀ update₀ (replicate 64 0) w₀ first₀)) w₁ × Small w₁
 
   exits : (r : Filled) (w₁ : List ℕ) (rows₁ : List Block) → Has filled r → Right r w₁ rows₁ → ent 𝓤 (sem 𝓤 H A (refs (hs w₁ rows₁))) (Post (filled .val r))
   exits r w₁ rows₁ g e = leaves 𝓤 H A W (ps w₁ rows₁) (refl, (refl, tt)) filled r g (Right r w₁ rows₁) e (Post (filled .val r)) (λ fit. ends-at 𝓤 H A f.ended (stays fs) (f.clauses 𝓤 H A mem run) W ((κs, qs, bounds, a, at-entry), tt) (filled .val r) r (ends (ps w₁ rows₁)) fit)
@@ -156,6 +158,16 @@ module _ {M : Type 1} (𝓤 : URA M) (H : Heap 𝓤) (A : Atoms 𝓤) (W : Given
   -- what is to come at a turn
   abbrev now-comes : X → Course Block
   now-comes t = comes form₀ update₀ (t .memory) (t .w) (t .v10)
+
+  abbrev r₀ : Run State Block (Unit {0})
+  r₀ = reads form₀ update₀ (replicate 64 0) w₀ first₀
+
+  abbrev now-reads : X → Run State Block (Unit {0})
+  now-reads t = reads form₀ update₀ (t .memory) (t .w) (t .v10)
+
+  -- the contract, where the rows and the words are told apart
+  with-words : (r : Filled) (w₁ : List ℕ) (rows₁ : List Block) → (r ≡ filledOf N c₀) × (rows₁ ≡ rowsOf N c₀) → Stands (fit N r₀) w₁ → Small w₁ → Right r w₁ rows₁
+  with-words r w₁ rows₁ e s small = (e .0, e .1, s, small)
 
   -- the blocks of the locals below, between and above the two arrays
   abbrev Inv : List ℕ → ℕ → ℕ → GName → List ℕ → ℕ → ℕ → GName → List ℕ → X → List (Item 𝓤)
@@ -221,7 +233,7 @@ module _ {M : Type 1} (𝓤 : URA M) (H : Heap 𝓤) (A : Atoms 𝓤) (W : Given
         move ! (0 ∷ 71 ∷ []) $ own-back ! tt word 64 64 (omega (arith)) 0 (w₁ .1 .1 .1 .1 .0) l₈ ν₈ δ₈ (tab word (own-seat l₆ 21 ν₆ δ₆) (w₁ .1 .1 .1 .0) ∷ hs (w₁ .1 .1 .0) (clearedFrom 0 (t .rows))) $ move ! (0 ∷ 2 ∷ 3 ∷ 4 ∷ 5 ∷ 6 ∷ 7 ∷ 8 ∷ 9 ∷ 10 ∷ 11 ∷ 12 ∷ 13 ∷ 14 ∷ 15 ∷ 16 ∷ 17 ∷ 18 ∷ 19 ∷ 20 ∷ 21 ∷ 22 ∷ 23 ∷ 24 ∷ 25 ∷ 26 ∷ 27 ∷ 28 ∷ 29 ∷ 30 ∷ 31 ∷ 32 ∷ 33 ∷ 34 ∷ 35 ∷ 36 ∷ 37 ∷ 38 ∷ 39 ∷ 40 ∷ 41 ∷ 42 ∷ 43 ∷ 44 ∷ 45 ∷ 46 ∷ 47 ∷ 48 ∷ 49 ∷ 50 ∷ 51 ∷ 52 ∷ 53 ∷ 54 ∷ 55 ∷ 56 ∷ 57 ∷ 58 ∷ 59 ∷ 60 ∷ 61 ∷ 62 ∷ 63 ∷ 64 ∷ 65 ∷ 66 ∷ 67 ∷ 68 ∷ 69 ∷ 70 ∷ 71 ∷ 1 ∷ []) $
         move ! (0 ∷ 75 ∷ []) $ own-back ! tt word 21 21 (omega (arith)) 0 (w₁ .1 .1 .1 .0) l₆ ν₆ δ₆ (hs (w₁ .1 .1 .0) (clearedFrom 0 (t .rows))) $ move ! (0 ∷ 2 ∷ 3 ∷ 4 ∷ 5 ∷ 6 ∷ 7 ∷ 8 ∷ 9 ∷ 10 ∷ 11 ∷ 12 ∷ 13 ∷ 14 ∷ 15 ∷ 16 ∷ 17 ∷ 18 ∷ 19 ∷ 20 ∷ 21 ∷ 22 ∷ 23 ∷ 24 ∷ 25 ∷ 26 ∷ 27 ∷ 28 ∷ 29 ∷ 30 ∷ 31 ∷ 32 ∷ 33 ∷ 34 ∷ 35 ∷ 36 ∷ 37 ∷ 38 ∷ 39 ∷ 40 ∷ 41 ∷ 42 ∷ 43 ∷ 44 ∷ 45 ∷ 46 ∷ 47 ∷ 48 ∷ 49 ∷ 50 ∷ 51 ∷ 52 ∷ 53 ∷ 54 ∷ 55 ∷ 56 ∷ 57 ∷ 58 ∷ 59 ∷ 60 ∷ 61 ∷ 62 ∷ 63 ∷ 64 ∷ 65 ∷ 66 ∷ 67 ∷ 68 ∷ 69 ∷ 70 ∷ 71 ∷ 72 ∷ 73 ∷ 74 ∷ 75 ∷ 1 ∷ []) $
         return-on ! Post refl (look ! 87 refl) $
-        free-all ! (_ ∷ []) En (has _ ∷ has _ ∷ has _ ∷ has _ ∷ has _ ∷ has _ ∷ has _ ∷ has _ ∷ has _ ∷ has _ ∷ has _ ∷ has _ ∷ has _ ∷ has _ ∷ bare ∷ bare ∷ bare ∷ bare ∷ bare ∷ bare ∷ has _ ∷ has _ ∷ has _ ∷ has _ ∷ has _ ∷ has _ ∷ has _ ∷ has _ ∷ has _ ∷ has _ ∷ has _ ∷ has _ ∷ has _ ∷ []) [] $ by ! (exits (Filled·Refused (record { number = 8; place = x₂a })) (w₁ .1 .1 .0) (clearedFrom 0 (t .rows)) (filled·refused-has (record { number = 8; place = x₂a }) (refusal-has 8 (refl, lit< tt) x₂a (update·step·block-0 x₂a x₂b (subst (Has update·step) e₂ (g₁ .0))))) (on-full N c₀ (t .v11) (t .rows) (now-comes t) (t .known) (sz .1 .1 .1 .0) (rowIn (w₁ .1 .1 .1 .0)) x₂a (comes form₀ update₀ (w₁ .1 .1 .1 .1 .0) (w₁ .1 .1 .0) x₂b) (on-block form₀ update₀ (t .memory) (t .w) (t .fields) (t .v10) (w₁ .1 .1 .1 .1 .0) (w₁ .1 .1 .0) (w₁ .1 .1 .1 .0) r₁ st x₂a x₂b e₂ .0) (leb-true N (t .v11) y₃)))))
+        free-all ! (_ ∷ []) En (has _ ∷ has _ ∷ has _ ∷ has _ ∷ has _ ∷ has _ ∷ has _ ∷ has _ ∷ has _ ∷ has _ ∷ has _ ∷ has _ ∷ has _ ∷ has _ ∷ bare ∷ bare ∷ bare ∷ bare ∷ bare ∷ bare ∷ has _ ∷ has _ ∷ has _ ∷ has _ ∷ has _ ∷ has _ ∷ has _ ∷ has _ ∷ has _ ∷ has _ ∷ has _ ∷ has _ ∷ has _ ∷ []) [] $ by ! (exits (Filled·Refused (record { number = 8; place = x₂a })) (w₁ .1 .1 .0) (clearedFrom 0 (t .rows)) (filled·refused-has (record { number = 8; place = x₂a }) (refusal-has 8 (refl, lit< tt) x₂a (update·step·block-0 x₂a x₂b (subst (Has update·step) e₂ (g₁ .0))))) (with-words _ _ _ (on-full N c₀ (t .v11) (t .rows) (now-comes t) (t .known) (sz .1 .1 .1 .0) (rowIn (w₁ .1 .1 .1 .0)) x₂a (comes form₀ update₀ (w₁ .1 .1 .1 .1 .0) (w₁ .1 .1 .0) x₂b) (on-block form₀ update₀ (t .memory) (t .w) (t .fields) (t .v10) (w₁ .1 .1 .1 .1 .0) (w₁ .1 .1 .0) (w₁ .1 .1 .1 .0) r₁ st x₂a x₂b e₂ .0) (leb-true N (t .v11) y₃)) (stands-full N r₀ (t .v11) (now-reads t) (t .onward) (rowIn (w₁ .1 .1 .1 .0)) x₂a (reads form₀ update₀ (w₁ .1 .1 .1 .1 .0) (w₁ .1 .1 .0) x₂b) (reads-block form₀ update₀ (t .memory) (t .w) (t .fields) (t .v10) (w₁ .1 .1 .1 .1 .0) (w₁ .1 .1 .0) (w₁ .1 .1 .1 .0) r₁ st x₂a x₂b e₂) (leb-true N (t .v11) y₃) (w₁ .1 .1 .0)) (st .small)))))
         (λ y₃.
         skip-on ! $
         assigns ! (addr ! (from ! (fld ! refl (hop ! (look-in ! 73 (sub ! 0 refl (whole !))) (stop !))))) (from ! (stop !)) (init ! 21 refl (tt, tt)) $
@@ -234,12 +246,12 @@ module _ {M : Type 1} (𝓤 : URA M) (H : Heap 𝓤) (A : Atoms 𝓤) (W : Given
         land ! (from ! (stop !)) (init ! 17 refl (g₆ .1 .0)) $
         assigns ! (bin ! (load ! (from ! (stop !)) (look ! 65 refl)) (lit ! tt) (record { fits = more t y₃ })) (from ! (stop !)) (store ! 65 refl (tt, record { fits = more t y₃ })) $
         assigns-last ! (of-opd ! (load ! (from ! (stop !)) (look ! 61 refl))) (from ! (stop !)) (store ! 67 refl (update·spot .lawful M 𝓤 H A W .typed x₂b _ (update·step·block-1 x₂a x₂b (subst (Has update·step) e₂ (g₁ .0))) .0)) $
-        forget ! 13 refl $ forget ! 15 refl $ forget ! 17 refl $ forget ! 19 refl $ forget ! 21 refl $ forget ! 31 refl $ forget ! 33 refl $ forget ! 35 refl $ forget ! 37 refl $ forget ! 39 refl $ forget ! 41 refl $ forget ! 43 refl $ forget ! 45 refl $ forget ! 47 refl $ forget ! 59 refl $ forget ! 61 refl $ forget ! 63 refl $ again-by ! μ I t (record { v10 = x₂b; g10 = update·step·block-1 x₂a x₂b (subst (Has update·step) e₂ (g₁ .0)); v11 = (t .v11) + 1; g11 = (refl, more t y₃); memory = w₁ .1 .1 .1 .1 .0; fields = w₁ .1 .1 .1 .0; w = w₁ .1 .1 .0; rows = set (t .rows) (t .v11) (rowIn (w₁ .1 .1 .1 .0)); small = st .small; fine = (on-block form₀ update₀ (t .memory) (t .w) (t .fields) (t .v10) (w₁ .1 .1 .1 .1 .0) (w₁ .1 .1 .0) (w₁ .1 .1 .1 .0) r₁ st x₂a x₂b e₂ .1); known = kept N c₀ (t .v11) (t .rows) (now-comes t) (t .known) (sz .1 .1 .1 .0) (rowIn (w₁ .1 .1 .1 .0)) x₂a (comes form₀ update₀ (w₁ .1 .1 .1 .1 .0) (w₁ .1 .1 .0) x₂b) (on-block form₀ update₀ (t .memory) (t .w) (t .fields) (t .v10) (w₁ .1 .1 .1 .1 .0) (w₁ .1 .1 .0) (w₁ .1 .1 .1 .0) r₁ st x₂a x₂b e₂ .0) (under t y₃) }) (on-block form₀ update₀ (t .memory) (t .w) (t .fields) (t .v10) (w₁ .1 .1 .1 .1 .0) (w₁ .1 .1 .0) (w₁ .1 .1 .1 .0) r₁ st x₂a x₂b e₂ .3)))))
+        forget ! 13 refl $ forget ! 15 refl $ forget ! 17 refl $ forget ! 19 refl $ forget ! 21 refl $ forget ! 31 refl $ forget ! 33 refl $ forget ! 35 refl $ forget ! 37 refl $ forget ! 39 refl $ forget ! 41 refl $ forget ! 43 refl $ forget ! 45 refl $ forget ! 47 refl $ forget ! 59 refl $ forget ! 61 refl $ forget ! 63 refl $ again-by ! μ I t (record { v10 = x₂b; g10 = update·step·block-1 x₂a x₂b (subst (Has update·step) e₂ (g₁ .0)); v11 = (t .v11) + 1; g11 = (refl, more t y₃); memory = w₁ .1 .1 .1 .1 .0; fields = w₁ .1 .1 .1 .0; w = w₁ .1 .1 .0; rows = set (t .rows) (t .v11) (rowIn (w₁ .1 .1 .1 .0)); small = st .small; fine = (on-block form₀ update₀ (t .memory) (t .w) (t .fields) (t .v10) (w₁ .1 .1 .1 .1 .0) (w₁ .1 .1 .0) (w₁ .1 .1 .1 .0) r₁ st x₂a x₂b e₂ .1); known = kept N c₀ (t .v11) (t .rows) (now-comes t) (t .known) (sz .1 .1 .1 .0) (rowIn (w₁ .1 .1 .1 .0)) x₂a (comes form₀ update₀ (w₁ .1 .1 .1 .1 .0) (w₁ .1 .1 .0) x₂b) (on-block form₀ update₀ (t .memory) (t .w) (t .fields) (t .v10) (w₁ .1 .1 .1 .1 .0) (w₁ .1 .1 .0) (w₁ .1 .1 .1 .0) r₁ st x₂a x₂b e₂ .0) (under t y₃); onward = onward-kept N r₀ (t .v11) (now-reads t) (t .onward) (rowIn (w₁ .1 .1 .1 .0)) x₂a (reads form₀ update₀ (w₁ .1 .1 .1 .1 .0) (w₁ .1 .1 .0) x₂b) (reads-block form₀ update₀ (t .memory) (t .w) (t .fields) (t .v10) (w₁ .1 .1 .1 .1 .0) (w₁ .1 .1 .0) (w₁ .1 .1 .1 .0) r₁ st x₂a x₂b e₂) (under t y₃) }) (on-block form₀ update₀ (t .memory) (t .w) (t .fields) (t .v10) (w₁ .1 .1 .1 .1 .0) (w₁ .1 .1 .0) (w₁ .1 .1 .1 .0) r₁ st x₂a x₂b e₂ .3)))))
         (λ x₂ e₂.  -- On
         revalue ! 47 (update·step .val) e₂ refl $ switches-to-last ! (load ! (from ! (vrt ! refl (fld ! refl (stop !)))) (look-tag ! 47 (whole !))) refl $
         assigns ! (of-opd ! (load ! (from ! (vrt ! refl (fld ! refl (stop !)))) (look-in ! 47 (in-variant ! 1 0 refl refl (whole !))))) (from ! (stop !)) (init ! 57 refl (update·spot .lawful M 𝓤 H A W .typed x₂ _ (update·step·on-0 x₂ (subst (Has update·step) e₂ (g₁ .0))) .0)) $
         assigns-last ! (of-opd ! (load ! (from ! (stop !)) (look ! 57 refl))) (from ! (stop !)) (store ! 67 refl (update·spot .lawful M 𝓤 H A W .typed x₂ _ (update·step·on-0 x₂ (subst (Has update·step) e₂ (g₁ .0))) .0)) $
-        forget ! 35 refl $ forget ! 37 refl $ forget ! 39 refl $ forget ! 41 refl $ forget ! 43 refl $ forget ! 45 refl $ forget ! 47 refl $ forget ! 57 refl $ again-by ! μ I t (record { v10 = x₂; g10 = update·step·on-0 x₂ (subst (Has update·step) e₂ (g₁ .0)); v11 = t .v11; g11 = t .g11; memory = w₁ .1 .1 .1 .1 .0; fields = w₁ .1 .1 .1 .0; w = w₁ .1 .1 .0; rows = (t .rows); small = st .small; fine = (on-on form₀ update₀ (t .memory) (t .w) (t .fields) (t .v10) (w₁ .1 .1 .1 .1 .0) (w₁ .1 .1 .0) (w₁ .1 .1 .1 .0) r₁ st x₂ e₂ .1); known = passed N c₀ (t .v11) (t .rows) (now-comes t) (t .known) (comes form₀ update₀ (w₁ .1 .1 .1 .1 .0) (w₁ .1 .1 .0) x₂) (on-on form₀ update₀ (t .memory) (t .w) (t .fields) (t .v10) (w₁ .1 .1 .1 .1 .0) (w₁ .1 .1 .0) (w₁ .1 .1 .1 .0) r₁ st x₂ e₂ .0) }) (on-on form₀ update₀ (t .memory) (t .w) (t .fields) (t .v10) (w₁ .1 .1 .1 .1 .0) (w₁ .1 .1 .0) (w₁ .1 .1 .1 .0) r₁ st x₂ e₂ .2))
+        forget ! 35 refl $ forget ! 37 refl $ forget ! 39 refl $ forget ! 41 refl $ forget ! 43 refl $ forget ! 45 refl $ forget ! 47 refl $ forget ! 57 refl $ again-by ! μ I t (record { v10 = x₂; g10 = update·step·on-0 x₂ (subst (Has update·step) e₂ (g₁ .0)); v11 = t .v11; g11 = t .g11; memory = w₁ .1 .1 .1 .1 .0; fields = w₁ .1 .1 .1 .0; w = w₁ .1 .1 .0; rows = (t .rows); small = st .small; fine = (on-on form₀ update₀ (t .memory) (t .w) (t .fields) (t .v10) (w₁ .1 .1 .1 .1 .0) (w₁ .1 .1 .0) (w₁ .1 .1 .1 .0) r₁ st x₂ e₂ .1); known = passed N c₀ (t .v11) (t .rows) (now-comes t) (t .known) (comes form₀ update₀ (w₁ .1 .1 .1 .1 .0) (w₁ .1 .1 .0) x₂) (on-on form₀ update₀ (t .memory) (t .w) (t .fields) (t .v10) (w₁ .1 .1 .1 .1 .0) (w₁ .1 .1 .0) (w₁ .1 .1 .1 .0) r₁ st x₂ e₂ .0); onward = onward-passed N r₀ (t .v11) (now-reads t) (t .onward) (reads form₀ update₀ (w₁ .1 .1 .1 .1 .0) (w₁ .1 .1 .0) x₂) (reads-on form₀ update₀ (t .memory) (t .w) (t .fields) (t .v10) (w₁ .1 .1 .1 .1 .0) (w₁ .1 .1 .0) (w₁ .1 .1 .1 .0) r₁ st x₂ e₂) }) (on-on form₀ update₀ (t .memory) (t .w) (t .fields) (t .v10) (w₁ .1 .1 .1 .1 .0) (w₁ .1 .1 .0) (w₁ .1 .1 .1 .0) r₁ st x₂ e₂ .2))
         (λ x₂ e₂.  -- Done
         revalue ! 47 (update·step .val) e₂ refl $ switches-to-last ! (load ! (from ! (vrt ! refl (fld ! refl (stop !)))) (look-tag ! 47 (whole !))) refl $
         assigns ! (of-opd ! (load ! (from ! (vrt ! refl (fld ! refl (stop !)))) (look-in ! 47 (in-variant ! 2 0 refl refl (whole !))))) (from ! (stop !)) (init ! 55 refl (tt, record { fits = (update·step·done-0 x₂ (subst (Has update·step) e₂ (g₁ .0))) .1 })) $
@@ -251,7 +263,7 @@ module _ {M : Type 1} (𝓤 : URA M) (H : Heap 𝓤) (A : Atoms 𝓤) (W : Given
         move ! (0 ∷ 71 ∷ []) $ own-back ! tt word 64 64 (omega (arith)) 0 (w₁ .1 .1 .1 .1 .0) l₈ ν₈ δ₈ (tab word (own-seat l₆ 21 ν₆ δ₆) (w₁ .1 .1 .1 .0) ∷ hs (w₁ .1 .1 .0) (clearedFrom (t .v11) (t .rows))) $ move ! (0 ∷ 2 ∷ 3 ∷ 4 ∷ 5 ∷ 6 ∷ 7 ∷ 8 ∷ 9 ∷ 10 ∷ 11 ∷ 12 ∷ 13 ∷ 14 ∷ 15 ∷ 16 ∷ 17 ∷ 18 ∷ 19 ∷ 20 ∷ 21 ∷ 22 ∷ 23 ∷ 24 ∷ 25 ∷ 26 ∷ 27 ∷ 28 ∷ 29 ∷ 30 ∷ 31 ∷ 32 ∷ 33 ∷ 34 ∷ 35 ∷ 36 ∷ 37 ∷ 38 ∷ 39 ∷ 40 ∷ 41 ∷ 42 ∷ 43 ∷ 44 ∷ 45 ∷ 46 ∷ 47 ∷ 48 ∷ 49 ∷ 50 ∷ 51 ∷ 52 ∷ 53 ∷ 54 ∷ 55 ∷ 56 ∷ 57 ∷ 58 ∷ 59 ∷ 60 ∷ 61 ∷ 62 ∷ 63 ∷ 64 ∷ 65 ∷ 66 ∷ 67 ∷ 68 ∷ 69 ∷ 70 ∷ 71 ∷ 1 ∷ []) $
         move ! (0 ∷ 75 ∷ []) $ own-back ! tt word 21 21 (omega (arith)) 0 (w₁ .1 .1 .1 .0) l₆ ν₆ δ₆ (hs (w₁ .1 .1 .0) (clearedFrom (t .v11) (t .rows))) $ move ! (0 ∷ 2 ∷ 3 ∷ 4 ∷ 5 ∷ 6 ∷ 7 ∷ 8 ∷ 9 ∷ 10 ∷ 11 ∷ 12 ∷ 13 ∷ 14 ∷ 15 ∷ 16 ∷ 17 ∷ 18 ∷ 19 ∷ 20 ∷ 21 ∷ 22 ∷ 23 ∷ 24 ∷ 25 ∷ 26 ∷ 27 ∷ 28 ∷ 29 ∷ 30 ∷ 31 ∷ 32 ∷ 33 ∷ 34 ∷ 35 ∷ 36 ∷ 37 ∷ 38 ∷ 39 ∷ 40 ∷ 41 ∷ 42 ∷ 43 ∷ 44 ∷ 45 ∷ 46 ∷ 47 ∷ 48 ∷ 49 ∷ 50 ∷ 51 ∷ 52 ∷ 53 ∷ 54 ∷ 55 ∷ 56 ∷ 57 ∷ 58 ∷ 59 ∷ 60 ∷ 61 ∷ 62 ∷ 63 ∷ 64 ∷ 65 ∷ 66 ∷ 67 ∷ 68 ∷ 69 ∷ 70 ∷ 71 ∷ 72 ∷ 73 ∷ 74 ∷ 75 ∷ 1 ∷ []) $
         returns-within ! Post refl (look ! 87 refl) $
-        free-all ! (_ ∷ []) En (has _ ∷ has _ ∷ has _ ∷ has _ ∷ has _ ∷ has _ ∷ has _ ∷ has _ ∷ has _ ∷ has _ ∷ has _ ∷ has _ ∷ bare ∷ bare ∷ bare ∷ bare ∷ has _ ∷ bare ∷ bare ∷ bare ∷ has _ ∷ has _ ∷ has _ ∷ has _ ∷ has _ ∷ has _ ∷ has _ ∷ bare ∷ bare ∷ bare ∷ bare ∷ bare ∷ bare ∷ bare ∷ bare ∷ bare ∷ bare ∷ bare ∷ has _ ∷ has _ ∷ has _ ∷ []) [] $ by ! (exits (Filled·Rows (t .v11) x₂) (w₁ .1 .1 .0) (clearedFrom (t .v11) (t .rows)) (filled·rows-has (t .v11) (t .g11) x₂ (update·step·done-0 x₂ (subst (Has update·step) e₂ (g₁ .0)))) (on-end N c₀ (t .v11) (t .rows) (now-comes t) (t .known) (sz .1 .1 .1 .0) x₂ (on-done form₀ update₀ (t .memory) (t .w) (t .fields) (t .v10) (w₁ .1 .1 .1 .1 .0) (w₁ .1 .1 .0) (w₁ .1 .1 .1 .0) r₁ st x₂ e₂)))))
+        free-all ! (_ ∷ []) En (has _ ∷ has _ ∷ has _ ∷ has _ ∷ has _ ∷ has _ ∷ has _ ∷ has _ ∷ has _ ∷ has _ ∷ has _ ∷ has _ ∷ bare ∷ bare ∷ bare ∷ bare ∷ has _ ∷ bare ∷ bare ∷ bare ∷ has _ ∷ has _ ∷ has _ ∷ has _ ∷ has _ ∷ has _ ∷ has _ ∷ bare ∷ bare ∷ bare ∷ bare ∷ bare ∷ bare ∷ bare ∷ bare ∷ bare ∷ bare ∷ bare ∷ has _ ∷ has _ ∷ has _ ∷ []) [] $ by ! (exits (Filled·Rows (t .v11) x₂) (w₁ .1 .1 .0) (clearedFrom (t .v11) (t .rows)) (filled·rows-has (t .v11) (t .g11) x₂ (update·step·done-0 x₂ (subst (Has update·step) e₂ (g₁ .0)))) (with-words _ _ _ (on-end N c₀ (t .v11) (t .rows) (now-comes t) (t .known) (sz .1 .1 .1 .0) x₂ (on-done form₀ update₀ (t .memory) (t .w) (t .fields) (t .v10) (w₁ .1 .1 .1 .1 .0) (w₁ .1 .1 .0) (w₁ .1 .1 .1 .0) r₁ st x₂ e₂)) (stands-end N r₀ (t .v11) (now-reads t) (t .onward) (w₁ .1 .1 .0) x₂ (reads-done form₀ update₀ (t .memory) (t .w) (t .fields) (t .v10) (w₁ .1 .1 .1 .1 .0) (w₁ .1 .1 .0) (w₁ .1 .1 .1 .0) r₁ st x₂ e₂)) (st .small)))))
         (λ x₂ e₂.  -- Refused
         revalue ! 47 (update·step .val) e₂ refl $ switches-to-last ! (load ! (from ! (vrt ! refl (fld ! refl (stop !)))) (look-tag ! 47 (whole !))) refl $
         assigns ! (of-opd ! (load ! (from ! (vrt ! refl (fld ! refl (stop !)))) (look-in ! 47 (in-variant ! 3 0 refl refl (whole !))))) (from ! (stop !)) (init ! 53 refl (refusal .lawful M 𝓤 H A W .typed x₂ _ (update·step·refused-0 x₂ (subst (Has update·step) e₂ (g₁ .0))) .0)) $
@@ -263,8 +275,8 @@ module _ {M : Type 1} (𝓤 : URA M) (H : Heap 𝓤) (A : Atoms 𝓤) (W : Given
         move ! (0 ∷ 71 ∷ []) $ own-back ! tt word 64 64 (omega (arith)) 0 (w₁ .1 .1 .1 .1 .0) l₈ ν₈ δ₈ (tab word (own-seat l₆ 21 ν₆ δ₆) (w₁ .1 .1 .1 .0) ∷ hs (w₁ .1 .1 .0) (clearedFrom 0 (t .rows))) $ move ! (0 ∷ 2 ∷ 3 ∷ 4 ∷ 5 ∷ 6 ∷ 7 ∷ 8 ∷ 9 ∷ 10 ∷ 11 ∷ 12 ∷ 13 ∷ 14 ∷ 15 ∷ 16 ∷ 17 ∷ 18 ∷ 19 ∷ 20 ∷ 21 ∷ 22 ∷ 23 ∷ 24 ∷ 25 ∷ 26 ∷ 27 ∷ 28 ∷ 29 ∷ 30 ∷ 31 ∷ 32 ∷ 33 ∷ 34 ∷ 35 ∷ 36 ∷ 37 ∷ 38 ∷ 39 ∷ 40 ∷ 41 ∷ 42 ∷ 43 ∷ 44 ∷ 45 ∷ 46 ∷ 47 ∷ 48 ∷ 49 ∷ 50 ∷ 51 ∷ 52 ∷ 53 ∷ 54 ∷ 55 ∷ 56 ∷ 57 ∷ 58 ∷ 59 ∷ 60 ∷ 61 ∷ 62 ∷ 63 ∷ 64 ∷ 65 ∷ 66 ∷ 67 ∷ 68 ∷ 69 ∷ 70 ∷ 71 ∷ 1 ∷ []) $
         move ! (0 ∷ 75 ∷ []) $ own-back ! tt word 21 21 (omega (arith)) 0 (w₁ .1 .1 .1 .0) l₆ ν₆ δ₆ (hs (w₁ .1 .1 .0) (clearedFrom 0 (t .rows))) $ move ! (0 ∷ 2 ∷ 3 ∷ 4 ∷ 5 ∷ 6 ∷ 7 ∷ 8 ∷ 9 ∷ 10 ∷ 11 ∷ 12 ∷ 13 ∷ 14 ∷ 15 ∷ 16 ∷ 17 ∷ 18 ∷ 19 ∷ 20 ∷ 21 ∷ 22 ∷ 23 ∷ 24 ∷ 25 ∷ 26 ∷ 27 ∷ 28 ∷ 29 ∷ 30 ∷ 31 ∷ 32 ∷ 33 ∷ 34 ∷ 35 ∷ 36 ∷ 37 ∷ 38 ∷ 39 ∷ 40 ∷ 41 ∷ 42 ∷ 43 ∷ 44 ∷ 45 ∷ 46 ∷ 47 ∷ 48 ∷ 49 ∷ 50 ∷ 51 ∷ 52 ∷ 53 ∷ 54 ∷ 55 ∷ 56 ∷ 57 ∷ 58 ∷ 59 ∷ 60 ∷ 61 ∷ 62 ∷ 63 ∷ 64 ∷ 65 ∷ 66 ∷ 67 ∷ 68 ∷ 69 ∷ 70 ∷ 71 ∷ 72 ∷ 73 ∷ 74 ∷ 75 ∷ 1 ∷ []) $
         returns-within ! Post refl (look ! 87 refl) $
-        free-all ! (_ ∷ []) En (has _ ∷ has _ ∷ has _ ∷ has _ ∷ has _ ∷ has _ ∷ has _ ∷ has _ ∷ has _ ∷ has _ ∷ has _ ∷ has _ ∷ bare ∷ bare ∷ bare ∷ bare ∷ bare ∷ has _ ∷ bare ∷ bare ∷ has _ ∷ has _ ∷ has _ ∷ has _ ∷ has _ ∷ has _ ∷ has _ ∷ bare ∷ bare ∷ bare ∷ bare ∷ bare ∷ bare ∷ bare ∷ bare ∷ bare ∷ bare ∷ bare ∷ bare ∷ bare ∷ bare ∷ has _ ∷ has _ ∷ has _ ∷ []) [] $ by ! (exits (Filled·Refused x₂) (w₁ .1 .1 .0) (clearedFrom 0 (t .rows)) (filled·refused-has x₂ (update·step·refused-0 x₂ (subst (Has update·step) e₂ (g₁ .0)))) (on-refusal N c₀ (t .v11) (t .rows) (now-comes t) (t .known) (sz .1 .1 .1 .0) x₂ (on-refused form₀ update₀ (t .memory) (t .w) (t .fields) (t .v10) (w₁ .1 .1 .1 .1 .0) (w₁ .1 .1 .0) (w₁ .1 .1 .1 .0) r₁ st x₂ e₂))))))))
-        (record { v10 = first₀; g10 = (are .1 .1 .1 .1 .0); v11 = 0; g11 = (refl, lit< tt); memory = replicate 64 0; fields = replicate 21 0; w = w₀; rows = rows₀; small = req .0; fine = req .1; known = at-first N c₀ rows₀ c₀ refl }))))))
+        free-all ! (_ ∷ []) En (has _ ∷ has _ ∷ has _ ∷ has _ ∷ has _ ∷ has _ ∷ has _ ∷ has _ ∷ has _ ∷ has _ ∷ has _ ∷ has _ ∷ bare ∷ bare ∷ bare ∷ bare ∷ bare ∷ has _ ∷ bare ∷ bare ∷ has _ ∷ has _ ∷ has _ ∷ has _ ∷ has _ ∷ has _ ∷ has _ ∷ bare ∷ bare ∷ bare ∷ bare ∷ bare ∷ bare ∷ bare ∷ bare ∷ bare ∷ bare ∷ bare ∷ bare ∷ bare ∷ bare ∷ has _ ∷ has _ ∷ has _ ∷ []) [] $ by ! (exits (Filled·Refused x₂) (w₁ .1 .1 .0) (clearedFrom 0 (t .rows)) (filled·refused-has x₂ (update·step·refused-0 x₂ (subst (Has update·step) e₂ (g₁ .0)))) (with-words _ _ _ (on-refusal N c₀ (t .v11) (t .rows) (now-comes t) (t .known) (sz .1 .1 .1 .0) x₂ (on-refused form₀ update₀ (t .memory) (t .w) (t .fields) (t .v10) (w₁ .1 .1 .1 .1 .0) (w₁ .1 .1 .0) (w₁ .1 .1 .1 .0) r₁ st x₂ e₂)) (stands-refused N r₀ (t .v11) (now-reads t) (t .onward) x₂ (reads-refused form₀ update₀ (t .memory) (t .w) (t .fields) (t .v10) (w₁ .1 .1 .1 .1 .0) (w₁ .1 .1 .0) (w₁ .1 .1 .1 .0) r₁ st x₂ e₂) (w₁ .1 .1 .0)) (st .small))))))))
+        (record { v10 = first₀; g10 = (are .1 .1 .1 .1 .0); v11 = 0; g11 = (refl, lit< tt); memory = replicate 64 0; fields = replicate 21 0; w = w₀; rows = rows₀; small = req .0; fine = req .1; known = at-first N c₀ rows₀ c₀ refl; onward = onward-first N r₀ }))))))
       where
         under : (t : X) → leb N (t .v11) ≡ false → t .v11 < N
         under t y = leb-false N (t .v11) y

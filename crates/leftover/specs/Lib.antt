@@ -1,0 +1,2 @@
+-- Which bytes of an update stay unread.
+pub mod Leftover
