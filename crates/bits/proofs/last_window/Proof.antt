@@ -62,4 +62,5 @@ pub last-window-spec : {M : Type 1} → statement M
 last-window-spec =
     tie.close
     (tie.spec
-    Inv-loop μ-loop loop-holds mul-w (λ c. search needs) (λ c κs. search needs) add-w (λ c. search needs) (λ c. search needs) (λ c. search needs) loop-again (λ c. search needs) returns)
+    Inv-loop μ-loop loop-holds mul-w (λ c. search needs) (λ c κs. search needs) add-w (λ c. search needs) (λ c. search needs) (λ c. search needs)
+    loop-again (λ c. search needs) returns)

@@ -1,0 +1,4 @@
+-- Laws of a summary.
+pub mod Laws
+pub mod Taking
+pub mod Answers
