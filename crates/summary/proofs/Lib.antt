@@ -2,3 +2,4 @@
 pub mod Laws
 pub mod Taking
 pub mod Answers
+pub mod RoundTrip
