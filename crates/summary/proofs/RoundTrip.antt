@@ -31,7 +31,7 @@ unfolding summaryOf summaryBits
 length-summary v rows =
     length-packed (summaryBits v rows)
     ∙ ap (λ (n : ℕ). (n + 7) / 8) (length-append (inBits 4 (v .number)) (inBits (v .bits) (length rows) ++ rowsBits rows)
-      ∙ simp (length-append, length-in-bits, length-rows-bits) (omega arith))
+    ∙ simp (length-append, length-in-bits, length-rows-bits) (omega arith))
 
 -- none makes 2 bytes, one 18, 64 make 1,050
 pub none-makes-2 : (rows : List Row) → length rows ≡ 0 → length (summaryOf one rows) ≡ 2
@@ -53,8 +53,11 @@ field-back k x t then h =
 row-back : (r : Row) (t : List Bool) (then : Row → List Bool → Found) → Fits r → aRow (rowBits r ++ t) then ≡ then r t
 unfolding rowBits aRow
 row-back r t then f =
-    rw (append-assoc (inBits 53 (r .client)) (inBits 31 (r .first) ++ (inBits 31 (r .end) ++ inBits 16 (r .blocks))) t,
-      append-assoc (inBits 31 (r .first)) (inBits 31 (r .end) ++ inBits 16 (r .blocks)) t, append-assoc (inBits 31 (r .end)) (inBits 16 (r .blocks)) t)
+    rw (
+      append-assoc (inBits 53 (r .client)) (inBits 31 (r .first) ++ (inBits 31 (r .end) ++ inBits 16 (r .blocks))) t,
+      append-assoc (inBits 31 (r .first)) (inBits 31 (r .end) ++ inBits 16 (r .blocks)) t,
+      append-assoc (inBits 31 (r .end)) (inBits 16 (r .blocks)) t,
+    )
     (field-back 53 (r .client) _ _ (f .client) ∙ field-back 31 (r .first) _ _ (f .first) ∙ field-back 31 (r .end) _ _ (f .end) ∙ field-back 16 (r .blocks) t _ (f .blocks))
 
 rows-back : (rows : List Row) (room : ℕ) (seen : List Row) (t : List Bool) → AllFit rows → length rows ≤ room
@@ -129,7 +132,8 @@ row-read b then rows e =
       rest = b₄;
       fits = record { client = number-lt 53 b; first = number-lt 31 b₁; end = number-lt 31 b₂; blocks = number-lt 16 b₃ };
       bits = p .0 ∙ ap (λ (l : List Bool). c₁ ++ l) two ∙ sym (append-assoc c₁ (c₂ ++ (c₃ ++ c₄)) b₄);
-      told = s .1 }
+      told = s .1;
+    }
 
 -- rows that are read: these bits, and zeros behind them
 pub record RowsRead (n room : ℕ) (seen : List Row) (b : List Bool) (rows : List Row) : Type 0 where
@@ -158,8 +162,16 @@ rows-read zero room seen b rows e = go (legal seen && filled b) refl e
         let p = both-true (legal seen) (filled b) t in
         let q = both-true (ltb (length b) 8) (eqb (number (length b) b) 0) (p .1) in
         record {
-          more = []; zeros = length b; all = sym same ∙ sym (append-nil seen); count = refl; fit = tt; lent = omega arith; short = ltb-true (length b) 8 (q .0);
-          bits = zeros-are b (eqb-true (number (length b) b) 0 (q .1)); order = ap legal (sym same) ∙ p .0 }
+          more = [];
+          zeros = length b;
+          all = sym same ∙ sym (append-nil seen);
+          count = refl;
+          fit = tt;
+          lent = omega arith;
+          short = ltb-true (length b) 8 (q .0);
+          bits = zeros-are b (eqb-true (number (length b) b) 0 (q .1));
+          order = ap legal (sym same) ∙ p .0;
+        }
 rows-read (suc n) room seen b rows e =
     let r = row-read b _ rows e in
     go (eqb room 0) refl (λ row rest. rows-read n (room - 1) (seen ++ (row ∷ [])) rest rows) r (r .told)
@@ -171,10 +183,16 @@ rows-read (suc n) room seen b rows e =
     go false t more r e =
         let m = more (r .row) (r .rest) e in
         record {
-          more = r .row ∷ m .more; zeros = m .zeros; all = m .all ∙ append-assoc seen (r .row ∷ []) (m .more); count = ap suc (m .count); fit = (r .fits, m .fit);
-          lent = omega (arith, m .lent, some room (eqb-false room 0 t)); short = m .short;
+          more = r .row ∷ m .more;
+          zeros = m .zeros;
+          all = m .all ∙ append-assoc seen (r .row ∷ []) (m .more);
+          count = ap suc (m .count);
+          fit = (r .fits, m .fit);
+          lent = omega (arith, m .lent, some room (eqb-false room 0 t));
+          short = m .short;
           bits = r .bits ∙ ap (λ (l : List Bool). rowBits (r .row) ++ l) (m .bits) ∙ sym (append-assoc (rowBits (r .row)) (rowsBits (m .more)) (replicate (m .zeros) false));
-          order = m .order }
+          order = m .order;
+        }
       where
         some : (k : ℕ) → (k ≡ 0 → ⊥) → 0 < k
         some zero h = absurd (h refl)
@@ -212,9 +230,14 @@ module _ (v : Version) (room : ℕ) (b : List Bool) (rows : List Row) where
           let m = rows-read (number (v .bits) b) room [] (drop (v .bits) b) rows e in
           let n : number (v .bits) b ≡ length rows = sym (m .count) ∙ ap length (sym (m .all)) in
           record {
-            zeros = m .zeros; fit = subst AllFit (sym (m .all)) (m .fit); order = m .order; few = omega (arith, n, ltb-false (v .most) (number (v .bits) b) t);
-            lent = omega (arith, n, m .lent); short = m .short;
-            bits = d ∙ ap₂ (λ (k : ℕ) (l : List Bool). inBits (v .bits) k ++ l) n (m .bits ∙ ap (λ (l : List Row). rowsBits l ++ replicate (m .zeros) false) (sym (m .all))) }
+            zeros = m .zeros;
+            fit = subst AllFit (sym (m .all)) (m .fit);
+            order = m .order;
+            few = omega (arith, n, ltb-false (v .most) (number (v .bits) b) t);
+            lent = omega (arith, n, m .lent);
+            short = m .short;
+            bits = d ∙ ap₂ (λ (k : ℕ) (l : List Bool). inBits (v .bits) k ++ l) n (m .bits ∙ ap (λ (l : List Row). rowsBits l ++ replicate (m .zeros) false) (sym (m .all)));
+          }
 
 pub canonical : (room : ℕ) (s : List ℕ) (rows : List Row) → readOf room s ≡ read rows → Canonical room s rows
 unfolding readOf summaryOf summaryBits
@@ -229,8 +252,8 @@ canonical room s rows e =
         let m = behind-read one room (drop 4 (ofBytes s)) rows e in
         let z = replicate {A = Bool} (m .zeros) false in
         let all : ofBytes s ≡ summaryBits one rows ++ z =
-            d ∙ ap₂ (λ (k : ℕ) (l : List Bool). inBits 4 k ++ l) (eqb-true (number 4 (ofBytes s)) 1 t) (m .bits)
-            ∙ ap (λ (l : List Bool). inBits 4 1 ++ l) (sym (append-assoc (inBits 7 (length rows)) (rowsBits rows) z)) ∙ sym (append-assoc (inBits 4 1) (inBits 7 (length rows) ++ rowsBits rows) z) in
+        d ∙ ap₂ (λ (k : ℕ) (l : List Bool). inBits 4 k ++ l) (eqb-true (number 4 (ofBytes s)) 1 t) (m .bits)
+        ∙ ap (λ (l : List Bool). inBits 4 1 ++ l) (sym (append-assoc (inBits 7 (length rows)) (rowsBits rows) z)) ∙ sym (append-assoc (inBits 4 1) (inBits 7 (length rows) ++ rowsBits rows) z) in
         record { fit = m .fit; order = m .order; few = m .few; lent = m .lent; bytes = λ h. packed-of s (summaryBits one rows) (m .zeros) h (m .short) all }
 
 -- ---- equal rows exactly when equal bytes
