@@ -150,6 +150,15 @@ unfolding some
 none-of [] e = refl
 none-of (b ∷ bs) e = absurd (let z : _≡_ {A = ℕ} 0 1 = cc in omega arith)
 
+-- a client of blocks has some
+pub some-of : (x : ℕ) (bs : List Block) → among x (clientsAfter [] bs) ≡ true → 0 < length (ofClient x bs)
+unfolding or among some
+some-of x bs e = go (ofClient x bs) (sym (among-after x [] bs) ∙ e)
+  where
+    go : (l : List Block) → some l ≡ true → 0 < length l
+    go [] z = absurd (let y : _≡_ {A = ℕ} 0 1 = cc in omega arith)
+    go (b ∷ l) z = omega arith
+
 -- ---- a row with one block more
 
 module _ (bs : List Block) (b : Block) where
@@ -242,7 +251,7 @@ pub rows-fall : (bs : List Block) → Falls (rowsOf bs)
 unfolding rowsOf Descends
 rows-fall bs = falls-map bs (clientsAfter [] bs) (descends-after [] bs tt)
 
-of-few : (c : ℕ) (bs : List Block) → length (ofClient c bs) ≤ length bs
+pub of-few : (c : ℕ) (bs : List Block) → length (ofClient c bs) ≤ length bs
 unfolding ofClient
 of-few c [] = omega arith
 of-few c (b ∷ bs) = go (eqb (b .client) c) (of-few c bs)
