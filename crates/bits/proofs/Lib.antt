@@ -1,0 +1,4 @@
+-- Laws of bits.
+pub mod Laws
+pub mod Places
+pub mod Inverse

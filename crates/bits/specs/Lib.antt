@@ -1,0 +1,3 @@
+-- Bits, most significant first.
+pub mod Bits
+pub mod Places

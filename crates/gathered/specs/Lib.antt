@@ -1,0 +1,3 @@
+-- The rows of an update.
+pub mod RowsOf
+pub mod Gathered

@@ -1,0 +1,2 @@
+-- What the public calls on summaries promise.
+pub mod Promises

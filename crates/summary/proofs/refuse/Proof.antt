@@ -1,0 +1,14 @@
+-- `summary::refuse` meets its contract: zeros everywhere.
+use mathlib.Core.Path.{refl, _∙_}
+use Rattle.numbers.proofs.Output.{padded-none}
+use Rattle.summary.specs.Words.{answerOf, wordsOf}
+use borrow.Author.Needs.{needs}
+use Rattle.summary.proofs.refuse.Statement.{statement}
+use Rattle.summary.proofs.refuse.Tie as tie
+
+returns : tie.Need-returns
+unfolding answerOf wordsOf
+returns c = (refl, c .before .before .clear .ensures ∙ padded-none (c .before .before .before .before .before .args .rows .now))
+
+pub refuse-spec : {M : Type 1} → statement M
+refuse-spec = tie.close (tie.spec (λ c κs. search needs) (λ c. search needs) returns)

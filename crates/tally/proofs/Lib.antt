@@ -1,0 +1,2 @@
+-- Laws of counting blocks.
+pub mod Laws

@@ -1,0 +1,2 @@
+-- A block counted into rows.
+pub mod Tally
