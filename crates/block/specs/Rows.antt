@@ -1,29 +1,159 @@
--- A block's row, field by field: one with its place, its length and its kind alone, and a row with one field more.
+-- A row with something set. Four setters name every field: what stands first in a row, its ids, its root, its part. All others are made of them, and
+-- so is every record of a block, from the row that has no block or from another: a field more is said here.
 use Prim.Native.Nat.{ℕ}
-use mathlib.Core.Bool.{true, false}
+use mathlib.Core.Bool.{Bool, true, false}
 use Rattle.text.specs.declared.Part.{Part}
 use Rattle.text.specs.declared.Units.{Units}
 use Rattle.block.specs.declared.Id.{Id}
 use Rattle.block.specs.declared.Block.{Block}
-use Rattle.block.specs.Row.{noId, noPart}
+use Rattle.block.specs.Row.{noId, noPart, noBlock}
 
-abbrev pub plain : ℕ → ℕ → ℕ → ℕ → Block
-plain client clock len kind = record { client = client; clock = clock; length = record { 0 = len }; kind = kind; «has_left» = false; left = noId; «has_right» = false; right = noId; «has_parent» = false; parent = noId; «has_name» = false; name = noPart; «has_key» = false; key = noPart; part = noPart }
+-- ---- every field
+
+-- client, clock, length and kind
+abbrev pub headIs : ℕ → ℕ → Units → ℕ → Block → Block
+headIs client clock n kind b =
+    record {
+      client = client;
+      clock = clock;
+      length = n;
+      kind = kind;
+      «has_left» = b .«has_left»;
+      left = b .left;
+      «has_right» = b .«has_right»;
+      right = b .right;
+      «has_parent» = b .«has_parent»;
+      parent = b .parent;
+      «has_name» = b .«has_name»;
+      name = b .name;
+      «has_key» = b .«has_key»;
+      key = b .key;
+      part = b .part;
+    }
+
+-- a left and a right id, each if it is there
+abbrev pub idsAre : Bool → Id → Bool → Id → Block → Block
+idsAre l i r j b =
+    record {
+      client = b .client;
+      clock = b .clock;
+      length = b .length;
+      kind = b .kind;
+      «has_left» = l;
+      left = i;
+      «has_right» = r;
+      right = j;
+      «has_parent» = b .«has_parent»;
+      parent = b .parent;
+      «has_name» = b .«has_name»;
+      name = b .name;
+      «has_key» = b .«has_key»;
+      key = b .key;
+      part = b .part;
+    }
+
+-- a parent by its id, a parent by its name, and a key
+abbrev pub rootIs : Bool → Id → Bool → Part → Bool → Part → Block → Block
+rootIs h i n p k q b =
+    record {
+      client = b .client;
+      clock = b .clock;
+      length = b .length;
+      kind = b .kind;
+      «has_left» = b .«has_left»;
+      left = b .left;
+      «has_right» = b .«has_right»;
+      right = b .right;
+      «has_parent» = h;
+      parent = i;
+      «has_name» = n;
+      name = p;
+      «has_key» = k;
+      key = q;
+      part = b .part;
+    }
+
+-- the stored part
+abbrev pub withPart : Part → Block → Block
+withPart p b =
+    record {
+      client = b .client;
+      clock = b .clock;
+      length = b .length;
+      kind = b .kind;
+      «has_left» = b .«has_left»;
+      left = b .left;
+      «has_right» = b .«has_right»;
+      right = b .right;
+      «has_parent» = b .«has_parent»;
+      parent = b .parent;
+      «has_name» = b .«has_name»;
+      name = b .name;
+      «has_key» = b .«has_key»;
+      key = b .key;
+      part = p;
+    }
+
+-- ---- one of them
+
+abbrev pub ofClient : ℕ → Block → Block
+ofClient c b = headIs c (b .clock) (b .length) (b .kind) b
+
+abbrev pub startingAt : ℕ → Block → Block
+startingAt k b = headIs (b .client) k (b .length) (b .kind) b
+
+abbrev pub lasting : ℕ → Block → Block
+lasting n b = headIs (b .client) (b .clock) (record { 0 = n }) (b .kind) b
+
+abbrev pub ofKind : ℕ → Block → Block
+ofKind kind b = headIs (b .client) (b .clock) (b .length) kind b
+
+abbrev pub leftIs : Bool → Id → Block → Block
+leftIs there i b = idsAre there i (b .«has_right») (b .right) b
+
+abbrev pub rightIs : Bool → Id → Block → Block
+rightIs there i b = idsAre (b .«has_left») (b .left) there i b
+
+abbrev pub parentIs : Bool → Id → Block → Block
+parentIs there i b = rootIs there i (b .«has_name») (b .name) (b .«has_key») (b .key) b
+
+abbrev pub nameIs : Bool → Part → Block → Block
+nameIs there p b = rootIs (b .«has_parent») (b .parent) there p (b .«has_key») (b .key) b
+
+abbrev pub keyIs : Bool → Part → Block → Block
+keyIs there p b = rootIs (b .«has_parent») (b .parent) (b .«has_name») (b .name) there p b
+
+-- ---- there, and not
 
 abbrev pub withLeft : Id → Block → Block
-withLeft i b = record { client = b .client; clock = b .clock; length = b .length; kind = b .kind; «has_left» = true; left = i; «has_right» = b .«has_right»; right = b .right; «has_parent» = b .«has_parent»; parent = b .parent; «has_name» = b .«has_name»; name = b .name; «has_key» = b .«has_key»; key = b .key; part = b .part }
+withLeft i b = leftIs true i b
 
 abbrev pub withRight : Id → Block → Block
-withRight i b = record { client = b .client; clock = b .clock; length = b .length; kind = b .kind; «has_left» = b .«has_left»; left = b .left; «has_right» = true; right = i; «has_parent» = b .«has_parent»; parent = b .parent; «has_name» = b .«has_name»; name = b .name; «has_key» = b .«has_key»; key = b .key; part = b .part }
+withRight i b = rightIs true i b
 
 abbrev pub withParent : Id → Block → Block
-withParent i b = record { client = b .client; clock = b .clock; length = b .length; kind = b .kind; «has_left» = b .«has_left»; left = b .left; «has_right» = b .«has_right»; right = b .right; «has_parent» = true; parent = i; «has_name» = b .«has_name»; name = b .name; «has_key» = b .«has_key»; key = b .key; part = b .part }
+withParent i b = parentIs true i b
 
 abbrev pub withName : Part → Block → Block
-withName p b = record { client = b .client; clock = b .clock; length = b .length; kind = b .kind; «has_left» = b .«has_left»; left = b .left; «has_right» = b .«has_right»; right = b .right; «has_parent» = b .«has_parent»; parent = b .parent; «has_name» = true; name = p; «has_key» = b .«has_key»; key = b .key; part = b .part }
+withName p b = nameIs true p b
 
 abbrev pub withKey : Part → Block → Block
-withKey p b = record { client = b .client; clock = b .clock; length = b .length; kind = b .kind; «has_left» = b .«has_left»; left = b .left; «has_right» = b .«has_right»; right = b .right; «has_parent» = b .«has_parent»; parent = b .parent; «has_name» = b .«has_name»; name = b .name; «has_key» = true; key = p; part = b .part }
+withKey p b = keyIs true p b
+
+abbrev pub withoutParent : Block → Block
+withoutParent b = parentIs false noId b
+
+abbrev pub withoutName : Block → Block
+withoutName b = nameIs false noPart b
+
+abbrev pub withoutKey : Block → Block
+withoutKey b = keyIs false noPart b
+
+-- ---- at once
+
+-- a row with its place, its length and its kind alone
+abbrev pub plain : ℕ → ℕ → ℕ → ℕ → Block
+plain client clock len kind = headIs client clock (record { 0 = len }) kind noBlock
 
 abbrev pub withContent : ℕ → Units → Part → Block → Block
-withContent kind n p b = record { client = b .client; clock = b .clock; length = n; kind = kind; «has_left» = b .«has_left»; left = b .left; «has_right» = b .«has_right»; right = b .right; «has_parent» = b .«has_parent»; parent = b .parent; «has_name» = b .«has_name»; name = b .name; «has_key» = b .«has_key»; key = b .key; part = p }
+withContent kind n p b = headIs (b .client) (b .clock) n kind (withPart p b)

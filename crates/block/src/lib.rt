@@ -1,6 +1,8 @@
 // A row of the block table: one block of an update, in plain data.
 ghost use mathlib.Core.Path.{_≡_};
+ghost use Prim.Native.Nat.{_≤_};
 ghost use Rattle.block.specs.Row.{noBlock};
+ghost use Rattle.block.specs.Kinds.{isItem, hasPart, contentNumber};
 use text::Bytes;
 use text::Part;
 use text::Units;
@@ -15,6 +17,41 @@ pub const DELETED: u8 = 3;
 pub const BINARY: u8 = 4;
 
 pub const TEXT: u8 = 5;
+
+// A block with content: it is not bare, as a GC and a Skip are.
+pub fn is_item(kind: u8) -> bool
+    ensures { λ r. ⌜ r ≡ isItem kind ⌝ }
+{
+    match kind {
+        DELETED => true,
+        BINARY => true,
+        TEXT => true,
+        _ => false,
+    }
+}
+
+// Whether its content is stored as bytes of the update.
+pub fn has_part(kind: u8) -> bool
+    ensures { λ r. ⌜ r ≡ hasPart kind ⌝ }
+{
+    match kind {
+        BINARY => true,
+        TEXT => true,
+        _ => false,
+    }
+}
+
+// The number of its content in an info byte; 0 is no content's.
+pub fn content_number(kind: u8) -> u8
+    ensures { λ r. ⌜ (r ≡ contentNumber kind) × (r ≤ 4) ⌝ }
+{
+    match kind {
+        DELETED => 1,
+        BINARY => 3,
+        TEXT => 4,
+        _ => 0,
+    }
+}
 
 #[repr(C)]
 pub struct Id {

@@ -1,12 +1,11 @@
 -- The stored part of block n: a part of the update itself, once the whole update reads.
 use Prim.Native.Nat.{ℕ, zero, suc}
 use mathlib.Core.List.{List}
-use lib.Dec.{ltb}
 use Rattle.numbers.specs.declared.Refusal.{Refusal}
 use Rattle.numbers.specs.Number.{pick, none}
 use Rattle.block.specs.declared.Block.{Block}
 use Rattle.block.specs.Row.{noBlock}
-use Rattle.block.specs.Kinds.{BINARY}
+use Rattle.block.specs.Kinds.{hasPart}
 use Rattle.grammar.specs.Course.{Course, item, over, stopped, ending}
 use Rattle.decoder.specs.Update.{blocksOf, deleteSet}
 use Rattle.update.specs.declared.Begun.{Begun}
@@ -28,9 +27,9 @@ nth n (stopped why) = noBlock
 unfoldable pub scannedOf : ℕ → Course Block → Scanned
 scannedOf n c = ending c (λ at. scanned.Row (nth n c) at) (λ why. scanned.Refused why)
 
--- a binary (4) or a text (5)
+-- of a row that has one
 unfoldable pub stored : Block → Found
-stored b = pick (ltb (b .kind) BINARY) (Refused (record { number = 11; place = 0 })) (Part (b .part))
+stored b = pick (hasPart (b .kind)) (Part (b .part)) (Refused (record { number = 11; place = 0 }))
 
 unfoldable pub contentOf : ℕ → List ℕ → ℕ → Found
 contentOf form u n =

@@ -60,18 +60,18 @@ pub enum Found {
     Refused(Refusal),
 }
 
-// The stored part of a binary or a text; 11 for all other rows.
+// The stored part of a row that has one; 11 for all others.
 fn stored_part(b: Block) -> Found
     ensures { λ r. ⌜ r ≡ stored b ⌝ }
 {
-    if b.kind < block::BINARY {
-        return Found::Refused(Refusal {
-            number: 11,
-            place: 0,
-        });
+    if block::has_part(b.kind) {
+        let part = b.part;
+        return Found::Part(part);
     }
-    let part = b.part;
-    Found::Part(part)
+    Found::Refused(Refusal {
+        number: 11,
+        place: 0,
+    })
 }
 
 // Block n's stored part, once the update has been read to its end.

@@ -10,7 +10,7 @@ use Rattle.block.specs.declared.Id.{Id}
 use Rattle.block.specs.declared.Block.{Block}
 use Rattle.block.specs.Row.{noPart}
 use Rattle.block.specs.Rows.{plain, withLeft, withRight, withParent, withName, withKey, withContent}
-use Rattle.block.specs.Kinds.{GC, SKIP, DELETED, BINARY, TEXT}
+use Rattle.block.specs.Kinds.{GC, SKIP, DELETED, BINARY, TEXT, isItem}
 use Rattle.grammar.specs.Grammar.{Number, upTo, client, leftClock, rightClock, info, parentInfo, len, number, text, bytes, Grammar, emit, stop, done, draw, _>>=_}
 
 -- ---- a block, and the place of its info byte; nothing of it is kept yet
@@ -77,7 +77,7 @@ module _ {E : Type 0} where
 
 -- an item of length 0 is dropped; GC and Skip of length 0 are kept
 unfoldable pub dropped : Block → Bool
-dropped b = pick (eqb (b .length .0) 0) (ltb SKIP (b .kind)) false
+dropped b = pick (eqb (b .length .0) 0) (isItem (b .kind)) false
 
 unfoldable pub kept : Block → ℕ → Grammar Block (Unit {0}) → Grammar Block (Unit {0})
 kept b at then = pick (dropped b) then (emit b at then)

@@ -6,7 +6,8 @@ use lib.Dec.{eqb}
 use lib.ListN.{length, getD}
 use Rattle.block.specs.declared.Id.{Id}
 use Rattle.block.specs.declared.Block.{Block}
-use Rattle.block.specs.Rows.{plain}
+use Rattle.block.specs.Row.{noBlock}
+use Rattle.block.specs.Rows.{headIs, idsAre, rootIs, withPart, plain}
 use Rattle.grammar.specs.Grammar.{Number, Grammar}
 use Rattle.grammar.specs.Blocks.{bare, body}
 use Rattle.grammar.specs.Course as course
@@ -23,7 +24,11 @@ unfoldable pub idIn : List ℕ → ℕ → Id
 idIn r k = record { client = getD r k 0; clock = getD r (k + 1) 0 }
 
 unfoldable pub rowIn : List ℕ → Block
-rowIn r = record { client = getD r 0 0; clock = getD r 1 0; length = record { 0 = getD r 2 0 }; kind = getD r 3 0; «has_left» = eqb (getD r 4 0) 1; left = idIn r 5; «has_right» = eqb (getD r 7 0) 1; right = idIn r 8; «has_parent» = eqb (getD r 10 0) 1; parent = idIn r 11; «has_name» = eqb (getD r 13 0) 1; name = partIn r 14; «has_key» = eqb (getD r 16 0) 1; key = partIn r 17; part = partIn r 19 }
+rowIn r =
+    headIs (getD r 0 0) (getD r 1 0) (record { 0 = getD r 2 0 }) (getD r 3 0)
+    (idsAre (eqb (getD r 4 0) 1) (idIn r 5) (eqb (getD r 7 0) 1) (idIn r 8)
+    (rootIs (eqb (getD r 10 0) 1) (idIn r 11) (eqb (getD r 13 0) 1) (partIn r 14) (eqb (getD r 16 0) 1) (partIn r 17)
+    (withPart (partIn r 19) noBlock)))
 
 -- clocks are u32 and the kind is u8 in a row
 pub record Narrow (r : List ℕ) : Type 0 where

@@ -373,7 +373,7 @@ pub fn is_dropped(r: &[u64]) -> bool
     if r[LENGTH] != 0 {
         return false;
     }
-    (block::SKIP as u64) < r[KIND]
+    block::is_item(r[KIND] as u8)
 }
 
 // The row that the words hold.

@@ -5,24 +5,24 @@ use mathlib.Core.Path.{_≡_, refl, sym, ap, ap₂, _∙_}
 use mathlib.Core.Bool.{Bool, true, false}
 use mathlib.Core.List.{List, [], append-nil}
 use native.Mathlib.Omega.{arith}
-use lib.Dec.{ltb, eqb}
+use lib.Dec.{eqb}
 use lib.ListN.{length, drop, length-drop}
 use lib.Seq.{length-slice}
-use borrow.Author.Tests.{lt-ltb, le-leb, eqb-true, eq-eqb}
+use borrow.Author.Tests.{eqb-true, eq-eqb}
 use Rattle.numbers.specs.Number.{pick}
-use Rattle.numbers.specs.Limits.{maxClock}
 use Rattle.text.specs.declared.Part.{Part}
 use Rattle.text.specs.declared.Taken.{Taken}
 use Rattle.text.specs.declared.Taken.the-variants as units
 use Rattle.text.specs.Utf8.{wellFormed, unitsOf, took, takeUnits}
 use Rattle.text.proofs.Cutting.{cut, found}
 use Rattle.block.specs.declared.Block.{Block}
-use Rattle.block.specs.Row.{noId, noPart}
+use Rattle.block.specs.Kinds.{TEXT, isText}
 use Rattle.readings.specs.Sound.{bytesIn, Lies, Sound}
 use Rattle.parts.specs.Brim.{brim}
-use Rattle.kept.specs.Kept.{piece, wholePiece}
-use Rattle.kept.specs.Cut.{bytesFor, broken, before, cutPart, tornText, isWhole, partOf, shortened, begunLater, cutRow, torn}
-use Rattle.kept.specs.Plan.{cutIn, cuts, sane, leftOf, partAfter, laterPart}
+use Rattle.kept.specs.Kept.{Piece, piece, wholePiece}
+use Rattle.kept.specs.Cut.{bytesFor, broken, before, cutPart, tornText, isWhole, partOf, front, behind, shortened, begunLater, cutRow, torn}
+use Rattle.kept.specs.Plan.{cutIn, cuts, sane, partAt, cutAt, restOf}
+use Rattle.kept.proofs.Sane.{within-sane}
 use Rattle.kept.proofs.SectionsRun.{skipOf, tornAt}
 
 not-broken : (r : Taken) → broken r ≡ false → r ≡ took (bytesFor r)
@@ -42,7 +42,7 @@ module _ (u : List ℕ) (b : Block) (sound : Sound u b) where
     within : e ≤ b .part .bytes .0
     taken : takeUnits 9 (b .length .0 - n) (drop e (bytesIn u (b .part))) ≡ took (b .part .bytes .0 - e)
 
-  rest-taken : (n e : ℕ) → b .kind ≡ 5 → takeUnits 9 n (bytesIn u (b .part)) ≡ took e → Rest n e
+  rest-taken : (n e : ℕ) → b .kind ≡ TEXT → takeUnits 9 n (bytesIn u (b .part)) ≡ took e → Rest n e
   rest-taken n e kind p =
       let t = bytesIn u (b .part) in
       let whole = sound .stored .text kind in
@@ -58,7 +58,7 @@ module _ (u : List ℕ) (b : Block) (sound : Sound u b) where
 
   -- ---- torn
 
-  torn-text : (n : ℕ) → b .kind ≡ 5 → tornText u (b .part) n (b .length .0 - n) ≡ broken (takeUnits 9 n (bytesIn u (b .part)))
+  torn-text : (n : ℕ) → b .kind ≡ TEXT → tornText u (b .part) n (b .length .0 - n) ≡ broken (takeUnits 9 n (bytesIn u (b .part)))
   unfolding tornText broken
   torn-text n kind = go (broken (takeUnits 9 n (bytesIn u (b .part)))) refl
     where
@@ -69,13 +69,13 @@ module _ (u : List ℕ) (b : Block) (sound : Sound u b) where
 
   pub torn-first : (n : ℕ) → torn u (piece b n (b .length .0)) ≡ tornAt u b n
   unfolding torn isWhole tornAt cuts cutIn
-  torn-first n = rw (eq-eqb (b .length .0) (b .length .0) refl) (go (eqb n 0) (eqb (b .kind) 5) refl)
+  torn-first n = rw (eq-eqb (b .length .0) (b .length .0) refl) (go (eqb n 0) (isText (b .kind)) refl)
     where
-      go : (x y : Bool) → eqb (b .kind) 5 ≡ y
+      go : (x y : Bool) → isText (b .kind) ≡ y
           → pick (pick x true false) false (pick y (tornText u (b .part) n (b .length .0 - n)) false)
           ≡ pick (pick x false y) (broken (takeUnits 9 n (bytesIn u (b .part)))) false
       go true y e = refl
-      go false true e = torn-text n (eqb-true (b .kind) 5 e)
+      go false true e = torn-text n (eqb-true (b .kind) TEXT e)
       go false false e = refl
 
   pub torn-whole : torn u (wholePiece b) ≡ false
@@ -94,15 +94,15 @@ module _ (u : List ℕ) (b : Block) (sound : Sound u b) where
     unfolding skipOf
     skip-none c = rw c
 
-    cuts-text : cuts b n ≡ true → b .kind ≡ 5
+    cuts-text : cuts b n ≡ true → b .kind ≡ TEXT
     unfolding cuts
     cuts-text c = go (eqb n 0) c
       where
-        go : (x : Bool) → pick x false (eqb (b .kind) 5) ≡ true → b .kind ≡ 5
+        go : (x : Bool) → pick x false (isText (b .kind)) ≡ true → b .kind ≡ TEXT
         go true e = absurd (let z : _≡_ {A = ℕ} 0 1 = cc in omega arith)
-        go false e = eqb-true (b .kind) 5 e
+        go false e = eqb-true (b .kind) TEXT e
 
-    text-cuts : eqb n 0 ≡ false → eqb (b .kind) 5 ≡ true → cuts b n ≡ true
+    text-cuts : eqb n 0 ≡ false → isText (b .kind) ≡ true → cuts b n ≡ true
     unfolding cuts
     text-cuts some kind = rw some kind
 
@@ -113,17 +113,22 @@ module _ (u : List ℕ) (b : Block) (sound : Sound u b) where
         go true c = rest-taken n (skipOf u b n) (cuts-text c) (cut-took c) .within
         go false c = omega (arith, skip-none c)
 
-    pub first-sane : length u < brim → n ≤ b .length .0 → sane b n (skipOf u b n) ≡ true
-    unfolding sane
+    pub first-sane : length u < brim → n ≤ b .length .0 → sane b (restOf b n (skipOf u b n)) ≡ true
     first-sane short l =
-        rw (le-leb n (b .length .0) l, le-leb (b .clock + b .length .0) maxClock (sound .end), le-leb (skipOf u b n) (b .part .bytes .0) skip-within)
-        (lt-ltb (b .part .place + b .part .bytes .0) brim (omega (arith, sound .stored .lies)))
+        within-sane b (restOf b n (skipOf u b n))
+        (record {
+          some = l;
+          units = omega arith;
+          end = sound .end;
+          bytes = omega (arith, skip-within);
+          place = omega (arith, sound .stored .lies);
+        })
 
-    part-left : eqb n 0 ≡ false → partAfter b (skipOf u b n) ≡ partOf u (piece b n (b .length .0))
-    unfolding partAfter partOf cutPart bytesFor
-    part-left some = go (eqb (b .kind) 5) refl
+    part-left : eqb n 0 ≡ false → partAt b (restOf b n (skipOf u b n)) ≡ partOf u (piece b n (b .length .0))
+    unfolding partAt partOf cutPart bytesFor
+    part-left some = go (isText (b .kind)) refl
       where
-        go : (x : Bool) → eqb (b .kind) 5 ≡ x
+        go : (x : Bool) → isText (b .kind) ≡ x
             → pick x (record { place = b .part .place + skipOf u b n; bytes = record { 0 = b .part .bytes .0 - skipOf u b n } }) (b .part)
             ≡ pick x (cutPart u (b .part) n (b .length .0 - n)) (b .part)
         go true k =
@@ -139,43 +144,29 @@ module _ (u : List ℕ) (b : Block) (sound : Sound u b) where
         go false k = refl
 
     -- the piece that is left is the row cut
-    pub first-left : laterPart b n (skipOf u b n) ≡ cutRow u (piece b n (b .length .0))
-    unfolding laterPart cutRow isWhole
+    pub first-left : cutAt b (restOf b n (skipOf u b n)) ≡ cutRow u (piece b n (b .length .0))
+    unfolding cutAt cutRow isWhole
     first-left = rw (eq-eqb (b .length .0) (b .length .0) refl) (go (eqb n 0) refl)
       where
-        later : Part → Block
-        later part = record {
-          client = b .client;
-          clock = b .clock + n;
-          length = record { 0 = b .length .0 - n };
-          kind = b .kind;
-          «has_left» = ltb 2 (b .kind);
-          left = leftOf b n;
-          «has_right» = b .«has_right»;
-          right = b .right;
-          «has_parent» = false;
-          parent = noId;
-          «has_name» = false;
-          name = noPart;
-          «has_key» = b .«has_key»;
-          key = b .key;
-          part = part;
-        }
+        p : Piece
+        p = piece b n (b .length .0)
+
+        part : Part
+        part = partAt b (restOf b n (skipOf u b n))
 
         go : (x : Bool) → eqb n 0 ≡ x
-            → pick x b (later (partAfter b (skipOf u b n)))
-            ≡ pick (pick x true false) b (pick x (shortened u (piece b n (b .length .0))) (begunLater u (piece b n (b .length .0))))
+            → pick (pick x true false) b (pick x (front (b .length .0) part b) (behind n (b .length .0) part b))
+            ≡ pick (pick x true false) b (pick x (shortened u p) (begunLater u p))
         go true e = refl
-        go false e = ap later (part-left e)
+        go false e = ap (λ (q : Part). behind n (b .length .0) q b) (part-left e)
 
   -- ---- a whole row
 
-  pub whole-sane : length u < brim → sane b 0 0 ≡ true
-  unfolding sane
+  pub whole-sane : length u < brim → sane b (restOf b 0 0) ≡ true
   whole-sane short =
-      rw (le-leb 0 (b .length .0) (omega arith), le-leb (b .clock + b .length .0) maxClock (sound .end), le-leb 0 (b .part .bytes .0) (omega arith))
-      (lt-ltb (b .part .place + b .part .bytes .0) brim (omega (arith, sound .stored .lies)))
+      within-sane b (restOf b 0 0)
+      (record { some = omega arith; units = omega arith; end = sound .end; bytes = omega arith; place = omega (arith, sound .stored .lies) })
 
-  pub whole-left : laterPart b 0 0 ≡ cutRow u (wholePiece b)
-  unfolding laterPart cutRow isWhole
+  pub whole-left : cutAt b (restOf b 0 0) ≡ cutRow u (wholePiece b)
+  unfolding cutAt cutRow isWhole
   whole-left = rw (eq-eqb (b .length .0) (b .length .0) refl)

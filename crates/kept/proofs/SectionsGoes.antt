@@ -56,7 +56,7 @@ module _ (u : List ℕ) (all : List Block) (short : length u < brim) where
 
   whole-of : (i : ℕ) (b : Block) (rest : List Block) → Sound u b → Row all i b rest → Of u all (stop i 0 0 0) (wholePiece b)
   whole-of i b rest sound row =
-      record { within = row .within; row = row .is; from = refl; to = refl; sound = sound; fits = whole-sane u b sound short; left = whole-left u b sound }
+      record { source = refl; within = row .within; row = row .is; from = refl; to = refl; sound = sound; fits = whole-sane u b sound short; left = whole-left u b sound }
 
   further-go : (i : ℕ) (g rest : List Block) (sts : List Stop) (ss : List Section) → All (Sound u) g → drop i all ≡ g ++ rest → Goes u all sts ss
       → GoesOn u all (onward i (length g) ++ sts) (map wholePiece g) ss
@@ -95,6 +95,7 @@ module _ (u : List ℕ) (all : List Block) (short : length u < brim) where
             let whole : tornAt u b n ≡ false = sym (torn-first u b sound n) ∙ part .0 in
             let first : Of u all (stop i n (skipOf u b n) (suc (length g))) (piece b n (b .length .0)) =
             record {
+              source = refl;
               within = row .within;
               row = row .is;
               from = refl;

@@ -5,11 +5,12 @@ use mathlib.Core.Logic.{_≢_}
 use mathlib.Core.Bool.{Bool, true, false}
 use mathlib.Core.List.{List, [], _∷_, map}
 use native.Mathlib.Omega.{arith}
-use lib.Dec.{leb, eqb}
+use lib.Dec.{leb}
 use lib.ListN.{length, length-append, length-map}
-use borrow.Author.Tests.{leb-false, eqb-false}
+use borrow.Author.Tests.{leb-false}
 use Rattle.numbers.specs.Number.{pick}
 use Rattle.block.specs.declared.Block.{Block}
+use Rattle.block.specs.Kinds.{isSkip}
 use Rattle.vector.specs.Vector.{Entry}
 use Rattle.readings.specs.Sound.{Sound, All, Ordered, Chain}
 use Rattle.readings.specs.Groups.{groups, joined, Single, clients, Distinct}
@@ -20,16 +21,16 @@ use Rattle.kept.proofs.SectionsPlaced.{falling-all, falling-length, fal
 -- ---- a block that does not fall
 
 pub record Stays (k : ℕ) (b : Block) : Type 0 where
-  pub kind : b .kind ≢ 2
+  pub kind : isSkip (b .kind) ≡ false
   pub end : k < b .clock + b .length .0
 
 pub not-fallen : (k : ℕ) (b : Block) → falls k b ≡ false → Stays k b
 unfolding falls
-not-fallen k b e = go (eqb (b .kind) 2) refl e
+not-fallen k b e = go (isSkip (b .kind)) refl e
   where
-    go : (t : Bool) → eqb (b .kind) 2 ≡ t → pick t true (leb (b .clock + b .length .0) k) ≡ false → Stays k b
+    go : (t : Bool) → isSkip (b .kind) ≡ t → pick t true (leb (b .clock + b .length .0) k) ≡ false → Stays k b
     go true q e = absurd (let z : _≡_ {A = ℕ} 0 1 = cc in omega arith)
-    go false q e = record { kind = eqb-false (b .kind) 2 q; end = leb-false (b .clock + b .length .0) k e }
+    go false q e = record { kind = q; end = leb-false (b .clock + b .length .0) k e }
 
 -- it is cut by what the other side has of it
 pub first-begins : (u : List ℕ) (k : ℕ) (b : Block) → Sound u b → Stays k b → Begins (piece b (k - b .clock) (b .length .0))

@@ -8,6 +8,7 @@ use lib.Dec.{leb, eqb}
 use borrow.Author.Tests.{leb-true, le-leb, eqb-true, eqb-false}
 use Rattle.numbers.specs.Number.{pick}
 use Rattle.block.specs.declared.Block.{Block}
+use Rattle.block.specs.Kinds.{isSkip}
 use Rattle.vector.specs.Vector.{Entry}
 use Rattle.readings.specs.Sound.{All}
 use Rattle.readings.specs.Groups.{groups, Single}
@@ -33,7 +34,7 @@ same-remote v v′ bs h = ap falling (keep-same v v′ (groups clientOf bs) (gro
 
 ended-falls : (k : ℕ) (b : Block) → b .clock + b .length .0 ≤ k → falls k b ≡ true
 unfolding falls
-ended-falls k b l = go (eqb (b .kind) 2)
+ended-falls k b l = go (isSkip (b .kind))
   where
     go : (t : Bool) → pick t true (leb (b .clock + b .length .0) k) ≡ true
     go true = refl
@@ -79,7 +80,7 @@ none-below n = go (eqb n 0) refl
 pub all-kept : (g : List Block) → keepFrom 0 g ≡ map wholePiece (withoutLead g)
 unfolding keepFrom withoutLead falls
 all-kept [] = refl
-all-kept (b ∷ g) = rw (none-below (b .clock + b .length .0)) (go (all-kept g) (pick (eqb (b .kind) 2) true (eqb (b .clock + b .length .0) 0)))
+all-kept (b ∷ g) = rw (none-below (b .clock + b .length .0)) (go (all-kept g) (pick (isSkip (b .kind)) true (eqb (b .clock + b .length .0) 0)))
   where
     whole : 0 - b .clock ≡ 0
     whole = omega arith

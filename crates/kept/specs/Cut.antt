@@ -3,7 +3,7 @@
 use Prim.Native.Nat.{ℕ, _+_, _-_}
 use mathlib.Core.Bool.{Bool, true, false}
 use mathlib.Core.List.{List, [], _∷_}
-use lib.Dec.{ltb, eqb}
+use lib.Dec.{eqb}
 use lib.ListN.{drop}
 use Rattle.numbers.specs.Number.{pick}
 use Rattle.text.specs.declared.Part.{Part}
@@ -12,8 +12,9 @@ use Rattle.text.specs.declared.Taken.the-variants as units
 use Rattle.text.specs.Utf8.{takeUnits}
 use Rattle.block.specs.declared.Id.{Id}
 use Rattle.block.specs.declared.Block.{Block}
-use Rattle.block.specs.Row.{noId, noPart}
-use Rattle.block.specs.Kinds.{SKIP, TEXT}
+use Rattle.block.specs.Row.{noId}
+use Rattle.block.specs.Rows.{startingAt, lasting, leftIs, withoutParent, withoutName, withPart}
+use Rattle.block.specs.Kinds.{isItem, isText}
 use Rattle.readings.specs.Sound.{bytesIn}
 use Rattle.kept.specs.Kept.{Piece, Section}
 
@@ -50,28 +51,36 @@ isWhole p = pick (eqb (p .from) 0) (eqb (p .to) (p .row .length .0)) false
 
 -- what a text has left; all else keeps its part
 unfoldable pub partOf : List ℕ → Piece → Part
-partOf u p = pick (eqb (p .row .kind) TEXT) (cutPart u (p .row .part) (p .from) (p .to - p .from)) (p .row .part)
+partOf u p = pick (isText (p .row .kind)) (cutPart u (p .row .part) (p .from) (p .to - p .from)) (p .row .part)
+
+-- the id before a unit of a row; only items have ids
+abbrev pub leftOf : Block → ℕ → Id
+leftOf b from = pick (isItem (b .kind)) (record { client = b .client; clock = b .clock + from - 1 }) noId
+
+abbrev pub idBefore : Piece → Id
+idBefore p = leftOf (p .row) (p .from)
+
+-- a row's units up to one, and between two; its text has this part then
+abbrev pub front : ℕ → Part → Block → Block
+front to part b = lasting to (withPart part b)
+
+abbrev pub behind : ℕ → ℕ → Part → Block → Block
+behind from to part b =
+    startingAt (b .clock + from) (lasting (to - from)
+    (leftIs (isItem (b .kind)) (leftOf b from) (withoutParent (withoutName (withPart part b)))))
 
 abbrev pub shortened : List ℕ → Piece → Block
-shortened u p =
-    let b = p .row in
-    record { client = b .client; clock = b .clock; length = record { 0 = p .to }; kind = b .kind; «has_left» = b .«has_left»; left = b .left; «has_right» = b .«has_right»; right = b .right; «has_parent» = b .«has_parent»; parent = b .parent; «has_name» = b .«has_name»; name = b .name; «has_key» = b .«has_key»; key = b .key; part = partOf u p }
-
--- GC (1) and Skip (2) have no ids
-abbrev pub idBefore : Piece → Id
-idBefore p = pick (ltb SKIP (p .row .kind)) (record { client = p .row .client; clock = p .row .clock + p .from - 1 }) noId
+shortened u p = front (p .to) (partOf u p) (p .row)
 
 abbrev pub begunLater : List ℕ → Piece → Block
-begunLater u p =
-    let b = p .row in
-    record { client = b .client; clock = b .clock + p .from; length = record { 0 = p .to - p .from }; kind = b .kind; «has_left» = ltb SKIP (b .kind); left = idBefore p; «has_right» = b .«has_right»; right = b .right; «has_parent» = false; parent = noId; «has_name» = false; name = noPart; «has_key» = b .«has_key»; key = b .key; part = partOf u p }
+begunLater u p = behind (p .from) (p .to) (partOf u p) (p .row)
 
 unfoldable pub cutRow : List ℕ → Piece → Block
 cutRow u p = pick (isWhole p) (p .row) (pick (eqb (p .from) 0) (shortened u p) (begunLater u p))
 
 -- a diff would cut inside a pair
 unfoldable pub torn : List ℕ → Piece → Bool
-torn u p = pick (isWhole p) false (pick (eqb (p .row .kind) TEXT) (tornText u (p .row .part) (p .from) (p .to - p .from)) false)
+torn u p = pick (isWhole p) false (pick (isText (p .row .kind)) (tornText u (p .row .part) (p .from) (p .to - p .from)) false)
 
 -- one of these would
 unfoldable pub tornPieces : List ℕ → List Piece → Bool

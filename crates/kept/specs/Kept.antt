@@ -1,14 +1,13 @@
 -- What a diff keeps of an update's blocks: sections, highest client first, each with pieces of blocks.
 use Prim.Native.Nat.{ℕ, _+_, _-_, _≤_, _<_}
 use mathlib.Core.Path.{_≡_}
-use mathlib.Core.Logic.{_≢_}
-use mathlib.Core.Bool.{Bool, true}
+use mathlib.Core.Bool.{Bool, true, false}
 use mathlib.Core.List.{List, [], _∷_, map}
 use lib.Dec.{ltb, leb, eqb}
 use lib.ListN.{length}
 use Rattle.numbers.specs.Number.{pick}
 use Rattle.block.specs.declared.Block.{Block}
-use Rattle.block.specs.Kinds.{SKIP}
+use Rattle.block.specs.Kinds.{isSkip, isItem}
 use Rattle.vector.specs.Vector.{Entry}
 use Rattle.readings.specs.Sound.{Sound, All, Chain}
 use Rattle.readings.specs.Groups.{groups}
@@ -37,7 +36,7 @@ remote (e ∷ es) c = pick (eqb (e .client) c) (e .clock) (remote es c)
 
 -- Skips, and blocks that end at or below the remote clock, fall away
 unfoldable pub falls : ℕ → Block → Bool
-falls k b = pick (eqb (b .kind) SKIP) true (leb (b .clock + b .length .0) k)
+falls k b = pick (isSkip (b .kind)) true (leb (b .clock + b .length .0) k)
 
 abbrev pub wholePiece : Block → Piece
 wholePiece b = piece b 0 (b .length .0)
@@ -96,12 +95,17 @@ pub record Begins (p : Piece) : Type 0 where
   pub to : p .to ≡ p .row .length .0
   pub from : p .from ≤ p .row .length .0
   pub inside : 0 < p .from → p .from < p .row .length .0
-  pub some : SKIP < p .row .kind → p .from < p .row .length .0
-  pub kept : p .row .kind ≢ SKIP
+  pub some : isItem (p .row .kind) ≡ true → p .from < p .row .length .0
+  pub kept : isSkip (p .row .kind) ≡ false
 
 pub record Whole (p : Piece) : Type 0 where
   pub from : p .from ≡ 0
   pub to : p .to ≡ p .row .length .0
+
+-- some of its row's units
+pub record Inside (p : Piece) : Type 0 where
+  pub some : p .from < p .to
+  pub most : p .to ≤ p .row .length .0
 
 -- some pieces, only the first of them cut
 unfoldable pub Pieces : List Piece → Type 0
@@ -118,7 +122,7 @@ pub record SoundSection (u : List ℕ) (s : Section) : Type 0 where
 
 unfoldable pub withoutLead : List Block → List Block
 withoutLead [] = []
-withoutLead (b ∷ bs) = pick (pick (eqb (b .kind) SKIP) true (eqb (b .clock + b .length .0) 0)) (withoutLead bs) (b ∷ bs)
+withoutLead (b ∷ bs) = pick (pick (isSkip (b .kind)) true (eqb (b .clock + b .length .0) 0)) (withoutLead bs) (b ∷ bs)
 
 unfoldable pub wholeEach : List (List Block) → List Section
 wholeEach [] = []

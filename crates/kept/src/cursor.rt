@@ -1,4 +1,4 @@
-// Going through the rows of the block table by a plan, and what is left of a row that is cut.
+// Going through the rows of the block table by a plan, and what stands between two ends of a row.
 use block::Block;
 use block::Id;
 use text::Bytes;
@@ -7,8 +7,10 @@ use text::Units;
 ghost use mathlib.Core.Path.{_≡_};
 ghost use mathlib.Core.Bool.{true};
 ghost use Rattle.block.specs.Row.{noId};
-ghost use Rattle.kept.specs.Plan.{openedAt, advanced, atEnd, sane, leftOf, partAfter, laterPart};
-ghost use Prim.Native.Nat.{_<_};
+ghost use Rattle.kept.specs.Plan.{openedAt, advanced, atEnd, unitsLie, bytesLie, sane, partAt, cutAt, restOf};
+ghost use Rattle.kept.specs.Cut.{leftOf, front, behind};
+ghost use Prim.Native.Nat.{_+_, _≤_, _<_};
+ghost use Rattle.numbers.specs.Limits.{maxClock};
 
 // A row to be written, or NOWHERE: how many units and bytes of it fall away; how many pieces its section has, if it is the first of them, else 0;
 // how many rows of the section are left behind it; and the section after it.
@@ -84,24 +86,56 @@ pub fn advance(plan: &[u64], n: usize, c: Cursor) -> Cursor
     next
 }
 
-// Whether a cut lies in its row, and the row within the limits: it always does.
-pub fn is_sane(b: Block, from: Units, skip: Bytes) -> bool
-    ensures { λ r. ⌜ r ≡ sane b (from .0) (skip .0) ⌝ }
+// Where a piece begins and ends in its row, in units; how many bytes of the row's text stand before it, and how many it has.
+pub struct Ends {
+    pub from: Units,
+    pub to: Units,
+    pub skip: Bytes,
+    pub keep: Bytes,
+}
+
+// All that is left of a row where its first units fall away, which take so many bytes.
+pub fn rest(b: Block, from: Units, skip: Bytes) -> Ends
+    ensures { λ r. ⌜ r ≡ restOf b (from .0) (skip .0) ⌝ }
 {
     let part = b.part;
     let bytes = part.bytes;
+    let to = b.length;
+    let kept = numbers::words::less(bytes.0 as u64, skip.0 as u64) as usize;
+    Ends {
+        from,
+        to,
+        skip,
+        keep: Bytes(kept),
+    }
+}
+
+fn units_lie(b: Block, from: Units, to: Units) -> bool
+    ensures { λ r. ⌜ r ≡ unitsLie b (from .0) (to .0) ⌝ }
+{
     let length = b.length;
-    if length.0 < from.0 {
+    if to.0 < from.0 {
+        return false;
+    }
+    if length.0 < to.0 {
         return false;
     }
     if numbers::MAX_CLOCK < length.0 {
         return false;
     }
     let end = b.clock as u64 + length.0;
-    if numbers::MAX_CLOCK < end {
+    end <= numbers::MAX_CLOCK
+}
+
+fn bytes_lie(part: Part, skip: Bytes, keep: Bytes) -> bool
+    ensures { λ r. ⌜ r ≡ bytesLie part (skip .0) (keep .0) ⌝ }
+{
+    let bytes = part.bytes;
+    if bytes.0 < skip.0 {
         return false;
     }
-    if bytes.0 < skip.0 {
+    let behind = bytes.0 - skip.0;
+    if behind < keep.0 {
         return false;
     }
     if parts::BRIM <= part.place {
@@ -109,6 +143,16 @@ pub fn is_sane(b: Block, from: Units, skip: Bytes) -> bool
     }
     let room = parts::BRIM - part.place;
     bytes.0 < room
+}
+
+// Whether both ends lie in the row, and the row within the limits: they always do.
+pub fn is_sane(b: Block, e: Ends) -> bool
+    ensures { λ r. ⌜ r ≡ sane b e ⌝ }
+{
+    if !units_lie(b, e.from, e.to) {
+        return false;
+    }
+    bytes_lie(b.part, e.skip, e.keep)
 }
 
 fn no_id() -> Id
@@ -120,12 +164,12 @@ fn no_id() -> Id
     }
 }
 
-// The id before the cut; GC and Skip have none.
+// The id before a unit of a row; only items have ids.
 fn left_of(b: Block, from: Units) -> Id
-    requires { ⌜ (sane b (from .0) 0 ≡ true) × (0 < from .0) ⌝ }
+    requires { ⌜ (b .clock + from .0 ≤ maxClock) × (0 < from .0) ⌝ }
     ensures { λ r. ⌜ r ≡ leftOf b (from .0) ⌝ }
 {
-    if b.kind <= block::SKIP {
+    if !block::is_item(b.kind) {
         return no_id();
     }
     let start = b.clock as u64 + from.0;
@@ -136,59 +180,76 @@ fn left_of(b: Block, from: Units) -> Id
     }
 }
 
-fn part_of(b: Block, skip: Bytes) -> Part
-    requires { ⌜ sane b 0 (skip .0) ≡ true ⌝ }
-    ensures { λ r. ⌜ r ≡ partAfter b (skip .0) ⌝ }
+fn part_at(b: Block, e: Ends) -> Part
+    requires { ⌜ sane b e ≡ true ⌝ }
+    ensures { λ r. ⌜ r ≡ partAt b e ⌝ }
 {
     let part = b.part;
-    let bytes = part.bytes;
+    let skip = e.skip;
     if b.kind == block::TEXT {
         let place = part.place + skip.0;
-        let rest = bytes.0 - skip.0;
-        return Part {
-            place,
-            bytes: Bytes(rest),
-        };
+        let bytes = e.keep;
+        return Part { place, bytes };
     }
     part
 }
 
-// What is left of a row without its first units, which take so many bytes of its text.
-pub fn cut(b: Block, from: Units, skip: Bytes) -> Block
-    requires { ⌜ sane b (from .0) (skip .0) ≡ true ⌝ }
-    ensures { λ r. ⌜ r ≡ laterPart b (from .0) (skip .0) ⌝ }
+fn cut_front(b: Block, e: Ends) -> Block
+    requires { ⌜ sane b e ≡ true ⌝ }
+    ensures { λ r. ⌜ r ≡ front (e .to .0) (partAt b e) b ⌝ }
 {
-    if from.0 == 0 {
-        return b;
-    }
-    let none = no_id();
+    let to = e.to;
+    let part = part_at(b, e);
+    let mut piece = b;
+    piece.length = to;
+    piece.part = part;
+    piece
+}
+
+fn cut_behind(b: Block, e: Ends) -> Block
+    requires { ⌜ (sane b e ≡ true) × (0 < e .from .0) ⌝ }
+    ensures { λ r. ⌜ r ≡ behind (e .from .0) (e .to .0) (partAt b e) b ⌝ }
+{
+    let from = e.from;
+    let to = e.to;
     let nothing = Part {
         place: 0,
         bytes: Bytes(0),
     };
-    let length = b.length;
+    let none = no_id();
     let left = left_of(b, from);
-    let part = part_of(b, skip);
+    let part = part_at(b, e);
+    let is_item = block::is_item(b.kind);
     let start = b.clock as u64 + from.0;
     let clock = start as u32;
-    let rest = length.0 - from.0;
-    let right = b.right;
-    let key = b.key;
-    Block {
-        client: b.client,
-        clock,
-        length: Units(rest),
-        kind: b.kind,
-        has_left: block::SKIP < b.kind,
-        left,
-        has_right: b.has_right,
-        right,
-        has_parent: false,
-        parent: none,
-        has_name: false,
-        name: nothing,
-        has_key: b.has_key,
-        key,
-        part,
+    let rest = to.0 - from.0;
+    let units = Units(rest);
+    let mut piece = b;
+    piece.clock = clock;
+    piece.length = units;
+    piece.has_left = is_item;
+    piece.left = left;
+    piece.has_parent = false;
+    piece.parent = none;
+    piece.has_name = false;
+    piece.name = nothing;
+    piece.part = part;
+    piece
+}
+
+// What stands between both ends of a row.
+pub fn cut(b: Block, e: Ends) -> Block
+    requires { ⌜ sane b e ≡ true ⌝ }
+    ensures { λ r. ⌜ r ≡ cutAt b e ⌝ }
+{
+    let from = e.from;
+    let to = e.to;
+    let length = b.length;
+    if from.0 != 0 {
+        return cut_behind(b, e);
     }
+    if to.0 != length.0 {
+        return cut_front(b, e);
+    }
+    b
 }

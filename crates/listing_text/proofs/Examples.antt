@@ -1,16 +1,16 @@
 -- Lines as document 01 prints them.
 use mathlib.Core.Path.{_≡_, refl}
 use mathlib.Core.List.{[], _∷_}
-use mathlib.Core.Bool.{false}
 use Rattle.block.specs.declared.Block.{Block}
-use Rattle.block.specs.Row.{noId, noPart}
+use Rattle.block.specs.Rows.{plain}
+use Rattle.block.specs.Kinds.{TEXT}
 use Rattle.ranges.specs.Table.{range}
 use Rattle.lines.specs.Lines.{digits, decimal}
 use Rattle.listing_text.specs.Listing.{number, named, kindName, blockLine, blockLines, rangeLine, rangeLines, header, endLine, listing, emptyLine, refusedLine}
 
 -- two units of text, client 5's first
 abbrev two : Block
-two = record { client = 5; clock = 0; length = record { 0 = 2 }; kind = 5; «has_left» = false; left = noId; «has_right» = false; right = noId; «has_parent» = false; parent = noId; «has_name» = false; name = noPart; «has_key» = false; key = noPart; part = noPart }
+two = plain 5 0 2 TEXT
 
 pub examples :
     -- update form 1 blocks 1 ranges 0, 5 0 2 text, end

@@ -1,9 +1,9 @@
 -- Cases C and D of document 01, the same block in either form, and which draw of C came from which byte.
 use Prim.Native.Nat.{ℕ}
-use mathlib.Core.Bool.{true, false}
 use mathlib.Core.List.{List, [], _∷_}
 use Rattle.block.specs.declared.Block.{Block}
-use Rattle.block.specs.Row.{noId, noPart}
+use Rattle.block.specs.Rows.{plain, withName, withPart}
+use Rattle.block.specs.Kinds.{TEXT}
 use Rattle.grammar.specs.Grammar.{upTo, client, info, parentInfo, number, text}
 use Rattle.grammar.specs.Trace.{Event, drew, kept}
 
@@ -17,24 +17,7 @@ updateD =
 
 -- the text "hi" of client 5 in the parent "t", whose bytes lie at these places
 abbrev pub hi : ℕ → ℕ → Block
-hi name at =
-    record {
-      client = 5;
-      clock = 0;
-      length = record { 0 = 2 };
-      kind = 5;
-      «has_left» = false;
-      left = noId;
-      «has_right» = false;
-      right = noId;
-      «has_parent» = false;
-      parent = noId;
-      «has_name» = true;
-      name = record { place = name; bytes = record { 0 = 1 } };
-      «has_key» = false;
-      key = noPart;
-      part = record { place = at; bytes = record { 0 = 2 } };
-    }
+hi name at = withName (record { place = name; bytes = record { 0 = 1 } }) (withPart (record { place = at; bytes = record { 0 = 2 } }) (plain 5 0 2 TEXT))
 
 abbrev pub blocksC : List Block
 blocksC = hi 7 9 ∷ []

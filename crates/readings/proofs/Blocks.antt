@@ -6,7 +6,7 @@ use mathlib.Core.List.{List}
 use native.Mathlib.Omega.{arith}
 use lib.Dec.{ltb, eqb}
 use lib.ListN.{length}
-use borrow.Author.Tests.{ltb-true, ltb-false, lt-ltb, eqb-true, eqb-false}
+use borrow.Author.Tests.{ltb-true, ltb-false, eqb-true, eqb-false}
 use Rattle.numbers.specs.Number.{pick}
 use Rattle.numbers.specs.Limits.{maxValue, maxClock}
 use Rattle.text.specs.declared.Part.{Part}
@@ -14,7 +14,7 @@ use Rattle.text.specs.declared.Units.{Units}
 use Rattle.text.specs.Utf8.{wellFormed, after, settled}
 use Rattle.block.specs.declared.Block.{Block}
 use Rattle.block.specs.Row.{noId, noPart}
-use Rattle.block.specs.Kinds.{GC, SKIP, DELETED, BINARY, TEXT}
+use Rattle.block.specs.Kinds.{GC, SKIP, DELETED, BINARY, TEXT, isBare, isItem, isBlock, hasPart}
 use Rattle.block.specs.Rows.{plain, withLeft, withRight, withKey, withContent}
 use Rattle.grammar.specs.Grammar as fields
 use Rattle.grammar.specs.Grammar.{Number, Grammar, _>>=_}
@@ -32,16 +32,16 @@ pub dropped-empty : (b : Block) → grammar.dropped b ≡ true → b .length .0 
 unfolding grammar.dropped
 dropped-empty b e = go (eqb (b .length .0) 0) refl e
   where
-    go : (t : Bool) → eqb (b .length .0) 0 ≡ t → pick t (ltb SKIP (b .kind)) false ≡ true → b .length .0 ≡ 0
+    go : (t : Bool) → eqb (b .length .0) 0 ≡ t → pick t (isItem (b .kind)) false ≡ true → b .length .0 ≡ 0
     go true q e = eqb-true (b .length .0) 0 q
     go false q e = clash (sym e)
 
-kept-some : (b : Block) → grammar.dropped b ≡ false → SKIP < b .kind → 0 < b .length .0
+kept-some : (b : Block) → grammar.dropped b ≡ false → isItem (b .kind) ≡ true → 0 < b .length .0
 unfolding grammar.dropped
 kept-some b e l = go (eqb (b .length .0) 0) refl e
   where
-    go : (t : Bool) → eqb (b .length .0) 0 ≡ t → pick t (ltb SKIP (b .kind)) false ≡ false → 0 < b .length .0
-    go true q e = clash (sym (lt-ltb SKIP (b .kind) l) ∙ e)
+    go : (t : Bool) → eqb (b .length .0) 0 ≡ t → pick t (isItem (b .kind)) false ≡ false → 0 < b .length .0
+    go true q e = clash (sym l ∙ e)
     go false q e = omega (arith, eqb-false (b .length .0) 0 q)
 
 module _ (u : List ℕ) where
@@ -174,7 +174,7 @@ module _ (u : List ℕ) where
       pub clock : b .clock ≡ k
       pub sound : k + b .length .0 ≤ maxClock → grammar.dropped b ≡ false → Sound u b
 
-    framed : (b : Block) → Frame b → (GC ≤ b .kind) × (b .kind ≤ TEXT) → Shape b → ((SKIP < b .kind → 0 < b .length .0) → Stored u b) → Body b
+    framed : (b : Block) → Frame b → isBlock (b .kind) ≡ true → Shape b → ((isItem (b .kind) ≡ true → 0 < b .length .0) → Stored u b) → Body b
     framed b f kind shape stored =
         record {
           client = f .client;
@@ -193,56 +193,57 @@ module _ (u : List ℕ) where
           };
         }
 
-    content-body : (kind : ℕ) (n : Units) (p : Part) (b : Block) → Placed b → SKIP < kind → kind ≤ TEXT
-        → ((SKIP < kind → 0 < n .0) → Stored u (withContent kind n p b)) → Body (withContent kind n p b)
+    content-body : (kind : ℕ) (n : Units) (p : Part) (b : Block) → Placed b → isItem kind ≡ true → isBlock kind ≡ true
+        → ((isItem kind ≡ true → 0 < n .0) → Stored u (withContent kind n p b)) → Body (withContent kind n p b)
     unfolding linked
     content-body kind n p b h l m stored =
         let f = h .frame in
         framed (withContent kind n p b)
-        (record { client = f .client; clock = f .clock; left = f .left; right = f .right; parent = f .parent; name = f .name; key = f .key }) (omega arith, m)
-        (record { bare = λ q. absurd (omega arith); rootless = λ _. h .rootless; rooted = λ _. h .rooted }) stored
+        (record { client = f .client; clock = f .clock; left = f .left; right = f .right; parent = f .parent; name = f .name; key = f .key }) m
+        (record { bare = λ q. clash (sym l ∙ q); rootless = λ _. h .rootless; rooted = λ _. h .rooted }) stored
 
     -- no part where the kind has none
-    partless : (b : Block) → b .kind ≤ DELETED → b .part ≡ noPart → (SKIP < b .kind → 0 < b .length .0) → Stored u b
+    partless : (b : Block) → hasPart (b .kind) ≡ false → b .part ≡ noPart → (isItem (b .kind) ≡ true → 0 < b .length .0) → Stored u b
+    unfolding hasPart
     partless b l e some =
         record {
           lies = subst (λ (p : Part). Lies u p) (sym e) (omega arith);
           nothing = λ _. e;
-          binary = λ q. absurd (omega arith);
-          text = λ q. absurd (omega arith);
+          binary = λ q. clash (sym (ap hasPart q) ∙ l);
+          text = λ q. clash (sym (ap hasPart q) ∙ l);
           some = some;
         }
 
     content-comes : (info at : ℕ) (b : Block) → Placed b → Comes Body (grammar.content info at b)
-    unfolding walks.Comes _>>=_ grammar.content grammar.deleted grammar.binary grammar.string Good bytesIn
+    unfolding walks.Comes _>>=_ grammar.content grammar.deleted grammar.binary grammar.string Good bytesIn isBare isItem isBlock hasPart
     content-comes info at b f =
         chosen (Comes Body) (eqb (info % 32) 1)
-        (λ _ v _. content-body DELETED (record { 0 = v .0 }) noPart b f (omega arith) (omega arith) (partless _ (omega arith) refl))
+        (λ _ v _. content-body DELETED (record { 0 = v .0 }) noPart b f refl refl (partless _ refl refl))
         (λ _. chosen (Comes Body) (eqb (info % 32) 3)
-        (λ _ p l. content-body BINARY (record { 0 = 1 }) p b f (omega arith) (omega arith) (λ some.
-        record { lies = l; nothing = λ e. absurd (omega arith); binary = λ _. refl; text = λ e. absurd (omega arith); some = some }))
+        (λ _ p l. content-body BINARY (record { 0 = 1 }) p b f refl refl (λ some.
+        record { lies = l; nothing = λ e. clash e; binary = λ _. refl; text = λ e. absurd (omega arith); some = some }))
         (λ _. chosen (Comes Body) (eqb (info % 32) 4)
-        (λ _ a w. content-body TEXT (a .1) (a .0) b f (omega arith) (omega arith) (λ some. record {
+        (λ _ a w. content-body TEXT (a .1) (a .0) b f refl refl (λ some. record {
           lies = w .lies;
-          nothing = λ e. absurd (omega arith);
+          nothing = λ e. clash e;
           binary = λ e. absurd (omega arith);
           text = λ _. (w .formed, w .units);
           some = some;
         }))
         (λ _. tt)))
 
-    bare-body : (n kind : ℕ) → GC ≤ kind → kind ≤ SKIP → Body (plain c k n kind)
+    bare-body : (n kind : ℕ) → isItem kind ≡ false → isBlock kind ≡ true → hasPart kind ≡ false → Body (plain c k n kind)
     unfolding linked
-    bare-body n kind l m =
-        framed (plain c k n kind) (plain-frame n kind) (l, omega arith)
-        (record { bare = λ _. (refl, refl, refl, refl); rootless = λ q. absurd (omega arith); rooted = λ q. absurd (omega arith) })
-        (partless _ (omega arith) refl)
+    bare-body n kind l m none =
+        framed (plain c k n kind) (plain-frame n kind) m
+        (record { bare = λ _. (refl, refl, refl, refl); rootless = λ q. clash (sym q ∙ l); rooted = λ q. clash (sym q ∙ l) })
+        (partless _ none refl)
 
     body-comes : (info at : ℕ) → Comes Body (grammar.body c k info at)
-    unfolding walks.Comes _>>=_ grammar.body grammar.bare grammar.anItem
+    unfolding walks.Comes _>>=_ grammar.body grammar.bare grammar.anItem isBare isItem isBlock hasPart
     body-comes info at =
-        chosen (Comes Body) (eqb info 10) (λ _ v _. bare-body (v .0) SKIP (omega arith) (omega arith))
-        (λ _. chosen (Comes Body) (eqb info 0) (λ _ v _. bare-body (v .0) GC (omega arith) (omega arith))
+        chosen (Comes Body) (eqb info 10) (λ _ v _. bare-body (v .0) SKIP refl refl refl)
+        (λ _. chosen (Comes Body) (eqb info 0) (λ _ v _. bare-body (v .0) GC refl refl refl)
         (λ _. bind Placed Body (grammar.place info (plain c k 0 0)) (grammar.content info at) (place-comes info) (content-comes info at)))
 
     pub block-comes : walks.Comes (Good u) {E = Block} (λ (a : Block × ℕ). Body (a .0)) (grammar.block c k)

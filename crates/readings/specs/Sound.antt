@@ -14,7 +14,7 @@ use Rattle.text.specs.Utf8.{wellFormed, unitsOf}
 use Rattle.block.specs.declared.Id.{Id}
 use Rattle.block.specs.declared.Block.{Block}
 use Rattle.block.specs.Row.{noId, noPart}
-use Rattle.block.specs.Kinds.{GC, SKIP, DELETED, BINARY, TEXT}
+use Rattle.block.specs.Kinds.{BINARY, TEXT, isItem, isBlock, hasPart}
 
 -- ---- a part and an id
 
@@ -42,22 +42,22 @@ linked b = pick (b .«has_left») true (b .«has_right»)
 
 -- GC and Skip have nothing beside their length; an item has ids beside it, or else a parent, by name or by id, and perhaps a key
 pub record Shape (b : Block) : Type 0 where
-  pub bare : b .kind ≤ SKIP → (linked b ≡ false) × (b .«has_parent» ≡ false) × (b .«has_name» ≡ false) × (b .«has_key» ≡ false)
-  pub rootless : SKIP < b .kind → linked b ≡ true → (b .«has_parent» ≡ false) × (b .«has_name» ≡ false) × (b .«has_key» ≡ false)
-  pub rooted : SKIP < b .kind → linked b ≡ false → b .«has_name» ≡ pick (b .«has_parent») false true
+  pub bare : isItem (b .kind) ≡ false → (linked b ≡ false) × (b .«has_parent» ≡ false) × (b .«has_name» ≡ false) × (b .«has_key» ≡ false)
+  pub rootless : isItem (b .kind) ≡ true → linked b ≡ true → (b .«has_parent» ≡ false) × (b .«has_name» ≡ false) × (b .«has_key» ≡ false)
+  pub rooted : isItem (b .kind) ≡ true → linked b ≡ false → b .«has_name» ≡ pick (b .«has_parent») false true
 
--- kinds: gc 1, skip 2, deleted 3, binary 4, text 5
+-- a part where the kind has one
 pub record Stored (u : List ℕ) (b : Block) : Type 0 where
   pub lies : Lies u (b .part)
-  pub nothing : b .kind ≤ DELETED → b .part ≡ noPart
+  pub nothing : hasPart (b .kind) ≡ false → b .part ≡ noPart
   pub binary : b .kind ≡ BINARY → b .length .0 ≡ 1
   pub text : b .kind ≡ TEXT → (wellFormed (bytesIn u (b .part)) ≡ true) × (unitsOf (bytesIn u (b .part)) ≡ b .length .0)
-  pub some : SKIP < b .kind → 0 < b .length .0
+  pub some : isItem (b .kind) ≡ true → 0 < b .length .0
 
 pub record Sound (u : List ℕ) (b : Block) : Type 0 where
   pub client : b .client ≤ maxValue
   pub end : b .clock + b .length .0 ≤ maxClock
-  pub kind : (GC ≤ b .kind) × (b .kind ≤ TEXT)
+  pub kind : isBlock (b .kind) ≡ true
   pub left : SoundId (b .«has_left») (b .left)
   pub right : SoundId (b .«has_right») (b .right)
   pub parent : SoundId (b .«has_parent») (b .parent)

@@ -7,6 +7,7 @@ use Rattle.numbers.specs.Words as words
 use Rattle.numbers.specs.Number.{spelt, placed, readUnsigned, spell, unsigned, none}
 use Rattle.numbers.specs.Output.{verdict}
 use Rattle.text.specs.Utf8 as utf8
+use Rattle.block.specs.Kinds as kinds
 use Rattle.grammar.specs.Grammar as grammar
 use Rattle.grammar.specs.Course as course
 use Rattle.grammar.specs.Blocks as blocks
@@ -51,7 +52,7 @@ unfolding diffOf promises.known
 from-reading v n m room = ap (afterReading updateC (vectorOf v) 1 room) (read n m)
 
 unit-one : written (1 ∷ 5 ∷ 1 ∷ []) 64 ≡ done (0x01 ∷ 0x01 ∷ 0x05 ∷ 0x01 ∷ 0x84 ∷ 0x05 ∷ 0x00 ∷ 0x01 ∷ 0x69 ∷ 0x00 ∷ [])
-unfolding spelling.after spelt placed readUnsigned spell unsigned words.among verdict vector.holds vector.entries vector.aVector vector.vectorOf diffs.whyNot diffs.kept diffs.against diffs.afterReading diff.diffWhy diff.diffBytes diff.diffTokens bytesIn linked groups.join groups.groups kept.remote kept.falls kept.keepFrom kept.withPieces kept.keepEach kept.place kept.falling kept.sectionsOf cut.bytesFor cut.broken cut.cutPart cut.tornText cut.isWhole cut.partOf cut.cutRow cut.torn cut.tornPieces cut.anyTorn tokens.inlined tokens.taken tokens.takenAll tokens.inLine tokens.columnIn tokens.lane bytes.form1 bytes.bytesOf bytes.near records.contentNumber records.infoByte records.leftTokens records.rightTokens records.parentTokens records.keyTokens records.placeTokens records.contentTokens records.blockTokens records.piecesTokens records.startOf records.sectionTokens records.sectionsTokens records.clockFrom records.lengthOf records.rangesTokens records.clientTokens records.deleteTokens records.updateTokens utf8.lead utf8.next utf8.width utf8.after utf8.settled utf8.wellFormed utf8.gain utf8.takeFrom utf8.takeUnits line.numberAt line.varAt line.bounded line.upTo line.byteAt line.restored line.deleteAt line.numberOf line.soMany line.bytesAt line.checked line.line grammar._>>=_ course.onDrawn course.run course.items course.ending
+unfolding spelling.after spelt placed readUnsigned spell unsigned words.among verdict vector.holds vector.entries vector.aVector vector.vectorOf diffs.whyNot diffs.kept diffs.against diffs.afterReading diff.diffWhy diff.diffBytes diff.diffTokens bytesIn linked groups.join groups.groups kept.remote kept.falls kept.keepFrom kept.withPieces kept.keepEach kept.place kept.falling kept.sectionsOf cut.bytesFor cut.broken cut.cutPart cut.tornText cut.isWhole cut.partOf cut.cutRow cut.torn cut.tornPieces cut.anyTorn tokens.inlined tokens.taken tokens.takenAll tokens.inLine tokens.columnIn tokens.lane bytes.form1 bytes.bytesOf bytes.near records.contentNumber records.infoByte records.leftTokens records.rightTokens records.parentTokens records.keyTokens records.placeTokens records.contentTokens records.blockTokens records.piecesTokens records.startOf records.sectionTokens records.sectionsTokens records.clockFrom records.lengthOf records.rangesTokens records.clientTokens records.deleteTokens records.updateTokens utf8.lead utf8.next utf8.width utf8.after utf8.settled utf8.wellFormed utf8.gain utf8.takeFrom utf8.takeUnits line.numberAt line.varAt line.bounded line.upTo line.byteAt line.restored line.deleteAt line.numberOf line.soMany line.bytesAt line.checked line.line grammar._>>=_ course.onDrawn course.run course.items course.ending kinds.isItem
 unit-one = refl
 
 all-units : written (1 ∷ 5 ∷ 2 ∷ []) 64 ≡ done (0x00 ∷ 0x00 ∷ [])

@@ -3,10 +3,10 @@ use Prim.Native.Nat.{ℕ, _+_, _*_, _≤_}
 use mathlib.Core.Path.{_≡_, refl, ap}
 use mathlib.Core.List.{List, [], _∷_}
 use native.Mathlib.Omega.{arith}
-use lib.Dec.{eqb}
 use lib.ListN.{length, length-append}
 use Rattle.numbers.specs.Limits.{maxUpdate, maxCount}
 use Rattle.block.specs.declared.Block.{Block}
+use Rattle.block.specs.Kinds.{isGc, isSkip, isDeleted, isBinary, isText, isItem}
 use Rattle.ranges.specs.Ranges.{Range}
 use Rattle.readings.specs.Sound.{linked}
 use Rattle.readings.specs.Groups.{groups, joined}
@@ -50,14 +50,16 @@ module _ (u : List ℕ) (b : Block) where
   content-few : length (contentTokens u b) ≤ 1
   unfolding contentTokens
   content-few =
-      chosen (Few 1) (eqb (b .kind) 3) (λ _. omega arith) (λ _. chosen (Few 1) (eqb (b .kind) 4) (λ _. omega arith) (λ _. omega arith))
+      chosen (Few 1) (isDeleted (b .kind)) (λ _. omega arith)
+      (λ _. chosen (Few 1) (isBinary (b .kind)) (λ _. omega arith) (λ _. chosen (Few 1) (isText (b .kind)) (λ _. omega arith) (λ _. omega arith)))
 
   block-few : length (blockTokens u b) ≤ 6
   unfolding blockTokens
   block-few =
-      chosen (Few 6) (eqb (b .kind) 1) (λ _. omega arith)
-      (λ _. chosen (Few 6) (eqb (b .kind) 2) (λ _. omega arith)
-      (λ _. omega (arith, length-append (placeTokens u b) (contentTokens u b), place-few, content-few)))
+      chosen (Few 6) (isGc (b .kind)) (λ _. omega arith)
+      (λ _. chosen (Few 6) (isSkip (b .kind)) (λ _. omega arith)
+      (λ _. chosen (Few 6) (isItem (b .kind))
+      (λ _. omega (arith, length-append (placeTokens u b) (contentTokens u b), place-few, content-few)) (λ _. omega arith)))
 
 -- ---- sections
 

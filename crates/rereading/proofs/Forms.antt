@@ -18,23 +18,7 @@ use Rattle.rereading.proofs.Reread.{reread}
 module _ (d e u : List ℕ) where
   alike-both : (a b c : Block) → Alike d a u c → Alike e b u c → Alike d a e b
   alike-both a b c h k =
-      record {
-        client = h .client ∙ sym (k .client);
-        clock = h .clock ∙ sym (k .clock);
-        length = h .length ∙ sym (k .length);
-        kind = h .kind ∙ sym (k .kind);
-        «has_left» = h .«has_left» ∙ sym (k .«has_left»);
-        left = h .left ∙ sym (k .left);
-        «has_right» = h .«has_right» ∙ sym (k .«has_right»);
-        right = h .right ∙ sym (k .right);
-        «has_parent» = h .«has_parent» ∙ sym (k .«has_parent»);
-        parent = h .parent ∙ sym (k .parent);
-        «has_name» = h .«has_name» ∙ sym (k .«has_name»);
-        name = h .name ∙ sym (k .name);
-        «has_key» = h .«has_key» ∙ sym (k .«has_key»);
-        key = h .key ∙ sym (k .key);
-        part = h .part ∙ sym (k .part);
-      }
+      record { same = h .same ∙ sym (k .same); name = h .name ∙ sym (k .name); key = h .key ∙ sym (k .key); part = h .part ∙ sym (k .part) }
 
   all-both : (xs bs cs : List Block) → AllAlike d xs u cs → AllAlike e bs u cs → AllAlike d xs e bs
   unfolding AllAlike

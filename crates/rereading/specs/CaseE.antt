@@ -1,11 +1,10 @@
 -- Case E of document 01, "Numbers worked by hand": C, its block, and its diffs against a vector that has one unit of it and against one that has both.
 use Prim.Native.Nat.{ℕ, suc}
 use mathlib.Core.Path.{_≡_}
-use mathlib.Core.Bool.{true, false}
 use mathlib.Core.List.{List, [], _∷_}
 use Rattle.numbers.specs.Number.{none}
 use Rattle.block.specs.declared.Block.{Block}
-use Rattle.block.specs.Row.{noId, noPart}
+use Rattle.block.specs.Rows.{plain, withName, withPart}
 use Rattle.block.specs.Kinds.{TEXT}
 use Rattle.diffs.specs.Promises.{Diffed, diffOf}
 
@@ -14,7 +13,7 @@ updateC = 0x01 ∷ 0x01 ∷ 0x05 ∷ 0x00 ∷ 0x04 ∷ 0x01 ∷ 0x01 ∷ 0x74 �
 
 -- the text "hi" of client 5 at clock 0, whose parent is "t": 74 stands at place 7, 68 69 at 9
 abbrev pub hi : Block
-hi = record { client = 5; clock = 0; length = record { 0 = 2 }; kind = TEXT; «has_left» = false; left = noId; «has_right» = false; right = noId; «has_parent» = false; parent = noId; «has_name» = true; name = record { place = 7; bytes = record { 0 = 1 } }; «has_key» = false; key = noPart; part = record { place = 9; bytes = record { 0 = 2 } } }
+hi = withName (record { place = 7; bytes = record { 0 = 1 } }) (withPart (record { place = 9; bytes = record { 0 = 2 } }) (plain 5 0 2 TEXT))
 
 -- these bytes were written, that block was read
 abbrev pub done : List ℕ → Diffed

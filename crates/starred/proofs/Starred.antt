@@ -1,7 +1,6 @@
 -- The starred cases of document 01, "Numbers worked by hand", as one table under one theorem about the definitions.
 use Prim.Native.Nat.{ℕ, zero, suc, _+_}
 use mathlib.Core.Path.{_≡_, refl, ap, _∙_}
-use mathlib.Core.Bool.{true, false}
 use mathlib.Core.List.{List, [], _∷_}
 use lib.ListN.{replicate}
 use Rattle.numbers.specs.Number as spelling
@@ -19,8 +18,10 @@ use Rattle.runs.specs.Byte as byte-run
 use Rattle.runs.specs.Runs as runs
 use Rattle.columns.specs.Reading.{Reading, andThen, reads, numberDraw, differenceDraw, byteDraw, readNumbers, readDifferences, readBytes}
 use Rattle.columns.proofs.RoundTrip.{byte-on}
+use Rattle.text.specs.declared.Part.{Part}
 use Rattle.block.specs.declared.Block.{Block}
-use Rattle.block.specs.Row.{noId, noPart}
+use Rattle.block.specs.Rows.{plain, withLeft, withName, withPart}
+use Rattle.block.specs.Kinds.{BINARY, TEXT}
 use Rattle.grammar.specs.Grammar as grammar
 use Rattle.grammar.specs.Course as course
 use Rattle.grammar.specs.Blocks as blocks
@@ -67,9 +68,13 @@ texts s = firstOf s (openText s 0)
 abbrev pub blocksRead : List Block → promises.Reading
 blocksRead bs = record { refusal = none; blocks = bs; ranges = [] }
 
+-- bytes at a place
+abbrev pub partAt : ℕ → ℕ → Part
+partAt place n = record { place = place; bytes = record { 0 = n } }
+
 -- a text of client 5 at clock 0 with two units: the name of its parent is a byte at a place, the text two bytes
 abbrev pub hi : ℕ → ℕ → Block
-hi name text = record { client = 5; clock = 0; length = record { 0 = 2 }; kind = 5; «has_left» = false; left = noId; «has_right» = false; right = noId; «has_parent» = false; parent = noId; «has_name» = true; name = record { place = name; bytes = record { 0 = 1 } }; «has_key» = false; key = noPart; part = record { place = text; bytes = record { 0 = 2 } } }
+hi name text = withName (partAt name 1) (withPart (partAt text 2) (plain 5 0 2 TEXT))
 
 abbrev pub updateA : List ℕ
 updateA = 0x00 ∷ 0x00 ∷ []
@@ -99,10 +104,10 @@ oneText digit = 117 ∷ 112 ∷ 100 ∷ 97 ∷ 116 ∷ 101 ∷ 32 ∷ 102 ∷ 11
 
 -- a binary of one unit at clock 0, with an id that it hangs on, and one in a parent with a name
 abbrev pub after-id : ℕ → ℕ → ℕ → Block
-after-id c d part = record { client = c; clock = 0; length = record { 0 = 1 }; kind = 4; «has_left» = true; left = record { client = d; clock = 0 }; «has_right» = false; right = noId; «has_parent» = false; parent = noId; «has_name» = false; name = noPart; «has_key» = false; key = noPart; part = record { place = part; bytes = record { 0 = 1 } } }
+after-id c d part = withLeft (record { client = d; clock = 0 }) (withPart (partAt part 1) (plain c 0 1 BINARY))
 
 abbrev pub in-parent : ℕ → ℕ → ℕ → Block
-in-parent c name part = record { client = c; clock = 0; length = record { 0 = 1 }; kind = 4; «has_left» = false; left = noId; «has_right» = false; right = noId; «has_parent» = false; parent = noId; «has_name» = true; name = record { place = name; bytes = record { 0 = 1 } }; «has_key» = false; key = noPart; part = record { place = part; bytes = record { 0 = 1 } } }
+in-parent c name part = withName (partAt name 1) (withPart (partAt part 1) (plain c 0 1 BINARY))
 
 -- 5's block has left id (9,0), 9's none; without 9; 9's has left id (5,0)
 abbrev pub updateM1 : List ℕ

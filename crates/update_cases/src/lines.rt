@@ -71,7 +71,7 @@ pub fn row(sink: &mut [u8], used: usize, b: Block) -> usize {
     let begun = head(sink, used, b);
     let linked = origins(sink, begun, b);
     let placed = place(sink, linked, b);
-    dotted_part(sink, placed, block::BINARY <= b.kind, b.part)
+    dotted_part(sink, placed, block::has_part(b.kind), b.part)
 }
 
 // What was printed of lent words: how much of the output's buffer is used, and where the printed words end.

@@ -1,15 +1,16 @@
 -- A block read again: from the tokens of a writable record, reading finds that record as `reread` has it.
-use Prim.Native.Nat.{ℕ, _≤_, _<_}
+use Prim.Native.Nat.{ℕ}
 use mathlib.Core.Path.{_≡_, refl, subst, _∙_}
 use mathlib.Core.Bool.{Bool, true, false}
+use mathlib.Core.Logic.{_⊎_, inl, inr}
 use mathlib.Core.List.{List, [], _∷_, _++_}
 use native.Mathlib.Omega.{arith}
-use lib.Dec.{ltb, eqb}
-use borrow.Author.Tests.{ltb-true, ltb-false, eqb-true, eqb-false, ne-eqb}
 use Rattle.numbers.specs.Number.{pick}
 use Rattle.numbers.specs.Limits.{maxClock}
 use Rattle.block.specs.declared.Block.{Block}
 use Rattle.block.specs.Rows.{plain}
+use Rattle.block.specs.Kinds.{GC, SKIP, isItem}
+use Rattle.block.proofs.OfKinds.{bare-kinds, block-bare, item-bare, bare-gc, bare-skip}
 use Rattle.grammar.specs.Grammar as grammar
 use Rattle.grammar.specs.Course.{got, Reader, over, run}
 use Rattle.grammar.specs.Blocks as blocks
@@ -51,38 +52,40 @@ module _ {S : Type 0} {form : ℕ} {r : Reader S} {at : S → ℕ} {d : List ℕ
       }
 
   module _ (s t : S) where
-    item-tokens : 2 < b .kind → blockTokens u b ≡ info (infoByte b) ∷ (placeTokens u b ++ contentTokens u b)
+    item-tokens : isItem (b .kind) ≡ true → blockTokens u b ≡ info (infoByte b) ∷ (placeTokens u b ++ contentTokens u b)
     unfolding blockTokens
-    item-tokens l = rw (ne-eqb (b .kind) 1 (λ e. omega arith), ne-eqb (b .kind) 2 (λ e. omega arith))
+    item-tokens l =
+        let none = item-bare (b .kind) l in
+        rw (bare-gc (b .kind) none, bare-skip (b .kind) none, l)
 
     -- an item is its place and its content
-    item-read : (c : Block) → 2 < b .kind → b .kind ≤ 5 → Stored u b → ((m x : S) → Draws r d m (placeTokens u b) x → Placed r d u b c m x)
+    item-read : (c : Block) → isItem (b .kind) ≡ true → Stored u b → ((m x : S) → Draws r d m (placeTokens u b) x → Placed r d u b c m x)
         → Draws r d s (blockTokens u b) t → BlockRead s t c
     unfolding body anItem Draws laneField
-    item-read c l n stored place h =
+    item-read c l stored place h =
         let k = subst (λ (ts : List Token). Draws r d s ts t) (item-tokens l) h in
         let two = split r d (placeTokens u b) (contentTokens u b) (k .1) t (k .3) in
         let m = two .between in
         let x = place (k .1) m (two .first) in
-        let found = content-read r d u b (infoByte b) (k .0) (x .block) m t (info-says b .low) stored l n (two .then) in
+        let found = content-read r d u b (infoByte b) (k .0) (x .block) m t (info-says b l .low) stored l (two .then) in
         body-block (infoByte b) (k .0) s (k .1) t c (k .2)
         (record {
           block = filled b (found .part) (x .block);
-          is = rw (info-says b .skip, info-says b .gc) (then-on r _ (x .block) (k .1) m _ (x .is) ∙ found .is);
+          is = rw (info-says b l .skip, info-says b l .gc) (then-on r _ (x .block) (k .1) m _ (x .is) ∙ found .is);
           alike = x .alike (found .part) (found .same);
         })
 
-    linked-read : linked b ≡ true → Sound u (keyless b) → 2 < b .kind → Draws r d s (blockTokens u b) t → BlockRead s t (keyless b)
+    linked-read : linked b ≡ true → Sound u (keyless b) → isItem (b .kind) ≡ true → Draws r d s (blockTokens u b) t → BlockRead s t (keyless b)
     linked-read some sound l h =
         let x = sound .stored in
         let stored : Stored u b = record { lies = x .lies; nothing = x .nothing; binary = x .binary; text = x .text; some = x .some } in
-        item-read (keyless b) l (sound .kind .1) stored (linked-place r d u b some sound l) h
+        item-read (keyless b) l stored (linked-place r d u b some sound l) h
 
-    rooted-read : linked b ≡ false → Sound u b → 2 < b .kind → Draws r d s (blockTokens u b) t → BlockRead s t b
-    rooted-read none sound l h = item-read b l (sound .kind .1) (sound .stored) (rooted-place r d u b none sound l) h
+    rooted-read : linked b ≡ false → Sound u b → isItem (b .kind) ≡ true → Draws r d s (blockTokens u b) t → BlockRead s t b
+    rooted-read none sound l h = item-read b l (sound .stored) (rooted-place r d u b none sound l) h
 
     -- GC is 0 and its length a field; Skip is 10 and its length in line
-    bare-read : (kind n : ℕ) (x : grammar.Number) → b .kind ≡ kind → kind ≤ 2 → linked b ≡ false → Sound u b
+    bare-read : (kind n : ℕ) (x : grammar.Number) → b .kind ≡ kind → isItem (b .kind) ≡ false → linked b ≡ false → Sound u b
         → ((place : ℕ) → body {E = Block} (b .client) (b .clock) n place ≡ blocks.bare (b .client) (b .clock) kind x)
         → (place p : ℕ) (m : S) → r (grammar.number grammar.info) s ≡ got (n, place) m → r (grammar.number x) m ≡ got (b .length .0, p) t → BlockRead s t b
     unfolding blocks.bare run
@@ -91,41 +94,44 @@ module _ {S : Type 0} {form : ℕ} {r : Reader S} {at : S → ℕ} {d : List ℕ
         (record {
           block = plain (b .client) (b .clock) (b .length .0) (b .kind);
           is = rw (is place, e) (draw-on r (grammar.number x) (b .length .0, p) m t _ k);
-          alike = bare-alike r d u b none sound (omega arith);
+          alike = bare-alike r d u b none sound l;
         })
 
-    gc-read : linked b ≡ false → Sound u b → b .kind ≡ 1 → Draws r d s (blockTokens u b) t → BlockRead s t b
-    unfolding blockTokens body Draws laneField
+    gc-read : linked b ≡ false → Sound u b → b .kind ≡ GC → Draws r d s (blockTokens u b) t → BlockRead s t b
+    unfolding blockTokens body isItem Draws laneField
     gc-read none sound e h =
         let k : Draws r d s (info 0 ∷ (len (b .length .0) ∷ [])) t = rw e at h in
         let a = k .3 in
-        bare-read 1 0 grammar.len e (omega arith) none sound (λ place. refl) (k .0) (a .0) (k .1) (k .2) (rw (a .3) at (a .2))
+        bare-read GC 0 grammar.len e (rw e) none sound (λ place. refl) (k .0) (a .0) (k .1) (k .2) (rw (a .3) at (a .2))
 
-    skip-read : linked b ≡ false → Sound u b → b .kind ≡ 2 → Draws r d s (blockTokens u b) t → BlockRead s t b
-    unfolding blockTokens body Draws laneField
+    skip-read : linked b ≡ false → Sound u b → b .kind ≡ SKIP → Draws r d s (blockTokens u b) t → BlockRead s t b
+    unfolding blockTokens body isItem Draws laneField
     skip-read none sound e h =
         let k : Draws r d s (info 10 ∷ (var (b .length .0) ∷ [])) t = rw e at h in
         let a = k .3 in
         let clock = within-on r lined maxClock (b .length .0) (a .0) (k .1) t (rw (a .3) at (a .2)) (omega (arith, sound .end)) in
-        bare-read 2 10 (grammar.upTo maxClock) e (omega arith) none sound (λ place. refl) (k .0) (a .0) (k .1) (k .2) clock
+        bare-read SKIP 10 (grammar.upTo maxClock) e (rw e) none sound (λ place. refl) (k .0) (a .0) (k .1) (k .2) clock
 
     plain-read : linked b ≡ false → Sound u b → Draws r d s (blockTokens u b) t → BlockRead s t b
-    plain-read none sound h = go (eqb (b .kind) 1) refl (eqb (b .kind) 2) refl
+    plain-read none sound h = go (isItem (b .kind)) refl
       where
-        go : (x : Bool) → eqb (b .kind) 1 ≡ x → (y : Bool) → eqb (b .kind) 2 ≡ y → BlockRead s t b
-        go true e y f = gc-read none sound (eqb-true (b .kind) 1 e) h
-        go false e true f = skip-read none sound (eqb-true (b .kind) 2 f) h
-        go false e false f = rooted-read none sound (omega (arith, sound .kind, eqb-false (b .kind) 1 e, eqb-false (b .kind) 2 f)) h
+        bare : (b .kind ≡ GC) ⊎ (b .kind ≡ SKIP) → BlockRead s t b
+        bare (inl e) = gc-read none sound e h
+        bare (inr e) = skip-read none sound e h
+
+        go : (x : Bool) → isItem (b .kind) ≡ x → BlockRead s t b
+        go true e = rooted-read none sound e h
+        go false e = bare (bare-kinds (b .kind) (block-bare (b .kind) (sound .kind) e))
 
     -- nothing beside GC and Skip, so what is linked is an item
-    linked-item : linked b ≡ true → Sound u (keyless b) → 2 < b .kind
+    linked-item : linked b ≡ true → Sound u (keyless b) → isItem (b .kind) ≡ true
     unfolding linked
-    linked-item some sound = go (ltb 2 (b .kind)) refl
+    linked-item some sound = go (isItem (b .kind)) refl
       where
-        go : (x : Bool) → ltb 2 (b .kind) ≡ x → 2 < b .kind
-        go true e = ltb-true 2 (b .kind) e
+        go : (x : Bool) → isItem (b .kind) ≡ x → isItem (b .kind) ≡ true
+        go true e = e
         go false e =
-            let none : linked b ≡ false = sound .shape .bare (ltb-false 2 (b .kind) e) .0 in
+            let none : linked b ≡ false = sound .shape .bare e .0 in
             absurd (let z : _≡_ {A = ℕ} 0 1 = cc in omega arith)
 
     pub block-read : Writable u b → Draws r d s (blockTokens u b) t → BlockRead s t (reread b)

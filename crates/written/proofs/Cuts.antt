@@ -1,21 +1,24 @@
--- What is cut out of a sound row can be written: the later part of a text is a text and has the other units.
-use Prim.Native.Nat.{ℕ, _+_, _-_, _≤_, _<_}
-use mathlib.Core.Path.{_≡_, refl, sym, subst, _∙_}
+-- What is cut out of a sound row, at either end, can be written: a part of a text is a text and has so many units.
+use Prim.Native.Nat.{ℕ, _+_, _-_}
+use mathlib.Core.Path.{_≡_, refl, sym, ap, subst, _∙_}
 use mathlib.Core.Bool.{Bool, true, false}
 use mathlib.Core.List.{List}
 use mathlib.Core.Logic.{_⊎_, inl, inr}
 use native.Mathlib.Omega.{arith}
-use lib.Dec.{ltb, eqb}
-use lib.ListN.{length}
-use borrow.Author.Tests.{ltb-true, ltb-false, lt-ltb, le-ltb, eq-eqb, ne-eqb, eqb-true, eqb-false}
+use lib.Dec.{eqb}
+use borrow.Author.Tests.{eq-eqb, eqb-true}
 use Rattle.numbers.specs.Number.{pick}
+use Rattle.columns.proofs.Back.{both}
 use Rattle.text.specs.Utf8.{wellFormed, after, settled}
 use Rattle.block.specs.declared.Block.{Block}
 use Rattle.block.specs.Row.{noId, noPart}
+use Rattle.block.specs.Kinds.{BINARY, TEXT, isText, isItem, hasPart}
+use Rattle.block.proofs.OfKinds.{part-text}
+use Rattle.block.proofs.Rows.{same-key}
 use Rattle.readings.specs.Sound.{bytesIn, Lies, SoundId, SoundText, linked, Stored, Sound}
 use Rattle.readings.proofs.Columns.{chosen}
-use Rattle.kept.specs.Kept.{Piece}
-use Rattle.kept.specs.Cut.{cutPart, isWhole, partOf, idBefore, begunLater, cutRow, torn}
+use Rattle.kept.specs.Kept.{Piece, Whole, Inside}
+use Rattle.kept.specs.Cut.{cutPart, isWhole, partOf, shortened, idBefore, begunLater, cutRow, torn}
 use Rattle.written.specs.Written.{keyless, reread, Writable}
 use Rattle.written.specs.Kept.{KeptPiece}
 use Rattle.written.proofs.Texts.{clash, IsText, later-text}
@@ -57,100 +60,115 @@ pub sound-writable : (u : List ℕ) (b : Block) → Sound u b → Writable u b
 unfolding reread
 sound-writable u b s = chosen (Sound u) (linked b) (λ _. sound-keyless u b s) (λ _. s)
 
--- a block without ids or key is what it is without a key
-same-keyless : (b : Block) → b .«has_key» ≡ false → b .key ≡ noPart → keyless b ≡ b
-same-keyless b e f = λ i. record {
-  client = b .client;
-  clock = b .clock;
-  length = b .length;
-  kind = b .kind;
-  «has_left» = b .«has_left»;
-  left = b .left;
-  «has_right» = b .«has_right»;
-  right = b .right;
-  «has_parent» = b .«has_parent»;
-  parent = b .parent;
-  «has_name» = b .«has_name»;
-  name = b .name;
-  «has_key» = sym e i;
-  key = sym f i;
-  part = b .part;
-}
-
 keyless-writable : (u : List ℕ) (b : Block) → Sound u (keyless b) → (linked b ≡ false → (b .«has_key» ≡ false) × (b .key ≡ noPart)) → Writable u b
 unfolding reread
-keyless-writable u b s none = chosen (Sound u) (linked b) (λ _. s) (λ e. subst (Sound u) (same-keyless b (none e .0) (none e .1)) s)
+keyless-writable u b s none = chosen (Sound u) (linked b) (λ _. s) (λ e. subst (Sound u) (same-key b false noPart (sym (none e .0)) (sym (none e .1))) s)
 
--- ---- a row that begins later
+-- ---- a piece that is not all of its row
 
-module _ (u : List ℕ) (p : Piece) (kept : KeptPiece u p) (some : 0 < p .from) (less : p .from < p .row .length .0) where
+whole-test : (p : Piece) → p .from ≡ 0 → p .to ≡ p .row .length .0 → isWhole p ≡ true
+unfolding isWhole
+whole-test p e f = rw (eq-eqb (p .from) 0 e, eq-eqb (p .to) (p .row .length .0) f)
+
+whole-ends : (p : Piece) → isWhole p ≡ true → (p .from ≡ 0) × (p .to ≡ p .row .length .0)
+unfolding isWhole
+whole-ends p h =
+    let x = both (eqb (p .from) 0) (eqb (p .to) (p .row .length .0)) h in
+    (eqb-true (p .from) 0 (x .0), eqb-true (p .to) (p .row .length .0) (x .1))
+
+module _ (u : List ℕ) (p : Piece) (kept : KeptPiece u p) (part : isWhole p ≡ false) (inside : Inside p) where
   abbrev row : Block
   row = p .row
 
   abbrev sound : Sound u (p .row)
   sound = kept .sound
 
-  not-whole : isWhole p ≡ false
-  unfolding isWhole
-  not-whole = rw (ne-eqb (p .from) 0 (λ e. omega arith))
-
   abbrev left : ℕ
   left = p .to - p .from
 
-  text-is : row .kind ≡ 5 → IsText u (cutPart u (row .part) (p .from) left) left
+  text-is : row .kind ≡ TEXT → IsText u (cutPart u (row .part) (p .from) left) left
   unfolding torn
-  text-is e = later-text u (row .part) (p .from) left (sound .stored .lies) (rw (not-whole, eq-eqb (row .kind) 5 e) at (kept .clean))
+  text-is e = later-text u (row .part) (p .from) left (sound .stored .lies) (rw (part, eq-eqb (row .kind) TEXT e) at (kept .clean))
 
-  later-part : row .kind ≡ 5 → partOf u p ≡ cutPart u (row .part) (p .from) left
+  part-is : row .kind ≡ TEXT → partOf u p ≡ cutPart u (row .part) (p .from) left
   unfolding partOf
-  later-part e = rw (eq-eqb (row .kind) 5 e)
+  part-is e = rw (eq-eqb (row .kind) TEXT e)
 
-  same-part : row .kind ≤ 4 → partOf u p ≡ row .part
+  same-part : isText (row .kind) ≡ false → partOf u p ≡ row .part
   unfolding partOf
-  same-part l = rw (ne-eqb (row .kind) 5 (λ e. omega arith))
+  same-part e = rw e
 
   part-lies : Lies u (partOf u p)
   unfolding partOf
-  part-lies = chosen (Lies u) (eqb (row .kind) 5) (λ e. text-is (eqb-true (row .kind) 5 e) .lies) (λ _. sound .stored .lies)
+  part-lies = chosen (Lies u) (isText (row .kind)) (λ e. text-is (eqb-true (row .kind) TEXT e) .lies) (λ _. sound .stored .lies)
 
-  later-stored : Stored u (keyless (begunLater u p))
-  later-stored =
+  -- a binary has one unit
+  no-binary : row .kind ≡ BINARY → ⊥
+  no-binary e =
+      let one = sound .stored .binary e in
+      clash (sym (whole-test p (omega (arith, inside .some, inside .most)) (omega (arith, inside .some, inside .most))) ∙ part)
+
+  part-stored : (b : Block) → b .kind ≡ row .kind → b .part ≡ partOf u p → b .length .0 ≡ left → Stored u b
+  part-stored b k q n =
+      let same : hasPart (b .kind) ≡ false → hasPart (row .kind) ≡ false = λ l. sym (ap hasPart k) ∙ l in
       record {
-        lies = part-lies;
-        nothing = λ l. same-part (omega arith) ∙ sound .stored .nothing l;
-        binary = λ e. absurd (omega (arith, sound .stored .binary e));
-        text = λ e. let x = text-is e in rw (later-part e) (x .formed, x .units);
-        some = λ l. omega (arith, kept .to);
+        lies = subst (Lies u) (sym q) part-lies;
+        nothing = λ l. q ∙ same-part (part-text (row .kind) (same l)) ∙ sound .stored .nothing (same l);
+        binary = λ e. absurd (no-binary (sym k ∙ e));
+        text = λ e. let x = text-is (sym k ∙ e) in rw (q, part-is (sym k ∙ e), n) (x .formed, x .units);
+        some = λ l. omega (arith, inside .some);
       }
 
-  -- ---- an item
+  -- ---- it begins with its row
 
-  item-id : 2 < row .kind → SoundId (ltb 2 (row .kind)) (idBefore p)
-  item-id l = rw (lt-ltb 2 (row .kind) l) (record { client = sound .client; clock = omega (arith, sound .end); absent = λ e. clash e })
-
-  item-linked : 2 < row .kind → linked (begunLater u p) ≡ true
+  front-writable : p .from ≡ 0 → Writable u (shortened u p)
   unfolding linked
-  item-linked l = rw (lt-ltb 2 (row .kind) l)
+  front-writable e =
+      sound-writable u (shortened u p)
+      (record {
+        client = sound .client;
+        end = omega (arith, sound .end, inside .most);
+        kind = sound .kind;
+        left = sound .left;
+        right = sound .right;
+        parent = sound .parent;
+        name = sound .name;
+        key = sound .key;
+        shape = record { bare = sound .shape .bare; rootless = sound .shape .rootless; rooted = sound .shape .rooted };
+        stored = part-stored (shortened u p) refl refl (omega arith);
+      })
 
-  later-item : 2 < row .kind → Sound u (keyless (begunLater u p))
+  -- ---- it begins later
+
+  later-stored : Stored u (keyless (begunLater u p))
+  later-stored = part-stored (keyless (begunLater u p)) refl refl refl
+
+  item-id : isItem (row .kind) ≡ true → SoundId (isItem (row .kind)) (idBefore p)
+  item-id l = rw l (record { client = sound .client; clock = omega (arith, sound .end, inside .some, inside .most); absent = λ e. clash e })
+
+  item-linked : isItem (row .kind) ≡ true → linked (begunLater u p) ≡ true
+  unfolding linked
+  item-linked l = rw l
+
+  later-item : isItem (row .kind) ≡ true → Sound u (keyless (begunLater u p))
   unfolding linked
   later-item l =
       record {
         client = sound .client;
-        end = omega (arith, sound .end, kept .to);
+        end = omega (arith, sound .end, inside .some, inside .most);
         kind = sound .kind;
         left = item-id l;
         right = sound .right;
         parent = no-id;
         name = unnamed u;
         key = unnamed u;
-        shape = record { bare = λ m. absurd (omega arith); rootless = λ m e. (refl, refl, refl); rooted = λ m e. clash (sym (item-linked l) ∙ e) };
+        shape = record { bare = λ m. clash (sym l ∙ m); rootless = λ m e. (refl, refl, refl); rooted = λ m e. clash (sym (item-linked l) ∙ e) };
         stored = later-stored;
       }
 
-  -- ---- GC and Skip
+  -- what is bare has no ids
 
-  no-right : row .kind ≤ 2 → row .«has_right» ≡ false
+  no-right : isItem (row .kind) ≡ false → row .«has_right» ≡ false
   unfolding linked
   no-right l = go (row .«has_left») (sound .shape .bare l .0)
     where
@@ -158,19 +176,19 @@ module _ (u : List ℕ) (p : Piece) (kept : KeptPiece u p) (some : 0 < p .from) 
       go true e = clash e
       go false e = e
 
-  bare-id : row .kind ≤ 2 → SoundId (ltb 2 (row .kind)) (idBefore p)
-  bare-id l = rw (le-ltb 2 (row .kind) l) no-id
+  bare-id : isItem (row .kind) ≡ false → SoundId (isItem (row .kind)) (idBefore p)
+  bare-id l = rw l no-id
 
-  bare-unlinked : row .kind ≤ 2 → linked (begunLater u p) ≡ false
+  bare-unlinked : isItem (row .kind) ≡ false → linked (begunLater u p) ≡ false
   unfolding linked
-  bare-unlinked l = rw (le-ltb 2 (row .kind) l) (no-right l)
+  bare-unlinked l = rw l (no-right l)
 
-  later-bare : row .kind ≤ 2 → Sound u (keyless (begunLater u p))
+  later-bare : isItem (row .kind) ≡ false → Sound u (keyless (begunLater u p))
   unfolding linked
   later-bare l =
       record {
         client = sound .client;
-        end = omega (arith, sound .end, kept .to);
+        end = omega (arith, sound .end, inside .some, inside .most);
         kind = sound .kind;
         left = bare-id l;
         right = sound .right;
@@ -179,61 +197,49 @@ module _ (u : List ℕ) (p : Piece) (kept : KeptPiece u p) (some : 0 < p .from) 
         key = unnamed u;
         shape = record {
           bare = λ m. (bare-unlinked l, refl, refl, refl);
-          rootless = λ m e. absurd (omega arith);
-          rooted = λ m e. absurd (omega arith);
+          rootless = λ m e. clash (sym m ∙ l);
+          rooted = λ m e. clash (sym m ∙ l);
         };
         stored = later-stored;
       }
 
-  -- ---- either
-
   later-writable : Writable u (begunLater u p)
-  later-writable = go (ltb 2 (row .kind)) refl
+  later-writable = go (isItem (row .kind)) refl
     where
-      go : (x : Bool) → ltb 2 (row .kind) ≡ x → Writable u (begunLater u p)
-      go true e =
-          let l = ltb-true 2 (row .kind) e in
-          keyless-writable u (begunLater u p) (later-item l) (λ f. clash (sym (item-linked l) ∙ f))
+      go : (x : Bool) → isItem (row .kind) ≡ x → Writable u (begunLater u p)
+      go true e = keyless-writable u (begunLater u p) (later-item e) (λ f. clash (sym (item-linked e) ∙ f))
       go false e =
-          let l = ltb-false 2 (row .kind) e in
-          let none = sound .shape .bare l .3 in
-          keyless-writable u (begunLater u p) (later-bare l) (λ f. (none, sound .key .absent none))
-
-  later-row : cutRow u p ≡ begunLater u p
-  unfolding cutRow
-  later-row = rw (not-whole, ne-eqb (p .from) 0 (λ e. omega arith))
+          let none = sound .shape .bare e .3 in
+          keyless-writable u (begunLater u p) (later-bare e) (λ f. (none, sound .key .absent none))
 
 -- ---- any piece that is kept
 
 module _ (u : List ℕ) (p : Piece) (kept : KeptPiece u p) where
-  whole-row : p .from ≡ 0 → cutRow u p ≡ p .row
-  unfolding cutRow isWhole
-  whole-row e = rw (eq-eqb (p .from) 0 e, eq-eqb (p .to) (p .row .length .0) (kept .to))
-
-  -- what is left of it can be written, has the row's client, and ends where the row ends
+  -- what is left of it can be written, has the row's client, and lies between its ends
   pub record CutOut (b : Block) : Type 0 where
     pub writable : Writable u b
     pub client : b .client ≡ p .row .client
     pub clock : b .clock ≡ p .row .clock + p .from
-    pub end : p .row .clock + p .from + b .length .0 ≡ p .row .clock + p .row .length .0
+    pub end : p .row .clock + p .from + b .length .0 ≡ p .row .clock + p .to
+
+  not-whole : isWhole p ≡ false → Inside p
+  not-whole h = go (kept .ends)
+    where
+      go : Whole p ⊎ Inside p → Inside p
+      go (inl w) = clash (sym (whole-test p (w .from) (w .to)) ∙ h)
+      go (inr i) = i
 
   pub cut-out : CutOut (cutRow u p)
-  cut-out = go (kept .from)
-    where
-      whole : p .from ≡ 0 → CutOut (cutRow u p)
-      whole e =
-          rw (whole-row e)
-          (record { writable = sound-writable u (p .row) (kept .sound); client = refl; clock = omega (arith, e); end = omega (arith, e) })
-
-      later : 0 < p .from → p .from < p .row .length .0 → CutOut (cutRow u p)
-      later some less =
-          rw (later-row u p kept some less)
-          (record { writable = later-writable u p kept some less; client = refl; clock = refl; end = omega (arith, kept .to) })
-
-      go : (p .from ≡ 0) ⊎ (p .from < p .row .length .0) → CutOut (cutRow u p)
-      go (inl e) = whole e
-      go (inr l) = first (eqb (p .from) 0) refl
-        where
-          first : (x : Bool) → eqb (p .from) 0 ≡ x → CutOut (cutRow u p)
-          first true e = whole (eqb-true (p .from) 0 e)
-          first false e = later (omega (arith, eqb-false (p .from) 0 e)) l
+  unfolding cutRow
+  cut-out =
+      chosen CutOut (isWhole p)
+      (λ w.
+      let e = whole-ends p w in
+      record { writable = sound-writable u (p .row) (kept .sound); client = refl; clock = omega (arith, e .0); end = omega (arith, e .0, e .1) })
+      (λ h.
+      let i = not-whole h in
+      chosen CutOut (eqb (p .from) 0)
+      (λ x.
+      let e = eqb-true (p .from) 0 x in
+      record { writable = front-writable u p kept h i e; client = refl; clock = omega (arith, e); end = omega (arith, e) })
+      (λ _. record { writable = later-writable u p kept h i; client = refl; clock = refl; end = omega (arith, i .some) }))

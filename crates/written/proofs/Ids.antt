@@ -7,8 +7,8 @@ use lib.Dec.{ltb}
 use Rattle.numbers.specs.Number.{pick}
 use Rattle.block.specs.declared.Id.{Id}
 use Rattle.block.specs.declared.Block.{Block}
-use Rattle.block.specs.Row.{noId, noPart}
-use Rattle.block.specs.Rows.{plain}
+use Rattle.block.specs.Row.{noId}
+use Rattle.block.specs.Rows.{idsAre, plain}
 use Rattle.grammar.specs.Grammar as grammar
 use Rattle.grammar.specs.Grammar.{Number, Grammar, _>>=_}
 use Rattle.grammar.specs.Course.{got, Reader, over, onDrawn, run}
@@ -21,7 +21,7 @@ use Rattle.written.proofs.Courses.{then-on}
 
 -- a block that has its place, and perhaps ids beside it
 abbrev pub beside : ℕ → ℕ → Bool → Id → Bool → Id → Block
-beside c k l i r j = record { client = c; clock = k; length = record { 0 = 0 }; kind = 0; «has_left» = l; left = i; «has_right» = r; right = j; «has_parent» = false; parent = noId; «has_name» = false; name = noPart; «has_key» = false; key = noPart; part = noPart }
+beside c k l i r j = idsAre l i r j (plain c k 0 0)
 
 module _ {S : Type 0} (r : Reader S) where
   -- reading x from s finds b, up to t

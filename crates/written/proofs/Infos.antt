@@ -7,7 +7,8 @@ use lib.Dec.{ltb, eqb}
 use borrow.Author.Tests.{lt-ltb, le-ltb, ne-eqb}
 use Rattle.numbers.specs.Number.{pick}
 use Rattle.block.specs.declared.Block.{Block}
-use Rattle.readings.proofs.Columns.{chosen}
+use Rattle.block.specs.Kinds.{isItem}
+use Rattle.block.proofs.OfKinds.{item-number}
 use Rattle.records.specs.Records.{contentNumber, bit, infoByte}
 
 abbrev pub not : Bool → Bool
@@ -74,21 +75,12 @@ module _ (n : ℕ) (some : 1 ≤ n) (few : n ≤ 4) (l r k : Bool) (x : ℕ) (is
         key = key-said;
       }
 
--- ---- the byte of a block
+-- ---- the byte of an item
 
-abbrev Between : ℕ → Type 0
-Between n = (1 ≤ n) × (n ≤ 4)
-
-number-between : (kind : ℕ) → Between (contentNumber kind)
-unfolding contentNumber
-number-between kind =
-    chosen Between (eqb kind 3) (λ _. (omega arith, omega arith))
-    (λ _. chosen Between (eqb kind 4) (λ _. (omega arith, omega arith)) (λ _. (omega arith, omega arith)))
-
-pub info-says : (b : Block) → Says (infoByte b) (contentNumber (b .kind)) (b .«has_left») (b .«has_right») (b .«has_key»)
+pub info-says : (b : Block) → isItem (b .kind) ≡ true → Says (infoByte b) (contentNumber (b .kind)) (b .«has_left») (b .«has_right») (b .«has_key»)
 unfolding infoByte
-info-says b =
-    let n = number-between (b .kind) in
+info-says b item =
+    let n = item-number (b .kind) item in
     let l = b .«has_left» in
     let r = b .«has_right» in
     let k = b .«has_key» in

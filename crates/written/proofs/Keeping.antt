@@ -1,5 +1,5 @@
 -- What a diff keeps of an update can be written and read again, where it cuts inside no pair.
-use Prim.Native.Nat.{ℕ, _<_}
+use Prim.Native.Nat.{ℕ}
 use mathlib.Core.Path.{_≡_, refl}
 use mathlib.Core.Logic.{_⊎_, inl, inr}
 use mathlib.Core.Bool.{Bool, true, false}
@@ -13,16 +13,15 @@ use Rattle.decoder.specs.Update.{blocksOf, deleteSet}
 use Rattle.vector.specs.Vector.{Entry}
 use Rattle.ranges.specs.Ranges.{normal}
 use Rattle.ranges.proofs.Theory.{normal-is}
-use Rattle.readings.specs.Sound.{Sound, All}
-use Rattle.readings.proofs.Groups.{all-map}
+use Rattle.readings.specs.Sound.{Sound, All, Adjoins, Chain}
 use Rattle.readings.proofs.Sounds.{blocks-sound}
 use Rattle.readings.proofs.Orders.{blocks-ordered}
 use Rattle.readings.proofs.Counts.{blocks-count, blocks-groups}
 use Rattle.readings.proofs.RangesFound.{normal-fine, fit-fine, range-clients}
-use Rattle.kept.specs.Kept.{Piece, Section, sectionsOf, rowsOf, Begins, Whole, Pieces, SoundSection}
+use Rattle.kept.specs.Kept.{Piece, Section, sectionsOf, rowsOf, Begins, Whole, Inside, Pieces, SoundSection}
 use Rattle.kept.specs.Cut.{torn}
 use Rattle.kept.proofs.SectionsKept.{sections-length, sections-count, sections-distinct, sections-sound}
-use Rattle.written.specs.Kept.{KeptPiece, Later, KeptSection, Kept, Clean, KeptRanges}
+use Rattle.written.specs.Kept.{KeptPiece, Meets, Joined, KeptSection, Kept, Clean, KeptRanges}
 
 -- ---- a sound section whose pieces are not torn
 
@@ -31,16 +30,16 @@ module _ (u : List ℕ) where
   Untorn p = torn u p ≡ false
 
   first-kept : (p : Piece) → Begins p → Sound u (p .row) → Untorn p → KeptPiece u p
-  first-kept p b sound clean = record { sound = sound; to = b .to; from = cut (eqb (p .from) 0) refl; clean = clean }
+  first-kept p b sound clean = record { sound = sound; ends = cut (eqb (p .from) 0) refl; clean = clean }
     where
-      cut : (x : Bool) → eqb (p .from) 0 ≡ x → (p .from ≡ 0) ⊎ (p .from < p .row .length .0)
-      cut true e = inl (eqb-true (p .from) 0 e)
-      cut false e = inr (b .inside (omega (arith, eqb-false (p .from) 0 e)))
+      cut : (x : Bool) → eqb (p .from) 0 ≡ x → Whole p ⊎ Inside p
+      cut true e = inl (record { from = eqb-true (p .from) 0 e; to = b .to })
+      cut false e = inr (record { some = omega (arith, b .to, b .inside (omega (arith, eqb-false (p .from) 0 e))); most = omega (arith, b .to) })
 
   later-kept : (ps : List Piece) → All Whole ps → All (Sound u) (rowsOf ps) → All Untorn ps → All (KeptPiece u) ps
   later-kept [] w sound clean = tt
   later-kept (p ∷ ps) w sound clean = (
-    record { sound = sound .0; to = w .0 .to; from = inl (w .0 .from); clean = clean .0 },
+    record { sound = sound .0; ends = inl (w .0); clean = clean .0 },
     later-kept ps (w .1) (sound .1) (clean .1),
   )
 
@@ -49,17 +48,22 @@ module _ (u : List ℕ) where
   of-rows P [] h = tt
   of-rows P (p ∷ ps) h = (h .0, of-rows P ps (h .1))
 
+  -- only the first is cut, and at its start: where the rows adjoin, the pieces do
+  chain-joined : (p : Piece) (ps : List Piece) → p .to ≡ p .row .length .0 → All Whole ps → Chain (rowsOf (p ∷ ps)) → Joined (p ∷ ps)
+  unfolding Chain Adjoins Joined Meets
+  chain-joined p [] e w c = (tt, tt)
+  chain-joined p (q ∷ ps) e w c = (omega (arith, c .0 .1, w .0 .from, e), chain-joined q ps (w .0 .to) (w .1) (c .1))
+
   section-kept : (c : ℕ) (ps : List Piece) → SoundSection u (record { client = c; pieces = ps }) → All Untorn ps
       → KeptSection u (record { client = c; pieces = ps })
-  unfolding Pieces Later
+  unfolding Pieces
   section-kept c [] h clean = absurd (h .pieces)
   section-kept c (p ∷ ps) h clean =
       record {
         some = omega arith;
         each = (first-kept p (h .pieces .0) (h .sound .0) (clean .0), later-kept ps (h .pieces .1) (h .sound .1) (clean .1));
         client = of-rows (λ (b : Block). b .client ≡ c) (p ∷ ps) (h .client);
-        chain = h .chain;
-        later = all-map Whole (λ (q : Piece). q .from ≡ 0) (λ q w. w .from) ps (h .pieces .1);
+        joined = chain-joined p ps (h .pieces .0 .to) (h .pieces .1) (h .chain);
       }
 
   all-kept : (ss : List Section) → All (SoundSection u) ss → Clean u ss → All (KeptSection u) ss

@@ -1,12 +1,11 @@
 -- The tokens of a writable record can be written and read again.
-use Prim.Native.Nat.{ℕ, _+_, _≤_, _<_}
+use Prim.Native.Nat.{ℕ, _+_, _≤_}
 use mathlib.Core.Path.{_≡_, refl}
 use mathlib.Core.Bool.{Bool, true, false}
 use mathlib.Core.List.{List, [], _∷_, _++_}
 use native.Mathlib.Omega.{arith}
-use lib.Dec.{eqb}
 use lib.ListN.{length, take, length-take, length-drop}
-use borrow.Author.Tests.{eqb-false}
+use borrow.Author.Tests.{eqb-true}
 use Rattle.numbers.specs.Number.{pick}
 use Rattle.numbers.specs.Limits.{maxClock, maxUpdate}
 use Rattle.text.specs.declared.Part.{Part}
@@ -14,6 +13,7 @@ use Rattle.text.specs.Utf8.{wellFormed, unitsOf, countedIn}
 use Rattle.text.proofs.Laws.{units-le-bytes}
 use Rattle.block.specs.declared.Id.{Id}
 use Rattle.block.specs.declared.Block.{Block}
+use Rattle.block.specs.Kinds.{TEXT, isGc, isSkip, isDeleted, isBinary, isText, isItem}
 use Rattle.readings.specs.Sound.{bytesIn, SoundId, linked, Sound}
 use Rattle.readings.proofs.Columns.{chosen}
 use Rattle.tokens.specs.Tokens.{Token, client, left, right, info, parentInfo, text, len, var, buf}
@@ -95,32 +95,30 @@ module _ (u : List ℕ) (few : length u ≤ maxUpdate) where
         go true w = ids-legal (w .left) (w .right)
         go false w = root-legal w
 
-    -- its content, its length and its kind are the same
+    -- its content and its length are the same
     record Filled : Type 0 where
       end : b .clock + b .length .0 ≤ maxClock
-      kind : (1 ≤ b .kind) × (b .kind ≤ 5)
-      text : b .kind ≡ 5 → (wellFormed (bytesIn u (b .part)) ≡ true) × (unitsOf (bytesIn u (b .part)) ≡ b .length .0)
+      text : b .kind ≡ TEXT → (wellFormed (bytesIn u (b .part)) ≡ true) × (unitsOf (bytesIn u (b .part)) ≡ b .length .0)
 
     filled : Writable u b → Filled
     unfolding reread
     filled sound = go (linked b) sound
       where
         go : (x : Bool) → Sound u (pick x (keyless b) b) → Filled
-        go true w = record { end = w .end; kind = w .kind; text = w .stored .text }
-        go false w = record { end = w .end; kind = w .kind; text = w .stored .text }
+        go true w = record { end = w .end; text = w .stored .text }
+        go false w = record { end = w .end; text = w .stored .text }
 
     length-legal : Filled → AllLegal (len (b .length .0) ∷ [])
     unfolding AllLegal Legal isField most
     length-legal f = ((refl, omega (arith, f .end)), tt)
 
-    content-legal : 2 < b .kind → Filled → AllLegal (contentTokens u b)
+    content-legal : Filled → AllLegal (contentTokens u b)
     unfolding contentTokens AllLegal
-    content-legal l f =
-        chosen AllLegal (eqb (b .kind) 3) (λ _. length-legal f)
-        (λ x. chosen AllLegal (eqb (b .kind) 4) (λ _. (buf-legal (b .part), tt))
-        (λ y.
-        let t = f .text (omega (arith, f .kind, eqb-false (b .kind) 3 x, eqb-false (b .kind) 4 y)) in
-        (text-legal (b .part) (b .length .0) (t .0) (t .1), tt)))
+    content-legal f =
+        chosen AllLegal (isDeleted (b .kind)) (λ _. length-legal f)
+        (λ _. chosen AllLegal (isBinary (b .kind)) (λ _. (buf-legal (b .part), tt))
+        (λ _. chosen AllLegal (isText (b .kind))
+        (λ e. let t = f .text (eqb-true (b .kind) TEXT e) in (text-legal (b .part) (b .length .0) (t .0) (t .1), tt)) (λ _. tt)))
 
     gc-legal : Filled → AllLegal (info 0 ∷ (len (b .length .0) ∷ []))
     unfolding AllLegal Legal isField most
@@ -130,13 +128,13 @@ module _ (u : List ℕ) (few : length u ≤ maxUpdate) where
     unfolding AllLegal Legal isField most
     skip-legal f = ((refl, omega arith), (omega (arith, f .end), tt))
 
-    item-legal : Writable u b → 2 < b .kind → AllLegal (info (infoByte b) ∷ (placeTokens u b ++ contentTokens u b))
+    item-legal : Writable u b → isItem (b .kind) ≡ true → AllLegal (info (infoByte b) ∷ (placeTokens u b ++ contentTokens u b))
     unfolding AllLegal Legal isField most
-    item-legal w l = ((refl, info-says b .byte), legal-append (placeTokens u b) (contentTokens u b) (place-legal w) (content-legal l (filled w)))
+    item-legal w l = ((refl, info-says b l .byte), legal-append (placeTokens u b) (contentTokens u b) (place-legal w) (content-legal (filled w)))
 
     pub block-legal : Writable u b → AllLegal (blockTokens u b)
     unfolding blockTokens
     block-legal w =
-        chosen AllLegal (eqb (b .kind) 1) (λ _. gc-legal (filled w))
-        (λ x. chosen AllLegal (eqb (b .kind) 2) (λ _. skip-legal (filled w))
-        (λ y. item-legal w (omega (arith, filled w .kind, eqb-false (b .kind) 1 x, eqb-false (b .kind) 2 y))))
+        chosen AllLegal (isGc (b .kind)) (λ _. gc-legal (filled w))
+        (λ _. chosen AllLegal (isSkip (b .kind)) (λ _. skip-legal (filled w))
+        (λ _. chosen AllLegal (isItem (b .kind)) (item-legal w) (λ _. none-legal)))

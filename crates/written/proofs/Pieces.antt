@@ -2,18 +2,19 @@
 use Prim.Native.Nat.{ℕ, suc, _+_}
 use mathlib.Core.Path.{_≡_, refl, sym, ap, _∙_}
 use mathlib.Core.Bool.{Bool, true, false}
-use mathlib.Core.List.{List, [], _∷_, map}
+use mathlib.Core.List.{List, [], _∷_}
 use native.Mathlib.Omega.{arith}
 use lib.Dec.{ltb, eqb}
 use lib.ListN.{length}
-use borrow.Author.Tests.{le-ltb, ltb-true, eqb-true}
+use borrow.Author.Tests.{le-ltb, eqb-true}
 use Rattle.numbers.specs.Number.{pick}
 use Rattle.numbers.specs.Limits.{maxClock}
 use Rattle.text.specs.declared.Units.{Units}
 use Rattle.block.specs.declared.Block.{Block}
+use Rattle.block.specs.Kinds.{isItem}
 use Rattle.grammar.specs.Course.{Reader, item, over, run}
 use Rattle.grammar.specs.Blocks.{block, dropped, kept, blocks}
-use Rattle.readings.specs.Sound.{linked, Sound, All, Adjoins, Chain}
+use Rattle.readings.specs.Sound.{linked, Sound, All}
 use Rattle.readings.proofs.Columns.{chosen}
 use Rattle.draws.specs.Draws.{Draws, Lined}
 use Rattle.draws.proofs.Splits.{split}
@@ -21,7 +22,7 @@ use Rattle.kept.specs.Kept.{Piece}
 use Rattle.kept.specs.Cut.{cutRow}
 use Rattle.records.specs.Records.{blockTokens, piecesTokens, startOf}
 use Rattle.written.specs.Written.{reread, Writable, piecesRead, Goes, AlikeIn}
-use Rattle.written.specs.Kept.{KeptPiece, Later, rowOf}
+use Rattle.written.specs.Kept.{KeptPiece, Meets, Joined}
 use Rattle.written.proofs.Courses.{then-on}
 use Rattle.written.proofs.Blocks.{block-read}
 use Rattle.written.proofs.Cuts.{cut-out}
@@ -44,29 +45,29 @@ not-dropped : (u : List ℕ) (b : Block) → Sound u b → (c : Block) → c .le
 unfolding dropped
 not-dropped u b sound c e f = go (eqb (c .length .0) 0) refl
   where
-    small : c .length .0 ≡ 0 → (x : Bool) → ltb 2 (c .kind) ≡ x → ltb 2 (c .kind) ≡ false
+    small : c .length .0 ≡ 0 → (x : Bool) → isItem (c .kind) ≡ x → isItem (c .kind) ≡ false
     small z false l = l
-    small z true l = absurd (omega (arith, sound .stored .some (omega (arith, f, ltb-true 2 (c .kind) l)), ap (λ (n : Units). n .0) e))
+    small z true l = absurd (omega (arith, sound .stored .some (sym (ap isItem f) ∙ l), ap (λ (n : Units). n .0) e))
 
-    go : (x : Bool) → eqb (c .length .0) 0 ≡ x → pick x (ltb 2 (c .kind)) false ≡ false
-    go true z = small (eqb-true (c .length .0) 0 z) (ltb 2 (c .kind)) refl
+    go : (x : Bool) → eqb (c .length .0) 0 ≡ x → pick x (isItem (c .kind)) false ≡ false
+    go true z = small (eqb-true (c .length .0) 0 z) (isItem (c .kind)) refl
     go false z = refl
 
 -- ---- pieces from a clock on
 
 unfoldable pub Runs : ℕ → List Piece → Type 0
 Runs clock [] = Unit {0}
-Runs clock (p ∷ ps) = (p .row .clock + p .from ≡ clock) × Runs (p .row .clock + p .row .length .0) ps
+Runs clock (p ∷ ps) = (p .row .clock + p .from ≡ clock) × Runs (p .row .clock + p .to) ps
 
-later-runs : (p : Piece) (ps : List Piece) → Chain (map rowOf (p ∷ ps)) → Later (p ∷ ps) → Runs (p .row .clock + p .row .length .0) ps
-unfolding Chain Adjoins Later Runs
-later-runs p [] c l = tt
-later-runs p (q ∷ ps) c l = (omega (arith, c .0 .1, l .0), later-runs q ps (c .1) (l .1))
+later-runs : (p : Piece) (ps : List Piece) → Joined (p ∷ ps) → Runs (p .row .clock + p .to) ps
+unfolding Joined Meets Runs
+later-runs p [] h = tt
+later-runs p (q ∷ ps) h = (h .0, later-runs q ps (h .1))
 
-pub runs : (ps : List Piece) → Chain (map rowOf ps) → Later ps → Runs (startOf ps) ps
+pub runs : (ps : List Piece) → Joined ps → Runs (startOf ps) ps
 unfolding Runs startOf
-runs [] c l = tt
-runs (p ∷ ps) c l = (refl, later-runs p ps c l)
+runs [] h = tt
+runs (p ∷ ps) h = (refl, later-runs p ps h)
 
 module _ {S : Type 0} {form : ℕ} {r : Reader S} {place : S → ℕ} {d : List ℕ} (lined : Lined form d r place) (u : List ℕ) (client : ℕ) where
   -- one block more
@@ -76,14 +77,14 @@ module _ {S : Type 0} {form : ℕ} {r : Reader S} {place : S → ℕ} {d : List 
   step c clock s t w e f k h =
       let x = block-read lined u c s t w h in
       let stays = reread-stays c in
-      let size : x .block .length .0 ≡ c .length .0 = ap (λ (n : Units). n .0) (x .alike .length ∙ stays .length) in
+      let size : x .block .length .0 ≡ c .length .0 = ap (λ (n : Units). n .0) (ap (λ (b : Block). b .length) (x .alike .same) ∙ stays .length) in
       let is : run {E = Block} r (block client clock) s ≡ over (x .block, x .place) t = rw (← e, ← f) (x .is) in
       let end : ℕ = clock + x .block .length .0 in
       let fits : ltb maxClock end ≡ false = le-ltb maxClock end (omega (arith, w .end, stays .clock, f, ap (λ (n : Units). n .0) (stays .length))) in (
         x .block,
         x .place,
         then-on r (block client clock) (x .block, x .place) s t _ is
-            ∙ rw (fits, not-dropped u (reread c) w (x .block) (x .alike .length) (x .alike .kind), size),
+            ∙ rw (fits, not-dropped u (reread c) w (x .block) (ap (λ (b : Block). b .length) (x .alike .same)) (ap (λ (b : Block). b .kind) (x .alike .same)), size),
         x .alike,
       )
 
@@ -99,11 +100,11 @@ module _ {S : Type 0} {form : ℕ} {r : Reader S} {place : S → ℕ} {d : List 
       let two = split r d (blockTokens u (cutRow u p)) (piecesTokens u ps) s m h in
       let out = cut-out u p (k .0) in
       let one = step (cutRow u p) clock s (two .between) (out .writable) (out .client ∙ c .0) (out .clock ∙ x .0) (length ps) (two .first) in
-      let end : clock + cutRow u p .length .0 ≡ p .row .clock + p .row .length .0 = ap (λ (n : ℕ). n + cutRow u p .length .0) (sym (x .0)) ∙ out .end in
-      let more = pieces-read ps (p .row .clock + p .row .length .0) (two .between) m (k .1) (c .1) (x .1) (two .then) in (
+      let end : clock + cutRow u p .length .0 ≡ p .row .clock + p .to = ap (λ (n : ℕ). n + cutRow u p .length .0) (sym (x .0)) ∙ out .end in
+      let more = pieces-read ps (p .row .clock + p .to) (two .between) m (k .1) (c .1) (x .1) (two .then) in (
         one .0,
         one .1,
-        run r (blocks (length ps) client (p .row .clock + p .row .length .0)) (two .between),
+        run r (blocks (length ps) client (p .row .clock + p .to)) (two .between),
         one .2 ∙ ap (λ (n : ℕ). item (one .0) (one .1) (run r (blocks (length ps) client n) (two .between))) end,
         one .3,
         more,

@@ -1,5 +1,5 @@
 -- What stands beside an item's content, read again: its ids, or a parent and perhaps a key.
-use Prim.Native.Nat.{ℕ, _≤_, _<_}
+use Prim.Native.Nat.{ℕ}
 use mathlib.Core.Path.{_≡_, refl, sym, ap, subst, _∙_}
 use mathlib.Core.Bool.{Bool, true, false}
 use mathlib.Core.List.{List, _++_}
@@ -10,6 +10,8 @@ use Rattle.text.specs.declared.Part.{Part}
 use Rattle.block.specs.declared.Block.{Block}
 use Rattle.block.specs.Row.{noPart}
 use Rattle.block.specs.Rows.{plain, withContent}
+use Rattle.block.specs.Kinds.{isItem}
+use Rattle.block.proofs.OfKinds.{item-part}
 use Rattle.grammar.specs.Course.{Reader}
 use Rattle.grammar.specs.Blocks.{place}
 use Rattle.readings.specs.Sound.{bytesIn, linked, Sound}
@@ -45,25 +47,14 @@ module _ {S : Type 0} (r : Reader S) (d u : List ℕ) (b : Block) where
 
   -- ---- ids beside it
 
-  module _ (some : linked b ≡ true) (sound : Sound u (keyless b)) (l : 2 < b .kind) where
+  module _ (some : linked b ≡ true) (sound : Sound u (keyless b)) (l : isItem (b .kind) ≡ true) where
     linked-alike : (p : Part) → bytesIn d p ≡ bytesIn u (b .part) → Alike d (filled b p (withIds b)) u (keyless b)
     unfolding linked
     linked-alike p e =
         let none = sound .shape .rootless l some in
         record {
-          client = refl;
-          clock = refl;
-          length = refl;
-          kind = refl;
-          «has_left» = refl;
-          left = refl;
-          «has_right» = refl;
-          right = refl;
-          «has_parent» = sym (none .0);
-          parent = sym (sound .parent .absent (none .0));
-          «has_name» = sym (none .1);
+          same = rw (none .0, sound .parent .absent (none .0), none .1);
           name = nothing-in d u ∙ ap (bytesIn u) (sym (sound .name .absent (none .1)));
-          «has_key» = refl;
           key = nothing-in d u;
           part = e;
         }
@@ -73,7 +64,7 @@ module _ {S : Type 0} (r : Reader S) (d u : List ℕ) (b : Block) where
     linked-place s m h =
         let k : Draws r d s (leftTokens b ++ rightTokens b) m = rw some at h in
         let two = split r d (leftTokens b) (rightTokens b) s m k in
-        let says = info-says b in
+        let says = info-says b l in
         let ids : ltb (infoByte b) 64 ≡ false = says .ids ∙ ap (λ (x : Bool). pick x false true) some in
         let v = infoByte b in
         let left = left-read r d (b .client) (b .clock) v (b .«has_left») (b .left) (sound .left .absent) (says .left) s (two .between) (two .first) in
@@ -95,29 +86,18 @@ module _ {S : Type 0} (r : Reader S) (d u : List ℕ) (b : Block) where
         → Alike d (filled b p (withRoot b n k)) u b
     rooted-alike n k p named keyed e =
         record {
-          client = refl;
-          clock = refl;
-          length = refl;
-          kind = refl;
-          «has_left» = sym (no-ids .0);
-          left = sym (sound .left .absent (no-ids .0));
-          «has_right» = sym (no-ids .1);
-          right = sym (sound .right .absent (no-ids .1));
-          «has_parent» = refl;
-          parent = refl;
-          «has_name» = refl;
+          same = rw (no-ids .0, no-ids .1, sound .left .absent (no-ids .0), sound .right .absent (no-ids .1));
           name = named;
-          «has_key» = refl;
           key = keyed;
           part = e;
         }
 
-    pub rooted-place : 2 < b .kind → (s m : S) → Draws r d s (placeTokens u b) m → Placed b s m
+    pub rooted-place : isItem (b .kind) ≡ true → (s m : S) → Draws r d s (placeTokens u b) m → Placed b s m
     unfolding placeTokens parentTokens keyTokens place linked
     rooted-place l s m h =
         let k : Draws r d s (parentTokens u b ++ keyTokens u b) m = rw none at h in
         let two = split r d (parentTokens u b) (keyTokens u b) s m k in
-        let says = info-says b in
+        let says = info-says b l in
         let ids : ltb (infoByte b) 64 ≡ true = says .ids ∙ ap (λ (x : Bool). pick x false true) none in
         let parent = parent-read r d u (b .client) (b .clock) (b .«has_parent») (b .parent) (b .«has_name») (b .name) in
         let root = parent (sound .shape .rooted l none) (sound .parent .absent) (sound .name .absent) s (two .between) (two .first) in
@@ -131,7 +111,7 @@ module _ {S : Type 0} (r : Reader S) (d u : List ℕ) (b : Block) where
 
     -- ---- GC and Skip have only a length
 
-    pub bare-alike : b .kind ≤ 2 → Alike d (plain (b .client) (b .clock) (b .length .0) (b .kind)) u b
+    pub bare-alike : isItem (b .kind) ≡ false → Alike d (plain (b .client) (b .clock) (b .length .0) (b .kind)) u b
     bare-alike l =
         let none = sound .shape .bare l in
         let absent : (p : Part) → p ≡ noPart → bytesIn d noPart ≡ bytesIn u p = λ p e. rw e (nothing-in d u) in
@@ -139,4 +119,4 @@ module _ {S : Type 0} (r : Reader S) (d u : List ℕ) (b : Block) where
         rw (none .1, none .2, none .3, sound .parent .absent (none .1)) in
         subst (λ (x : Block). Alike d x u b) same
         (rooted-alike noPart noPart noPart (absent (b .name) (sound .name .absent (none .2))) (absent (b .key) (sound .key .absent (none .3)))
-        (absent (b .part) (sound .stored .nothing (omega arith))))
+        (absent (b .part) (sound .stored .nothing (item-part (b .kind) l))))

@@ -10,7 +10,7 @@ use Rattle.text.specs.declared.Part.{Part}
 use Rattle.block.specs.declared.Id.{Id}
 use Rattle.block.specs.declared.Block.{Block}
 use Rattle.block.specs.Row.{noId, noPart}
-use Rattle.block.specs.Rows.{plain}
+use Rattle.block.specs.Rows.{rootIs, plain}
 use Rattle.grammar.specs.Grammar as grammar
 use Rattle.grammar.specs.Course.{Reader, over, run}
 use Rattle.grammar.specs.Blocks.{parentAfter, parent, key}
@@ -24,7 +24,7 @@ use Rattle.written.proofs.Ids.{Finds, id-read}
 
 -- a block with a parent, by id or by name, and perhaps a key
 abbrev pub rooted : ℕ → ℕ → Bool → Id → Bool → Part → Bool → Part → Block
-rooted c k hp i hn p hk q = record { client = c; clock = k; length = record { 0 = 0 }; kind = 0; «has_left» = false; left = noId; «has_right» = false; right = noId; «has_parent» = hp; parent = i; «has_name» = hn; name = p; «has_key» = hk; key = q; part = noPart }
+rooted c k hp i hn p hk q = rootIs hp i hn p hk q (plain c k 0 0)
 
 pub nothing-in : (d u : List ℕ) → bytesIn d noPart ≡ bytesIn u noPart
 unfolding bytesIn

@@ -20,7 +20,7 @@ use Rattle.readings.specs.Sound.{All}
 use Rattle.readings.specs.Groups.{Distinct}
 use Rattle.draws.specs.Draws.{laneField, Draws, Lined}
 use Rattle.draws.proofs.Splits.{split}
-use Rattle.kept.specs.Kept.{Piece, Section, pieceCount}
+use Rattle.kept.specs.Kept.{Piece, Section, Whole, Inside, pieceCount}
 use Rattle.records.specs.Records.{piecesTokens, startOf, sectionTokens, sectionsTokens}
 use Rattle.written.specs.Written.{piecesRead, sectionsRead, Goes, AlikeIn}
 use Rattle.written.specs.Kept.{KeptPiece, KeptSection, clientIn}
@@ -57,11 +57,11 @@ all-new (c ∷ cs) = (refl, all-new cs)
 pub start-fits : (u : List ℕ) (ps : List Piece) → All (KeptPiece u) ps → startOf ps ≤ maxClock
 unfolding startOf
 start-fits u [] k = omega arith
-start-fits u (p ∷ ps) k = go (k .0 .from)
+start-fits u (p ∷ ps) k = go (k .0 .ends)
   where
-    go : (p .from ≡ 0) ⊎ (p .from < p .row .length .0) → p .row .clock + p .from ≤ maxClock
-    go (inl e) = omega (arith, k .0 .sound .end)
-    go (inr l) = omega (arith, k .0 .sound .end)
+    go : Whole p ⊎ Inside p → p .row .clock + p .from ≤ maxClock
+    go (inl w) = omega (arith, k .0 .sound .end, w .from)
+    go (inr i) = omega (arith, k .0 .sound .end, i .some, i .most)
 
 module _ {S : Type 0} {form : ℕ} {r : Reader S} {place : S → ℕ} {d : List ℕ} (lined : Lined form d r place) (u : List ℕ) where
   -- up to its first block
@@ -103,7 +103,7 @@ module _ {S : Type 0} {form : ℕ} {r : Reader S} {place : S → ℕ} {d : List 
       let head = head-read (length ss) seen room x s t (k .0) (omega arith) (new .0) (two .first) in
       let on = sections (length ss) (seen ++ (x .client ∷ [])) (room - n) in
       let here = pieces-read lined u (x .client) (x .pieces) (startOf (x .pieces)) (head .from) t (k .0 .each) (k .0 .client)
-      (runs (x .pieces) (k .0 .chain) (k .0 .later)) (head .drawn) in
+      (runs (x .pieces) (k .0 .joined)) (head .drawn) in
       let later = still-new (x .client) seen (map clientIn ss) (new .1) (e .0) in
       let there = sections-read ss (seen ++ (x .client ∷ [])) (room - n) t m (k .1) (e .1) later (omega arith) (two .then) in
       goes-from (AlikeIn d u) _ _ _ _ (head .is ∙ run-bind r _ _ (head .from))

@@ -2,11 +2,11 @@
 -- beside a left or a right id is gone, for nothing of it was spelled.
 use Prim.Native.Nat.{ℕ}
 use mathlib.Core.Path.{_≡_}
-use mathlib.Core.Bool.{false}
 use mathlib.Core.List.{List, [], _∷_, _++_}
 use Rattle.numbers.specs.Number.{pick}
 use Rattle.block.specs.declared.Block.{Block}
 use Rattle.block.specs.Row.{noPart}
+use Rattle.block.specs.Rows.{nameIs, keyIs, withPart, withoutKey}
 use Rattle.ranges.specs.Ranges.{Range}
 use Rattle.grammar.specs.Course.{Run, item, over}
 use Rattle.decoder.specs.Update.{blocksOf, deleteSet}
@@ -16,21 +16,14 @@ use Rattle.kept.specs.Cut.{cutRow}
 
 -- ---- the same record
 
+-- a record without where its parts lie
+abbrev pub unplaced : Block → Block
+unplaced b = nameIs (b .«has_name») noPart (keyIs (b .«has_key») noPart (withPart noPart b))
+
 -- b, whose parts lie in d, and c, whose parts lie in u, differ at most in where these lie
 pub record Alike (d : List ℕ) (b : Block) (u : List ℕ) (c : Block) : Type 0 where
-  pub client : b .client ≡ c .client
-  pub clock : b .clock ≡ c .clock
-  pub length : b .length ≡ c .length
-  pub kind : b .kind ≡ c .kind
-  pub «has_left» : b .«has_left» ≡ c .«has_left»
-  pub left : b .left ≡ c .left
-  pub «has_right» : b .«has_right» ≡ c .«has_right»
-  pub right : b .right ≡ c .right
-  pub «has_parent» : b .«has_parent» ≡ c .«has_parent»
-  pub parent : b .parent ≡ c .parent
-  pub «has_name» : b .«has_name» ≡ c .«has_name»
+  pub same : unplaced b ≡ unplaced c
   pub name : bytesIn d (b .name) ≡ bytesIn u (c .name)
-  pub «has_key» : b .«has_key» ≡ c .«has_key»
   pub key : bytesIn d (b .key) ≡ bytesIn u (c .key)
   pub part : bytesIn d (b .part) ≡ bytesIn u (c .part)
 
@@ -44,7 +37,7 @@ AllAlike d (b ∷ bs) u (c ∷ cs) = Alike d b u c × AllAlike d bs u cs
 -- ---- a record as it is read again
 
 abbrev pub keyless : Block → Block
-keyless b = record { client = b .client; clock = b .clock; length = b .length; kind = b .kind; «has_left» = b .«has_left»; left = b .left; «has_right» = b .«has_right»; right = b .right; «has_parent» = b .«has_parent»; parent = b .parent; «has_name» = b .«has_name»; name = b .name; «has_key» = false; key = noPart; part = b .part }
+keyless b = withoutKey b
 
 unfoldable pub reread : Block → Block
 reread b = pick (linked b) (keyless b) b

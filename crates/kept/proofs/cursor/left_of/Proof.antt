@@ -1,33 +1,19 @@
--- `kept::left_of` meets its contract: GC and Skip have no ids.
-use native.Mathlib.Omega.{arith}
-use mathlib.Core.Path.{refl}
-use borrow.Author.Tests.{lt-ltb, le-ltb}
-use Rattle.kept.proofs.Sane.{sane-within}
+-- `kept::left_of` meets its contract: only items have ids.
+use mathlib.Core.Path.{refl, sym, _∙_}
+use borrow.Author.Tests.{not-true, not-false}
 use borrow.Author.Needs.{needs}
 use Rattle.kept.proofs.cursor.left_of.Statement.{statement}
 use Rattle.kept.proofs.cursor.left_of.Tie as tie
 
 returns : tie.Need-returns
 returns c =
-    let a = c .before .before .before .args in
-    rw (le-ltb 2 (a .b .kind) (c .before .if1 .taken)) (c .no-id .ensures)
-
-add-start : tie.Need-add-start
-add-start c =
-    let s = c .before .before .before .before in
-    let w = sane-within (s .args .b) (s .args .from .0) 0 (s .pre .0) in
-    omega (arith, w .units, w .end)
-
-cast-clock : tie.Need-cast-clock
-cast-clock c =
-    let s = c .before .before .before .before in
-    let w = sane-within (s .args .b) (s .args .from .0) 0 (s .pre .0) in
-    omega (arith, w .units, w .end)
+    let p2 = c .before .before in
+    rw (sym (p2 .is-item .ensures) ∙ not-true (p2 .is-item .result) (c .before .if1 .taken)) (c .no-id .ensures)
 
 returns-2 : tie.Need-returns-2
 returns-2 c =
-    let a = c .before .before .before .before .args in
-    rw (lt-ltb 2 (a .b .kind) (c .before .before .if1 .left)) refl
+    let p3 = c .before .before .before in
+    rw (sym (p3 .is-item .ensures) ∙ not-false (p3 .is-item .result) (c .before .before .if1 .left)) refl
 
 pub left-of-spec : {M : Type 1} → statement M
-left-of-spec = tie.close (tie.spec (λ c κs. search needs) returns (λ c. search needs) add-start (λ c. search needs) cast-clock returns-2)
+left-of-spec = tie.close (tie.spec (λ c κs. search needs) (λ c κs. search needs) returns (λ c. search needs) (λ c. search needs) (λ c. search needs) (λ c. search needs) returns-2)

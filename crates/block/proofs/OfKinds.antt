@@ -1,0 +1,106 @@
+-- Laws of kinds: what each kind says, and which kinds there are where something is said of a kind.
+use Prim.Native.Nat.{ℕ, _≤_}
+use mathlib.Core.Path.{_≡_, refl, sym}
+use mathlib.Core.Logic.{_⊎_, inl, inr}
+use mathlib.Core.Bool.{Bool, true, false, _||_}
+use native.Mathlib.Omega.{arith}
+use borrow.Author.Tests.{eqb-true}
+use Rattle.block.specs.Kinds.{GC, SKIP, DELETED, BINARY, TEXT, isGc, isSkip, isDeleted, isBinary, isText, isBare, isItem, isBlock, hasPart, contentNumber}
+
+clash : {A : Type 0} → false ≡ true → A
+clash e = absurd (let z : _≡_ {A = ℕ} 0 1 = cc in omega arith)
+
+first-not : (x y : Bool) → (x || y) ≡ false → x ≡ false
+first-not true y h = clash (sym h)
+first-not false y h = refl
+
+second-not : (x y : Bool) → (x || y) ≡ false → y ≡ false
+second-not true y h = clash (sym h)
+second-not false y h = h
+
+-- ---- which kinds they are
+
+pub bare-kinds : (k : ℕ) → isBare k ≡ true → (k ≡ GC) ⊎ (k ≡ SKIP)
+unfolding isBare
+bare-kinds k = go (isGc k) refl
+  where
+    go : (x : Bool) → isGc k ≡ x → (x || isSkip k) ≡ true → (k ≡ GC) ⊎ (k ≡ SKIP)
+    go true e h = inl (eqb-true k GC e)
+    go false e h = inr (eqb-true k SKIP h)
+
+pub part-kinds : (k : ℕ) → hasPart k ≡ true → (k ≡ BINARY) ⊎ (k ≡ TEXT)
+unfolding hasPart
+part-kinds k = go (isBinary k) refl
+  where
+    go : (x : Bool) → isBinary k ≡ x → (x || isText k) ≡ true → (k ≡ BINARY) ⊎ (k ≡ TEXT)
+    go true e h = inl (eqb-true k BINARY e)
+    go false e h = inr (eqb-true k TEXT h)
+
+pub item-kinds : (k : ℕ) → isItem k ≡ true → (k ≡ DELETED) ⊎ (k ≡ BINARY) ⊎ (k ≡ TEXT)
+unfolding isItem
+item-kinds k = go (isDeleted k) refl (isBinary k) refl
+  where
+    go : (x : Bool) → isDeleted k ≡ x → (y : Bool) → isBinary k ≡ y → (x || y || isText k) ≡ true → (k ≡ DELETED) ⊎ (k ≡ BINARY) ⊎ (k ≡ TEXT)
+    go true e y f h = inl (eqb-true k DELETED e)
+    go false e true f h = inr (inl (eqb-true k BINARY f))
+    go false e false f h = inr (inr (eqb-true k TEXT h))
+
+-- ---- a block is bare or an item, and not both
+
+pub block-bare : (k : ℕ) → isBlock k ≡ true → isItem k ≡ false → isBare k ≡ true
+unfolding isBlock
+block-bare k = go (isBare k) (isItem k)
+  where
+    go : (x y : Bool) → (x || y) ≡ true → y ≡ false → x ≡ true
+    go true y h e = refl
+    go false false h e = h
+    go false true h e = clash (sym e)
+
+pub bare-item : (k : ℕ) → isBare k ≡ true → isItem k ≡ false
+unfolding isItem
+bare-item k h = go (bare-kinds k h)
+  where
+    go : (k ≡ GC) ⊎ (k ≡ SKIP) → isItem k ≡ false
+    go (inl e) = rw e
+    go (inr e) = rw e
+
+pub item-bare : (k : ℕ) → isItem k ≡ true → isBare k ≡ false
+unfolding isBare
+item-bare k h = go (item-kinds k h)
+  where
+    go : (k ≡ DELETED) ⊎ (k ≡ BINARY) ⊎ (k ≡ TEXT) → isBare k ≡ false
+    go (inl e) = rw e
+    go (inr (inl e)) = rw e
+    go (inr (inr e)) = rw e
+
+pub bare-gc : (k : ℕ) → isBare k ≡ false → isGc k ≡ false
+unfolding isBare
+bare-gc k = first-not (isGc k) (isSkip k)
+
+pub bare-skip : (k : ℕ) → isBare k ≡ false → isSkip k ≡ false
+unfolding isBare
+bare-skip k = second-not (isGc k) (isSkip k)
+
+-- ---- only items have a part, and a text has one
+
+pub item-part : (k : ℕ) → isItem k ≡ false → hasPart k ≡ false
+unfolding isItem hasPart
+item-part k = go (isDeleted k) (isBinary k) (isText k)
+  where
+    go : (x y z : Bool) → (x || y || z) ≡ false → (y || z) ≡ false
+    go true y z h = clash (sym h)
+    go false y z h = h
+
+pub part-text : (k : ℕ) → hasPart k ≡ false → isText k ≡ false
+unfolding hasPart
+part-text k = second-not (isBinary k) (isText k)
+
+-- an item has content
+pub item-number : (k : ℕ) → isItem k ≡ true → (1 ≤ contentNumber k) × (contentNumber k ≤ 4)
+unfolding contentNumber
+item-number k h = go (item-kinds k h)
+  where
+    go : (k ≡ DELETED) ⊎ (k ≡ BINARY) ⊎ (k ≡ TEXT) → (1 ≤ contentNumber k) × (contentNumber k ≤ 4)
+    go (inl e) = rw e (omega arith, omega arith)
+    go (inr (inl e)) = rw e (omega arith, omega arith)
+    go (inr (inr e)) = rw e (omega arith, omega arith)
