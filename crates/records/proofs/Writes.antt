@@ -4,32 +4,20 @@ use mathlib.Core.Path.{_≡_, sym, subst}
 use mathlib.Core.Logic.{_≢_}
 use mathlib.Core.Bool.{Bool, true, false}
 use mathlib.Core.List.{List, [], _∷_, _++_}
-use lib.Dec.{eqb}
 use borrow.Author.Tests.{eq-eqb, ne-eqb}
 use Rattle.numbers.specs.Number.{pick}
 use Rattle.block.specs.declared.Block.{Block}
+use Rattle.block.specs.Kinds.{isItem}
 use Rattle.readings.specs.Sound.{bytesIn, linked}
 use Rattle.runs.specs.Writer.{Sound}
 use Rattle.tokens.specs.declared.Lane.{Lane}
 use Rattle.tokens.specs.Tokens.{client, left, right, info, parentInfo, text, len, var, buf}
-use Rattle.kept.specs.Plan.{sane, laterPart}
+use Rattle.kept.specs.Plan.{sane, cutAt, restOf}
 use Rattle.records.specs.Records.{contentNumber, infoByte, name, leftTokens, rightTokens, parentTokens, keyTokens, placeTokens, contentTokens, blockTokens}
 use Rattle.records.specs.Stops.{headTokens, rowTokens}
 use Rattle.records.proofs.Chains.{Wrote, WroteOne, wrote-none, wrote-one, wrote-more, wrote-both}
 
 -- ---- numbers
-
-pub deleted-number : (k : ℕ) → k ≡ 3 → contentNumber k ≡ 1
-unfolding contentNumber
-deleted-number k e = rw (eq-eqb k 3 e)
-
-pub binary-number : (k : ℕ) → k ≢ 3 → k ≡ 4 → contentNumber k ≡ 3
-unfolding contentNumber
-binary-number k n e = rw (ne-eqb k 3 n, eq-eqb k 4 e)
-
-pub text-number : (k : ℕ) → k ≢ 3 → k ≢ 4 → contentNumber k ≡ 4
-unfolding contentNumber
-text-number k n m = rw (ne-eqb k 3 n, ne-eqb k 4 m)
 
 pub info-byte-is : (b : Block) (c l r k : ℕ) → c ≡ contentNumber (b .kind) → l ≡ pick (b .«has_left») 128 0 → r ≡ pick (b .«has_right») 64 0
     → k ≡ pick (b .«has_key») 32 0
@@ -115,10 +103,14 @@ module _ (out u : List ℕ) (e : Lane) (b : Block) where
   unfolding contentTokens
   content-binary n h p = rw (ne-eqb (b .kind) 3 n, eq-eqb (b .kind) 4 h) (wrote-one out e (buf (bytesIn u (b .part))) p)
 
-  pub content-text : {r : Lane} {bytes : List ℕ} → b .kind ≢ 3 → b .kind ≢ 4 → WroteOne out e (text (bytesIn u (b .part)) (b .length .0)) r bytes
+  pub content-text : {r : Lane} {bytes : List ℕ} → b .kind ≢ 3 → b .kind ≢ 4 → b .kind ≡ 5 → WroteOne out e (text (bytesIn u (b .part)) (b .length .0)) r bytes
       → Wrote out e (contentTokens u b) r bytes
   unfolding contentTokens
-  content-text n m p = rw (ne-eqb (b .kind) 3 n, ne-eqb (b .kind) 4 m) (wrote-one out e (text (bytesIn u (b .part)) (b .length .0)) p)
+  content-text n m h p = rw (ne-eqb (b .kind) 3 n, ne-eqb (b .kind) 4 m, eq-eqb (b .kind) 5 h) (wrote-one out e (text (bytesIn u (b .part)) (b .length .0)) p)
+
+  pub content-none : b .kind ≢ 3 → b .kind ≢ 4 → b .kind ≢ 5 → Sound (e .run) → Wrote out e (contentTokens u b) e out
+  unfolding contentTokens
+  content-none n m h s = rw (ne-eqb (b .kind) 3 n, ne-eqb (b .kind) 4 m, ne-eqb (b .kind) 5 h) (wrote-none out e s)
 
   -- ---- a block
 
@@ -135,12 +127,16 @@ module _ (out u : List ℕ) (e : Lane) (b : Block) where
       rw (ne-eqb (b .kind) 1 n, eq-eqb (b .kind) 2 h)
       (wrote-more out e (info 10) (var (b .length .0) ∷ []) p (wrote-one between mid (var (b .length .0)) q))
 
-  pub block-item : {mid later r : Lane} {between further bytes : List ℕ} → b .kind ≢ 1 → b .kind ≢ 2 → WroteOne out e (info (infoByte b)) mid between
+  pub block-item : {mid later r : Lane} {between further bytes : List ℕ} → b .kind ≢ 1 → b .kind ≢ 2 → isItem (b .kind) ≡ true → WroteOne out e (info (infoByte b)) mid between
       → Wrote between mid (placeTokens u b) later further → Wrote further later (contentTokens u b) r bytes → Wrote out e (blockTokens u b) r bytes
   unfolding blockTokens
-  block-item {mid} {between} n m p q z =
-      rw (ne-eqb (b .kind) 1 n, ne-eqb (b .kind) 2 m)
+  block-item {mid} {between} n m h p q z =
+      rw (ne-eqb (b .kind) 1 n, ne-eqb (b .kind) 2 m, h)
       (wrote-more out e (info (infoByte b)) (placeTokens u b ++ contentTokens u b) p (wrote-both between mid (placeTokens u b) (contentTokens u b) q z))
+
+  pub block-none : b .kind ≢ 1 → b .kind ≢ 2 → isItem (b .kind) ≡ false → Sound (e .run) → Wrote out e (blockTokens u b) e out
+  unfolding blockTokens
+  block-none n m h s = rw (ne-eqb (b .kind) 1 n, ne-eqb (b .kind) 2 m, h) (wrote-none out e s)
 
   -- ---- a row that a plan names
 
@@ -157,14 +153,14 @@ module _ (out u : List ℕ) (e : Lane) (b : Block) where
       let k = var (b .clock + from) in
       rw (ne-eqb count 0 n) (wrote-more out e (var count) (c ∷ (k ∷ [])) p (wrote-more between mid c (k ∷ []) q (wrote-one further later k z)))
 
-  pub row-none : (count from skip : ℕ) → sane b from skip ≡ false → Sound (e .run) → Wrote out e (rowTokens u count from skip b) e out
+  pub row-none : (count from skip : ℕ) → sane b (restOf b from skip) ≡ false → Sound (e .run) → Wrote out e (rowTokens u count from skip b) e out
   unfolding rowTokens
   row-none count from skip h s =
-      subst (λ (x : Bool). Wrote out e (pick x (headTokens count from b ++ blockTokens u (laterPart b from skip)) []) e out) (sym h) (wrote-none out e s)
+      subst (λ (x : Bool). Wrote out e (pick x (headTokens count from b ++ blockTokens u (cutAt b (restOf b from skip))) []) e out) (sym h) (wrote-none out e s)
 
-  pub row-some : (count from skip : ℕ) {mid r : Lane} {between bytes : List ℕ} → sane b from skip ≡ true → Wrote out e (headTokens count from b) mid between
-      → Wrote between mid (blockTokens u (laterPart b from skip)) r bytes → Wrote out e (rowTokens u count from skip b) r bytes
+  pub row-some : (count from skip : ℕ) {mid r : Lane} {between bytes : List ℕ} → sane b (restOf b from skip) ≡ true → Wrote out e (headTokens count from b) mid between
+      → Wrote between mid (blockTokens u (cutAt b (restOf b from skip))) r bytes → Wrote out e (rowTokens u count from skip b) r bytes
   unfolding rowTokens
   row-some count from skip {mid} {r} {between} {bytes} h p q =
-      subst (λ (x : Bool). Wrote out e (pick x (headTokens count from b ++ blockTokens u (laterPart b from skip)) []) r bytes) (sym h)
-      (wrote-both out e (headTokens count from b) (blockTokens u (laterPart b from skip)) p q)
+      subst (λ (x : Bool). Wrote out e (pick x (headTokens count from b ++ blockTokens u (cutAt b (restOf b from skip))) []) r bytes) (sym h)
+      (wrote-both out e (headTokens count from b) (blockTokens u (cutAt b (restOf b from skip))) p q)

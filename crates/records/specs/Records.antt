@@ -9,7 +9,8 @@ use Rattle.numbers.specs.Number.{pick}
 use Rattle.text.specs.declared.Part.{Part}
 use Rattle.text.specs.Utf8.{countedIn}
 use Rattle.block.specs.declared.Block.{Block}
-use Rattle.block.specs.Kinds.{GC, SKIP, DELETED, BINARY}
+use Rattle.block.specs.Kinds.{isGc, isSkip, isDeleted, isBinary, isText, isItem}
+unfoldable pub use Rattle.block.specs.Kinds.{contentNumber}
 use Rattle.ranges.specs.Ranges.{Range}
 use Rattle.readings.specs.Sound.{bytesIn, linked}
 use Rattle.readings.specs.Groups.{groups}
@@ -18,10 +19,6 @@ use Rattle.kept.specs.Kept.{Piece, Section}
 use Rattle.kept.specs.Cut.{cutRow}
 
 -- ---- a block, its parts in u
-
--- deleted 1, binary 3, text 4, by the kinds 3, 4, 5
-unfoldable pub contentNumber : ℕ → ℕ
-contentNumber kind = pick (eqb kind DELETED) 1 (pick (eqb kind BINARY) 3 4)
 
 abbrev pub bit : Bool → ℕ → ℕ
 bit there n = pick there n 0
@@ -51,14 +48,15 @@ placeTokens u b = pick (linked b) (leftTokens b ++ rightTokens b) (parentTokens 
 
 unfoldable pub contentTokens : List ℕ → Block → List Token
 contentTokens u b =
-    pick (eqb (b .kind) DELETED) (len (b .length .0) ∷ [])
-    (pick (eqb (b .kind) BINARY) (buf (bytesIn u (b .part)) ∷ []) (text (bytesIn u (b .part)) (b .length .0) ∷ []))
+    pick (isDeleted (b .kind)) (len (b .length .0) ∷ [])
+    (pick (isBinary (b .kind)) (buf (bytesIn u (b .part)) ∷ []) (pick (isText (b .kind)) (text (bytesIn u (b .part)) (b .length .0) ∷ []) []))
 
--- GC is 0 and a length field, Skip is 10 and its length among the rest
+-- GC is 0 and a length field, Skip is 10 and its length among the rest, an item its info byte, its place and its content
 unfoldable pub blockTokens : List ℕ → Block → List Token
 blockTokens u b =
-    pick (eqb (b .kind) GC) (info 0 ∷ (len (b .length .0) ∷ []))
-    (pick (eqb (b .kind) SKIP) (info 10 ∷ (var (b .length .0) ∷ [])) (info (infoByte b) ∷ (placeTokens u b ++ contentTokens u b)))
+    pick (isGc (b .kind)) (info 0 ∷ (len (b .length .0) ∷ []))
+    (pick (isSkip (b .kind)) (info 10 ∷ (var (b .length .0) ∷ []))
+    (pick (isItem (b .kind)) (info (infoByte b) ∷ (placeTokens u b ++ contentTokens u b)) []))
 
 -- ---- sections
 

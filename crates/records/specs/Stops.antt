@@ -7,7 +7,7 @@ use Rattle.numbers.specs.Number.{pick}
 use Rattle.block.specs.declared.Block.{Block}
 use Rattle.block.specs.Row.{noBlock}
 use Rattle.tokens.specs.Tokens.{Token, client, var, whole}
-use Rattle.kept.specs.Plan.{Stop, stop, sane, laterPart}
+use Rattle.kept.specs.Plan.{Stop, sane, cutAt, restOf}
 use Rattle.records.specs.Records.{blockTokens}
 
 -- a section's head, before its first piece
@@ -16,7 +16,9 @@ headTokens count from b = pick (eqb count 0) [] (var count ∷ (client (b .clien
 
 -- row b, of which `from` units, that take `skip` bytes, fall away
 unfoldable pub rowTokens : List ℕ → ℕ → ℕ → ℕ → Block → List Token
-rowTokens u count from skip b = pick (sane b from skip) (headTokens count from b ++ blockTokens u (laterPart b from skip)) []
+rowTokens u count from skip b =
+    let e = restOf b from skip in
+    pick (sane b e) (headTokens count from b ++ blockTokens u (cutAt b e)) []
 
 -- the rows of a table one after the other, up to the first that is not in it
 unfoldable pub stopsTokens : List ℕ → List Block → ℕ → List Stop → List Token

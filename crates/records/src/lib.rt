@@ -14,7 +14,7 @@ ghost use Rattle.text.specs.Utf8.{countedIn};
 ghost use Rattle.readings.specs.Sound.{bytesIn, linked};
 ghost use Rattle.runs.specs.Writer.{Sound};
 ghost use Rattle.tokens.specs.Lanes.{put, laid, putAll, laidAll};
-ghost use Rattle.records.specs.Records.{contentNumber, infoByte, name, leftTokens, rightTokens, parentTokens, keyTokens, placeTokens, contentTokens, blockTokens};
+ghost use Rattle.records.specs.Records.{infoByte, name, leftTokens, rightTokens, parentTokens, keyTokens, placeTokens, contentTokens, blockTokens};
 ghost use Rattle.records.specs.Stops.{headTokens, rowTokens};
 
 fn bit(there: bool, n: u8) -> u8
@@ -23,23 +23,11 @@ fn bit(there: bool, n: u8) -> u8
     if there { n } else { 0 }
 }
 
-fn content_number(kind: u8) -> u8
-    ensures { λ r. ⌜ (r ≡ contentNumber kind) × (r ≤ 4) ⌝ }
-{
-    if kind == block::DELETED {
-        return 1;
-    }
-    if kind == block::BINARY {
-        return 3;
-    }
-    4
-}
-
 // 128 for a left id, 64 for a right id, 32 for a key; the low bits are the content's number.
 fn info_byte(b: Block) -> u8
     ensures { λ r. ⌜ r ≡ infoByte b ⌝ }
 {
-    let content = content_number(b.kind);
+    let content = block::content_number(b.kind);
     let left = bit(b.has_left, 128);
     let right = bit(b.has_right, 64);
     let key = bit(b.has_key, 32);
@@ -160,10 +148,13 @@ fn write_content(out: &mut [u8], update: &[u8], e: Lane, b: Block) -> Lane
     if b.kind == block::BINARY {
         return tokens::fields::write_buf(out, update, e, part);
     }
-    tokens::fields::write_string(out, update, e, part, length)
+    if b.kind == block::TEXT {
+        return tokens::fields::write_string(out, update, e, part, length);
+    }
+    e
 }
 
-// A block: a GC, a Skip, or an item.
+// A block: a GC, a Skip, or an item; of anything else nothing is written.
 pub fn write_block(out: &mut [u8], update: &[u8], e: Lane, b: Block) -> Lane
     requires { ⌜ Sound (e .run) ⌝ }
     ensures { λ r. ⌜ (r ≡ putAll e (blockTokens (now (update .entry)) b))
@@ -177,6 +168,9 @@ pub fn write_block(out: &mut [u8], update: &[u8], e: Lane, b: Block) -> Lane
     if b.kind == block::SKIP {
         let skip = tokens::fields::write_info(out, e, 10);
         return tokens::fields::write_var(out, skip, length.0);
+    }
+    if !block::is_item(b.kind) {
+        return e;
     }
     let item = tokens::fields::write_info(out, e, info_byte(b));
     let placed = write_place(out, update, item, b);
@@ -205,10 +199,11 @@ pub fn write_row(out: &mut [u8], update: &[u8], e: Lane, c: Cursor, b: Block) ->
 {
     let from = c.from;
     let skip = c.skip;
-    if !kept::cursor::is_sane(b, from, skip) {
+    let ends = kept::cursor::rest(b, from, skip);
+    if !kept::cursor::is_sane(b, ends) {
         return e;
     }
     let headed = write_head(out, e, c.head, from, b);
-    let piece = kept::cursor::cut(b, from, skip);
+    let piece = kept::cursor::cut(b, ends);
     write_block(out, update, headed, piece)
 }

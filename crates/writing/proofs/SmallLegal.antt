@@ -4,7 +4,7 @@ use mathlib.Core.Path.{_≡_, refl}
 use mathlib.Core.Bool.{Bool, true, false}
 use mathlib.Core.List.{List, [], _∷_}
 use native.Mathlib.Omega.{arith}
-use lib.Dec.{ltb, eqb}
+use lib.Dec.{eqb}
 use lib.ListN.{length, take, length-take, length-drop}
 use borrow.Author.Tests.{le-leb}
 use Rattle.numbers.specs.Number.{pick}
@@ -15,6 +15,7 @@ use Rattle.text.proofs.Laws.{units-le-bytes}
 use Rattle.runs.specs.Runs.{coding}
 use Rattle.block.specs.declared.Id.{Id}
 use Rattle.block.specs.declared.Block.{Block}
+use Rattle.block.specs.Kinds.{isGc, isSkip, isDeleted, isBinary, isText, isItem}
 use Rattle.block.specs.Row.{noId}
 use Rattle.vector.specs.Vector.{Entry}
 use Rattle.ranges.specs.Ranges.{Range}
@@ -113,12 +114,13 @@ bit-le false n = omega arith
 
 content-number : (kind : ℕ) → contentNumber kind ≤ 4
 unfolding contentNumber
-content-number kind = go (eqb kind 3) (eqb kind 4)
+content-number kind = go (isDeleted kind) (isBinary kind) (isText kind)
   where
-    go : (x y : Bool) → pick x 1 (pick y 3 4) ≤ 4
-    go true y = omega arith
-    go false true = omega arith
-    go false false = omega arith
+    go : (x y z : Bool) → pick x 1 (pick y 3 (pick z 4 0)) ≤ 4
+    go true y z = omega arith
+    go false true z = omega arith
+    go false false true = omega arith
+    go false false false = omega arith
 
 info-byte : (b : Block) → infoByte b ≤ 255
 unfolding infoByte
@@ -163,17 +165,19 @@ module _ (u : List ℕ) (few : length u ≤ maxUpdate) (b : Block) (m : Modest b
   content-legal : Legals (contentTokens u b)
   unfolding contentTokens
   content-legal =
-      chosen Legals (eqb (b .kind) 3) (λ _. more-legal _ _ (len-legal (b .length .0) length-fits) none-legal)
-      (λ _. chosen Legals (eqb (b .kind) 4) (λ _. buf-legal (bytesIn u (b .part)))
-      (λ _. more-legal _ _ (text-legal (bytesIn u (b .part)) (b .length .0) length-fits) none-legal))
+      chosen Legals (isDeleted (b .kind)) (λ _. more-legal _ _ (len-legal (b .length .0) length-fits) none-legal)
+      (λ _. chosen Legals (isBinary (b .kind)) (λ _. buf-legal (bytesIn u (b .part)))
+      (λ _. chosen Legals (isText (b .kind)) (λ _. more-legal _ _ (text-legal (bytesIn u (b .part)) (b .length .0) length-fits) none-legal) (λ _. none-legal)))
 
   pub block-legal : Legals (blockTokens u b)
   unfolding blockTokens
   block-legal =
-      chosen Legals (eqb (b .kind) 1)
+      chosen Legals (isGc (b .kind))
       (λ _. more-legal _ _ (info-legal 0 (omega arith)) (more-legal _ _ (len-legal (b .length .0) length-fits) none-legal))
-      (λ _. chosen Legals (eqb (b .kind) 2) (λ _. more-legal _ _ (info-legal 10 (omega arith)) (var-legal (b .length .0) [] none-legal))
-      (λ _. more-legal _ _ (info-legal (infoByte b) (info-byte b)) (legal-append (placeTokens u b) (contentTokens u b) place-legal content-legal)))
+      (λ _. chosen Legals (isSkip (b .kind)) (λ _. more-legal _ _ (info-legal 10 (omega arith)) (var-legal (b .length .0) [] none-legal))
+      (λ _. chosen Legals (isItem (b .kind))
+      (λ _. more-legal _ _ (info-legal (infoByte b) (info-byte b)) (legal-append (placeTokens u b) (contentTokens u b) place-legal content-legal))
+      (λ _. none-legal)))
 
 -- ---- a piece of a row
 
@@ -190,7 +194,7 @@ no-id = record { client = omega arith; clock = omega arith }
 module _ (u : List ℕ) (p : Piece) (sound : Sound u (p .row)) (lies : Lies p) where
   before-modest : ModestId (idBefore p)
   before-modest =
-      chosen ModestId (ltb 2 (p .row .kind))
+      chosen ModestId (isItem (p .row .kind))
       (λ _. record { client = sound .client; clock = omega (arith, sound .end, lies .from) })
       (λ _. no-id)
 

@@ -3,10 +3,10 @@ use Prim.Native.Nat.{ℕ, _+_, _*_, _≤_, _<_, _^_}
 use mathlib.Core.Path.{_≡_, refl, ap}
 use mathlib.Core.List.{List, [], _∷_}
 use native.Mathlib.Omega.{arith}
-use lib.Dec.{eqb}
 use lib.ListN.{length, length-append}
 use Rattle.numbers.specs.Limits.{maxUpdate, maxClients, maxBlocks}
 use Rattle.block.specs.declared.Block.{Block}
+use Rattle.block.specs.Kinds.{isGc, isSkip, isDeleted, isBinary, isText, isItem}
 use Rattle.vector.specs.Vector.{Entry}
 use Rattle.ranges.specs.Ranges.{Range}
 use Rattle.readings.specs.Sound.{linked}
@@ -53,15 +53,17 @@ module _ (u : List ℕ) (b : Block) where
   content-size : sizeAll (contentTokens u b) ≤ 10 + length u
   unfolding contentTokens sizeAll sizeOf
   content-size =
-      chosen (Below (10 + length u)) (eqb (b .kind) 3) (λ _. omega arith)
-      (λ _. chosen (Below (10 + length u)) (eqb (b .kind) 4) (λ _. omega (arith, part-length u (b .part))) (λ _. omega (arith, part-length u (b .part))))
+      chosen (Below (10 + length u)) (isDeleted (b .kind)) (λ _. omega arith)
+      (λ _. chosen (Below (10 + length u)) (isBinary (b .kind)) (λ _. omega (arith, part-length u (b .part)))
+      (λ _. chosen (Below (10 + length u)) (isText (b .kind)) (λ _. omega (arith, part-length u (b .part))) (λ _. omega arith)))
 
   pub block-size : sizeAll (blockTokens u b) ≤ 60 + 3 * length u
   unfolding blockTokens sizeAll sizeOf
   block-size =
-      chosen (Below (60 + 3 * length u)) (eqb (b .kind) 1) (λ _. omega arith)
-      (λ _. chosen (Below (60 + 3 * length u)) (eqb (b .kind) 2) (λ _. omega arith)
-      (λ _. omega (arith, size-append (placeTokens u b) (contentTokens u b), place-size, content-size)))
+      chosen (Below (60 + 3 * length u)) (isGc (b .kind)) (λ _. omega arith)
+      (λ _. chosen (Below (60 + 3 * length u)) (isSkip (b .kind)) (λ _. omega arith)
+      (λ _. chosen (Below (60 + 3 * length u)) (isItem (b .kind))
+      (λ _. omega (arith, size-append (placeTokens u b) (contentTokens u b), place-size, content-size)) (λ _. omega arith)))
 
 -- ---- sections
 

@@ -1,5 +1,7 @@
--- `write_block` meets its contract: a GC, a Skip, or an item.
-use Rattle.records.proofs.Writes.{block-gc, block-skip, block-item}
+-- `write_block` meets its contract: a GC, a Skip, an item, or nothing.
+use mathlib.Core.Path.{sym, _∙_}
+use borrow.Author.Tests.{not-true, not-false}
+use Rattle.records.proofs.Writes.{block-gc, block-skip, block-item, block-none}
 use borrow.Author.Needs.{needs}
 use Rattle.records.proofs.write_block.Statement.{statement}
 use Rattle.records.proofs.write_block.Tie as tie
@@ -25,15 +27,28 @@ returns-2 c =
 
 returns-3 : tie.Need-returns-3
 returns-3 c =
+    let p1 = c .before in
+    let p2 = p1 .before in
+    let p4 = p2 .before .before in
+    let p9 = p4 .before .before .before .before .before in
+    let a = p9 .args in
+    block-none (a .out .now) (a .update .now) (a .e) (a .b) (p4 .if1 .left) (p2 .if2 .left)
+    (sym (p1 .is-item .ensures) ∙ not-true (p1 .is-item .result) (c .if3 .taken)) (p9 .pre)
+
+returns-4 : tie.Need-returns-4
+returns-4 c =
     let p2 = c .before .before in
     let p6 = p2 .before .before .before .before in
     let p10 = p6 .before .before .before .before in
     let p11 = p10 .before in
     let p13 = p11 .before .before in
-    let p15 = p13 .before .before in
-    let p20 = p15 .before .before .before .before .before in
-    let a = p20 .args in
-    block-item (a .out .now) (a .update .now) (a .e) (a .b) (p15 .if1 .left) (p13 .if2 .left)
+    let p14 = p13 .before in
+    let p15 = p14 .before in
+    let p17 = p15 .before .before in
+    let p22 = p17 .before .before .before .before .before in
+    let a = p22 .args in
+    block-item (a .out .now) (a .update .now) (a .e) (a .b) (p17 .if1 .left) (p15 .if2 .left)
+    (sym (p14 .is-item .ensures) ∙ not-false (p14 .is-item .result) (p13 .if3 .left))
     (rw (p11 .info-byte .ensures) at (p10 .write-info3 .ensures)) (p6 .write-place .ensures) (p2 .write-content .ensures)
 
 pub write-block-spec : {M : Type 1} → statement M
@@ -41,4 +56,5 @@ write-block-spec =
     tie.close
     (tie.spec
     (λ c κs. search needs) (λ c κs. search needs) (λ c. search needs) returns (λ c κs. search needs) (λ c κs. search needs) (λ c. search needs)
-    returns-2 (λ c κs. search needs) (λ c κs. search needs) (λ c κs. search needs) (λ c κs. search needs) (λ c. search needs) returns-3)
+    returns-2 (λ c κs. search needs) returns-3 (λ c κs. search needs) (λ c κs. search needs) (λ c κs. search needs) (λ c κs. search needs)
+    (λ c. search needs) returns-4)
