@@ -98,7 +98,7 @@ static void rust_diff(void) {
 static const uint8_t none[] = {0};
 
 static void ours_sort(void) {
-    const wairokabi_sorted r = wairokabi_sort(on.form, on.update.bytes, on.update.count, none, 1, on.rows, on.blocks, on.words, 3 * on.ranges, on.order,
+    const wairokabi_sorted r = wairokabi_sort(28, on.form, on.update.bytes, on.update.count, none, 1, on.rows, on.blocks, on.words, 3 * on.ranges, on.order,
                                               on.blocks, on.counts, 128, on.reaches, 256, on.pending, 192);
     on.answer[0] = r.refusal.number ? (uint64_t)-1 : r.steps;
     on.answer[1] = r.blocks - r.steps;

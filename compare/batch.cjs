@@ -98,15 +98,18 @@ const compared = batch => {
       judge.diffYrs(x, checked, ourDiffs[k], yrsDiffs[n][k], of < 0 ? null : again.slice(2 * of, 2 * of + 2))
     })
   })
-  const sorts = asked.map(x => [3, x.form, 0, x.bytes, x.vector])
+  const sorts = asked.map(x => [3, x.form, 28, x.bytes, x.vector])
   const ourSorts = askOurs(sorts)
+  // By rule 13, that of Yjs.
+  const ourSorts13 = askOurs(asked.map(x => [3, x.form, 13, x.bytes, x.vector]))
   const yrsSorts = builds.map(([, name]) => askYrs(name, sorts))
   asked.forEach((x, k) => {
-    const r = j.sort(x.form, x.bytes, x.vector)
+    const [r, r13] = [28, 13].map(rule => j.sort(x.form, x.bytes, x.vector, { rule }))
     judge.ours('sort', x, ourSorts[k], j.sortLine(r), r)
+    judge.ours('sort', x, ourSorts13[k], j.sortLine(r13), r13)
     if (x.number !== 0) return
     count('sorts', x.form, x.doc !== undefined ? 'edited' : 'as garbage', r.number)
-    judge.sortYjs(x, ourSorts[k], r)
+    judge.sortYjs(x, ourSorts13[k], r13, r.across)
     builds.forEach(([checked], n) => judge.sortYrs(x, checked, ourSorts[k], r, yrsSorts[n][k]))
   })
   // Columns.

@@ -139,17 +139,18 @@ const begin = () => {
 
   // ---- sorts
 
-  const sortYjs = (x, line, r) => {
+  // By rule 13: the library's own answer is held against what Yjs takes, keeps back and misses; of the model's, `r`, only the blocks are used.
+  const sortYjs = (x, line, r, across) => {
     const [refusal, order, taken, reaches, pending] = line.split('|')
     if (numberOf(refusal) !== 0) return count('sort', 'Yjs', 'refused by ours')
     const words = text => list(text).map(g => g.split(' ').map(BigInt))
     const ours = { ...r, order: list(order).map(Number), taken: words(taken), reaches: words(reaches), pending: words(pending) }
-    const garbage = () => yjsSorts.compare(x.form, x.bytes, x.vector, ours)
+    const garbage = () => yjsSorts.compare(x.form, x.bytes, x.vector, ours, across)
     try {
       if (x.doc === undefined) garbage()
       else {
         try {
-          yjsSorts.compareDocument(x.form, x.bytes, x.vector, ours, x.doc())
+          yjsSorts.compareDocument(x.form, x.bytes, x.vector, ours, across, x.doc())
         } catch (e) {
           if (!e.message.includes('an id that is not there')) throw e
           garbage()

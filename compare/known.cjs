@@ -133,8 +133,6 @@ const counted = {
     flag: ['flag over 127: not compared', 'flag is a number']
   },
   'Yjs sorts': {
-    across: ['a block across a gap: compared by rule 13', "block above its own client's reach"],
-    'edited across': ['the same, on a document that was edited', "block above its own client's reach"],
     circle: ['ring with blocks behind: not compared', 'ring, with a block behind it'],
     empty: ['block of length 0, where Yjs throws: not compared', 'item of length 0'],
     own: ['dependency on the own client, not there: Yjs throws', "dependency on the block's own client, not there"],

@@ -1,5 +1,5 @@
 // ours REQUESTS: answers the requests of a file with the library, a line each on standard output, for compare/batch.cjs. A request is four bytes (what is
-// asked, form or column, form to write, 0), then two parts, each led by its length in four bytes, lowest first: the update or column, and the vector.
+// asked, form or column, form to write or rule to sort by, 0), then two parts, each led by its length in four bytes, lowest first: the update or column, and the vector.
 //   1 read    refusal|blocks|ranges        a block: client clock length kind left right name parent key content, `none` for what is not there
 //   2 diff    refusal|bytes
 //   3 sort    refusal|order|counts|reaches|pending
@@ -95,11 +95,11 @@ static void diff(uint8_t form, uint8_t to, const uint8_t *u, size_t n, const uin
     putchar('|');
     hex(out, r.bytes);
 }
-static void sort(uint8_t form, const uint8_t *u, size_t n, const uint8_t *v, size_t m) {
+static void sort(uint8_t rule, uint8_t form, const uint8_t *u, size_t n, const uint8_t *v, size_t m) {
     wairokabi_sorted r = {{8, 0}, 0, 0, 0, 0, 0, 0};
     const size_t fits[] = {n < ROWS ? n : ROWS, ROWS};
     for (int k = 0; k < 2 && r.refusal.number == 8; k++)
-        r = wairokabi_sort(form, u, n, v, m, rows, fits[k], ranges, 3 * n, order, fits[k], counts, 2 * 64, reaches, 2 * 128, pending, 3 * 64);
+        r = wairokabi_sort(rule, form, u, n, v, m, rows, fits[k], ranges, 3 * n, order, fits[k], counts, 2 * 64, reaches, 2 * 128, pending, 3 * 64);
     refusal(r.refusal);
     words(order, r.steps, 1);
     words(counts, r.counts, 2);
@@ -207,7 +207,7 @@ int main(int words, char **word) {
         else if (op == 2)
             diff(form, to, u, n, v, m);
         else if (op == 3)
-            sort(form, u, n, v, m);
+            sort(to, form, u, n, v, m);
         else if (op == 5)
             vector(u, n);
         else

@@ -26,7 +26,7 @@
 //  9  a cut, or a diff's, would fall inside a pair
 // 10  output needs more bytes than lent
 // 11  no block n, or it has no binary or text
-// 12  form not 1 or 2
+// 12  form not 1 or 2, or rule not 13 or 28
 // 13  form 2, or a difference column, needs a difference outside -2^30 to 2^30-1
 // 14  strict reading: the flag of form 2 is not 0
 // 15  strict reading: a byte stays unread
@@ -205,12 +205,15 @@ typedef struct wairokabi_sorted {
     size_t ranges;
 } wairokabi_sorted;
 
-// Sorts an update's blocks against a state vector into those that can be applied and those that wait. `order` has the numbers of the blocks that are
-// taken, each step taking the highest client whose front is ready, one word a block. Then, highest client first: in `counts` each client with blocks
-// and how many of them are taken, two words a client; in `reaches` each of these and of the vector's clients and how far it reaches, two words; in
-// `pending` each client with blocks left, the client of its first unmet dependency, and how far that reaches, three words. Both tables are filled as
-// `read_update` fills them. 12, 3, reading's, the vector's, then 8 for the order and 10 for a report.
+// Sorts an update's blocks by a rule against a state vector into those that can be applied and those that wait. By rule 28 a block waits for its
+// dependencies on other clients; by rule 13, that of peers on Yjs 13, then also until its own client reaches its clock. `order` has the numbers of the
+// blocks that are taken, each step taking the highest client whose front is ready, one word a block. Then, highest client first: in `counts` each client
+// with blocks and how many of them are taken, two words a client; in `reaches` each of these and of the vector's clients and how far it reaches, two
+// words; in `pending` each client with blocks left, the client that it waits for (of its first unmet dependency, else, by rule 13, itself), and how far
+// that reaches, three words. Both tables are filled as `read_update` fills them. 12 (form or rule), 3, reading's, the vector's, then 8 for the order and
+// 10 for a report.
 wairokabi_sorted wairokabi_sort(
+    uint8_t rule,
     uint8_t form,
     const uint8_t *update, size_t update_count,
     const uint8_t *vector, size_t vector_count,

@@ -196,7 +196,7 @@ static void refuse_alike(int line, uint8_t number, size_t place, uint8_t form, c
     expect(refused(encode_diff(form, update, count, vector, sizeof vector, 1, ROOM).refusal, number, place), line, "encode_diff");
     const wairokabi_diff d = wairokabi_encode_update(form, update, count, 2, rows, ROWS, words, WORDS, out, ROOM);
     expect(refused(d.refusal, number, place), line, "encode_update");
-    const wairokabi_sorted s = wairokabi_sort(form, update, count, vector, sizeof vector, rows, ROWS, words, WORDS, order, ROWS, counts, 2, reaches, 2,
+    const wairokabi_sorted s = wairokabi_sort(28, form, update, count, vector, sizeof vector, rows, ROWS, words, WORDS, order, ROWS, counts, 2, reaches, 2,
                                               pending, 3);
     expect(refused(s.refusal, number, place), line, "sort");
 }
@@ -239,7 +239,7 @@ static void places(void) {
     const wairokabi_vector v = wairokabi_read_state_vector((const uint8_t[]){0x02, 0x05, 0x00, 0x05, 0x00}, 5, words, WORDS);
     EXPECT(refused(v.refusal, 4, 0) && v.count == 0 && zero_words(0));
     uint64_t some[6];
-    const wairokabi_sorted s = wairokabi_sort(1, C, sizeof C, HAS_ONE, 2, rows, ROWS, words, WORDS, some, 1, some + 1, 1, some + 2, 1, some + 3, 3);
+    const wairokabi_sorted s = wairokabi_sort(28, 1, C, sizeof C, HAS_ONE, 2, rows, ROWS, words, WORDS, some, 1, some + 1, 1, some + 2, 1, some + 3, 3);
     EXPECT(refused(s.refusal, 1, 0));
 }
 
@@ -249,18 +249,26 @@ static void sorts(void) {
     static const uint8_t waits[] = {0x01, 0x01, 0x05, 0x00, 0x84, 0x09, 0x00, 0x01, 0x62, 0x00}, none[] = {0x00};
     uint64_t order[3] = {7, 7, 7}, counts[6] = {7, 7, 7, 7, 7, 7}, reaches[6] = {7, 7, 7, 7, 7, 7}, pending[6] = {7, 7, 7, 7, 7, 7};
     fill();
-    wairokabi_sorted s = wairokabi_sort(1, both, sizeof both, none, sizeof none, rows, ROWS, words, WORDS, order, 3, counts, 6, reaches, 6, pending, 6);
+    wairokabi_sorted s = wairokabi_sort(28, 1, both, sizeof both, none, sizeof none, rows, ROWS, words, WORDS, order, 3, counts, 6, reaches, 6, pending, 6);
     EXPECT(done(s.refusal) && s.steps == 2 && s.counts == 2 && s.reaches == 2 && s.pending == 0 && s.blocks == 2 && s.ranges == 0);
     EXPECT(rows[0].client == 9 && rows[1].client == 5 && same_id(rows[1].left, 9, 0) && zero_rows(2) && zero_words(0));
     EXPECT(same_words(order, (uint64_t[]){0, 1, 0}, 3) && same_words(counts, (uint64_t[]){9, 1, 5, 1, 0, 0}, 6));
     EXPECT(same_words(reaches, (uint64_t[]){9, 1, 5, 1, 0, 0}, 6) && same_words(pending, (uint64_t[]){0, 0, 0, 0, 0, 0}, 6));
     fill();
-    s = wairokabi_sort(1, waits, sizeof waits, none, sizeof none, rows, ROWS, words, WORDS, order, 3, counts, 6, reaches, 6, pending, 6);
+    s = wairokabi_sort(28, 1, waits, sizeof waits, none, sizeof none, rows, ROWS, words, WORDS, order, 3, counts, 6, reaches, 6, pending, 6);
     EXPECT(done(s.refusal) && s.steps == 0 && s.counts == 1 && s.reaches == 1 && s.pending == 1 && s.blocks == 1 && s.ranges == 0);
     EXPECT(same_words(order, (uint64_t[]){0, 0, 0}, 3) && same_words(counts, (uint64_t[]){5, 0, 0, 0, 0, 0}, 6));
     EXPECT(same_words(reaches, (uint64_t[]){5, 0, 0, 0, 0, 0}, 6) && same_words(pending, (uint64_t[]){5, 9, 0, 0, 0, 0}, 6));
-    s = wairokabi_sort(1, both, sizeof both, none, sizeof none, rows, ROWS, words, WORDS, order, 1, counts, 6, reaches, 6, pending, 6);
+    s = wairokabi_sort(28, 1, both, sizeof both, none, sizeof none, rows, ROWS, words, WORDS, order, 1, counts, 6, reaches, 6, pending, 6);
     EXPECT(refused(s.refusal, 8, 0) && s.steps == 0 && s.blocks == 0 && zero_rows(0) && order[0] == 0 && counts[0] == 0);
+    // Behind a gap: rule 28 takes the block, rule 13 waits for its own client; there is no rule 14.
+    static const uint8_t late[] = {0x01, 0x01, 0x05, 0x03, 0x04, 0x01, 0x01, 0x74, 0x01, 0x61, 0x00};
+    s = wairokabi_sort(28, 1, late, sizeof late, none, sizeof none, rows, ROWS, words, WORDS, order, 3, counts, 6, reaches, 6, pending, 6);
+    EXPECT(done(s.refusal) && s.steps == 1 && s.pending == 0 && same_words(reaches, (uint64_t[]){5, 4, 0, 0, 0, 0}, 6));
+    s = wairokabi_sort(13, 1, late, sizeof late, none, sizeof none, rows, ROWS, words, WORDS, order, 3, counts, 6, reaches, 6, pending, 6);
+    EXPECT(done(s.refusal) && s.steps == 0 && s.pending == 1 && same_words(pending, (uint64_t[]){5, 5, 0, 0, 0, 0}, 6));
+    s = wairokabi_sort(14, 1, late, sizeof late, none, sizeof none, rows, ROWS, words, WORDS, order, 3, counts, 6, reaches, 6, pending, 6);
+    EXPECT(refused(s.refusal, 12, 0) && s.pending == 0 && pending[0] == 0 && zero_rows(0));
 }
 
 static void others(void) {

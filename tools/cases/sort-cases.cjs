@@ -1,4 +1,5 @@
-// A case of operation 17 with the line that is expected: from the model, and compared with what Yjs takes and leaves pending.
+// A case of operation 17 with the line that is expected: from the model. Beside it a case of operation 25, the same by rule 13, which is compared with what
+// Yjs takes and leaves pending.
 'use strict'
 const model = require('./sort-model.cjs')
 const { readVector } = require('./update-model.cjs')
@@ -19,39 +20,52 @@ const reports = r => [
 const line = r => [first(r), ...(r.number === 0 ? [...[r.order, ...reports(r)].flatMap(words => [...words, ';']), ...tables(r.read)] : []), 'zero']
 
 // Sorting has one outcome: by other orders of steps, the lowest client first and any one, the same is taken and reported.
-const alike = (update, vector, r) => {
+const alike = (rule, update, vector, r) => {
   for (const choose of [ready => ready[ready.length - 1], pick, pick]) {
-    const other = model.sorted(r.read.blocks, r.entries, { choose })
+    const other = model.sorted(r.read.blocks, r.entries, { rule, choose })
     if (reports(other).join() !== reports(r).join()) throw new Error(`two outcomes: ${hex(update)} against ${hex(vector)}`)
   }
 }
 
 // The model's answer with rows without end, compared with Yjs, once for each sort.
 const answers = new Map()
-const answer = (form, update, vector) => {
+const both = (form, update, vector) => {
   const key = [form, hex(update), hex(vector)].join()
   if (!answers.has(key)) {
     if (known(form)) whole(form, update)
     yjs.compareVector(vector, readVector(vector))
-    const r = model.sort(form, update, vector)
+    const [r, r13] = [28, 13].map(rule => model.sort(form, update, vector, { rule }))
     if (r.number === 0) {
-      alike(update, vector, r)
-      yjsSorts.compare(form, update, vector, r)
+      alike(28, update, vector, r)
+      alike(13, update, vector, r13)
+      if (!r.across && line(r).join() !== line(r13).join()) throw new Error(`rules 13 and 28 part without a gap: ${hex(update)} against ${hex(vector)}`)
+      yjsSorts.compare(form, update, vector, r13, r.across)
     }
-    answers.set(key, r)
+    answers.set(key, { r, r13 })
   }
   return answers.get(key)
 }
+const answer = (form, update, vector) => both(form, update, vector).r
+const answer13 = (form, update, vector) => both(form, update, vector).r13
 
-const sort = (form, update, vector, { blockRows = 512, rangeRows = 1024, orderRows = 512 } = {}) => {
+const asked = (form, update, vector, { blockRows = 512, rangeRows = 1024, orderRows = 512 } = {}) => [
+  limited('form', form, 255), limited('block rows', blockRows, 512), limited('range rows', rangeRows, 1024), limited('order rows', orderRows, 512),
+  sized(update, LONG), sized(vector, SHORT)
+]
+const rows = ({ blockRows = 512, rangeRows = 1024, orderRows = 512 } = {}) => ({ blockRows, rangeRows, orderRows })
+
+// Operation 25.
+const ruled = (rule, form, update, vector, lent) =>
+  add(25, [limited('rule', rule, 255), ...asked(form, update, vector, lent)], line(model.sort(form, update, vector, { rule, ...rows(lent) })))
+
+const sort = (form, update, vector, lent) => {
   answer(form, update, vector)
-  const parts = [limited('form', form, 255), limited('block rows', blockRows, 512), limited('range rows', rangeRows, 1024), limited('order rows', orderRows, 512),
-    sized(update, LONG), sized(vector, SHORT)]
-  return add(17, parts, line(model.sort(form, update, vector, { blockRows, rangeRows, orderRows })))
+  ruled(13, form, update, vector, lent)
+  return add(17, asked(form, update, vector, lent), line(model.sort(form, update, vector, rows(lent))))
 }
 
 module.exports = {
-  sort, answer, stream, output, counts, refused,
+  sort, ruled, answer, answer13, stream, output, counts, refused,
   told: () => [
     `cases of an operation: ${told(counts)}`,
     `the number of a line: ${told(refused)}; at another place than 0: ${told(placed)}`,

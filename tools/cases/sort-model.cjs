@@ -1,4 +1,4 @@
-// What document 01 and docs/DECISIONS.md say of sorting, in plain JavaScript: the update and the vector as update-model.cjs reads them, which blocks are
+// What documents 01 and 02 (W-210) and docs/DECISIONS.md say of sorting, in plain JavaScript: the update and the vector as update-model.cjs reads them, which blocks are
 // taken, one after another, and what is reported. Made without our Rattle code and without Yjs.
 'use strict'
 const { readUpdate, readVector } = require('./update-model.cjs')
@@ -8,7 +8,7 @@ const highestFirst = clients => [...new Set(clients)].sort((a, b) => a > b ? -1 
 const ids = b => [b.left, b.right, b.parent].filter(id => id !== null)
 
 // Blocks in reading order, and a vector's entries. `choose` has the clients whose front is ready, highest first, and says which one is taken. `rule` is
-// 28, document 01's, or 13, by which a block above its own client's reach is held as well (W-210, and Yjs's own). Beside what is reported: `fronts` has
+// 28, document 01's, or 13, by which a block above its own client's reach is held as well (W-210). Beside what is reported: `fronts` has
 // what each pending client waits with, `rest` all blocks left pending, highest client first; `across`, that a block above its own client's reach was taken;
 // `hung`, that a block was taken which names an id of its own client that is not there yet.
 const sorted = (blocks, entries, { rule = 28, choose = ([highest]) => highest } = {}) => {
@@ -48,12 +48,13 @@ const sorted = (blocks, entries, { rule = 28, choose = ([highest]) => highest } 
   }
 }
 
-const sort = (form, update, vector, { blockRows, rangeRows, orderRows = Infinity } = {}) => {
+const sort = (form, update, vector, { rule = 28, blockRows, rangeRows, orderRows = Infinity } = {}) => {
+  if (rule !== 13 && rule !== 28) return nowhere(12)
   const read = readUpdate(form, update, blockRows, rangeRows)
   if (read.number !== 0) return read
   const remote = readVector(vector)
   if (remote.number !== 0) return remote
-  const r = sorted(read.blocks, remote.entries)
+  const r = sorted(read.blocks, remote.entries, { rule })
   return r.order.length > orderRows ? nowhere(8) : { number: 0, read, entries: remote.entries, ...r }
 }
 

@@ -137,6 +137,55 @@ const skips = () => {
   gives(1, '01 01 05 03 04 01 01 74 01 61 00', '01 05 03', '0 ; 5:1 ; 5:4 ;')
 }
 
+// W-210: by rule 13 a block waits behind a gap, until its own client's reach has come to its clock.
+const gaps = () => {
+  const by13 = (update, vector, reports) => {
+    const [u, v] = [bytes(update), bytes(vector)]
+    w(c.ruled(13, 1, u, v), line(1, u, reports))
+    w(c.ruled(13, 1, u, v, { orderRows: steps(reports) }), line(1, u, reports))
+    if (steps(reports) > 0) w(c.ruled(13, 1, u, v, { orderRows: steps(reports) - 1 }), '8@0 zero')
+  }
+  const two = (sections, entries, reports) => {
+    const update = s.update(2, { sections })
+    w(c.ruled(13, 2, update, vectorOf(entries)), line(2, update, reports))
+  }
+  // A GC of length 0, a text; above, at and below the reach.
+  by13('01 01 05 03 00 00 00', '00', '; 5:0 ; 5:0 ; 5>5:0')
+  by13('01 01 05 03 04 01 01 74 01 61 00', '00', '; 5:0 ; 5:0 ; 5>5:0')
+  by13('01 01 05 03 04 01 01 74 01 61 00', '01 05 02', '; 5:0 ; 5:2 ; 5>5:2')
+  by13('01 01 05 03 04 01 01 74 01 61 00', '01 05 03', '0 ; 5:1 ; 5:4 ;')
+  by13('01 01 05 03 04 01 01 74 01 61 00', '01 05 09', '0 ; 5:1 ; 5:9 ;')
+  // A Skip is free and lifts nothing: the block behind it waits.
+  by13('01 02 05 00 0a 02 04 01 01 74 01 61 00', '00', '0 ; 5:1 ; 5:0 ; 5>5:0')
+  by13('01 02 05 00 0a 02 04 01 01 74 01 61 00', '01 05 02', '0 1 ; 5:2 ; 5:3 ;')
+  by13('01 01 05 03 0a 02 00', '00', '0 ; 5:1 ; 5:0 ;')
+  // Another client is reported first: left, right, parent, then its own.
+  by13('01 01 05 03 84 09 00 01 61 00', '00', '; 5:0 ; 5:0 ; 5>9:0')
+  by13('01 01 05 03 84 09 00 01 61 00', '01 09 01', '; 5:0 ; 9:1 5:0 ; 5>5:0')
+  by13('01 01 05 03 84 09 00 01 61 00', '02 09 01 05 03', '0 ; 5:1 ; 9:1 5:4 ;')
+  for (const on of [left, right, inside]) {
+    two([section(5, 3, on([9, 0]))], [], '; 5:0 ; 5:0 ; 5>9:0')
+    two([section(5, 3, on([9, 0])), section(9, 0, gc(1))], [], '1 ; 9:1 5:0 ; 9:1 5:0 ; 5>5:0')
+    two([section(5, 3, on([9, 0])), section(9, 1, gc(1))], [[5, 3]], '; 9:0 5:0 ; 9:0 5:3 ; 9>9:0 5>9:0')
+    two([section(5, 3, on([9, 0])), section(9, 1, gc(1))], [[5, 3], [9, 1]], '1 0 ; 9:1 5:1 ; 9:2 5:4 ;')
+  }
+  // An own dependency never holds it.
+  by13('01 01 05 00 84 05 09 01 61 00', '00', '0 ; 5:1 ; 5:1 ;')
+  // Another rule: 12, after the form and before anything of the update.
+  for (const rule of [0, 1, 2, 12, 14, 27, 29, 128, 255]) {
+    w(c.ruled(rule, 1, bytes(C), [0]), '12@0 zero')
+    w(c.ruled(rule, 3, bytes(C), [0]), '12@0 zero')
+    w(c.ruled(rule, 1, [], [2, 5, 0, 5], { blockRows: 0, orderRows: 0 }), '12@0 zero')
+  }
+  for (const rule of [13, 28]) {
+    w(c.ruled(rule, 3, bytes(C), [0]), '12@0 zero')
+    w(c.ruled(rule, 1, [], [0]), '1@0 zero')
+    w(c.ruled(rule, 1, bytes(C), [2, 5, 0, 5]), '4@0 zero')
+  }
+  const late = bytes('01 01 05 03 04 01 01 74 01 61 00')
+  w(c.ruled(28, 1, late, [0]), line(1, late, '0 ; 5:1 ; 5:4 ;'))
+}
+
 const fronts = () => {
   // A block's own client never holds it: ids that are not there, the block's own, later ones.
   for (const on of [left, right, inside]) {
@@ -317,4 +366,4 @@ const partings = () => {
   gives(1, '02 01 09 00 81 05 00 01 01 05 03 00 01 00', '01 05 01', '0 1 ; 9:1 5:1 ; 9:1 5:4 ;')
 }
 
-module.exports = { all: () => [small, paper, skips, fronts, everyOrder, wide, order, partings].forEach(part => part()) }
+module.exports = { all: () => [small, paper, skips, gaps, fronts, everyOrder, wide, order, partings].forEach(part => part()) }

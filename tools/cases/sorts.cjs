@@ -31,6 +31,11 @@ const fitted = (form, update, vector, k) => {
   const lent = { blockRows: r.read.blocks.length, rangeRows: r.read.rangesRead, orderRows: r.order.length }
   c.sort(form, update, vector, k % 3 === 0 ? {} : lent)
   if (k % 6 === 0 && lent.orderRows > 0) c.sort(form, update, vector, { ...lent, orderRows: lent.orderRows - 1 })
+  // By rule 13 the rows are just enough, or one too few; by rule 28 operation 25 is operation 17.
+  const steps = c.answer13(form, update, vector).order.length
+  if (k % 4 === 1) c.ruled(13, form, update, vector, { ...lent, orderRows: steps })
+  if (k % 6 === 2 && steps > 0) c.ruled(13, form, update, vector, { ...lent, orderRows: steps - 1 })
+  if (k % 5 === 0) c.ruled(28, form, update, vector, lent)
   if (k % 16 === 1 && lent.blockRows > 0) c.sort(form, update, vector, { ...lent, blockRows: lent.blockRows - 1 })
   if (k % 16 === 3 && lent.rangeRows > 0) c.sort(form, update, vector, { ...lent, rangeRows: lent.rangeRows - 1 })
 }
@@ -55,7 +60,7 @@ const real = (kind, form, update, vector, doc, compare = yjsSorts.compareDocumen
   if (update.length > 150 || seen.has(key) || whole(form, update).number !== 0) return
   seen.add(key)
   const r = c.answer(form, update, vector)
-  compare(form, update, vector, r, doc)
+  compare(form, update, vector, c.answer13(form, update, vector), r.across, doc)
   fitted(form, update, vector, byYjs.length)
   byYjs.push({ kind, form, r })
 }
@@ -271,6 +276,12 @@ const far = many(50, k => {
 const answered = [...shapes, ...far].map(({ form, update, vector }) => c.answer(form, update, vector)).filter(r => r.number === 0)
 least('shapes with some taken and some pending', answered.filter(r => r.order.length > 0 && r.rest.length > 0).length, 120)
 least('shapes with a circle', answered.filter(circle).length, 15)
+const ruled = [...shapes, ...far].filter(({ form, update, vector }) => c.answer(form, update, vector).number === 0)
+  .map(({ form, update, vector }) => ({ r: c.answer(form, update, vector), r13: c.answer13(form, update, vector) }))
+least('shapes that the rules sort differently', ruled.filter(x => x.r.across).length, 60)
+least('shapes with a client that waits for itself', ruled.filter(x => x.r13.pending.some(([client, missing]) => client === missing)).length, 60)
+least('shapes with a client behind a gap that waits for another', ruled.filter(x => x.r13.pending.some(([client, missing], k) =>
+  client !== missing && x.r13.fronts[k].clock > reach(x.r13, client))).length, 20)
 least('shapes in turns between clients', answered.filter(inTurns).length, 40)
 
 // ---- rows about what is needed: of blocks, ranges and steps

@@ -1,9 +1,9 @@
-// What the real Yjs takes of an update and what it leaves pending, held against the model's rule 13, which is Yjs's: a document that has the vector's
-// state gets the update, and its state and its pending blocks are looked at. Where no block is taken across a gap, rules 13 and 28 give the same.
+// What the real Yjs takes of an update, what it leaves pending and what it misses, held against an answer by rule 13 (that of the model, which operation 25
+// is held to, or that of the library: compare/judge.cjs): a document that has the vector's state gets the update, and its state and its pending blocks are
+// looked at. Nothing of the answer is worked out here. `across` says that by rule 28 a block is taken across a gap: that is counted apart.
 'use strict'
 const { Y, own, attempt, read, theirRecord, ourRecord } = require('./yjs.cjs')
 const { ordered } = require('./yjs-diffs.cjs')
-const { sorted } = require('./sort-model.cjs')
 const spelling = require('./spelling.cjs')
 const { section } = require('./shapes.cjs')
 const { hex } = require('./stream.cjs')
@@ -47,7 +47,7 @@ const reached = (r, doc) => {
   return reaches.length === state.size && reaches.every(([client, clock]) => BigInt(state.get(Number(client)) ?? 0) === clock)
 }
 
-// The document after it got the update, against the model's answer by rule 13: reaches, pending blocks, and what they wait for. Blocks of length 0 are not
+// The document after it got the update, against the answer by rule 13: reaches, pending blocks, and what they wait for. Blocks of length 0 are not
 // looked at. A document that had pending blocks `before` has put its Skips anew, and what it waits for may be of then.
 const hold = (check, update, r, doc, before = false) => {
   const { pendingStructs } = doc.store
@@ -70,7 +70,7 @@ const hold = (check, update, r, doc, before = false) => {
     (noted(client) === (reach.get(client) ?? 0n) && r.pending.some(([, other]) => other === client))))
 }
 
-// How many sorts: equal, by rule 28 too; equal, and by rule 28 a block is taken across a gap. Not held against each other: an update with a flag over 127;
+// How many sorts: equal, and by rule 28 no block is taken across a gap; equal, and by rule 28 one is. Not held against each other: an update with a flag over 127;
 // a circle with more blocks behind (Yjs loses some); a block of length 0, where Yjs throws; a block that names an id of its own client that is not there
 // (just then it throws, too). Then sorts by documents that had the vector's state by edits, and by such that had pending blocks before, some of which were late.
 const counts = { equal: 0, across: 0, flag: 0, circle: 0, empty: 0, own: 0, edited: 0, 'edited across': 0, again: 0, 'again across': 0, late: 0 }
@@ -78,13 +78,6 @@ const counts = { equal: 0, across: 0, flag: 0, circle: 0, empty: 0, own: 0, edit
 const checking = (form, update, vector) => (what, holds) => {
   if (!holds) throw new Error(`the model and Yjs part at ${what}: form ${form}, ${hex(update)} against ${hex(vector)}`)
 }
-const by13 = (check, r) => {
-  const r13 = sorted(r.read.blocks, r.entries, { rule: 13 })
-  const told = x => [x.order, x.taken, x.reaches, x.pending].join(';')
-  if (!r.across) check('rules 13 and 28', told(r) === told(r13))
-  return r13
-}
-
 // Yjs takes what it takes as garbage: then contents and parents that make no sense do no harm, and which blocks are taken is not changed.
 const asGarbage = run => {
   const { integrate } = Y.Item.prototype
@@ -98,46 +91,43 @@ const asGarbage = run => {
   }
 }
 
-// `r` is the model's answer, rows without end, and not refused. Yjs gets the update in document 01's order, without items of length 0 and without deletes.
-const compare = (form, update, vector, r) => {
+// `r` is the answer by rule 13, rows without end, and not refused. Yjs gets the update in document 01's order, without items of length 0 and without deletes.
+const compare = (form, update, vector, r, across) => {
   if (form === 2 && update[0] > 127) return counts.flag++
   const check = checking(form, update, vector)
-  const r13 = by13(check, r)
   const doc = holding(r.entries)
   const { structs } = read(form, update)
   const done = attempt(() => asGarbage(() => {
     apply(doc, 1, ordered({ structs, ds: { clients: new Map() } }))
     return true
   }))
-  if (loses(r13)) return counts.circle++
-  if (r.read.blocks.some(b => b.length === 0n) && (r13.hung || done === null)) return counts.empty++
-  check('an error', r13.hung === (done === null))
-  if (r13.hung) return counts.own++
-  hold(check, update, r13, doc)
-  counts[r.across ? 'across' : 'equal']++
+  if (loses(r)) return counts.circle++
+  if (r.read.blocks.some(b => b.length === 0n) && (r.hung || done === null)) return counts.empty++
+  check('an error', r.hung === (done === null))
+  if (r.hung) return counts.own++
+  hold(check, update, r, doc)
+  counts[across ? 'across' : 'equal']++
 }
 
 // The same with a document that is given: it has the vector's state by edits, and no error is left out.
-const compareDocument = (form, update, vector, r, doc) => {
+const compareDocument = (form, update, vector, r, across, doc) => {
   const check = checking(form, update, vector)
-  const r13 = by13(check, r)
-  check('an id that is not there', !r13.hung && !loses(r13))
+  check('an id that is not there', !r.hung && !loses(r))
   apply(doc, form, update)
-  hold(check, update, r13, doc)
-  counts[r.across ? 'edited across' : 'edited']++
+  hold(check, update, r, doc)
+  counts[across ? 'edited across' : 'edited']++
 }
 
 // The same with a document that had pending blocks and got something: the update is both together. Yjs notes one wall where several clients wait, perhaps
 // a higher one than some of them wait for, and looks at its pending blocks no sooner; asked again, it takes them.
-const compareAgain = (form, update, vector, r, doc) => {
+const compareAgain = (form, update, vector, r, across, doc) => {
   const check = checking(form, update, vector)
-  const r13 = by13(check, r)
-  if (!reached(r13, doc)) {
+  if (!reached(r, doc)) {
     counts.late++
     askAgain(doc)
   }
-  hold(check, update, r13, doc, true)
-  counts[r.across ? 'again across' : 'again']++
+  hold(check, update, r, doc, true)
+  counts[across ? 'again across' : 'again']++
 }
 const askAgain = doc => {
   const { update } = doc.store.pendingStructs

@@ -53,6 +53,7 @@ struct Words {
     long: bool,
     strict: bool,
     to: Option<String>,
+    rule: Option<String>,
     out: Option<String>,
 }
 
@@ -67,6 +68,7 @@ impl Words {
                 "--long" => words.long = true,
                 "--strict" => words.strict = true,
                 "--to" => words.to = Some(next()?.ok_or_else(|| not_run("--to needs a form"))?),
+                "--rule" => words.rule = Some(next()?.ok_or_else(|| not_run("--rule needs a rule"))?),
                 "--out" => words.out = Some(next()?.ok_or_else(|| not_run("--out needs a file"))?),
                 option if option.starts_with("--") => return Err(not_run(format!("{option}: no such option; see --help"))),
                 _ => words.plain.push(word),
@@ -153,6 +155,11 @@ fn form_of(word: &str) -> Result<u8, Stop> {
     word.parse().map_err(|_| not_run(format!("{word}: a form is 1 or 2; see --help")))
 }
 
+/// A rule is handed on, too.
+fn rule_of(word: &str) -> Result<u8, Stop> {
+    word.parse().map_err(|_| not_run(format!("{word}: a rule is 13 or 28; see --help")))
+}
+
 fn run(words: Words) -> Result<Vec<u8>, Stop> {
     if words.help {
         return Ok(HELP.into());
@@ -163,6 +170,7 @@ fn run(words: Words) -> Result<Vec<u8>, Stop> {
         ("--long", words.long, "list"),
         ("--strict", words.strict, "check"),
         ("--to", words.to.is_some(), "diff"),
+        ("--rule", words.rule.is_some(), "sort"),
         ("--out", words.out.is_some(), "diff content"),
     ];
     if let Some((option, ..)) = misplaced.iter().find(|(_, given, of)| *given && !of.split(' ').any(|c| c == command)) {
@@ -178,8 +186,8 @@ fn run(words: Words) -> Result<Vec<u8>, Stop> {
         }
         ["diff", form, update] => diff(&Asked::of(form, update, None)?, &words),
         ["diff", form, update, vector] => diff(&Asked::of(form, update, Some(vector))?, &words),
-        ["sort", form, update] => sorted(&Asked::of(form, update, None)?),
-        ["sort", form, update, vector] => sorted(&Asked::of(form, update, Some(vector))?),
+        ["sort", form, update] => sorted(&Asked::of(form, update, None)?, &words),
+        ["sort", form, update, vector] => sorted(&Asked::of(form, update, Some(vector))?, &words),
         _ => Err(not_run(match HELP.lines().find(|line| line.starts_with(&format!("  ./wairokabi {command} FORM "))) {
             Some(usage) => format!("use {}; see --help", usage.trim()),
             None => format!("{command}: no such command; see --help"),
@@ -315,12 +323,13 @@ fn diff(asked: &Asked, words: &Words) -> Result<Vec<u8>, Stop> {
     }
 }
 
-fn sorted(asked: &Asked) -> Result<Vec<u8>, Stop> {
+fn sorted(asked: &Asked, words: &Words) -> Result<Vec<u8>, Stop> {
+    let rule = words.rule.as_deref().map_or(Ok(28), rule_of)?;
     let (form, bytes) = (asked.form, &asked.update.bytes);
     let (mut rows, mut ranges) = asked.tables();
     let (mut order, mut counts) = (vec![0; rows.len()], [Count::default(); MAX_CLIENTS]);
     let (mut reaches, mut pending) = ([Entry::default(); MAX_REACHES], [Pending::default(); MAX_CLIENTS]);
-    let sorted = sort(form, bytes, &asked.vector.bytes, &mut rows, &mut ranges, &mut order, &mut counts, &mut reaches, &mut pending)
+    let sorted = sort(rule, form, bytes, &asked.vector.bytes, &mut rows, &mut ranges, &mut order, &mut counts, &mut reaches, &mut pending)
         .map_err(|r| asked.refused(r))?;
     let blocks = sorted.update.blocks;
     let mut text = format!("taken, in order: {} of {}\n", sorted.order.len(), many(blocks.len(), "block"));

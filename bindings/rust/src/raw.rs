@@ -256,6 +256,7 @@ extern "C" {
     ) -> Diff;
 
     pub fn wairokabi_sort(
+        rule: u8,
         form: u8,
         update: *const u8,
         update_count: usize,

@@ -13,7 +13,7 @@ use std::fmt;
 ///
 /// let refused = wairokabi::content(3, &[0x00, 0x00], 0).unwrap_err();
 /// assert_eq!((refused.number(), refused.at()), (12, None));
-/// assert_eq!(refused.to_string(), "refused 12: form not 1 or 2");
+/// assert_eq!(refused.to_string(), "refused 12: form not 1 or 2, or rule not 13 or 28");
 /// ```
 #[derive(Clone, Copy, Debug, PartialEq, Eq, Hash)]
 pub struct Refused {
@@ -57,7 +57,7 @@ impl Refused {
             9 => "a cut, or a diff's, would fall inside a pair",
             10 => "output needs more bytes than lent",
             11 => "no block n, or it has no binary or text",
-            12 => "form not 1 or 2",
+            12 => "form not 1 or 2, or rule not 13 or 28",
             13 => "form 2, or a difference column, needs a difference outside -2^30 to 2^30-1",
             14 => "strict reading: the flag of form 2 is not 0",
             15 => "strict reading: a byte stays unread",

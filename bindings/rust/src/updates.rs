@@ -47,7 +47,7 @@ pub struct Count {
 
 unsafe impl Row for Count {}
 
-/// A client with blocks left, the client of its first unmet dependency, and how far that reaches.
+/// A client with blocks left, the client that it waits for (of its first unmet dependency, else, by rule 13, itself), and how far that reaches.
 #[repr(C)]
 #[derive(Clone, Copy, Debug, Default, PartialEq, Eq, Hash)]
 pub struct Pending {
@@ -287,9 +287,10 @@ pub struct Sorted<'t> {
     pub update: Update<'t>,
 }
 
-/// Sorts an update's blocks against a state vector into those that can be applied and those that wait. Refused by 12, 3, reading's, the vector's, then 8
-/// for the order and 10 for a report; never where the order has as many words as blocks are read, `counts` and `pending` have [`MAX_CLIENTS`] rows and
-/// `reaches` [`MAX_REACHES`].
+/// Sorts an update's blocks by a rule against a state vector into those that can be applied and those that wait. By rule 28 a block waits for its
+/// dependencies on other clients; by rule 13, that of peers on Yjs 13, then also until its own client reaches its clock. Refused by 12 (form or rule), 3,
+/// reading's, the vector's, then 8 for the order and 10 for a report; never by these two where the order has as many words as blocks are read, `counts`
+/// and `pending` have [`MAX_CLIENTS`] rows and `reaches` [`MAX_REACHES`].
 ///
 /// Case M: 5's block has left id (9,0). With 9's block both are taken, 9's first; without it 5 waits for 9, at reach 0.
 ///
@@ -305,19 +306,27 @@ pub struct Sorted<'t> {
 /// let (mut order, mut counts) = ([0; 4], [Count::default(); 64]);
 /// let (mut reaches, mut pending) = ([Entry::default(); 128], [Pending::default(); 64]);
 ///
-/// let sorted = sort(1, &both, &empty, &mut rows, &mut ranges, &mut order, &mut counts, &mut reaches, &mut pending)?;
+/// let sorted = sort(28, 1, &both, &empty, &mut rows, &mut ranges, &mut order, &mut counts, &mut reaches, &mut pending)?;
 /// assert_eq!(sorted.order, [0, 1]);
 /// assert_eq!(sorted.counts, [Count { client: 9, taken: 1 }, Count { client: 5, taken: 1 }]);
 /// assert_eq!(sorted.reaches, [Entry { client: 9, clock: 1 }, Entry { client: 5, clock: 1 }]);
 /// assert!(sorted.pending.is_empty());
 ///
-/// let sorted = sort(1, &waits, &empty, &mut rows, &mut ranges, &mut order, &mut counts, &mut reaches, &mut pending)?;
+/// let sorted = sort(28, 1, &waits, &empty, &mut rows, &mut ranges, &mut order, &mut counts, &mut reaches, &mut pending)?;
 /// assert!(sorted.order.is_empty());
 /// assert_eq!(sorted.pending, [Pending { client: 5, waits_for: 9, reach: 0 }]);
+///
+/// // A block at clock 3 of a client of which nothing is known: rule 28 takes it, rule 13 waits for the client itself.
+/// let late = [0x01, 0x01, 0x05, 0x03, 0x04, 0x01, 0x01, 0x74, 0x01, 0x61, 0x00];
+/// let sorted = sort(28, 1, &late, &empty, &mut rows, &mut ranges, &mut order, &mut counts, &mut reaches, &mut pending)?;
+/// assert_eq!(sorted.order, [0]);
+/// let sorted = sort(13, 1, &late, &empty, &mut rows, &mut ranges, &mut order, &mut counts, &mut reaches, &mut pending)?;
+/// assert_eq!(sorted.pending, [Pending { client: 5, waits_for: 5, reach: 0 }]);
 /// # Ok::<(), wairokabi::Refused>(())
 /// ```
 #[allow(clippy::too_many_arguments)] // the header's
 pub fn sort<'t>(
+    rule: u8,
     form: u8,
     update: &[u8],
     vector: &[u8],
@@ -330,6 +339,7 @@ pub fn sort<'t>(
 ) -> Result<Sorted<'t>, Refused> {
     let answer = unsafe {
         raw::wairokabi_sort(
+            rule,
             form,
             update.as_ptr(),
             update.len(),

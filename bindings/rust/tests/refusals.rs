@@ -24,7 +24,7 @@ fn refuses(form: u8, update: &[u8], number: u8, at: Option<usize>) {
     assert_eq!(why(encode_diff(form, update, &BAD, 1, &mut l.rows, &mut l.ranges, &mut l.out)), (number, at));
     assert!(zero(&l.rows) && zero(&l.ranges) && zero(&l.out));
     let mut l = lent(ROWS, ROWS, 0);
-    let refused = sort(form, update, &BAD, &mut l.rows, &mut l.ranges, &mut l.order, &mut l.counts, &mut l.reaches, &mut l.pending);
+    let refused = sort(28, form, update, &BAD, &mut l.rows, &mut l.ranges, &mut l.order, &mut l.counts, &mut l.reaches, &mut l.pending);
     assert_eq!(why(refused), (number, at));
     assert!(zero(&l.rows) && zero(&l.ranges) && zero(&l.order) && zero(&l.counts) && zero(&l.reaches) && zero(&l.pending));
 }
@@ -100,7 +100,7 @@ fn vectors_blame_no_byte() {
         let mut l = lent(ROWS, ROWS, 64);
         assert_eq!(why(encode_diff(1, &C, vector, 1, &mut l.rows, &mut l.ranges, &mut l.out)), (number, None));
         assert!(zero(&l.rows) && zero(&l.out));
-        let refused = sort(2, &D, vector, &mut l.rows, &mut l.ranges, &mut l.order, &mut l.counts, &mut l.reaches, &mut l.pending);
+        let refused = sort(28, 2, &D, vector, &mut l.rows, &mut l.ranges, &mut l.order, &mut l.counts, &mut l.reaches, &mut l.pending);
         assert_eq!(why(refused), (number, None));
     }
 }
@@ -137,7 +137,7 @@ fn reports_are_enough_or_one_short() {
         let mut l = lent(2, 0, 0);
         let (order, counts, reaches, pending) =
             (&mut l.order[..order], &mut l.counts[..counts], &mut l.reaches[..reaches], &mut l.pending[..pending]);
-        let answer = sort(1, &BOTH, &EMPTY, &mut l.rows, &mut l.ranges, order, counts, reaches, pending);
+        let answer = sort(28, 1, &BOTH, &EMPTY, &mut l.rows, &mut l.ranges, order, counts, reaches, pending);
         assert_eq!(answer.is_ok(), number == 0);
         if number != 0 {
             assert_eq!(why(answer), (number, None));
@@ -145,7 +145,7 @@ fn reports_are_enough_or_one_short() {
         }
     }
     let mut l = lent(1, 0, 0);
-    let answer = sort(1, &WITHOUT, &EMPTY, &mut l.rows, &mut [], &mut [], &mut l.counts, &mut l.reaches, &mut []);
+    let answer = sort(28, 1, &WITHOUT, &EMPTY, &mut l.rows, &mut [], &mut [], &mut l.counts, &mut l.reaches, &mut []);
     assert_eq!(why(answer), (10, None));
 }
 

@@ -66,7 +66,7 @@ fn case_m_is_sorted() {
         [(&BOTH, &[0, 1], &[(9, 1), (5, 1)], &[]), (&WITHOUT, &[], &[(5, 0)], &[FIVE]), (&RING, &[], &[(9, 0), (5, 0)], &[NINE, FIVE])];
     for (update, order, clients, pending) in cases {
         let mut l = lent(ROWS, ROWS, 0);
-        let sorted = sort(1, update, &EMPTY, &mut l.rows, &mut l.ranges, &mut l.order, &mut l.counts, &mut l.reaches, &mut l.pending).unwrap();
+        let sorted = sort(28, 1, update, &EMPTY, &mut l.rows, &mut l.ranges, &mut l.order, &mut l.counts, &mut l.reaches, &mut l.pending).unwrap();
         assert_eq!((sorted.order, sorted.pending), (order, pending));
         assert_eq!(sorted.counts.iter().map(|c| (c.client, c.taken)).collect::<Vec<_>>(), clients);
         assert_eq!(sorted.reaches.iter().map(|r| (r.client, r.clock)).collect::<Vec<_>>(), clients);

@@ -71,8 +71,8 @@ module _ {M : Type 1} (𝓤 : URA M) (H : Heap 𝓤) (A : Atoms 𝓤) (mem : Mem
       said = λ ns r ws. since 𝓤 (λ e. (e .0, (e .1, (e .2, (e .3, tt)))));
     }
 
-    pub sorts·sort! : Triple 𝓤 (C #sorts·sort) Sorts·sort → (form₀ : ℕ) (g-form : Has byte form₀) (at-update : Seat) (update₀ : List ℕ) (at-vector : Seat) (vector₀ : List ℕ) (at-rows : Seat) (rows₀ : List Block) (at-ranges : Seat) (ranges₀ : List ℕ) (at-order : Seat) (order₀ : List ℕ) (at-counts : Seat) (counts₀ : List ℕ) (at-reaches : Seat) (reaches₀ : List ℕ) (at-pending : Seat) (pending₀ : List ℕ) → Card 𝓤 H A C #sorts·sort (val byte form₀ g-form ∷ pass byte at-update update₀ ∷ pass byte at-vector vector₀ ∷ mut block at-rows rows₀ (rowsOf (length rows₀) (sortOf form₀ update₀ vector₀ (length rows₀) (length ranges₀ / 3) (lent order₀ counts₀ reaches₀ pending₀) .reading)) ∷ mut word at-ranges ranges₀ (wordsOf (length ranges₀) (sortOf form₀ update₀ vector₀ (length rows₀) (length ranges₀ / 3) (lent order₀ counts₀ reaches₀ pending₀) .reading)) ∷ mut word at-order order₀ (padded (length order₀) (sortOf form₀ update₀ vector₀ (length rows₀) (length ranges₀ / 3) (lent order₀ counts₀ reaches₀ pending₀) .order)) ∷ mut word at-counts counts₀ (padded (length counts₀) (sortOf form₀ update₀ vector₀ (length rows₀) (length ranges₀ / 3) (lent order₀ counts₀ reaches₀ pending₀) .counts)) ∷ mut word at-reaches reaches₀ (padded (length reaches₀) (sortOf form₀ update₀ vector₀ (length rows₀) (length ranges₀ / 3) (lent order₀ counts₀ reaches₀ pending₀) .reaches)) ∷ mut word at-pending pending₀ (padded (length pending₀) (sortOf form₀ update₀ vector₀ (length rows₀) (length ranges₀ / 3) (lent order₀ counts₀ reaches₀ pending₀) .pending)) ∷ []) sorted (sortAnswered (sortOf form₀ update₀ vector₀ (length rows₀) (length ranges₀ / 3) (lent order₀ counts₀ reaches₀ pending₀)))
-    sorts·sort! known form₀ g-form at-update update₀ at-vector vector₀ at-rows rows₀ at-ranges ranges₀ at-order order₀ at-counts counts₀ at-reaches reaches₀ at-pending pending₀ = record {
+    pub sorts·sort! : Triple 𝓤 (C #sorts·sort) Sorts·sort → (rule₀ : ℕ) (g-rule : Has byte rule₀) (form₀ : ℕ) (g-form : Has byte form₀) (at-update : Seat) (update₀ : List ℕ) (at-vector : Seat) (vector₀ : List ℕ) (at-rows : Seat) (rows₀ : List Block) (at-ranges : Seat) (ranges₀ : List ℕ) (at-order : Seat) (order₀ : List ℕ) (at-counts : Seat) (counts₀ : List ℕ) (at-reaches : Seat) (reaches₀ : List ℕ) (at-pending : Seat) (pending₀ : List ℕ) → Card 𝓤 H A C #sorts·sort (val byte rule₀ g-rule ∷ val byte form₀ g-form ∷ pass byte at-update update₀ ∷ pass byte at-vector vector₀ ∷ mut block at-rows rows₀ (rowsOf (length rows₀) (sortOf rule₀ form₀ update₀ vector₀ (length rows₀) (length ranges₀ / 3) (lent order₀ counts₀ reaches₀ pending₀) .reading)) ∷ mut word at-ranges ranges₀ (wordsOf (length ranges₀) (sortOf rule₀ form₀ update₀ vector₀ (length rows₀) (length ranges₀ / 3) (lent order₀ counts₀ reaches₀ pending₀) .reading)) ∷ mut word at-order order₀ (padded (length order₀) (sortOf rule₀ form₀ update₀ vector₀ (length rows₀) (length ranges₀ / 3) (lent order₀ counts₀ reaches₀ pending₀) .order)) ∷ mut word at-counts counts₀ (padded (length counts₀) (sortOf rule₀ form₀ update₀ vector₀ (length rows₀) (length ranges₀ / 3) (lent order₀ counts₀ reaches₀ pending₀) .counts)) ∷ mut word at-reaches reaches₀ (padded (length reaches₀) (sortOf rule₀ form₀ update₀ vector₀ (length rows₀) (length ranges₀ / 3) (lent order₀ counts₀ reaches₀ pending₀) .reaches)) ∷ mut word at-pending pending₀ (padded (length pending₀) (sortOf rule₀ form₀ update₀ vector₀ (length rows₀) (length ranges₀ / 3) (lent order₀ counts₀ reaches₀ pending₀) .pending)) ∷ []) sorted (sortAnswered (sortOf rule₀ form₀ update₀ vector₀ (length rows₀) (length ranges₀ / 3) (lent order₀ counts₀ reaches₀ pending₀)))
+    sorts·sort! known rule₀ g-rule form₀ g-form at-update update₀ at-vector vector₀ at-rows rows₀ at-ranges ranges₀ at-order order₀ at-counts counts₀ at-reaches reaches₀ at-pending pending₀ = record {
       contract = Sorts·sort;
       known = known;
       ghost = λ x. (x, tt);

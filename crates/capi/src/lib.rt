@@ -93,6 +93,7 @@ pub extern "C" fn wairokabi_encode_update(
 
 #[no_mangle]
 pub extern "C" fn wairokabi_sort(
+    rule: u8,
     form: u8,
     update: &[u8],
     vector: &[u8],
@@ -103,9 +104,10 @@ pub extern "C" fn wairokabi_sort(
     reaches: &mut [u64],
     pending: &mut [u64],
 ) -> Sorted
-    ensures { λ r. ⌜ SortUpdate form (now (update .entry)) (now (vector .entry)) (now (rows .entry)) (now (ranges .entry)) (now (order .entry)) (now (counts .entry)) (now (reaches .entry)) (now (pending .entry)) r (now (rows .exit)) (now (ranges .exit)) (now (order .exit)) (now (counts .exit)) (now (reaches .exit)) (now (pending .exit)) ⌝ }
+    ensures { λ r. ⌜ SortUpdate rule form (now (update .entry)) (now (vector .entry)) (now (rows .entry)) (now (ranges .entry)) (now (order .entry)) (now (counts .entry)) (now (reaches .entry)) (now (pending .entry)) r (now (rows .exit)) (now (ranges .exit)) (now (order .exit)) (now (counts .exit)) (now (reaches .exit)) (now (pending .exit)) ⌝ }
 {
     sorts::sort(
+        rule,
         form,
         update,
         vector,

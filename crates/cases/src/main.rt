@@ -25,6 +25,7 @@ fn case(
         17 => sort_cases::read(source, place, bytes, sink, used),
         18 => listings::read(source, place, bytes, sink, used),
         21 => strict_cases::read(source, place, bytes, sink, used),
+        25 => sort_cases::read_rule(source, place, bytes, sink, used),
         _ => number_cases::case(operation, source, place, bytes, sink, used),
     }
 }

@@ -4,6 +4,7 @@ use mathlib.Core.Path.{_≡_, refl, sym, ap, subst, _∙_}
 use mathlib.Core.Logic.{inl, inr}
 use mathlib.Core.Bool.{Bool, true, false, false≢true}
 use mathlib.Core.List.{List, [], _∷_}
+use native.Mathlib.Nat.{mul-le-mul-left}
 use native.Mathlib.Omega.{arith}
 use lib.Dec.{eqb}
 use lib.ListN.{length}
@@ -17,12 +18,13 @@ use Rattle.readings.specs.Sound.{All}
 use Rattle.slots.specs.Slots.{Slot, isNamed}
 use Rattle.slots.proofs.Ranks.{clientAt, slot-named}
 use Rattle.picker.specs.Fronts.{noFront, fresh, frontAt}
+use Rattle.picker.specs.Picker.{looksEach}
 use Rattle.sorting.specs.Steps.{start}
 use Rattle.sorting.specs.Quick.{Listed}
 use Rattle.sorting.proofs.Clients.{clients-vector}
 use Rattle.outcome.specs.Tie.{slotOf, Slotted, Opened}
 use Rattle.outcome.proofs.Looks.{unseen}
-use Rattle.outcome.proofs.Sums.{sum-le, sum-four, sizes, queues-fit}
+use Rattle.outcome.proofs.Sums.{sum-le, sum-times, sizes, queues-fit}
 use Rattle.outcome.proofs.Places.{slot-apart, listed-slot}
 use Rattle.outcome.proofs.Standing.{Held, Standing}
 use Rattle.outcome.proofs.Turns.{weight, work}
@@ -47,13 +49,13 @@ remote-low (e ∷ es) c all = go (eqb (e .client) c) (remote-low es c (all .1))
     go true rest = all .0
     go false rest = rest
 
-module _ {bs : List Block} {v : List Entry} {ss : List Slot} {reach fronts : List ℕ} (slotted : Slotted bs v ss) (opened : Opened v ss reach fronts) where
-  begun-held : (i : ℕ) → i < length ss → Held bs ss (start (remote v)) i (frontAt fronts i)
+module _ (rule : ℕ) {bs : List Block} {v : List Entry} {ss : List Slot} {reach fronts : List ℕ} (slotted : Slotted bs v ss) (opened : Opened v ss reach fronts) where
+  begun-held : (i : ℕ) → i < length ss → Held rule bs ss (start (remote v)) i (frontAt fronts i)
   unfolding fresh
   begun-held i small = rw (opened .begun i small) (go (eqb (slotOf ss i .count) 0) refl)
     where
       go : (x : Bool) → eqb (slotOf ss i .count) 0 ≡ x
-          → Held bs ss (start (remote v)) i
+          → Held rule bs ss (start (remote v)) i
           (pick x noFront (record { next = slotOf ss i .first; left = slotOf ss i .count; slot = 0; need = 0; stage = 0; missing = 0 }))
       go true e =
           let p : slotOf ss i .count ≡ 0 = eqb-true (slotOf ss i .count) 0 e in
@@ -66,7 +68,7 @@ module _ {bs : List Block} {v : List Entry} {ss : List Slot} {reach fronts : Lis
             ok = λ z. unseen refl refl;
           }
 
-  pub begun-stands : All (λ (e : Entry). e .clock ≤ maxClock) v → Standing bs ss reach fronts (start (remote v))
+  pub begun-stands : All (λ (e : Entry). e .clock ≤ maxClock) v → Standing rule bs ss reach fronts (start (remote v))
   begun-stands low = record {
     room = opened .room;
     shows = record { at = opened .reaches; else = λ c e. remote-none v c (other c e) };
@@ -79,14 +81,17 @@ module _ {bs : List Block} {v : List Entry} {ss : List Slot} {reach fronts : Lis
           let p = listed-slot ss c (subst (Listed c) (sym (slotted .names)) (clients-vector bs v c l)) in
           false≢true (sym e ∙ ap (λ (d : ℕ). isNamed d ss) (sym (p .2)) ∙ slot-named ss (p .0) (slotted .falling) (p .1))
 
-  begun-weight : (i : ℕ) → i < length ss → weight (frontAt fronts i) ≤ 4 * sizes bs (clientAt ss) i
-  begun-weight i small = omega (arith, begun-held i small .left, slotted .counts i small)
+  begun-weight : (i : ℕ) → i < length ss → weight rule (frontAt fronts i) ≤ looksEach rule * sizes bs (clientAt ss) i
+  begun-weight i small =
+      let e : frontAt fronts i .left ≡ sizes bs (clientAt ss) i = omega (arith, begun-held i small .left, slotted .counts i small) in
+      omega (arith, ap (λ (n : ℕ). looksEach rule * n) e)
 
-  pub begun-work : work fronts (length ss) ≤ 4 * length bs
+  pub begun-work : work rule fronts (length ss) ≤ looksEach rule * length bs
   unfolding work
   begun-work = omega (
     arith,
-    sum-le (λ i. weight (frontAt fronts i)) (λ i. 4 * sizes bs (clientAt ss) i) (length ss) begun-weight,
-    sum-four (sizes bs (clientAt ss)) (length ss),
-    queues-fit bs (clientAt ss) (length ss) (λ i j l h. slot-apart ss (slotted .falling) i j (omega arith) h (λ e. omega arith)),
+    sum-le (λ i. weight rule (frontAt fronts i)) (λ i. looksEach rule * sizes bs (clientAt ss) i) (length ss) begun-weight,
+    sum-times (looksEach rule) (sizes bs (clientAt ss)) (length ss),
+    mul-le-mul-left (looksEach rule)
+        (queues-fit bs (clientAt ss) (length ss) (λ i j l h. slot-apart ss (slotted .falling) i j (omega arith) h (λ e. omega arith))),
   )

@@ -5,6 +5,7 @@ use mathlib.Core.Path.{_≡_, refl, sym, ap, subst, _∙_}
 use mathlib.Core.Logic.{inl, inr, _≢_}
 use mathlib.Core.Bool.{Bool, true, false}
 use mathlib.Core.List.{List, [], _∷_, _++_}
+use native.Mathlib.Nat.{mul-le-mul}
 use native.Mathlib.Omega.{arith}
 use lib.Dec.{eqb}
 use lib.ListN.{length, set, take, length-append, length-take}
@@ -18,16 +19,20 @@ use Rattle.parts.specs.Brim.{brim}
 use Rattle.slots.specs.Slots.{Slot}
 use Rattle.slots.proofs.Ranks.{clientAt}
 use Rattle.picker.specs.declared.fronts.Front.{Front}
+use Rattle.picker.proofs.StageLaws.{count-most}
 use Rattle.picker.specs.Fronts.{frontAt, putFront}
-use Rattle.picker.specs.Picker.{nowhere, oneMore, looked, moved, lift, pushed, desk, pointed, looks, kept, took, offered, picked, allPicked}
+use Rattle.picker.specs.Picker.{nowhere, oneMore, looked, moved, lift, pushed, desk, pointed, looksEach, looks, kept, took, offered, picked, allPicked}
 use Rattle.sorting.specs.Steps.{start, after, Run, Highest}
-use Rattle.sorting.specs.Sorted.{steps, outcome, numbersBy, orderOf}
+use Rattle.sorting.specs.Named.{asksOf, ruleOf}
+use Rattle.sorting.specs.Sorted.{clients, steps, order, outcome, numbersBy, orderOf}
 use Rattle.sorting.proofs.Quick.{run-more, after-more, highest-more}
 use Rattle.sorting.proofs.Numbers.{numbersBy-more, numbersBy-length}
+use Rattle.sorting.proofs.Rules.{reaches-mono}
+use Rattle.sorting.proofs.Clients.{clients-blocks}
 use Rattle.sorting.proofs.Demand.{front, is-order}
 use Rattle.outcome.specs.Tie.{Slotted, Sortable, Opened, Ended, overlaid}
 use Rattle.outcome.specs.Came.{Came}
-use Rattle.outcome.proofs.Looks.{Clocks}
+use Rattle.outcome.proofs.Asked.{Clocks}
 use Rattle.outcome.proofs.Overlay.{overlaid-none, overlaid-more}
 use Rattle.outcome.proofs.Standing.{Standing}
 use Rattle.outcome.proofs.Pointed.{look, Idle, Chosen, pointed-zero, pointed-one}
@@ -41,82 +46,82 @@ more-is : (n : ℕ) → n < brim → oneMore n ≡ suc n
 unfolding oneMore
 more-is n h = rw (lt-ltb n brim h)
 
-module _ (ss : List Slot) (reach fronts words : List ℕ) (i made k : ℕ) (b : Block) where
+module _ (rule : ℕ) (ss : List Slot) (reach fronts words : List ℕ) (i made k : ℕ) (b : Block) where
   abbrev f : Front
   f = frontAt fronts i
 
   last : suc k - 1 ≡ k
   last = omega arith
 
-  offered-took : looked ss reach f b .need ≡ 0 → made < brim
-      → offered ss (desk (look i (f .next) made (suc k)) reach fronts words) b
+  offered-took : looked rule ss reach f b .need ≡ 0 → made < brim
+      → offered rule ss (desk (look i (f .next) made (suc k)) reach fronts words) b
       ≡ desk (pointed (putFront fronts i (moved f (f .next))) (lift reach i b) (length ss) (suc made) k) (lift reach i b)
       (putFront fronts i (moved f (f .next))) (set words made (f .next))
   unfolding offered took pushed
-  offered-took e h = rw (eq-eqb (looked ss reach f b .need) 0 e, more-is made h, last) refl
+  offered-took e h = rw (eq-eqb (looked rule ss reach f b .need) 0 e, more-is made h, last) refl
 
-  offered-kept : looked ss reach f b .need ≢ 0
-      → offered ss (desk (look i (f .next) made (suc k)) reach fronts words) b
-      ≡ desk (pointed (putFront fronts i (looked ss reach f b)) reach (length ss) made k) reach (putFront fronts i (looked ss reach f b)) words
+  offered-kept : looked rule ss reach f b .need ≢ 0
+      → offered rule ss (desk (look i (f .next) made (suc k)) reach fronts words) b
+      ≡ desk (pointed (putFront fronts i (looked rule ss reach f b)) reach (length ss) made k) reach (putFront fronts i (looked rule ss reach f b)) words
   unfolding offered kept
-  offered-kept ne = rw (ne-eqb (looked ss reach f b .need) 0 ne, last) refl
+  offered-kept ne = rw (ne-eqb (looked rule ss reach f b .need) 0 ne, last) refl
 
 -- ---- how far the looks have come
 
 -- some run that takes the highest client at each step has come to what the desk shows, and as many looks are left as the fronts may need
-record Reached (bs : List Block) (v : List Entry) (ss : List Slot) (before reach fronts words : List ℕ) (made left : ℕ) : Type 0 where
+record Reached (rule : ℕ) (bs : List Block) (v : List Entry) (ss : List Slot) (before reach fronts words : List ℕ) (made left : ℕ) : Type 0 where
   cs : List ℕ
-  run : Run (steps bs) (start (remote v)) cs
-  highest : Highest (steps bs) (start (remote v)) cs
-  stands : Standing bs ss reach fronts (after (steps bs) (start (remote v)) cs)
+  run : Run (steps (ruleOf rule) bs) (start (remote v)) cs
+  highest : Highest (steps (ruleOf rule) bs) (start (remote v)) cs
+  stands : Standing rule bs ss reach fronts (after (steps (ruleOf rule) bs) (start (remote v)) cs)
   count : made ≡ length cs
-  numbers : words ≡ overlaid before (numbersBy bs (start (remote v)) cs)
-  enough : work fronts (length ss) ≤ left
-  few : made + left ≤ 4 * maxBlocks
+  numbers : words ≡ overlaid before (numbersBy (ruleOf rule) bs (start (remote v)) cs)
+  enough : work rule fronts (length ss) ≤ left
+  few : made + left ≤ 5 * maxBlocks
 
-module _ {bs : List Block} {v : List Entry} {ss : List Slot} (given : Given bs v ss) {before reach fronts words : List ℕ} {made : ℕ} where
+module _ {rule : ℕ} {bs : List Block} {v : List Entry} {ss : List Slot} (given : Given bs v ss) {before reach fronts words : List ℕ} {made : ℕ} where
   -- nothing is due
-  idle-came : {left : ℕ} → Reached bs v ss before reach fronts words made left → Idle fronts reach (length ss)
-      → Came bs v ss before (desk (look 0 nowhere made left) reach fronts words)
+  idle-came : {left : ℕ} → Reached rule bs v ss before reach fronts words made left → Idle fronts reach (length ss)
+      → Came rule bs v ss before (desk (look 0 nowhere made left) reach fronts words)
   unfolding outcome orderOf
   idle-came r idle =
-      let e = is-order bs v (r .cs) (record { run = r .run; end = idle-stuck given (r .stands) idle }) (r .highest) in
+      let e = is-order (ruleOf rule) (reaches-mono (asksOf rule)) bs (clients bs v) (clients-blocks bs v) (remote v) (r .cs) (record { run = r .run; end = idle-stuck given (r .stands) idle }) (r .highest) in
       record {
-        steps = r .count ∙ ap length e;
-        order = r .numbers ∙ ap (λ (cs : List ℕ). overlaid before (numbersBy bs (start (remote v)) cs)) e;
-        ended = subst (λ (cs : List ℕ). Ended bs ss (after (steps bs) (start (remote v)) cs) reach fronts) e (idle-ended given (r .stands) idle);
+        steps = r .count ∙ ap length e ∙ sym (numbersBy-length (ruleOf rule) bs (start (remote v)) (order (ruleOf rule) bs (clients bs v) (remote v)));
+        order = r .numbers ∙ ap (λ (cs : List ℕ). overlaid before (numbersBy (ruleOf rule) bs (start (remote v)) cs)) e;
+        ended = subst (λ (cs : List ℕ). Ended rule bs ss (after (steps (ruleOf rule) bs) (start (remote v)) cs) reach fronts) e (idle-ended given (r .stands) idle);
       }
 
   -- the first front that is due is looked at
-  module _ {k : ℕ} (r : Reached bs v ss before reach fronts words made (suc k)) {i : ℕ} (chosen : Chosen fronts reach (length ss) i) where
+  module _ {k : ℕ} (r : Reached rule bs v ss before reach fronts words made (suc k)) {i : ℕ} (chosen : Chosen fronts reach (length ss) i) where
     abbrev g : Front
     g = frontAt fronts i
 
     abbrev b : Block
-    b = front bs (after (steps bs) (start (remote v)) (r .cs)) (clientAt ss i)
+    b = front bs (after (steps (ruleOf rule) bs) (start (remote v)) (r .cs)) (clientAt ss i)
 
-    reached-took : looked ss reach g b .need ≡ 0
-        → Reached bs v ss before (lift reach i b) (putFront fronts i (moved g (g .next))) (set words made (g .next)) (suc made) k
+    reached-took : looked rule ss reach g b .need ≡ 0
+        → Reached rule bs v ss before (lift reach i b) (putFront fronts i (moved g (g .next))) (set words made (g .next)) (suc made) k
     reached-took e =
         let c = clientAt ss i in
-        let ns = numbersBy bs (start (remote v)) (r .cs) in
+        let ns = numbersBy (ruleOf rule) bs (start (remote v)) (r .cs) in
         record {
           cs = r .cs ++ (c ∷ []);
-          run = run-more (steps bs) (start (remote v)) (r .cs) c (r .run) (took-can given (r .stands) (chosen .here) e);
-          highest = highest-more (steps bs) (start (remote v)) (r .cs) c (r .highest) (chosen-highest given (r .stands) chosen);
-          stands = rw (after-more (steps bs) (start (remote v)) (r .cs) c) (took-stands given (r .stands) (chosen .here) e);
+          run = run-more (steps (ruleOf rule) bs) (start (remote v)) (r .cs) c (r .run) (took-can given (r .stands) (chosen .here) e);
+          highest = highest-more (steps (ruleOf rule) bs) (start (remote v)) (r .cs) c (r .highest) (chosen-highest given (r .stands) chosen);
+          stands = rw (after-more (steps (ruleOf rule) bs) (start (remote v)) (r .cs) c) (took-stands given (r .stands) (chosen .here) e);
           count = omega (arith, r .count, length-append (r .cs) (c ∷ []));
           numbers =
               ap (λ (w : List ℕ). set w made (g .next)) (r .numbers)
-              ∙ ap (λ (n : ℕ). set (overlaid before ns) n (g .next)) (r .count ∙ sym (numbersBy-length bs (start (remote v)) (r .cs)))
+              ∙ ap (λ (n : ℕ). set (overlaid before ns) n (g .next)) (r .count ∙ sym (numbersBy-length (ruleOf rule) bs (start (remote v)) (r .cs)))
               ∙ overlaid-more before ns (g .next)
               ∙ ap (λ (n : ℕ). overlaid before (ns ++ (n ∷ []))) (next-number given (r .stands) (chosen .here))
-              ∙ sym (ap (overlaid before) (numbersBy-more bs (start (remote v)) (r .cs) c));
+              ∙ sym (ap (overlaid before) (numbersBy-more (ruleOf rule) bs (start (remote v)) (r .cs) c));
           enough = omega (arith, r .enough, took-work given (r .stands) (chosen .here) e);
           few = omega (arith, r .few);
         }
 
-    reached-kept : looked ss reach g b .need ≢ 0 → Reached bs v ss before reach (putFront fronts i (looked ss reach g b)) words made k
+    reached-kept : looked rule ss reach g b .need ≢ 0 → Reached rule bs v ss before reach (putFront fronts i (looked rule ss reach g b)) words made k
     reached-kept ne = record {
       cs = r .cs;
       run = r .run;
@@ -130,12 +135,12 @@ module _ {bs : List Block} {v : List Entry} {ss : List Slot} (given : Given bs v
 
 -- ---- look after look
 
-module _ {bs : List Block} {v : List Entry} {ss : List Slot} (given : Given bs v ss) (rows : List Block) (agree : take (length bs) rows ≡ bs)
+module _ (rule : ℕ) {bs : List Block} {v : List Entry} {ss : List Slot} (given : Given bs v ss) (rows : List Block) (agree : take (length bs) rows ≡ bs)
     (short : length rows ≤ nowhere) (before : List ℕ) where
   -- so many looks come to the outcome from wherever the looks before them have come to
   abbrev Onward : ℕ → Type 0
-  Onward k = (reach fronts words : List ℕ) (made : ℕ) → Reached bs v ss before reach fronts words made k
-      → Came bs v ss before (picked k ss rows (desk (pointed fronts reach (length ss) made k) reach fronts words))
+  Onward k = (reach fronts words : List ℕ) (made : ℕ) → Reached rule bs v ss before reach fronts words made k
+      → Came rule bs v ss before (picked rule k ss rows (desk (pointed fronts reach (length ss) made k) reach fronts words))
 
   longer : length bs ≤ length rows
   longer = omega (arith, length-take (length bs) rows, ap length agree)
@@ -144,31 +149,31 @@ module _ {bs : List Block} {v : List Entry} {ss : List Slot} (given : Given bs v
   unfolding picked
   spent reach fronts words made r = rw (pointed-zero fronts reach (length ss) made) (idle-came given r (spent-idle given (r .stands) (r .enough)))
 
-  module _ (k : ℕ) (on : Onward k) (reach fronts words : List ℕ) (made : ℕ) (r : Reached bs v ss before reach fronts words made (suc k)) where
+  module _ (k : ℕ) (on : Onward k) (reach fronts words : List ℕ) (made : ℕ) (r : Reached rule bs v ss before reach fronts words made (suc k)) where
     module _ {i : ℕ} (chosen : Chosen fronts reach (length ss) i) where
       abbrev a : Block
-      a = front bs (after (steps bs) (start (remote v)) (r .cs)) (clientAt ss i)
+      a = front bs (after (steps (ruleOf rule) bs) (start (remote v)) (r .cs)) (clientAt ss i)
 
       abbrev h : Front
       h = frontAt fronts i
 
-      at-offered : (x : Bool) → eqb (looked ss reach h a .need) 0 ≡ x
-          → Came bs v ss before (picked k ss rows (offered ss (desk (look i (h .next) made (suc k)) reach fronts words) a))
+      at-offered : (x : Bool) → eqb (looked rule ss reach h a .need) 0 ≡ x
+          → Came rule bs v ss before (picked rule k ss rows (offered rule ss (desk (look i (h .next) made (suc k)) reach fronts words) a))
       at-offered true e =
-          let z = eqb-true (looked ss reach h a .need) 0 e in
-          rw (offered-took ss reach fronts words i made k a z (omega (arith, r .few))) (on _ _ _ (suc made) (reached-took given r chosen z))
+          let z = eqb-true (looked rule ss reach h a .need) 0 e in
+          rw (offered-took rule ss reach fronts words i made k a z (omega (arith, r .few))) (on _ _ _ (suc made) (reached-took given r chosen z))
       at-offered false e =
-          let z = eqb-false (looked ss reach h a .need) 0 e in
-          rw (offered-kept ss reach fronts words i made k a z) (on _ _ _ made (reached-kept given r chosen z))
+          let z = eqb-false (looked rule ss reach h a .need) 0 e in
+          rw (offered-kept rule ss reach fronts words i made k a z) (on _ _ _ made (reached-kept given r chosen z))
 
-      at-chosen : Came bs v ss before (picked (suc k) ss rows (desk (look i (h .next) made (suc k)) reach fronts words))
+      at-chosen : Came rule bs v ss before (picked rule (suc k) ss rows (desk (look i (h .next) made (suc k)) reach fronts words))
       unfolding picked
       at-chosen =
           let below = next-below given (r .stands) (chosen .here) in
           rw (lt-ltb (h .next) (length rows) (omega (arith, longer)), next-block given (r .stands) (chosen .here) rows agree)
-          (at-offered (eqb (looked ss reach h a .need) 0) refl)
+          (at-offered (eqb (looked rule ss reach h a .need) 0) refl)
 
-    turn : Came bs v ss before (picked (suc k) ss rows (desk (pointed fronts reach (length ss) made (suc k)) reach fronts words))
+    turn : Came rule bs v ss before (picked rule (suc k) ss rows (desk (pointed fronts reach (length ss) made (suc k)) reach fronts words))
     unfolding picked
     turn = elim (pointed-one fronts reach (length ss) made k)
         [ inl p ↦ rw (p .2) (at-chosen (p .1)) | inr p ↦ rw (p .1, le-ltb nowhere (length rows) (omega arith)) (idle-came given r (p .0)) ]
@@ -177,24 +182,28 @@ module _ {bs : List Block} {v : List Entry} {ss : List Slot} (given : Given bs v
   onward zero = spent
   onward (suc k) = turn k (onward k)
 
+each-most : (rule : ℕ) → looksEach rule ≤ 5
+unfolding looksEach
+each-most rule = omega (arith, count-most rule)
+
 sound-clocks : (u : List ℕ) (bs : List Block) → All (Sound u) bs → All Clocks bs
 sound-clocks u [] all = tt
-sound-clocks u (b ∷ bs) all = ((all .0 .left .clock, all .0 .right .clock, all .0 .parent .clock), sound-clocks u bs (all .1))
+sound-clocks u (b ∷ bs) all = let low : b .clock ≤ maxClock = omega (arith, all .0 .end) in ((low, all .0 .left .clock, all .0 .right .clock, all .0 .parent .clock), sound-clocks u bs (all .1))
 
-pub picked-outcome : (u : List ℕ) (bs rows : List Block) (v : List Entry) (ss : List Slot) (reach fronts words : List ℕ) → take (length bs) rows ≡ bs
+pub picked-outcome : (rule : ℕ) (u : List ℕ) (bs rows : List Block) (v : List Entry) (ss : List Slot) (reach fronts words : List ℕ) → take (length bs) rows ≡ bs
     → length rows ≤ nowhere → Sortable bs → All (Sound u) bs → All (λ (e : Entry). e .clock ≤ maxClock) v → Slotted bs v ss → Opened v ss reach fronts
-    → Came bs v ss words (allPicked ss rows (length bs) reach fronts words)
+    → Came rule bs v ss words (allPicked rule ss rows (length bs) reach fronts words)
 unfolding allPicked looks after Run Highest numbersBy
-picked-outcome u bs rows v ss reach fronts words agree short sortable sound low slotted opened =
+picked-outcome rule u bs rows v ss reach fronts words agree short sortable sound low slotted opened =
     rw (le-leb (length bs) maxBlocks (sortable .few))
-    (onward (record { slotted = slotted; sortable = sortable; clocks = sound-clocks u bs sound }) rows agree short words (4 * length bs) reach fronts words 0
+    (onward rule (record { slotted = slotted; sortable = sortable; clocks = sound-clocks u bs sound }) rows agree short words (looksEach rule * length bs) reach fronts words 0
     (record {
       cs = [];
       run = tt;
       highest = tt;
-      stands = begun-stands slotted opened low;
+      stands = begun-stands rule slotted opened low;
       count = refl;
       numbers = sym (overlaid-none words);
-      enough = begun-work slotted opened;
-      few = omega (arith, sortable .few);
+      enough = begun-work rule slotted opened;
+      few = omega (arith, mul-le-mul (each-most rule) (sortable .few));
     }))

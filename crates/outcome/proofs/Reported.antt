@@ -20,7 +20,8 @@ use Rattle.picker.specs.declared.fronts.Front.{Front}
 use Rattle.picker.specs.Fronts.{never, frontAt}
 use Rattle.reports.specs.Reports.{countOf, reachOf, pendingOf, countsFrom, reachesFrom, pendingFrom}
 use Rattle.sorting.specs.Steps.{State}
-use Rattle.sorting.specs.Rules.{queue, rule28, report}
+use Rattle.sorting.specs.Rules.{queue, report, byReaches}
+use Rattle.sorting.specs.Named.{ruleOf}
 use Rattle.sorting.specs.Sorted.{clients, countsIn, reachesIn, waiting, pendingIn}
 use Rattle.outcome.specs.Tie.{slotOf, Slotted, Awaits, Ended}
 
@@ -73,24 +74,24 @@ module _ (s : State ℕ) (reach : List ℕ) where
   reaches-each i [] h = refl
   reaches-each i (t ∷ ss) h = λ j. t .client ∷ (h .0 j ∷ reaches-each (suc i) ss (h .1) j)
 
-module _ (bs : List Block) (s : State ℕ) (reach fronts : List ℕ) where
+module _ (rule : ℕ) (bs : List Block) (s : State ℕ) (reach fronts : List ℕ) where
   abbrev Waited : ℕ → Slot → Type 0
   Waited i t = (rest : List ℕ)
-      → pendingOf t (frontAt fronts i) reach ++ rest ≡ waiting s (t .client) (report rule28 (queue bs) s (t .client)) rest
+      → pendingOf t (frontAt fronts i) reach ++ rest ≡ waiting (λ (d : Id). s .known (d .client)) (t .client) (report (ruleOf rule) (queue bs) s (t .client)) rest
 
-  pending-each : (i : ℕ) (ss : List Slot) → Each Waited i ss → pendingFrom i ss fronts reach ≡ pendingIn bs s (clientsOf ss)
-  unfolding pendingFrom pendingIn
+  pending-each : (i : ℕ) (ss : List Slot) → Each Waited i ss → pendingFrom i ss fronts reach ≡ pendingIn (ruleOf rule) bs s (clientsOf ss)
+  unfolding pendingFrom pendingIn byReaches
   pending-each i [] h = refl
   pending-each i (t ∷ ss) h =
-      ap (λ (l : List ℕ). pendingOf t (frontAt fronts i) reach ++ l) (pending-each (suc i) ss (h .1)) ∙ h .0 (pendingIn bs s (clientsOf ss))
+      ap (λ (l : List ℕ). pendingOf t (frontAt fronts i) reach ++ l) (pending-each (suc i) ss (h .1)) ∙ h .0 (pendingIn (ruleOf rule) bs s (clientsOf ss))
 
 -- ---- a front that waits, and one that has no block left
 
-all-taken : (bs : List Block) (s : State ℕ) (c : ℕ) → length (queue bs c) ≤ s .taken c → report rule28 (queue bs) s c ≡ none
+all-taken : (rule : ℕ) (bs : List Block) (s : State ℕ) (c : ℕ) → length (queue bs c) ≤ s .taken c → report (ruleOf rule) (queue bs) s c ≡ none
 unfolding report
-all-taken bs s c h = rw (le-ltb (s .taken c) (length (queue bs c)) h) refl
+all-taken rule bs s c h = rw (le-ltb (s .taken c) (length (queue bs c)) h) refl
 
-module _ (bs : List Block) (ss : List Slot) (s : State ℕ) (reach fronts : List ℕ) (ended : Ended bs ss s reach fronts) where
+module _ (rule : ℕ) (bs : List Block) (ss : List Slot) (s : State ℕ) (reach fronts : List ℕ) (ended : Ended rule bs ss s reach fronts) where
   -- the reach of the client that a front waits for
   awaited : (f : Front) (c : ℕ) → Awaits ss f c → pick (eqb (f .need) never) 0 (getD reach (f .slot) 0) ≡ s .known c
   awaited f c (inl (named, at, below)) =
@@ -98,24 +99,24 @@ module _ (bs : List Block) (ss : List Slot) (s : State ℕ) (reach fronts : List
       rw (ne-eqb (f .need) never (λ q. omega arith), at) (ended .reaches (rank c ss) h ∙ ap (s .known) is)
   awaited f c (inr (unnamed, need)) = rw (eq-eqb (f .need) never need) (sym (ended .others c unnamed))
 
-  waited : (i : ℕ) → i < length ss → slotOf ss i .count ≡ length (queue bs (slotOf ss i .client)) → Waited bs s reach fronts i (slotOf ss i)
+  waited : (i : ℕ) → i < length ss → slotOf ss i .count ≡ length (queue bs (slotOf ss i .client)) → Waited rule bs s reach fronts i (slotOf ss i)
   unfolding pendingOf
   waited i h n rest = go (slotOf ss i .client) (frontAt fronts i) (ltb 0 (frontAt fronts i .left)) refl (ended .waits i h) (omega (arith, ended .left i h))
     where
       go : (c : ℕ) (f : Front) (x : Bool) → ltb 0 (f .left) ≡ x
-          → (0 < f .left → (d : Id) × (report rule28 (queue bs) s c ≡ some d) × (f .missing ≡ d .client) × (Awaits ss f (d .client)))
+          → (0 < f .left → (d : Id) × (report (ruleOf rule) (queue bs) s c ≡ some d) × (f .missing ≡ d .client) × (Awaits ss f (d .client)))
           → f .left + s .taken c ≡ length (queue bs c)
           → pick x (c ∷ (f .missing ∷ (pick (eqb (f .need) never) 0 (getD reach (f .slot) 0) ∷ []))) [] ++ rest
-          ≡ waiting s c (report rule28 (queue bs) s c) rest
+          ≡ waiting (λ (d : Id). s .known (d .client)) c (report (ruleOf rule) (queue bs) s c) rest
       go c f true q waits l =
           let (d, is, missing, awaits) = waits (ltb-true 0 (f .left) q) in
           rw (is, missing, awaited f (d .client) awaits) refl
-      go c f false q waits l = rw (all-taken bs s c (omega (arith, ltb-false 0 (f .left) q))) refl
+      go c f false q waits l = rw (all-taken rule bs s c (omega (arith, ltb-false 0 (f .left) q))) refl
 
 -- ---- the reports
 
-module _ (bs : List Block) (v : List Entry) (ss : List Slot) (slotted : Slotted bs v ss) where
-  module _ (s : State ℕ) (reach fronts : List ℕ) (ended : Ended bs ss s reach fronts) where
+module _ (rule : ℕ) (bs : List Block) (v : List Entry) (ss : List Slot) (slotted : Slotted bs v ss) where
+  module _ (s : State ℕ) (reach fronts : List ℕ) (ended : Ended rule bs ss s reach fronts) where
     pub counts-reported : countsFrom 0 ss fronts ≡ countsIn bs s (clients bs v)
     counts-reported =
         counts-each bs s fronts 0 ss (each (Counted bs s fronts) ss (λ i h. counted bs s fronts i (slotOf ss i) (slotted .counts i h) (ended .left i h)))
@@ -124,7 +125,7 @@ module _ (bs : List Block) (v : List Entry) (ss : List Slot) (slotted : Slotted 
     pub reaches-reported : reachesFrom 0 ss reach ≡ reachesIn s (clients bs v)
     reaches-reported = reaches-each s reach 0 ss (each (Reached s reach) ss (ended .reaches)) ∙ ap (reachesIn s) (slotted .names)
 
-    pub pending-reported : pendingFrom 0 ss fronts reach ≡ pendingIn bs s (clients bs v)
+    pub pending-reported : pendingFrom 0 ss fronts reach ≡ pendingIn (ruleOf rule) bs s (clients bs v)
     pending-reported =
-        pending-each bs s reach fronts 0 ss (each (Waited bs s reach fronts) ss (λ i h. waited bs ss s reach fronts ended i h (slotted .counts i h)))
-        ∙ ap (pendingIn bs s) (slotted .names)
+        pending-each rule bs s reach fronts 0 ss (each (Waited rule bs s reach fronts) ss (λ i h. waited rule bs ss s reach fronts ended i h (slotted .counts i h)))
+        ∙ ap (pendingIn (ruleOf rule) bs s) (slotted .names)

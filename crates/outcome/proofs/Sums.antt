@@ -1,9 +1,10 @@
 -- Sums over slots: less where one of them is less; and all queues together have no more blocks than there are.
 use Prim.Native.Nat.{ℕ, zero, suc, _+_, _*_, _≤_, _<_}
-use mathlib.Core.Path.{_≡_, refl}
+use mathlib.Core.Path.{_≡_, refl, sym, ap, _∙_}
 use mathlib.Core.Logic.{_≢_}
 use mathlib.Core.Bool.{Bool, true, false}
 use mathlib.Core.List.{List, [], _∷_}
+use native.Mathlib.Nat.{mul-zero, mul-add}
 use native.Mathlib.Omega.{arith}
 use lib.Dec.{ltb}
 use lib.ListN.{length}
@@ -42,10 +43,10 @@ sum-less f g (suc n) i h l le = go (ltb i n) refl (λ k. sum-less f g n i k l (�
         let p : i ≡ n = omega (arith, ltb-false i n e) in
         omega (arith, rw p at l, sum-le f g n (λ j k. le j (omega arith)))
 
-pub sum-four : (f : ℕ → ℕ) (n : ℕ) → sum (λ i. 4 * f i) n ≡ 4 * sum f n
+pub sum-times : (m : ℕ) (f : ℕ → ℕ) (n : ℕ) → sum (λ i. m * f i) n ≡ m * sum f n
 unfolding sum
-sum-four f zero = refl
-sum-four f (suc n) = omega (arith, sum-four f n)
+sum-times m f zero = sym (mul-zero m)
+sum-times m f (suc n) = ap (λ (x : ℕ). x + m * f n) (sum-times m f n) ∙ sym (mul-add m (sum f n) (f n))
 
 -- ---- queues of clients that are not the same
 

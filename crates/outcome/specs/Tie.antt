@@ -17,7 +17,8 @@ use Rattle.slots.specs.Slots.{Slot, slot, Falling, isNamed, rank}
 use Rattle.picker.specs.declared.fronts.Front.{Front}
 use Rattle.picker.specs.Fronts.{never, frontAt, fresh}
 use Rattle.sorting.specs.Steps.{State}
-use Rattle.sorting.specs.Rules.{queue, rule28, report}
+use Rattle.sorting.specs.Rules.{queue, report}
+use Rattle.sorting.specs.Named.{ruleOf}
 use Rattle.sorting.specs.Sorted.{clients, numbersFrom}
 
 abbrev pub slotOf : List Slot → ℕ → Slot
@@ -47,14 +48,14 @@ abbrev pub Awaits : List Slot → Front → ℕ → Type 0
 Awaits ss f c =
     ((isNamed c ss ≡ true) × (f .slot ≡ rank c ss) × (f .need < never)) ⊎ ((isNamed c ss ≡ false) × (f .need ≡ never))
 
--- fronts and reaches at the end, in a state where no step is possible
-pub record Ended (bs : List Block) (ss : List Slot) (s : State ℕ) (reach fronts : List ℕ) : Type 0 where
+-- fronts and reaches at the end, in a state where no step is possible by the rule
+pub record Ended (rule : ℕ) (bs : List Block) (ss : List Slot) (s : State ℕ) (reach fronts : List ℕ) : Type 0 where
   pub reaches : (i : ℕ) → i < length ss → getD reach i 0 ≡ s .known (slotOf ss i .client)
   pub others : (c : ℕ) → isNamed c ss ≡ false → s .known c ≡ 0
   pub left : (i : ℕ) → i < length ss → frontAt fronts i .left + s .taken (slotOf ss i .client) ≡ slotOf ss i .count
-  -- a front that has blocks left waits for the first dependency that is not met
+  -- a front that has blocks left waits for the first id that is not met
   pub waits : (i : ℕ) → i < length ss → 0 < frontAt fronts i .left
-      → (d : Id) × (report rule28 (queue bs) s (slotOf ss i .client) ≡ some d) × (frontAt fronts i .missing ≡ d .client)
+      → (d : Id) × (report (ruleOf rule) (queue bs) s (slotOf ss i .client) ≡ some d) × (frontAt fronts i .missing ≡ d .client)
       × (Awaits ss (frontAt fronts i) (d .client))
 
 -- words overlaid by others, as far as there is room

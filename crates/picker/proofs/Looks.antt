@@ -14,30 +14,25 @@ use Rattle.block.specs.declared.Block.{Block}
 use Rattle.block.specs.declared.Id.{Id}
 use Rattle.slots.specs.Slots.{Slot, slotsFrom, rank, isNamed}
 use Rattle.picker.specs.declared.fronts.Front.{Front}
-use Rattle.picker.specs.declared.Dependency.{Dependency}
+use Rattle.picker.specs.declared.stages.Dependency.{Dependency}
 use Rattle.picker.specs.declared.Look.{Look}
 use Rattle.picker.specs.Fronts.{frontAt, putFront}
-use Rattle.picker.specs.Picker.{dep, noDependency, dependencies, dependencyAt, isOther, metAt, isMet, holds, awaitingAt, awaiting, ready}
+use Rattle.picker.specs.Waits.{noDependency}
+use Rattle.picker.specs.Stages.{stages, stageCount, stageAt}
+use Rattle.picker.specs.Picker.{metAt, isMet, holds, awaitingAt, awaiting, ready}
 use Rattle.picker.specs.Picker.{considered, lookedFrom, looked, oneMore, moved, lift, pushed, pointed, desk, kept, took, offered}
 use Rattle.slots.proofs.Words.{slots-length}
-
-length-dependencies : (b : Block) → length (dependencies b) ≤ 3
-unfolding dependencies
-length-dependencies b = go (eqb (b .kind) 2)
-  where
-    go : (x : Bool) → length (pick x [] (dep (b .«has_left») (b .left) ∷ (dep (b .«has_right») (b .right) ∷ (dep (b .«has_parent») (b .parent) ∷ [])))) ≤ 3
-    go true = omega arith
-    go false = omega arith
+use Rattle.picker.proofs.StageLaws.{stages-most}
 
 -- ---- one dependency
 
-module _ (c : ℕ) (ss : List Slot) (reach : List ℕ) (f : Front) (k : ℕ) (a : Dependency) where
-  pub not-other : isOther c a ≡ false → considered c ss reach f k a ≡ ready f
+module _ (ss : List Slot) (reach : List ℕ) (f : Front) (k : ℕ) (a : Dependency) where
+  pub not-there : a .there ≡ false → considered ss reach f k a ≡ ready f
   unfolding considered holds
-  not-other e = rw e refl
+  not-there e = rw e refl
 
   -- its client has slot p, if it is named
-  module _ (p : ℕ) (named : Bool) (at : p ≡ rank (a .id .client) ss) (is : named ≡ isNamed (a .id .client) ss) (other : isOther c a ≡ true) where
+  module _ (p : ℕ) (named : Bool) (at : p ≡ rank (a .id .client) ss) (is : named ≡ isNamed (a .id .client) ss) (there : a .there ≡ true) where
     met-here : metAt reach p named (a .id) ≡ isMet ss reach (a .id)
     unfolding isMet
     met-here = λ i. metAt reach (at i) (is i) (a .id)
@@ -46,37 +41,33 @@ module _ (c : ℕ) (ss : List Slot) (reach : List ℕ) (f : Front) (k : ℕ) (a 
     unfolding awaiting
     awaits-here = λ i. awaitingAt f k (at i) (is i) (a .id)
 
-    pub is-met : metAt reach p named (a .id) ≡ true → considered c ss reach f k a ≡ ready f
+    pub is-met : metAt reach p named (a .id) ≡ true → considered ss reach f k a ≡ ready f
     unfolding considered holds
-    is-met e = rw (other, sym met-here ∙ e) refl
+    is-met e = rw (there, sym met-here ∙ e) refl
 
-    pub not-met : metAt reach p named (a .id) ≡ false → considered c ss reach f k a ≡ awaitingAt f k p named (a .id)
+    pub not-met : metAt reach p named (a .id) ≡ false → considered ss reach f k a ≡ awaitingAt f k p named (a .id)
     unfolding considered holds
-    not-met e = rw (other, sym met-here ∙ e) (sym awaits-here)
+    not-met e = rw (there, sym met-here ∙ e) (sym awaits-here)
 
 -- ---- one dependency after the other
 
-module _ (c : ℕ) (ss : List Slot) (reach : List ℕ) (f : Front) where
+module _ (ss : List Slot) (reach : List ℕ) (f : Front) where
   -- what is not there holds nothing
-  none-holds : holds c ss reach noDependency ≡ false
-  unfolding holds isOther
-  none-holds = go (eqb 0 c)
-    where
-      go : (x : Bool) → pick (pick x false false) (pick (isMet ss reach (noDependency .id)) false true) false ≡ false
-      go true = refl
-      go false = refl
+  none-holds : holds ss reach noDependency ≡ false
+  unfolding holds
+  none-holds = refl
 
   -- number k is looked at
   module _ (ds : List Dependency) (k : ℕ) where
-    look-turn : lookedFrom c ss reach f k (drop k ds)
-        ≡ pick (holds c ss reach (getD ds k noDependency)) (awaiting ss f (suc k) (getD ds k noDependency .id))
-        (lookedFrom c ss reach f (suc k) (drop (suc k) ds))
+    look-turn : lookedFrom ss reach f k (drop k ds)
+        ≡ pick (holds ss reach (getD ds k noDependency)) (awaiting ss f (suc k) (getD ds k noDependency .id))
+        (lookedFrom ss reach f (suc k) (drop (suc k) ds))
     unfolding lookedFrom
     look-turn = go (ltb k (length ds)) refl
       where
-        go : (x : Bool) → ltb k (length ds) ≡ x → lookedFrom c ss reach f k (drop k ds)
-            ≡ pick (holds c ss reach (getD ds k noDependency)) (awaiting ss f (suc k) (getD ds k noDependency .id))
-            (lookedFrom c ss reach f (suc k) (drop (suc k) ds))
+        go : (x : Bool) → ltb k (length ds) ≡ x → lookedFrom ss reach f k (drop k ds)
+            ≡ pick (holds ss reach (getD ds k noDependency)) (awaiting ss f (suc k) (getD ds k noDependency .id))
+            (lookedFrom ss reach f (suc k) (drop (suc k) ds))
         go true e = rw (drop-cons ds k noDependency (ltb-true k (length ds) e)) refl
         go false e =
             let h = ltb-false k (length ds) e in
@@ -96,50 +87,45 @@ module _ (c : ℕ) (ss : List Slot) (reach : List ℕ) (f : Front) where
       go true e = omega arith
       go false e = omega arith
 
-module _ (ss : List Slot) (reach : List ℕ) (f : Front) (b : Block) where
+module _ (rule : ℕ) (ss : List Slot) (reach : List ℕ) (f : Front) (b : Block) where
   module _ (k : ℕ) where
     -- the block waits for number k, or the next is looked at
-    look-by : (x : Bool) → holds (b .client) ss reach (dependencyAt b k) ≡ x
-        → pick (eqb (considered (b .client) ss reach f (suc k) (dependencyAt b k) .need) 0)
-        (lookedFrom (b .client) ss reach f (suc k) (drop (suc k) (dependencies b)))
-        (considered (b .client) ss reach f (suc k) (dependencyAt b k))
-        ≡ lookedFrom (b .client) ss reach f k (drop k (dependencies b))
-    unfolding considered dependencyAt ready
+    look-by : (x : Bool) → holds ss reach (stageAt rule b k) ≡ x
+        → pick (eqb (considered ss reach f (suc k) (stageAt rule b k) .need) 0)
+        (lookedFrom ss reach f (suc k) (drop (suc k) (stages rule b)))
+        (considered ss reach f (suc k) (stageAt rule b k))
+        ≡ lookedFrom ss reach f k (drop k (stages rule b))
+    unfolding considered stageAt ready
     look-by true e =
-        let d = dependencyAt b k .id in
-        let w = ne-eqb (awaiting ss f (suc k) d .need) 0 (waits-for (b .client) ss reach f (suc k) d) in
-        rw (look-turn (b .client) ss reach f (dependencies b) k, e, w) refl
-    look-by false e = rw (look-turn (b .client) ss reach f (dependencies b) k, e) refl
+        let d = stageAt rule b k .id in
+        let w = ne-eqb (awaiting ss f (suc k) d .need) 0 (waits-for ss reach f (suc k) d) in
+        rw (look-turn ss reach f (stages rule b) k, e, w) refl
+    look-by false e = rw (look-turn ss reach f (stages rule b) k, e) refl
 
-    module _ (j : ℕ) (a : Dependency) (g : Front) (next : j ≡ suc k) (is : a ≡ dependencyAt b k) (found : g ≡ considered (b .client) ss reach f j a) where
-      found-here : g ≡ considered (b .client) ss reach f (suc k) (dependencyAt b k)
-      found-here = found ∙ (λ i. considered (b .client) ss reach f (next i) (is i))
+    module _ (j : ℕ) (a : Dependency) (g : Front) (next : j ≡ suc k) (is : a ≡ stageAt rule b k) (found : g ≡ considered ss reach f j a) where
+      found-here : g ≡ considered ss reach f (suc k) (stageAt rule b k)
+      found-here = found ∙ (λ i. considered ss reach f (next i) (is i))
 
-      pub look-waits : g .need ≢ 0 → g ≡ lookedFrom (b .client) ss reach f k (drop k (dependencies b))
-      look-waits h = rw (← found-here, ne-eqb (g .need) 0 h) at (look-by (holds (b .client) ss reach (dependencyAt b k)) refl)
+      pub look-waits : g .need ≢ 0 → g ≡ lookedFrom ss reach f k (drop k (stages rule b))
+      look-waits h = rw (← found-here, ne-eqb (g .need) 0 h) at (look-by (holds ss reach (stageAt rule b k)) refl)
 
-      pub look-on : g .need ≡ 0
-          → lookedFrom (b .client) ss reach f j (drop j (dependencies b)) ≡ lookedFrom (b .client) ss reach f k (drop k (dependencies b))
-      look-on h = rw next (rw (← found-here, eq-eqb (g .need) 0 h) at (look-by (holds (b .client) ss reach (dependencyAt b k)) refl))
+      pub look-on : g .need ≡ 0 → lookedFrom ss reach f j (drop j (stages rule b)) ≡ lookedFrom ss reach f k (drop k (stages rule b))
+      look-on h = rw next (rw (← found-here, eq-eqb (g .need) 0 h) at (look-by (holds ss reach (stageAt rule b k)) refl))
 
-  pub look-ended : (k : ℕ) → 3 ≤ k → ready f ≡ lookedFrom (b .client) ss reach f k (drop k (dependencies b))
+  pub look-ended : (k : ℕ) → stageCount rule ≤ k → ready f ≡ lookedFrom ss reach f k (drop k (stages rule b))
   unfolding lookedFrom
-  look-ended k h = rw (drop-of-length-le (dependencies b) {i = k} (omega (arith, length-dependencies b))) refl
-
-pub no-fourth : (b : Block) (k : ℕ) → 3 ≤ k → dependencyAt b k ≡ noDependency
-unfolding dependencyAt
-no-fourth b k h = List·getD-eq-default (dependencies b) noDependency {n = k} (omega (arith, length-dependencies b))
+  look-ended k h = rw (drop-of-length-le (stages rule b) {i = k} (omega (arith, stages-most rule b))) refl
 
 -- ---- the desk after a look
 
-module _ (s : List ℕ) (n : ℕ) (p : Look) (reach fronts order : List ℕ) (b : Block) (f g : Front) (is : f ≡ frontAt fronts (p .slot))
-    (found : g ≡ looked (slotsFrom s 0 n) reach f b) where
-  pub offer-waits : g .need ≢ 0 → offered (slotsFrom s 0 n) (desk p reach fronts order) b
+module _ (rule : ℕ) (s : List ℕ) (n : ℕ) (p : Look) (reach fronts order : List ℕ) (b : Block) (f g : Front) (is : f ≡ frontAt fronts (p .slot))
+    (found : g ≡ looked rule (slotsFrom s 0 n) reach f b) where
+  pub offer-waits : g .need ≢ 0 → offered rule (slotsFrom s 0 n) (desk p reach fronts order) b
       ≡ desk (pointed (putFront fronts (p .slot) g) reach n (p .steps) (p .left - 1)) reach (putFront fronts (p .slot) g) order
   unfolding offered kept
   offer-waits h = rw (← is, ← found, ne-eqb (g .need) 0 h, slots-length s 0 n) refl
 
-  pub offer-takes : g .need ≡ 0 → offered (slotsFrom s 0 n) (desk p reach fronts order) b
+  pub offer-takes : g .need ≡ 0 → offered rule (slotsFrom s 0 n) (desk p reach fronts order) b
       ≡ desk (pointed (putFront fronts (p .slot) (moved f (p .row))) (lift reach (p .slot) b) n (oneMore (p .steps)) (p .left - 1)) (lift reach (p .slot) b)
       (putFront fronts (p .slot) (moved f (p .row))) (pushed order (p .steps) (p .row))
   unfolding offered took

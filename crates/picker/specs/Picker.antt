@@ -1,4 +1,4 @@
--- A sorter looks at one front after another: it takes the front's block, or finds what the front waits for.
+-- A sorter looks at one front after another: it takes the front's block, or finds what the front waits for, by the stages of a rule.
 use Prim.Native.Nat.{ℕ, zero, suc, _+_, _-_, _*_, max}
 use mathlib.Core.Bool.{Bool, true, false}
 use mathlib.Core.List.{List, [], _∷_}
@@ -8,34 +8,17 @@ use Rattle.numbers.specs.Number.{pick}
 use Rattle.numbers.specs.Limits.{maxClock, maxBlocks}
 use Rattle.block.specs.declared.Id.{Id}
 use Rattle.block.specs.declared.Block.{Block}
-use Rattle.block.specs.Row.{noId, noBlock}
+use Rattle.block.specs.Row.{noBlock}
 use Rattle.block.specs.Kinds.{SKIP}
 use Rattle.parts.specs.Brim.{brim}
 use Rattle.slots.specs.Slots.{Slot, rank, isNamed}
 use Rattle.picker.specs.declared.fronts.Front.{Front}
-use Rattle.picker.specs.declared.Dependency.{Dependency}
+use Rattle.picker.specs.declared.stages.Dependency.{Dependency}
 use Rattle.picker.specs.declared.Look.{Look}
 use Rattle.picker.specs.Fronts.{never, frontAt, putFront, dueFrom}
+use Rattle.picker.specs.Stages.{stages, stageCount}
 
--- ---- what a block hangs on
-
-abbrev pub dep : Bool → Id → Dependency
-dep there d = record { there = there; id = d }
-
-abbrev pub noDependency : Dependency
-noDependency = dep false noId
-
--- left id, right id, parent id; nothing holds a Skip
-unfoldable pub dependencies : Block → List Dependency
-dependencies b = pick (eqb (b .kind) SKIP) [] (dep (b .«has_left») (b .left) ∷ (dep (b .«has_right») (b .right) ∷ (dep (b .«has_parent») (b .parent) ∷ [])))
-
--- number k of them
-unfoldable pub dependencyAt : Block → ℕ → Dependency
-dependencyAt b k = getD (dependencies b) k noDependency
-
--- it is there, and of another client than c
-unfoldable pub isOther : ℕ → Dependency → Bool
-isOther c a = pick (eqb (a .id .client) c) false (a .there)
+-- ---- what a front waits for
 
 -- an id is met where its clock is below the reach of its client, which has slot p if it has one
 unfoldable pub metAt : List ℕ → ℕ → Bool → Id → Bool
@@ -44,9 +27,9 @@ metAt reach p named d = pick named (ltb (d .clock) (getD reach p 0)) false
 unfoldable pub isMet : List Slot → List ℕ → Id → Bool
 isMet ss reach d = metAt reach (rank (d .client) ss) (isNamed (d .client) ss) d
 
--- it holds a block of client c
-unfoldable pub holds : ℕ → List Slot → List ℕ → Dependency → Bool
-holds c ss reach a = pick (isOther c a) (pick (isMet ss reach (a .id)) false true) false
+-- a dependency that is there and not met holds its block
+unfoldable pub holds : List Slot → List ℕ → Dependency → Bool
+holds ss reach a = pick (a .there) (pick (isMet ss reach (a .id)) false true) false
 
 -- what it waits for then; a client without a slot never comes to any clock
 unfoldable pub awaitingAt : Front → ℕ → ℕ → Bool → Id → Front
@@ -60,18 +43,18 @@ awaiting ss f stage d = awaitingAt f stage (rank (d .client) ss) (isNamed (d .cl
 unfoldable pub ready : Front → Front
 ready f = record { next = f .next; left = f .left; slot = f .slot; need = 0; stage = f .stage; missing = f .missing }
 
--- the front, so many dependencies having been looked at, this one last
-unfoldable pub considered : ℕ → List Slot → List ℕ → Front → ℕ → Dependency → Front
-considered c ss reach f k a = pick (holds c ss reach a) (awaiting ss f k (a .id)) (ready f)
+-- the front, so many stages having been looked at, this one last
+unfoldable pub considered : List Slot → List ℕ → Front → ℕ → Dependency → Front
+considered ss reach f k a = pick (holds ss reach a) (awaiting ss f k (a .id)) (ready f)
 
--- a front that is looked at, of a block of client c that has these dependencies from number k on
-unfoldable pub lookedFrom : ℕ → List Slot → List ℕ → Front → ℕ → List Dependency → Front
-lookedFrom c ss reach f k [] = ready f
-lookedFrom c ss reach f k (a ∷ rest) = pick (holds c ss reach a) (awaiting ss f (suc k) (a .id)) (lookedFrom c ss reach f (suc k) rest)
+-- a front that is looked at, of a block that has these stages from number k on
+unfoldable pub lookedFrom : List Slot → List ℕ → Front → ℕ → List Dependency → Front
+lookedFrom ss reach f k [] = ready f
+lookedFrom ss reach f k (a ∷ rest) = pick (holds ss reach a) (awaiting ss f (suc k) (a .id)) (lookedFrom ss reach f (suc k) rest)
 
 -- what was met once is not asked for again
-unfoldable pub looked : List Slot → List ℕ → Front → Block → Front
-looked ss reach f b = lookedFrom (b .client) ss reach f (f .stage) (drop (f .stage) (dependencies b))
+unfoldable pub looked : ℕ → List Slot → List ℕ → Front → Block → Front
+looked rule ss reach f b = lookedFrom ss reach f (f .stage) (drop (f .stage) (stages rule b))
 
 -- ---- a block that is taken
 
@@ -113,9 +96,12 @@ pointed fronts reach n steps left =
     (record { slot = 0; row = nowhere; steps = steps; left = left }))
     (record { slot = 0; row = nowhere; steps = steps; left = left })
 
--- every block is looked at four times at most: once for each thing that it waits for, and once to be taken
-unfoldable pub looks : ℕ → ℕ
-looks blocks = pick (leb blocks maxBlocks) (4 * blocks) 0
+-- a block is looked at once for each stage at most, and once to be taken
+unfoldable pub looksEach : ℕ → ℕ
+looksEach rule = suc (stageCount rule)
+
+unfoldable pub looks : ℕ → ℕ → ℕ
+looks rule blocks = pick (leb blocks maxBlocks) (looksEach rule * blocks) 0
 
 -- the front that was pointed at has this block: it waits, or the block is taken
 unfoldable pub kept : List Slot → Desk → Front → Desk
@@ -140,20 +126,20 @@ took ss d b =
       order = pushed (d .order) (d .at .steps) (d .at .row);
     }
 
-unfoldable pub offered : List Slot → Desk → Block → Desk
-offered ss d b =
-    pick (eqb (looked ss (d .reach) (frontAt (d .fronts) (d .at .slot)) b .need) 0) (took ss d b)
-    (kept ss d (looked ss (d .reach) (frontAt (d .fronts) (d .at .slot)) b))
+unfoldable pub offered : ℕ → List Slot → Desk → Block → Desk
+offered rule ss d b =
+    pick (eqb (looked rule ss (d .reach) (frontAt (d .fronts) (d .at .slot)) b .need) 0) (took ss d b)
+    (kept ss d (looked rule ss (d .reach) (frontAt (d .fronts) (d .at .slot)) b))
 
 -- k looks, as far as a front is pointed at
-unfoldable pub picked : ℕ → List Slot → List Block → Desk → Desk
-picked zero ss bs d = d
-picked (suc k) ss bs d = pick (ltb (d .at .row) (length bs)) (picked k ss bs (offered ss d (getD bs (d .at .row) noBlock))) d
+unfoldable pub picked : ℕ → ℕ → List Slot → List Block → Desk → Desk
+picked rule zero ss bs d = d
+picked rule (suc k) ss bs d = pick (ltb (d .at .row) (length bs)) (picked rule k ss bs (offered rule ss d (getD bs (d .at .row) noBlock))) d
 
 abbrev pub desk : Look → List ℕ → List ℕ → List ℕ → Desk
 desk p reach fronts order = record { at = p; reach = reach; fronts = fronts; order = order }
 
 -- all looks
-unfoldable pub allPicked : List Slot → List Block → ℕ → List ℕ → List ℕ → List ℕ → Desk
-allPicked ss bs blocks reach fronts order =
-    picked (looks blocks) ss bs (desk (pointed fronts reach (length ss) 0 (looks blocks)) reach fronts order)
+unfoldable pub allPicked : ℕ → List Slot → List Block → ℕ → List ℕ → List ℕ → List ℕ → Desk
+allPicked rule ss bs blocks reach fronts order =
+    picked rule (looks rule blocks) ss bs (desk (pointed fronts reach (length ss) 0 (looks rule blocks)) reach fronts order)

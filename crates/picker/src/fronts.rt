@@ -7,7 +7,7 @@ ghost use Rattle.kept.specs.Plan.{entriesOf};
 ghost use Rattle.picker.specs.Fronts.{noFront, fresh, frontAt, putFront, openedFrom, filledFrom, isDue, dueFrom};
 
 // The row of the client's next block, and how many are left; it waits until the reach of a slot has come to `need` clocks (0: it may be looked at,
-// NEVER: it may not), so many of its dependencies having been looked at; and the client of the one that it waits for.
+// NEVER: it may not), so many stages of its rule having been looked at; and the client of the one that it waits for.
 pub struct Front {
     pub next: usize,
     pub left: usize,

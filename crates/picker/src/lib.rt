@@ -1,21 +1,19 @@
-// A sorter looks at one front after another: it takes the front's block, or finds what the front waits for.
+// A sorter looks at one front after another: it takes the front's block, or finds what the front waits for. What a block waits for is a rule's (stages).
 pub mod fronts;
+pub mod rule13;
+pub mod rule28;
+pub mod stages;
 
 use block::Block;
 use block::Id;
 use fronts::Front;
+use stages::Dependency;
 ghost use mathlib.Core.Path.{_≡_};
 ghost use Prim.Native.Nat.{_*_, _≤_};
 ghost use lib.ListN.{length};
 ghost use Rattle.slots.specs.Slots.{slotsFrom, Falling};
-ghost use Rattle.picker.specs.Picker.{noDependency, dependencyAt, isOther, metAt, awaitingAt, considered, ready, looked};
+ghost use Rattle.picker.specs.Picker.{metAt, awaitingAt, considered, ready, looked};
 ghost use Rattle.picker.specs.Picker.{moved, lift, oneMore, pointed, looks, desk, offered};
-
-// A dependency that a block may have.
-pub struct Dependency {
-    pub there: bool,
-    pub id: Id,
-}
 
 // The front that is looked at: its slot and its row, or NOWHERE; how many steps were made; how many looks are left.
 pub struct Look {
@@ -27,55 +25,7 @@ pub struct Look {
 
 pub const NOWHERE: usize = 18446744073709551615;
 
-// ---- what a block hangs on
-
-fn no_dependency() -> Dependency
-    ensures { λ r. ⌜ r ≡ noDependency ⌝ }
-{
-    let id = Id {
-        client: 0,
-        clock: 0,
-    };
-    Dependency { there: false, id }
-}
-
-// Dependency k: left id, right id, parent id. Nothing holds a Skip.
-fn dependency_at(b: Block, k: usize) -> Dependency
-    ensures { λ r. ⌜ r ≡ dependencyAt b k ⌝ }
-{
-    if b.kind == block::SKIP {
-        return no_dependency();
-    }
-    let left = b.left;
-    let right = b.right;
-    let parent = b.parent;
-    match k {
-        0 => Dependency {
-            there: b.has_left,
-            id: left,
-        },
-        1 => Dependency {
-            there: b.has_right,
-            id: right,
-        },
-        2 => Dependency {
-            there: b.has_parent,
-            id: parent,
-        },
-        _ => no_dependency(),
-    }
-}
-
-// Whether a dependency is there, and of another client.
-fn is_other(client: u64, a: Dependency) -> bool
-    ensures { λ r. ⌜ r ≡ isOther client a ⌝ }
-{
-    let id = a.id;
-    if id.client == client {
-        return false;
-    }
-    a.there
-}
+// ---- what a front waits for
 
 // A front that waits for an id, whose client has slot p, if it is named.
 fn wait_for(f: Front, stage: usize, p: usize, named: bool, id: Id) -> Front
@@ -116,21 +66,13 @@ fn set_ready(f: Front) -> Front
     next
 }
 
-// A front, so many dependencies having been looked at, this one last: it is ready, or it waits.
-fn consider(
-    slots: &[u64],
-    n: usize,
-    reach: &[u64],
-    f: Front,
-    client: u64,
-    k: usize,
-    a: Dependency,
-) -> Front
+// A front, so many stages having been looked at, this one last: it is ready, or it waits.
+fn consider(slots: &[u64], n: usize, reach: &[u64], f: Front, k: usize, a: Dependency) -> Front
     requires { ⌜ (3 * n ≤ length (now slots)) × Falling (slotsFrom (now slots) 0 n) ⌝ }
-    ensures { λ r. ⌜ r ≡ considered client (slotsFrom (now (slots .entry)) 0 n) (now (reach .entry)) f k a ⌝ }
+    ensures { λ r. ⌜ r ≡ considered (slotsFrom (now (slots .entry)) 0 n) (now (reach .entry)) f k a ⌝ }
 {
     let id = a.id;
-    if !is_other(client, a) {
+    if !a.there {
         return set_ready(f);
     }
     let p = slots::rank_of(slots, n, id.client);
@@ -142,15 +84,16 @@ fn consider(
 }
 
 // A front whose block is looked at: it is ready (its need is 0), or it waits. What was met once is not asked for again.
-fn examine(slots: &[u64], n: usize, reach: &[u64], f: Front, b: Block) -> Front
+fn examine(rule: u8, slots: &[u64], n: usize, reach: &[u64], f: Front, b: Block) -> Front
     requires { ⌜ (3 * n ≤ length (now slots)) × Falling (slotsFrom (now slots) 0 n) ⌝ }
-    ensures { λ r. ⌜ r ≡ looked (slotsFrom (now (slots .entry)) 0 n) (now (reach .entry)) f b ⌝ }
+    ensures { λ r. ⌜ r ≡ looked rule (slotsFrom (now (slots .entry)) 0 n) (now (reach .entry)) f b ⌝ }
 {
+    let last = stages::count(rule);
     let mut k = f.stage;
-    while k < 3 {
-        let a = dependency_at(b, k);
+    while k < last {
+        let a = stages::at(rule, b, k);
         k += 1;
-        let g = consider(slots, n, reach, f, b.client, k, a);
+        let g = consider(slots, n, reach, f, k, a);
         if g.need != 0 {
             return g;
         }
@@ -232,18 +175,21 @@ fn point(fronts: &[u64], reach: &[u64], n: usize, steps: usize, left: usize) -> 
     }
 }
 
-// The first front that is looked at. Every block is looked at four times at most: once for each thing that it waits for, and once to be taken.
-pub fn begin(fronts: &[u64], reach: &[u64], n: usize, blocks: usize) -> Look
-    ensures { λ r. ⌜ r ≡ pointed (now (fronts .entry)) (now (reach .entry)) n 0 (looks blocks) ⌝ }
+// The first front that is looked at. A block is looked at once for each stage at most, and once to be taken.
+pub fn begin(rule: u8, fronts: &[u64], reach: &[u64], n: usize, blocks: usize) -> Look
+    ensures { λ r. ⌜ r ≡ pointed (now (fronts .entry)) (now (reach .entry)) n 0 (looks rule blocks) ⌝ }
 {
     if numbers::MAX_BLOCKS < blocks as u64 {
         return point(fronts, reach, n, 0, 0);
     }
-    point(fronts, reach, n, 0, 4 * blocks)
+    let each = stages::count(rule) + 1;
+    let left = each * blocks;
+    point(fronts, reach, n, 0, left)
 }
 
 // The front has this block: it waits, or the block is taken. Then the next front.
 pub fn offer(
+    rule: u8,
     slots: &[u64],
     n: usize,
     p: Look,
@@ -253,14 +199,14 @@ pub fn offer(
     b: Block,
 ) -> Look
     requires { ⌜ (3 * n ≤ length (now slots)) × Falling (slotsFrom (now slots) 0 n) ⌝ }
-    ensures { λ r. ⌜ (r ≡ offered (slotsFrom (now (slots .entry)) 0 n) (desk p (now (reach .entry)) (now (fronts .entry)) (now (order .entry))) b .at)
-        × (now (reach .exit) ≡ offered (slotsFrom (now (slots .entry)) 0 n) (desk p (now (reach .entry)) (now (fronts .entry)) (now (order .entry))) b .reach)
-        × (now (fronts .exit) ≡ offered (slotsFrom (now (slots .entry)) 0 n) (desk p (now (reach .entry)) (now (fronts .entry)) (now (order .entry))) b .fronts)
-        × (now (order .exit) ≡ offered (slotsFrom (now (slots .entry)) 0 n) (desk p (now (reach .entry)) (now (fronts .entry)) (now (order .entry))) b .order) ⌝ }
+    ensures { λ r. ⌜ (r ≡ offered rule (slotsFrom (now (slots .entry)) 0 n) (desk p (now (reach .entry)) (now (fronts .entry)) (now (order .entry))) b .at)
+        × (now (reach .exit) ≡ offered rule (slotsFrom (now (slots .entry)) 0 n) (desk p (now (reach .entry)) (now (fronts .entry)) (now (order .entry))) b .reach)
+        × (now (fronts .exit) ≡ offered rule (slotsFrom (now (slots .entry)) 0 n) (desk p (now (reach .entry)) (now (fronts .entry)) (now (order .entry))) b .fronts)
+        × (now (order .exit) ≡ offered rule (slotsFrom (now (slots .entry)) 0 n) (desk p (now (reach .entry)) (now (fronts .entry)) (now (order .entry))) b .order) ⌝ }
 {
     let f = fronts::front_at(fronts, p.slot);
     let left = numbers::words::less(p.left as u64, 1) as usize;
-    let g = examine(slots, n, reach, f, b);
+    let g = examine(rule, slots, n, reach, f, b);
     if g.need != 0 {
         fronts::put_front(fronts, p.slot, g);
         return point(fronts, reach, n, p.steps, left);

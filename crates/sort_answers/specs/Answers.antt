@@ -1,6 +1,7 @@
 -- What `sort` answers: the order in which blocks are taken, the reports, and the reading that they are made of; or a refusal. And how the answer is
 -- made of what the sorter says.
 use Prim.Native.Nat.{ℕ, _/_}
+use mathlib.Core.Bool.{Bool, true}
 use mathlib.Core.List.{List, []}
 use lib.Dec.{ltb, eqb}
 use lib.ListN.{length}
@@ -23,6 +24,10 @@ pub record Sort : Type 0 where
 
 abbrev pub refusedWith : Refusal → Sort
 refusedWith why = record { refusal = why; order = []; counts = []; reaches = []; pending = []; reading = refused why }
+
+-- the rules that a caller may name
+unfoldable pub isRule : ℕ → Bool
+isRule rule = pick (eqb rule 13) true (eqb rule 28)
 
 -- ---- how many words are lent for each
 

@@ -3,7 +3,7 @@ use numbers::Refusal;
 use sorter::Sorting;
 use updates::Update;
 ghost use mathlib.Core.Path.{_≡_};
-ghost use Rattle.sort_answers.specs.Answers.{refusedWith, answered, judged, answerTo};
+ghost use Rattle.sort_answers.specs.Answers.{isRule, refusedWith, answered, judged, answerTo};
 
 // How many blocks were taken, how many clients each report names, and how many blocks and delete ranges were read.
 #[repr(C)]
@@ -15,6 +15,16 @@ pub struct Sorted {
     pub pending: usize,
     pub blocks: usize,
     pub ranges: usize,
+}
+
+// Whether a caller may name this rule.
+pub fn is_rule(rule: u8) -> bool
+    ensures { λ r. ⌜ r ≡ isRule rule ⌝ }
+{
+    if rule == 13 {
+        return true;
+    }
+    rule == 28
 }
 
 // A refusal, and counts of 0.

@@ -38,8 +38,8 @@ module _ {M : Type 1} (𝓤 : URA M) (H : Heap 𝓤) (A : Atoms 𝓤) (mem : Mem
   Sort-cases·end = tripleOf 𝓤 H A sort-cases·end-fn.signature (sort-cases·end-fn.spec 𝓤 H A mem run)
 
   module _ (C : Calls 𝓤 H) where
-    pub sorts·sort! : Triple 𝓤 (C #sorts·sort) Sorts·sort → (form₀ : ℕ) (g-form : Has byte form₀) (at-update : Seat) (update₀ : List ℕ) (at-vector : Seat) (vector₀ : List ℕ) (at-rows : Seat) (rows₀ : List Block) (at-ranges : Seat) (ranges₀ : List ℕ) (at-order : Seat) (order₀ : List ℕ) (at-counts : Seat) (counts₀ : List ℕ) (at-reaches : Seat) (reaches₀ : List ℕ) (at-pending : Seat) (pending₀ : List ℕ) → Loose 𝓤 H A C #sorts·sort (val byte form₀ g-form ∷ pass byte at-update update₀ ∷ pass byte at-vector vector₀ ∷ mut block at-rows rows₀ rows₀ ∷ mut word at-ranges ranges₀ ranges₀ ∷ mut word at-order order₀ order₀ ∷ mut word at-counts counts₀ counts₀ ∷ mut word at-reaches reaches₀ reaches₀ ∷ mut word at-pending pending₀ pending₀ ∷ []) sorted
-    sorts·sort! known form₀ g-form at-update update₀ at-vector vector₀ at-rows rows₀ at-ranges ranges₀ at-order order₀ at-counts counts₀ at-reaches reaches₀ at-pending pending₀ = record {
+    pub sorts·sort! : Triple 𝓤 (C #sorts·sort) Sorts·sort → (rule₀ : ℕ) (g-rule : Has byte rule₀) (form₀ : ℕ) (g-form : Has byte form₀) (at-update : Seat) (update₀ : List ℕ) (at-vector : Seat) (vector₀ : List ℕ) (at-rows : Seat) (rows₀ : List Block) (at-ranges : Seat) (ranges₀ : List ℕ) (at-order : Seat) (order₀ : List ℕ) (at-counts : Seat) (counts₀ : List ℕ) (at-reaches : Seat) (reaches₀ : List ℕ) (at-pending : Seat) (pending₀ : List ℕ) → Loose 𝓤 H A C #sorts·sort (val byte rule₀ g-rule ∷ val byte form₀ g-form ∷ pass byte at-update update₀ ∷ pass byte at-vector vector₀ ∷ mut block at-rows rows₀ rows₀ ∷ mut word at-ranges ranges₀ ranges₀ ∷ mut word at-order order₀ order₀ ∷ mut word at-counts counts₀ counts₀ ∷ mut word at-reaches reaches₀ reaches₀ ∷ mut word at-pending pending₀ pending₀ ∷ []) sorted
+    sorts·sort! known rule₀ g-rule form₀ g-form at-update update₀ at-vector vector₀ at-rows rows₀ at-ranges ranges₀ at-order order₀ at-counts counts₀ at-reaches reaches₀ at-pending pending₀ = record {
       contract = Sorts·sort;
       known = known;
       ghost = λ x. (x, tt);

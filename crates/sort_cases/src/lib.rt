@@ -1,4 +1,4 @@
-// Operation 17 of the case program: a sort, its reports, and the tables that its update was read into.
+// Operations 17 and 25 of the case program: a sort, its reports, and the tables that its update was read into.
 use block::Block;
 use sort_answers::Sorted;
 use stream::Done;
@@ -53,6 +53,7 @@ fn end(sink: &mut [u8], begun: Told, told: Told, answer: Sorted, words: &[u64]) 
 
 // The line of a sort with n rows lent; more than there are is not asked.
 fn ask(
+    rule: u8,
     form: u8,
     update: &[u8],
     vector: &[u8],
@@ -71,6 +72,7 @@ fn ask(
     let row = rows::full();
     let mut rows = [row; 512];
     let answer = sorts::sort(
+        rule,
         form,
         update,
         vector,
@@ -86,8 +88,9 @@ fn ask(
     end(sink, begun, told, answer, words)
 }
 
-// What a case asks beside its update and its vector: the form, and how many rows and words are lent.
+// What a case asks beside its update and its vector: the rule, the form, and how many rows and words are lent.
 struct Asked {
+    rule: u8,
     form: u8,
     rows: usize,
     words: usize,
@@ -109,6 +112,7 @@ fn lend_reports(
     let mut reaches = [0xA5A5A5A5A5A5A5A5u64; 256];
     let mut pending = [0xA5A5A5A5A5A5A5A5u64; 192];
     ask(
+        case.rule,
         case.form,
         update,
         vector,
@@ -150,13 +154,14 @@ fn lend(case: Asked, update: &[u8], vector: &[u8], sink: &mut [u8], used: usize)
     lend_order(case, update, vector, &mut words[..lent], sink, used)
 }
 
-fn arguments(source: &mut [u8], place: Place) -> Asked {
+fn arguments(rule: u8, source: &mut [u8], place: Place) -> Asked {
     let form = input::number(source, place, 255);
     let rows = input::number(source, form.place, 512);
     let ranges = input::number(source, rows.place, 1024);
     let order = input::number(source, ranges.place, 512);
     let place = order.place;
     Asked {
+        rule,
         form: form.value as u8,
         rows: rows.value as usize,
         words: ranges.value as usize * 3,
@@ -185,15 +190,16 @@ fn finish(
     Done { place, used }
 }
 
-// 17: form, block rows, range rows, order rows, update, vector.
-pub fn read(
+// A sort by a rule: form, block rows, range rows, order rows, update, vector.
+fn read_by(
+    rule: u8,
     source: &mut [u8],
     place: Place,
     bytes: &mut [u8],
     sink: &mut [u8],
     used: usize,
 ) -> Done {
-    let case = arguments(source, place);
+    let case = arguments(rule, source, place);
     let taken = input::bytes(source, case.place, bytes);
     let place = taken.place;
     if !place.good {
@@ -201,4 +207,27 @@ pub fn read(
     }
     let count = taken.count;
     finish(case, &bytes[..count], source, place, sink, used)
+}
+
+// 17: by rule 28.
+pub fn read(
+    source: &mut [u8],
+    place: Place,
+    bytes: &mut [u8],
+    sink: &mut [u8],
+    used: usize,
+) -> Done {
+    read_by(28, source, place, bytes, sink, used)
+}
+
+// 25: the rule comes first.
+pub fn read_rule(
+    source: &mut [u8],
+    place: Place,
+    bytes: &mut [u8],
+    sink: &mut [u8],
+    used: usize,
+) -> Done {
+    let rule = input::number(source, place, 255);
+    read_by(rule.value as u8, source, rule.place, bytes, sink, used)
 }

@@ -1,4 +1,4 @@
-// What the lines of operation 17 have beside rows: the order, clients with a number each, and what waits.
+// What the lines of operations 17 and 25 have beside rows: the order, clients with a number each, and what waits.
 use part_cases::vectors;
 use sort_answers::Sorted;
 use stream::line;

@@ -148,8 +148,8 @@ module _ {M : Type 1} (𝓤 : URA M) (H : Heap 𝓤) (A : Atoms 𝓤) (mem : Mem
       said = λ ns r ws. since 𝓤 (λ e. (e .0, (e .1, tt)));
     }
 
-    pub picker·begin-fronts-reach! : Triple 𝓤 (C #picker·begin) Picker·begin → (at-fronts : Seat) (fronts₀ : List ℕ) (at-reach : Seat) (reach₀ : List ℕ) (n₀ : ℕ) (g-n : Has word n₀) (blocks₀ : ℕ) (g-blocks : Has word blocks₀) → Card 𝓤 H A C #picker·begin (read word at-fronts fronts₀ ∷ read word at-reach reach₀ ∷ val word n₀ g-n ∷ val word blocks₀ g-blocks ∷ []) picker·look (pointed fronts₀ reach₀ n₀ 0 (looks blocks₀))
-    picker·begin-fronts-reach! known at-fronts fronts₀ at-reach reach₀ n₀ g-n blocks₀ g-blocks = record {
+    pub picker·begin-fronts-reach! : Triple 𝓤 (C #picker·begin) Picker·begin → (rule₀ : ℕ) (g-rule : Has byte rule₀) (at-fronts : Seat) (fronts₀ : List ℕ) (at-reach : Seat) (reach₀ : List ℕ) (n₀ : ℕ) (g-n : Has word n₀) (blocks₀ : ℕ) (g-blocks : Has word blocks₀) → Card 𝓤 H A C #picker·begin (val byte rule₀ g-rule ∷ read word at-fronts fronts₀ ∷ read word at-reach reach₀ ∷ val word n₀ g-n ∷ val word blocks₀ g-blocks ∷ []) picker·look (pointed fronts₀ reach₀ n₀ 0 (looks rule₀ blocks₀))
+    picker·begin-fronts-reach! known rule₀ g-rule at-fronts fronts₀ at-reach reach₀ n₀ g-n blocks₀ g-blocks = record {
       contract = Picker·begin;
       known = known;
       ghost = λ x. (x, tt);
@@ -162,8 +162,8 @@ module _ {M : Type 1} (𝓤 : URA M) (H : Heap 𝓤) (A : Atoms 𝓤) (mem : Mem
       said = λ ns r ws. since 𝓤 (λ e. (e, tt));
     }
 
-    pub picker·offer! : Triple 𝓤 (C #picker·offer) Picker·offer → (at-slots : Seat) (slots₀ : List ℕ) (n₀ : ℕ) (g-n : Has word n₀) (p₀ : picker·Look) (g-p : Has picker·look p₀) (at-reach : Seat) (reach₀ : List ℕ) (at-fronts : Seat) (fronts₀ : List ℕ) (at-order : Seat) (order₀ : List ℕ) (b₀ : Block) (g-b : Has block b₀) → ((3 * n₀ ≤ length slots₀) × Falling (slotsFrom slots₀ 0 n₀)) → Card 𝓤 H A C #picker·offer (pass word at-slots slots₀ ∷ val word n₀ g-n ∷ val picker·look p₀ g-p ∷ mut word at-reach reach₀ (offered (slotsFrom slots₀ 0 n₀) (desk p₀ reach₀ fronts₀ order₀) b₀ .reach) ∷ mut word at-fronts fronts₀ (offered (slotsFrom slots₀ 0 n₀) (desk p₀ reach₀ fronts₀ order₀) b₀ .fronts) ∷ mut word at-order order₀ (offered (slotsFrom slots₀ 0 n₀) (desk p₀ reach₀ fronts₀ order₀) b₀ .order) ∷ val block b₀ g-b ∷ []) picker·look (offered (slotsFrom slots₀ 0 n₀) (desk p₀ reach₀ fronts₀ order₀) b₀ .at)
-    picker·offer! known at-slots slots₀ n₀ g-n p₀ g-p at-reach reach₀ at-fronts fronts₀ at-order order₀ b₀ g-b h = record {
+    pub picker·offer! : Triple 𝓤 (C #picker·offer) Picker·offer → (rule₀ : ℕ) (g-rule : Has byte rule₀) (at-slots : Seat) (slots₀ : List ℕ) (n₀ : ℕ) (g-n : Has word n₀) (p₀ : picker·Look) (g-p : Has picker·look p₀) (at-reach : Seat) (reach₀ : List ℕ) (at-fronts : Seat) (fronts₀ : List ℕ) (at-order : Seat) (order₀ : List ℕ) (b₀ : Block) (g-b : Has block b₀) → ((3 * n₀ ≤ length slots₀) × Falling (slotsFrom slots₀ 0 n₀)) → Card 𝓤 H A C #picker·offer (val byte rule₀ g-rule ∷ pass word at-slots slots₀ ∷ val word n₀ g-n ∷ val picker·look p₀ g-p ∷ mut word at-reach reach₀ (offered rule₀ (slotsFrom slots₀ 0 n₀) (desk p₀ reach₀ fronts₀ order₀) b₀ .reach) ∷ mut word at-fronts fronts₀ (offered rule₀ (slotsFrom slots₀ 0 n₀) (desk p₀ reach₀ fronts₀ order₀) b₀ .fronts) ∷ mut word at-order order₀ (offered rule₀ (slotsFrom slots₀ 0 n₀) (desk p₀ reach₀ fronts₀ order₀) b₀ .order) ∷ val block b₀ g-b ∷ []) picker·look (offered rule₀ (slotsFrom slots₀ 0 n₀) (desk p₀ reach₀ fronts₀ order₀) b₀ .at)
+    picker·offer! known rule₀ g-rule at-slots slots₀ n₀ g-n p₀ g-p at-reach reach₀ at-fronts fronts₀ at-order order₀ b₀ g-b h = record {
       contract = Picker·offer;
       known = known;
       ghost = λ x. (x, tt);
@@ -316,8 +316,8 @@ module _ {M : Type 1} (𝓤 : URA M) (H : Heap 𝓤) (A : Atoms 𝓤) (mem : Mem
       said = λ ns r ws. since 𝓤 (λ e. (e .0, (e .1, tt)));
     }
 
-    pub sorter·pick-rows! : Triple 𝓤 (C #sorter·pick-rows) Sorter·pick-rows → (at-rows : Seat) (rows₀ : List Block) (blocks₀ : ℕ) (g-blocks : Has word blocks₀) (at-slots : Seat) (slots₀ : List ℕ) (n₀ : ℕ) (g-n : Has word n₀) (at-reach : Seat) (reach₀ : List ℕ) (at-fronts : Seat) (fronts₀ : List ℕ) (at-order : Seat) (order₀ : List ℕ) → ((3 * n₀ ≤ length slots₀) × Falling (slotsFrom slots₀ 0 n₀)) → Card 𝓤 H A C #sorter·pick-rows (pass block at-rows rows₀ ∷ val word blocks₀ g-blocks ∷ pass word at-slots slots₀ ∷ val word n₀ g-n ∷ mut word at-reach reach₀ (allPicked (slotsFrom slots₀ 0 n₀) rows₀ blocks₀ reach₀ fronts₀ order₀ .reach) ∷ mut word at-fronts fronts₀ (allPicked (slotsFrom slots₀ 0 n₀) rows₀ blocks₀ reach₀ fronts₀ order₀ .fronts) ∷ mut word at-order order₀ (allPicked (slotsFrom slots₀ 0 n₀) rows₀ blocks₀ reach₀ fronts₀ order₀ .order) ∷ []) picker·look (allPicked (slotsFrom slots₀ 0 n₀) rows₀ blocks₀ reach₀ fronts₀ order₀ .at)
-    sorter·pick-rows! known at-rows rows₀ blocks₀ g-blocks at-slots slots₀ n₀ g-n at-reach reach₀ at-fronts fronts₀ at-order order₀ h = record {
+    pub sorter·pick-rows! : Triple 𝓤 (C #sorter·pick-rows) Sorter·pick-rows → (rule₀ : ℕ) (g-rule : Has byte rule₀) (at-rows : Seat) (rows₀ : List Block) (blocks₀ : ℕ) (g-blocks : Has word blocks₀) (at-slots : Seat) (slots₀ : List ℕ) (n₀ : ℕ) (g-n : Has word n₀) (at-reach : Seat) (reach₀ : List ℕ) (at-fronts : Seat) (fronts₀ : List ℕ) (at-order : Seat) (order₀ : List ℕ) → ((3 * n₀ ≤ length slots₀) × Falling (slotsFrom slots₀ 0 n₀)) → Card 𝓤 H A C #sorter·pick-rows (val byte rule₀ g-rule ∷ pass block at-rows rows₀ ∷ val word blocks₀ g-blocks ∷ pass word at-slots slots₀ ∷ val word n₀ g-n ∷ mut word at-reach reach₀ (allPicked rule₀ (slotsFrom slots₀ 0 n₀) rows₀ blocks₀ reach₀ fronts₀ order₀ .reach) ∷ mut word at-fronts fronts₀ (allPicked rule₀ (slotsFrom slots₀ 0 n₀) rows₀ blocks₀ reach₀ fronts₀ order₀ .fronts) ∷ mut word at-order order₀ (allPicked rule₀ (slotsFrom slots₀ 0 n₀) rows₀ blocks₀ reach₀ fronts₀ order₀ .order) ∷ []) picker·look (allPicked rule₀ (slotsFrom slots₀ 0 n₀) rows₀ blocks₀ reach₀ fronts₀ order₀ .at)
+    sorter·pick-rows! known rule₀ g-rule at-rows rows₀ blocks₀ g-blocks at-slots slots₀ n₀ g-n at-reach reach₀ at-fronts fronts₀ at-order order₀ h = record {
       contract = Sorter·pick-rows;
       known = known;
       ghost = λ x. (x, tt);
@@ -344,8 +344,8 @@ module _ {M : Type 1} (𝓤 : URA M) (H : Heap 𝓤) (A : Atoms 𝓤) (mem : Mem
       said = λ ns r ws. since 𝓤 (λ e. (e .0, (e .1, tt)));
     }
 
-    pub sorter·sort-slots-slots! : Triple 𝓤 (C #sorter·sort-slots) Sorter·sort-slots → (at-rows : Seat) (rows₀ : List Block) (blocks₀ : ℕ) (g-blocks : Has word blocks₀) (at-slots : Seat) (slots₀ : List ℕ) (n₀ : ℕ) (g-n : Has word n₀) (at-clients : Seat) (clients₀ : List ℕ) (at-clocks : Seat) (clocks₀ : List ℕ) (m₀ : ℕ) (g-m : Has word m₀) (at-order : Seat) (order₀ : List ℕ) (at-counts : Seat) (counts₀ : List ℕ) (at-reaches : Seat) (reaches₀ : List ℕ) (at-pending : Seat) (pending₀ : List ℕ) → ((3 * n₀ ≤ length slots₀) × Falling (slotsFrom slots₀ 0 n₀)) → Card 𝓤 H A C #sorter·sort-slots (pass block at-rows rows₀ ∷ val word blocks₀ g-blocks ∷ read word at-slots slots₀ ∷ val word n₀ g-n ∷ pass word at-clients clients₀ ∷ pass word at-clocks clocks₀ ∷ val word m₀ g-m ∷ mut word at-order order₀ (orderOn (slotsFrom slots₀ 0 n₀) rows₀ blocks₀ (entriesOf m₀ clients₀ clocks₀) order₀) ∷ mut word at-counts counts₀ (fitted (length counts₀) (countsOn (slotsFrom slots₀ 0 n₀) rows₀ blocks₀ (entriesOf m₀ clients₀ clocks₀) order₀)) ∷ mut word at-reaches reaches₀ (fitted (length reaches₀) (reachesOn (slotsFrom slots₀ 0 n₀) rows₀ blocks₀ (entriesOf m₀ clients₀ clocks₀) order₀)) ∷ mut word at-pending pending₀ (fitted (length pending₀) (pendingOn (slotsFrom slots₀ 0 n₀) rows₀ blocks₀ (entriesOf m₀ clients₀ clocks₀) order₀)) ∷ []) sorting (sortingOn (slotsFrom slots₀ 0 n₀) rows₀ blocks₀ (entriesOf m₀ clients₀ clocks₀) order₀)
-    sorter·sort-slots-slots! known at-rows rows₀ blocks₀ g-blocks at-slots slots₀ n₀ g-n at-clients clients₀ at-clocks clocks₀ m₀ g-m at-order order₀ at-counts counts₀ at-reaches reaches₀ at-pending pending₀ h = record {
+    pub sorter·sort-slots-slots! : Triple 𝓤 (C #sorter·sort-slots) Sorter·sort-slots → (rule₀ : ℕ) (g-rule : Has byte rule₀) (at-rows : Seat) (rows₀ : List Block) (blocks₀ : ℕ) (g-blocks : Has word blocks₀) (at-slots : Seat) (slots₀ : List ℕ) (n₀ : ℕ) (g-n : Has word n₀) (at-clients : Seat) (clients₀ : List ℕ) (at-clocks : Seat) (clocks₀ : List ℕ) (m₀ : ℕ) (g-m : Has word m₀) (at-order : Seat) (order₀ : List ℕ) (at-counts : Seat) (counts₀ : List ℕ) (at-reaches : Seat) (reaches₀ : List ℕ) (at-pending : Seat) (pending₀ : List ℕ) → ((3 * n₀ ≤ length slots₀) × Falling (slotsFrom slots₀ 0 n₀)) → Card 𝓤 H A C #sorter·sort-slots (val byte rule₀ g-rule ∷ pass block at-rows rows₀ ∷ val word blocks₀ g-blocks ∷ read word at-slots slots₀ ∷ val word n₀ g-n ∷ pass word at-clients clients₀ ∷ pass word at-clocks clocks₀ ∷ val word m₀ g-m ∷ mut word at-order order₀ (orderOn rule₀ (slotsFrom slots₀ 0 n₀) rows₀ blocks₀ (entriesOf m₀ clients₀ clocks₀) order₀) ∷ mut word at-counts counts₀ (fitted (length counts₀) (countsOn rule₀ (slotsFrom slots₀ 0 n₀) rows₀ blocks₀ (entriesOf m₀ clients₀ clocks₀) order₀)) ∷ mut word at-reaches reaches₀ (fitted (length reaches₀) (reachesOn rule₀ (slotsFrom slots₀ 0 n₀) rows₀ blocks₀ (entriesOf m₀ clients₀ clocks₀) order₀)) ∷ mut word at-pending pending₀ (fitted (length pending₀) (pendingOn rule₀ (slotsFrom slots₀ 0 n₀) rows₀ blocks₀ (entriesOf m₀ clients₀ clocks₀) order₀)) ∷ []) sorting (sortingOn rule₀ (slotsFrom slots₀ 0 n₀) rows₀ blocks₀ (entriesOf m₀ clients₀ clocks₀) order₀)
+    sorter·sort-slots-slots! known rule₀ g-rule at-rows rows₀ blocks₀ g-blocks at-slots slots₀ n₀ g-n at-clients clients₀ at-clocks clocks₀ m₀ g-m at-order order₀ at-counts counts₀ at-reaches reaches₀ at-pending pending₀ h = record {
       contract = Sorter·sort-slots;
       known = known;
       ghost = λ x. (x, tt);
@@ -358,8 +358,8 @@ module _ {M : Type 1} (𝓤 : URA M) (H : Heap 𝓤) (A : Atoms 𝓤) (mem : Mem
       said = λ ns r ws. since 𝓤 (λ e. (e .0, (e .1, (e .2, (e .3, (e .4, tt))))));
     }
 
-    pub sorter·sort-kept-clients-clocks! : Triple 𝓤 (C #sorter·sort-kept) Sorter·sort-kept → (at-rows : Seat) (rows₀ : List Block) (blocks₀ : ℕ) (g-blocks : Has word blocks₀) (at-clients : Seat) (clients₀ : List ℕ) (at-clocks : Seat) (clocks₀ : List ℕ) (m₀ : ℕ) (g-m : Has word m₀) (at-order : Seat) (order₀ : List ℕ) (at-counts : Seat) (counts₀ : List ℕ) (at-reaches : Seat) (reaches₀ : List ℕ) (at-pending : Seat) (pending₀ : List ℕ) → ((blocks₀ ≤ length rows₀) × (m₀ ≤ length clients₀)) → Card 𝓤 H A C #sorter·sort-kept (pass block at-rows rows₀ ∷ val word blocks₀ g-blocks ∷ read word at-clients clients₀ ∷ read word at-clocks clocks₀ ∷ val word m₀ g-m ∷ mut word at-order order₀ (orderOn (slotsFor maxReaches (take blocks₀ rows₀) (take m₀ clients₀)) rows₀ blocks₀ (entriesOf m₀ clients₀ clocks₀) order₀) ∷ mut word at-counts counts₀ (fitted (length counts₀) (countsOn (slotsFor maxReaches (take blocks₀ rows₀) (take m₀ clients₀)) rows₀ blocks₀ (entriesOf m₀ clients₀ clocks₀) order₀)) ∷ mut word at-reaches reaches₀ (fitted (length reaches₀) (reachesOn (slotsFor maxReaches (take blocks₀ rows₀) (take m₀ clients₀)) rows₀ blocks₀ (entriesOf m₀ clients₀ clocks₀) order₀)) ∷ mut word at-pending pending₀ (fitted (length pending₀) (pendingOn (slotsFor maxReaches (take blocks₀ rows₀) (take m₀ clients₀)) rows₀ blocks₀ (entriesOf m₀ clients₀ clocks₀) order₀)) ∷ []) sorting (sortingOn (slotsFor maxReaches (take blocks₀ rows₀) (take m₀ clients₀)) rows₀ blocks₀ (entriesOf m₀ clients₀ clocks₀) order₀)
-    sorter·sort-kept-clients-clocks! known at-rows rows₀ blocks₀ g-blocks at-clients clients₀ at-clocks clocks₀ m₀ g-m at-order order₀ at-counts counts₀ at-reaches reaches₀ at-pending pending₀ h = record {
+    pub sorter·sort-kept-clients-clocks! : Triple 𝓤 (C #sorter·sort-kept) Sorter·sort-kept → (rule₀ : ℕ) (g-rule : Has byte rule₀) (at-rows : Seat) (rows₀ : List Block) (blocks₀ : ℕ) (g-blocks : Has word blocks₀) (at-clients : Seat) (clients₀ : List ℕ) (at-clocks : Seat) (clocks₀ : List ℕ) (m₀ : ℕ) (g-m : Has word m₀) (at-order : Seat) (order₀ : List ℕ) (at-counts : Seat) (counts₀ : List ℕ) (at-reaches : Seat) (reaches₀ : List ℕ) (at-pending : Seat) (pending₀ : List ℕ) → ((blocks₀ ≤ length rows₀) × (m₀ ≤ length clients₀)) → Card 𝓤 H A C #sorter·sort-kept (val byte rule₀ g-rule ∷ pass block at-rows rows₀ ∷ val word blocks₀ g-blocks ∷ read word at-clients clients₀ ∷ read word at-clocks clocks₀ ∷ val word m₀ g-m ∷ mut word at-order order₀ (orderOn rule₀ (slotsFor maxReaches (take blocks₀ rows₀) (take m₀ clients₀)) rows₀ blocks₀ (entriesOf m₀ clients₀ clocks₀) order₀) ∷ mut word at-counts counts₀ (fitted (length counts₀) (countsOn rule₀ (slotsFor maxReaches (take blocks₀ rows₀) (take m₀ clients₀)) rows₀ blocks₀ (entriesOf m₀ clients₀ clocks₀) order₀)) ∷ mut word at-reaches reaches₀ (fitted (length reaches₀) (reachesOn rule₀ (slotsFor maxReaches (take blocks₀ rows₀) (take m₀ clients₀)) rows₀ blocks₀ (entriesOf m₀ clients₀ clocks₀) order₀)) ∷ mut word at-pending pending₀ (fitted (length pending₀) (pendingOn rule₀ (slotsFor maxReaches (take blocks₀ rows₀) (take m₀ clients₀)) rows₀ blocks₀ (entriesOf m₀ clients₀ clocks₀) order₀)) ∷ []) sorting (sortingOn rule₀ (slotsFor maxReaches (take blocks₀ rows₀) (take m₀ clients₀)) rows₀ blocks₀ (entriesOf m₀ clients₀ clocks₀) order₀)
+    sorter·sort-kept-clients-clocks! known rule₀ g-rule at-rows rows₀ blocks₀ g-blocks at-clients clients₀ at-clocks clocks₀ m₀ g-m at-order order₀ at-counts counts₀ at-reaches reaches₀ at-pending pending₀ h = record {
       contract = Sorter·sort-kept;
       known = known;
       ghost = λ x. (x, tt);

@@ -21,7 +21,7 @@ use Rattle.picker.specs.Fronts.{openedFrom, filledFrom}
 use Rattle.picker.specs.Picker.{Desk, allPicked}
 use Rattle.reports.specs.Reports.{countsFrom, reachesFrom, pendingFrom, fitted}
 use Rattle.sorter.specs.declared.Sorting.{Sorting}
-use Rattle.sorter.specs.Sorter.{notedFrom, notedBy, slotsFor, maxReaches, reachesAt, frontsAt, deskOn, cleared, sortingOf, sortingOn, orderOn, countsOn, reachesOn, pendingOn}
+use Rattle.sorter.specs.Sorter.{notedFrom, notedBy, slotsFor, maxReaches, slotWords, frontWords, reachesAt, frontsAt, deskOn, cleared, sortingOf, sortingOn, orderOn, countsOn, reachesOn, pendingOn}
 use Rattle.sorter.specs.Sorter.{noSorting, sortingRead, orderRead, countsRead, reachesRead, pendingRead}
 
 -- ---- rows noted, then clients named
@@ -88,24 +88,24 @@ module _ (w : List ℕ) (bs : List Block) where
 
 -- ---- all looks, and the reports
 
-module _ (ss : List Slot) (rows : List Block) (blocks : ℕ) (v : List Entry) (order counts reaches pending : List ℕ) where
+module _ (rule : ℕ) (ss : List Slot) (rows : List Block) (blocks : ℕ) (v : List Entry) (order counts reaches pending : List ℕ) where
   abbrev desk : Desk
-  desk = allPicked ss rows blocks (filledFrom 0 ss v (replicate 128 0)) (openedFrom 0 ss (replicate 768 0)) order
+  desk = allPicked rule ss rows blocks (filledFrom 0 ss v (replicate maxReaches 0)) (openedFrom 0 ss (replicate frontWords 0)) order
 
   pub exit-slots : (sortingOf (desk .at) (length (countsFrom 0 ss (desk .fronts))) (length (reachesFrom 0 ss (desk .reach))) (length (pendingFrom 0 ss (desk .fronts) (desk .reach)))
-      ≡ sortingOn ss rows blocks v order)
-      × (take (desk .at .steps) (desk .order) ++ replicate (length (desk .order) - desk .at .steps) 0 ≡ orderOn ss rows blocks v order)
-      × (fitted (length counts) (countsFrom 0 ss (desk .fronts)) ≡ fitted (length counts) (countsOn ss rows blocks v order))
-      × (fitted (length reaches) (reachesFrom 0 ss (desk .reach)) ≡ fitted (length reaches) (reachesOn ss rows blocks v order))
-      × (fitted (length pending) (pendingFrom 0 ss (desk .fronts) (desk .reach)) ≡ fitted (length pending) (pendingOn ss rows blocks v order))
+      ≡ sortingOn rule ss rows blocks v order)
+      × (take (desk .at .steps) (desk .order) ++ replicate (length (desk .order) - desk .at .steps) 0 ≡ orderOn rule ss rows blocks v order)
+      × (fitted (length counts) (countsFrom 0 ss (desk .fronts)) ≡ fitted (length counts) (countsOn rule ss rows blocks v order))
+      × (fitted (length reaches) (reachesFrom 0 ss (desk .reach)) ≡ fitted (length reaches) (reachesOn rule ss rows blocks v order))
+      × (fitted (length pending) (pendingFrom 0 ss (desk .fronts) (desk .reach)) ≡ fitted (length pending) (pendingOn rule ss rows blocks v order))
   unfolding sortingOn orderOn cleared countsOn reachesOn pendingOn deskOn reachesAt frontsAt
   exit-slots = (refl, refl, refl, refl, refl)
 
--- ---- 384 words are 128 slots
+-- ---- the words of slots
 
-module _ (rows : List Block) (blocks : ℕ) (names : List ℕ) (v : List Entry) (order counts reaches pending : List ℕ) where
+module _ (rule : ℕ) (rows : List Block) (blocks : ℕ) (names : List ℕ) (v : List Entry) (order counts reaches pending : List ℕ) where
   abbrev zeros : List ℕ
-  zeros = replicate 384 0
+  zeros = replicate slotWords 0
 
   abbrev held : List Slot
   held = slotsFrom (stored zeros (slotsFor (length zeros / 3) (take blocks rows) names)) 0 (length (slotsFor (length zeros / 3) (take blocks rows) names))
@@ -115,28 +115,28 @@ module _ (rows : List Block) (blocks : ℕ) (names : List ℕ) (v : List Entry) 
 
   held-is : held ≡ slots
   held-is =
-      let e : length zeros / 3 ≡ maxReaches = ap (λ (n : ℕ). n / 3) (length-replicate {A = ℕ} 384 0) in
+      let e : length zeros / 3 ≡ maxReaches = ap (λ (n : ℕ). n / 3) (length-replicate {A = ℕ} slotWords 0) in
       stored-slots zeros (slotsFor (length zeros / 3) (take blocks rows) names) ∙ ap (λ (k : ℕ). slotsFor k (take blocks rows) names) e
 
-  pub exit-kept : (sortingOn held rows blocks v order ≡ sortingOn slots rows blocks v order) × (orderOn held rows blocks v order ≡ orderOn slots rows blocks v order)
-      × (fitted (length counts) (countsOn held rows blocks v order) ≡ fitted (length counts) (countsOn slots rows blocks v order))
-      × (fitted (length reaches) (reachesOn held rows blocks v order) ≡ fitted (length reaches) (reachesOn slots rows blocks v order))
-      × (fitted (length pending) (pendingOn held rows blocks v order) ≡ fitted (length pending) (pendingOn slots rows blocks v order))
+  pub exit-kept : (sortingOn rule held rows blocks v order ≡ sortingOn rule slots rows blocks v order) × (orderOn rule held rows blocks v order ≡ orderOn rule slots rows blocks v order)
+      × (fitted (length counts) (countsOn rule held rows blocks v order) ≡ fitted (length counts) (countsOn rule slots rows blocks v order))
+      × (fitted (length reaches) (reachesOn rule held rows blocks v order) ≡ fitted (length reaches) (reachesOn rule slots rows blocks v order))
+      × (fitted (length pending) (pendingOn rule held rows blocks v order) ≡ fitted (length pending) (pendingOn rule slots rows blocks v order))
   exit-kept = (
-    ap (λ (ss : List Slot). sortingOn ss rows blocks v order) held-is,
-    ap (λ (ss : List Slot). orderOn ss rows blocks v order) held-is,
-    ap (λ (ss : List Slot). fitted (length counts) (countsOn ss rows blocks v order)) held-is,
-    ap (λ (ss : List Slot). fitted (length reaches) (reachesOn ss rows blocks v order)) held-is,
-    ap (λ (ss : List Slot). fitted (length pending) (pendingOn ss rows blocks v order)) held-is,
+    ap (λ (ss : List Slot). sortingOn rule ss rows blocks v order) held-is,
+    ap (λ (ss : List Slot). orderOn rule ss rows blocks v order) held-is,
+    ap (λ (ss : List Slot). fitted (length counts) (countsOn rule ss rows blocks v order)) held-is,
+    ap (λ (ss : List Slot). fitted (length reaches) (reachesOn rule ss rows blocks v order)) held-is,
+    ap (λ (ss : List Slot). fitted (length pending) (pendingOn rule ss rows blocks v order)) held-is,
   )
 
 -- ---- a vector that was read, or refused
 
-module _ (c : Course Entry) (rows : List Block) (blocks : ℕ) (order counts reaches pending : List ℕ) where
+module _ (rule : ℕ) (c : Course Entry) (rows : List Block) (blocks : ℕ) (order counts reaches pending : List ℕ) where
   abbrev Right : Sorting → List ℕ → List ℕ → List ℕ → List ℕ → Type 0
   Right r order₁ counts₁ reaches₁ pending₁ =
-      (r ≡ sortingRead c rows blocks order) × (order₁ ≡ orderRead c rows blocks order) × (counts₁ ≡ countsRead c rows blocks order counts)
-      × (reaches₁ ≡ reachesRead c rows blocks order reaches) × (pending₁ ≡ pendingRead c rows blocks order pending)
+      (r ≡ sortingRead rule c rows blocks order) × (order₁ ≡ orderRead rule c rows blocks order) × (counts₁ ≡ countsRead rule c rows blocks order counts)
+      × (reaches₁ ≡ reachesRead rule c rows blocks order reaches) × (pending₁ ≡ pendingRead rule c rows blocks order pending)
 
   module _ (m k l : ℕ) (e : vector.entriesOf c ≡ Read m) where
     abbrev names : List ℕ
@@ -157,17 +157,17 @@ module _ (c : Course Entry) (rows : List Block) (blocks : ℕ) (order counts rea
     abbrev slotsOf : List ℕ → List Slot
     slotsOf ns = slotsFor maxReaches (take blocks rows) ns
 
-    pub exit-read : Right (sortingOn (slotsOf names) rows blocks entries order) (orderOn (slotsOf names) rows blocks entries order)
-        (fitted (length counts) (countsOn (slotsOf names) rows blocks entries order))
-        (fitted (length reaches) (reachesOn (slotsOf names) rows blocks entries order))
-        (fitted (length pending) (pendingOn (slotsOf names) rows blocks entries order))
+    pub exit-read : Right (sortingOn rule (slotsOf names) rows blocks entries order) (orderOn rule (slotsOf names) rows blocks entries order)
+        (fitted (length counts) (countsOn rule (slotsOf names) rows blocks entries order))
+        (fitted (length reaches) (reachesOn rule (slotsOf names) rows blocks entries order))
+        (fitted (length pending) (pendingOn rule (slotsOf names) rows blocks entries order))
     unfolding sortingRead orderRead countsRead reachesRead pendingRead
     exit-read = (
-      by-read (λ ns v. sortingOn (slotsOf ns) rows blocks v order) (λ why. noSorting (why .number)),
-      by-read (λ ns v. orderOn (slotsOf ns) rows blocks v order) (λ why. order),
-      by-read (λ ns v. fitted (length counts) (countsOn (slotsOf ns) rows blocks v order)) (λ why. counts),
-      by-read (λ ns v. fitted (length reaches) (reachesOn (slotsOf ns) rows blocks v order)) (λ why. reaches),
-      by-read (λ ns v. fitted (length pending) (pendingOn (slotsOf ns) rows blocks v order)) (λ why. pending),
+      by-read (λ ns v. sortingOn rule (slotsOf ns) rows blocks v order) (λ why. noSorting (why .number)),
+      by-read (λ ns v. orderOn rule (slotsOf ns) rows blocks v order) (λ why. order),
+      by-read (λ ns v. fitted (length counts) (countsOn rule (slotsOf ns) rows blocks v order)) (λ why. counts),
+      by-read (λ ns v. fitted (length reaches) (reachesOn rule (slotsOf ns) rows blocks v order)) (λ why. reaches),
+      by-read (λ ns v. fitted (length pending) (pendingOn rule (slotsOf ns) rows blocks v order)) (λ why. pending),
     )
 
   pub exit-refused : (why : Refusal) → vector.entriesOf c ≡ Refused why → Right (noSorting (why .number)) order counts reaches pending

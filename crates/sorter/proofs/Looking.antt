@@ -36,32 +36,32 @@ pointed-points fronts reach n steps left = go (ltb 0 left) refl (ltb (dueFrom fr
     go true e false = record { left-is = refl; ends = λ z. refl }
     go false e y = record { left-is = refl; ends = λ z. refl }
 
-pub offered-points : (ss : List Slot) (d : Desk) (b : Block) → Points (d .at .left - 1) (offered ss d b .at)
+pub offered-points : (rule : ℕ) (ss : List Slot) (d : Desk) (b : Block) → Points (d .at .left - 1) (offered rule ss d b .at)
 unfolding offered took kept
-offered-points ss d b = go (eqb (looked ss (d .reach) (frontAt (d .fronts) (d .at .slot)) b .need) 0)
+offered-points rule ss d b = go (eqb (looked rule ss (d .reach) (frontAt (d .fronts) (d .at .slot)) b .need) 0)
   where
-    go : (x : Bool) → Points (d .at .left - 1) (pick x (took ss d b) (kept ss d (looked ss (d .reach) (frontAt (d .fronts) (d .at .slot)) b)) .at)
+    go : (x : Bool) → Points (d .at .left - 1) (pick x (took ss d b) (kept ss d (looked rule ss (d .reach) (frontAt (d .fronts) (d .at .slot)) b)) .at)
     go true = pointed-points _ _ _ _ _
     go false = pointed-points _ _ _ _ _
 
 -- ---- the loop
 
-picked-on : (k : ℕ) (ss : List Slot) (rows : List Block) (d : Desk) → d .at .row < length rows
-    → picked (suc k) ss rows d ≡ picked k ss rows (offered ss d (getD rows (d .at .row) noBlock))
+picked-on : (rule k : ℕ) (ss : List Slot) (rows : List Block) (d : Desk) → d .at .row < length rows
+    → picked rule (suc k) ss rows d ≡ picked rule k ss rows (offered rule ss d (getD rows (d .at .row) noBlock))
 unfolding picked
-picked-on k ss rows d l = rw (lt-ltb (d .at .row) (length rows) l) refl
+picked-on rule k ss rows d l = rw (lt-ltb (d .at .row) (length rows) l) refl
 
-picked-end : (k : ℕ) (ss : List Slot) (rows : List Block) (d : Desk) → length rows ≤ d .at .row → picked k ss rows d ≡ d
+picked-end : (rule k : ℕ) (ss : List Slot) (rows : List Block) (d : Desk) → length rows ≤ d .at .row → picked rule k ss rows d ≡ d
 unfolding picked
-picked-end zero ss rows d l = refl
-picked-end (suc k) ss rows d l = rw (le-ltb (d .at .row) (length rows) l) refl
+picked-end rule zero ss rows d l = refl
+picked-end rule (suc k) ss rows d l = rw (le-ltb (d .at .row) (length rows) l) refl
 
-module _ (rows : List Block) (blocks : ℕ) (ss : List Slot) (reach₀ fronts₀ order₀ : List ℕ) where
+module _ (rule : ℕ) (rows : List Block) (blocks : ℕ) (ss : List Slot) (reach₀ fronts₀ order₀ : List ℕ) where
   abbrev all : Desk
-  all = allPicked ss rows blocks reach₀ fronts₀ order₀
+  all = allPicked rule ss rows blocks reach₀ fronts₀ order₀
 
   pub record Looking (p : Look) (reach fronts order : List ℕ) : Type 0 where
-    pub same : picked (p .left) ss rows (desk p reach fronts order) ≡ all
+    pub same : picked rule (p .left) ss rows (desk p reach fronts order) ≡ all
     pub some : p .row < length rows → 0 < p .left
 
   -- there are fewer rows than nowhere
@@ -70,15 +70,15 @@ module _ (rows : List Block) (blocks : ℕ) (ss : List Slot) (reach₀ fronts₀
     some-of zero p g l = absurd (omega (arith, g .ends refl, l, small))
     some-of (suc k) p g l = omega (arith, g .left-is)
 
-    pub begins : (n : ℕ) → length ss ≡ n → Looking (pointed fronts₀ reach₀ n 0 (looks blocks)) reach₀ fronts₀ order₀
+    pub begins : (n : ℕ) → length ss ≡ n → Looking (pointed fronts₀ reach₀ n 0 (looks rule blocks)) reach₀ fronts₀ order₀
     unfolding allPicked
     begins n e =
-        let g = pointed-points fronts₀ reach₀ n 0 (looks blocks) in
+        let g = pointed-points fronts₀ reach₀ n 0 (looks rule blocks) in
         record {
           same =
-              ap (λ (k : ℕ). picked k ss rows (desk (pointed fronts₀ reach₀ n 0 (looks blocks)) reach₀ fronts₀ order₀)) (g .left-is)
-              ∙ ap (λ (m : ℕ). picked (looks blocks) ss rows (desk (pointed fronts₀ reach₀ m 0 (looks blocks)) reach₀ fronts₀ order₀)) (sym e);
-          some = some-of (looks blocks) (pointed fronts₀ reach₀ n 0 (looks blocks)) g;
+              ap (λ (k : ℕ). picked rule k ss rows (desk (pointed fronts₀ reach₀ n 0 (looks rule blocks)) reach₀ fronts₀ order₀)) (g .left-is)
+              ∙ ap (λ (m : ℕ). picked rule (looks rule blocks) ss rows (desk (pointed fronts₀ reach₀ m 0 (looks rule blocks)) reach₀ fronts₀ order₀)) (sym e);
+          some = some-of (looks rule blocks) (pointed fronts₀ reach₀ n 0 (looks rule blocks)) g;
         }
 
     module _ (p : Look) (reach fronts order : List ℕ) (g : Looking p reach fronts order) where
@@ -86,21 +86,21 @@ module _ (rows : List Block) (blocks : ℕ) (ss : List Slot) (reach₀ fronts₀
       here = desk p reach fronts order
 
       abbrev next : Desk
-      next = offered ss here (getD rows (p .row) noBlock)
+      next = offered rule ss here (getD rows (p .row) noBlock)
 
       pub turns : p .row < length rows → Looking (next .at) (next .reach) (next .fronts) (next .order)
       turns l =
-          let q = offered-points ss here (getD rows (p .row) noBlock) in
+          let q = offered-points rule ss here (getD rows (p .row) noBlock) in
           record { same = go (p .left) refl (q .left-is); some = some-of (p .left - 1) (next .at) q }
         where
-          go : (k : ℕ) → p .left ≡ k → next .at .left ≡ p .left - 1 → picked (next .at .left) ss rows next ≡ all
+          go : (k : ℕ) → p .left ≡ k → next .at .left ≡ p .left - 1 → picked rule (next .at .left) ss rows next ≡ all
           go zero e f = absurd (omega (arith, g .some l, e))
           go (suc k) e f =
               let fewer : next .at .left ≡ k = omega (arith, e, f) in
-              ap (λ (j : ℕ). picked j ss rows next) fewer ∙ sym (picked-on k ss rows here l) ∙ ap (λ (j : ℕ). picked j ss rows here) (sym e) ∙ g .same
+              ap (λ (j : ℕ). picked rule j ss rows next) fewer ∙ sym (picked-on rule k ss rows here l) ∙ ap (λ (j : ℕ). picked rule j ss rows here) (sym e) ∙ g .same
 
       pub falls : p .row < length rows → next .at .left < p .left
-      falls l = omega (arith, offered-points ss here (getD rows (p .row) noBlock) .left-is, g .some l)
+      falls l = omega (arith, offered-points rule ss here (getD rows (p .row) noBlock) .left-is, g .some l)
 
       pub ended : length rows ≤ p .row → here ≡ all
-      ended l = sym (picked-end (p .left) ss rows here l) ∙ g .same
+      ended l = sym (picked-end rule (p .left) ss rows here l) ∙ g .same

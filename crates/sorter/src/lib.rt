@@ -1,4 +1,4 @@
-// The sorter: the rows of an update noted in slots, the vector's clients too, then one front looked at after another, and the reports.
+// The sorter: the rows of an update noted in slots, the vector's clients too, then one front looked at after another by a rule, and the reports.
 use block::Block;
 use picker::Look;
 use slots::Noted;
@@ -42,6 +42,7 @@ fn note_rows(rows: &[Block], blocks: usize, slots: &mut [u64]) -> Noted
 
 // Fronts looked at until none can be taken.
 fn pick_rows(
+    rule: u8,
     rows: &[Block],
     blocks: usize,
     slots: &[u64],
@@ -51,15 +52,15 @@ fn pick_rows(
     order: &mut [u64],
 ) -> Look
     requires { ⌜ (3 * n ≤ length (now slots)) × Falling (slotsFrom (now slots) 0 n) ⌝ }
-    ensures { λ r. ⌜ (r ≡ allPicked (slotsFrom (now (slots .entry)) 0 n) (now (rows .entry)) blocks (now (reach .entry)) (now (fronts .entry)) (now (order .entry)) .at)
-        × (now (reach .exit) ≡ allPicked (slotsFrom (now (slots .entry)) 0 n) (now (rows .entry)) blocks (now (reach .entry)) (now (fronts .entry)) (now (order .entry)) .reach)
-        × (now (fronts .exit) ≡ allPicked (slotsFrom (now (slots .entry)) 0 n) (now (rows .entry)) blocks (now (reach .entry)) (now (fronts .entry)) (now (order .entry)) .fronts)
-        × (now (order .exit) ≡ allPicked (slotsFrom (now (slots .entry)) 0 n) (now (rows .entry)) blocks (now (reach .entry)) (now (fronts .entry)) (now (order .entry)) .order) ⌝ }
+    ensures { λ r. ⌜ (r ≡ allPicked rule (slotsFrom (now (slots .entry)) 0 n) (now (rows .entry)) blocks (now (reach .entry)) (now (fronts .entry)) (now (order .entry)) .at)
+        × (now (reach .exit) ≡ allPicked rule (slotsFrom (now (slots .entry)) 0 n) (now (rows .entry)) blocks (now (reach .entry)) (now (fronts .entry)) (now (order .entry)) .reach)
+        × (now (fronts .exit) ≡ allPicked rule (slotsFrom (now (slots .entry)) 0 n) (now (rows .entry)) blocks (now (reach .entry)) (now (fronts .entry)) (now (order .entry)) .fronts)
+        × (now (order .exit) ≡ allPicked rule (slotsFrom (now (slots .entry)) 0 n) (now (rows .entry)) blocks (now (reach .entry)) (now (fronts .entry)) (now (order .entry)) .order) ⌝ }
 {
-    let mut p = picker::begin(fronts, reach, n, blocks);
+    let mut p = picker::begin(rule, fronts, reach, n, blocks);
     while p.row < rows.len() {
         let b = table::fetch(rows, p.row);
-        p = picker::offer(slots, n, p, reach, fronts, order, b);
+        p = picker::offer(rule, slots, n, p, reach, fronts, order, b);
     }
     p
 }
@@ -98,8 +99,10 @@ fn open_slots(rows: &[Block], blocks: usize, clients: &[u64], m: usize, slots: &
     slots::name_all(slots, noted.slots, clients, m)
 }
 
-// The first rows, as many as are blocks, sorted against m entries, in n slots. The reaches are clocks of up to 128 clients.
+// The first rows, as many as are blocks, sorted against m entries, in n slots. The reaches are clocks of up to 128 clients (`maxReaches`), with six words
+// (`frontWords`) for each one's front.
 fn sort_slots(
+    rule: u8,
     rows: &[Block],
     blocks: usize,
     slots: &[u64],
@@ -113,11 +116,11 @@ fn sort_slots(
     pending: &mut [u64],
 ) -> Sorting
     requires { ⌜ (3 * n ≤ length (now slots)) × Falling (slotsFrom (now slots) 0 n) ⌝ }
-    ensures { λ r. ⌜ (r ≡ sortingOn (slotsFrom (now (slots .entry)) 0 n) (now (rows .entry)) blocks (entriesOf m (now (clients .entry)) (now (clocks .entry))) (now (order .entry)))
-        × (now (order .exit) ≡ orderOn (slotsFrom (now (slots .entry)) 0 n) (now (rows .entry)) blocks (entriesOf m (now (clients .entry)) (now (clocks .entry))) (now (order .entry)))
-        × (now (counts .exit) ≡ fitted (length (now (counts .entry))) (countsOn (slotsFrom (now (slots .entry)) 0 n) (now (rows .entry)) blocks (entriesOf m (now (clients .entry)) (now (clocks .entry))) (now (order .entry))))
-        × (now (reaches .exit) ≡ fitted (length (now (reaches .entry))) (reachesOn (slotsFrom (now (slots .entry)) 0 n) (now (rows .entry)) blocks (entriesOf m (now (clients .entry)) (now (clocks .entry))) (now (order .entry))))
-        × (now (pending .exit) ≡ fitted (length (now (pending .entry))) (pendingOn (slotsFrom (now (slots .entry)) 0 n) (now (rows .entry)) blocks (entriesOf m (now (clients .entry)) (now (clocks .entry))) (now (order .entry)))) ⌝ }
+    ensures { λ r. ⌜ (r ≡ sortingOn rule (slotsFrom (now (slots .entry)) 0 n) (now (rows .entry)) blocks (entriesOf m (now (clients .entry)) (now (clocks .entry))) (now (order .entry)))
+        × (now (order .exit) ≡ orderOn rule (slotsFrom (now (slots .entry)) 0 n) (now (rows .entry)) blocks (entriesOf m (now (clients .entry)) (now (clocks .entry))) (now (order .entry)))
+        × (now (counts .exit) ≡ fitted (length (now (counts .entry))) (countsOn rule (slotsFrom (now (slots .entry)) 0 n) (now (rows .entry)) blocks (entriesOf m (now (clients .entry)) (now (clocks .entry))) (now (order .entry))))
+        × (now (reaches .exit) ≡ fitted (length (now (reaches .entry))) (reachesOn rule (slotsFrom (now (slots .entry)) 0 n) (now (rows .entry)) blocks (entriesOf m (now (clients .entry)) (now (clocks .entry))) (now (order .entry))))
+        × (now (pending .exit) ≡ fitted (length (now (pending .entry))) (pendingOn rule (slotsFrom (now (slots .entry)) 0 n) (now (rows .entry)) blocks (entriesOf m (now (clients .entry)) (now (clocks .entry))) (now (order .entry)))) ⌝ }
 {
     let mut reached = [0u64; 128];
     let reach = &mut reached[..];
@@ -125,7 +128,7 @@ fn sort_slots(
     let fronts = &mut words[..];
     picker::fronts::fill_reaches(slots, n, clients, clocks, m, reach);
     picker::fronts::open(slots, n, fronts);
-    let p = pick_rows(rows, blocks, slots, n, reach, fronts, order);
+    let p = pick_rows(rule, rows, blocks, slots, n, reach, fronts, order);
     reports::clear_after(order, p.steps);
     let a = reports::report_counts(slots, n, fronts, counts);
     let r = reports::report_reaches(slots, n, reach, reaches);
@@ -135,6 +138,7 @@ fn sort_slots(
 
 // The first rows, as many as are blocks, sorted against m entries.
 fn sort_kept(
+    rule: u8,
     rows: &[Block],
     blocks: usize,
     clients: &[u64],
@@ -146,16 +150,17 @@ fn sort_kept(
     pending: &mut [u64],
 ) -> Sorting
     requires { ⌜ (blocks ≤ length (now rows)) × (m ≤ length (now clients)) ⌝ }
-    ensures { λ r. ⌜ (r ≡ sortingOn (slotsFor maxReaches (take blocks (now (rows .entry))) (take m (now (clients .entry)))) (now (rows .entry)) blocks (entriesOf m (now (clients .entry)) (now (clocks .entry))) (now (order .entry)))
-        × (now (order .exit) ≡ orderOn (slotsFor maxReaches (take blocks (now (rows .entry))) (take m (now (clients .entry)))) (now (rows .entry)) blocks (entriesOf m (now (clients .entry)) (now (clocks .entry))) (now (order .entry)))
-        × (now (counts .exit) ≡ fitted (length (now (counts .entry))) (countsOn (slotsFor maxReaches (take blocks (now (rows .entry))) (take m (now (clients .entry)))) (now (rows .entry)) blocks (entriesOf m (now (clients .entry)) (now (clocks .entry))) (now (order .entry))))
-        × (now (reaches .exit) ≡ fitted (length (now (reaches .entry))) (reachesOn (slotsFor maxReaches (take blocks (now (rows .entry))) (take m (now (clients .entry)))) (now (rows .entry)) blocks (entriesOf m (now (clients .entry)) (now (clocks .entry))) (now (order .entry))))
-        × (now (pending .exit) ≡ fitted (length (now (pending .entry))) (pendingOn (slotsFor maxReaches (take blocks (now (rows .entry))) (take m (now (clients .entry)))) (now (rows .entry)) blocks (entriesOf m (now (clients .entry)) (now (clocks .entry))) (now (order .entry)))) ⌝ }
+    ensures { λ r. ⌜ (r ≡ sortingOn rule (slotsFor maxReaches (take blocks (now (rows .entry))) (take m (now (clients .entry)))) (now (rows .entry)) blocks (entriesOf m (now (clients .entry)) (now (clocks .entry))) (now (order .entry)))
+        × (now (order .exit) ≡ orderOn rule (slotsFor maxReaches (take blocks (now (rows .entry))) (take m (now (clients .entry)))) (now (rows .entry)) blocks (entriesOf m (now (clients .entry)) (now (clocks .entry))) (now (order .entry)))
+        × (now (counts .exit) ≡ fitted (length (now (counts .entry))) (countsOn rule (slotsFor maxReaches (take blocks (now (rows .entry))) (take m (now (clients .entry)))) (now (rows .entry)) blocks (entriesOf m (now (clients .entry)) (now (clocks .entry))) (now (order .entry))))
+        × (now (reaches .exit) ≡ fitted (length (now (reaches .entry))) (reachesOn rule (slotsFor maxReaches (take blocks (now (rows .entry))) (take m (now (clients .entry)))) (now (rows .entry)) blocks (entriesOf m (now (clients .entry)) (now (clocks .entry))) (now (order .entry))))
+        × (now (pending .exit) ≡ fitted (length (now (pending .entry))) (pendingOn rule (slotsFor maxReaches (take blocks (now (rows .entry))) (take m (now (clients .entry)))) (now (rows .entry)) blocks (entriesOf m (now (clients .entry)) (now (clocks .entry))) (now (order .entry)))) ⌝ }
 {
     let mut words = [0u64; 384];
     let slots = &mut words[..];
     let n = open_slots(rows, blocks, clients, m, slots);
     sort_slots(
+        rule,
         rows,
         blocks,
         slots,
@@ -172,6 +177,7 @@ fn sort_kept(
 
 // The same against a vector; where that is refused nothing is written.
 pub fn sort_read(
+    rule: u8,
     vector: &[u8],
     rows: &[Block],
     blocks: usize,
@@ -181,11 +187,11 @@ pub fn sort_read(
     pending: &mut [u64],
 ) -> Sorting
     requires { ⌜ blocks ≤ length (now rows) ⌝ }
-    ensures { λ r. ⌜ (r ≡ sortingRead (vectorOf (now (vector .entry))) (now (rows .entry)) blocks (now (order .entry)))
-        × (now (order .exit) ≡ orderRead (vectorOf (now (vector .entry))) (now (rows .entry)) blocks (now (order .entry)))
-        × (now (counts .exit) ≡ countsRead (vectorOf (now (vector .entry))) (now (rows .entry)) blocks (now (order .entry)) (now (counts .entry)))
-        × (now (reaches .exit) ≡ reachesRead (vectorOf (now (vector .entry))) (now (rows .entry)) blocks (now (order .entry)) (now (reaches .entry)))
-        × (now (pending .exit) ≡ pendingRead (vectorOf (now (vector .entry))) (now (rows .entry)) blocks (now (order .entry)) (now (pending .entry))) ⌝ }
+    ensures { λ r. ⌜ (r ≡ sortingRead rule (vectorOf (now (vector .entry))) (now (rows .entry)) blocks (now (order .entry)))
+        × (now (order .exit) ≡ orderRead rule (vectorOf (now (vector .entry))) (now (rows .entry)) blocks (now (order .entry)))
+        × (now (counts .exit) ≡ countsRead rule (vectorOf (now (vector .entry))) (now (rows .entry)) blocks (now (order .entry)) (now (counts .entry)))
+        × (now (reaches .exit) ≡ reachesRead rule (vectorOf (now (vector .entry))) (now (rows .entry)) blocks (now (order .entry)) (now (reaches .entry)))
+        × (now (pending .exit) ≡ pendingRead rule (vectorOf (now (vector .entry))) (now (rows .entry)) blocks (now (order .entry)) (now (pending .entry))) ⌝ }
 {
     let mut first = [0u64; 64];
     let clients = &mut first[..];
@@ -193,6 +199,7 @@ pub fn sort_read(
     let clocks = &mut second[..];
     match vector::read_entries(vector, clients, clocks) {
         Entries::Read(m) => sort_kept(
+            rule,
             rows,
             blocks,
             clients,

@@ -1,4 +1,5 @@
--- Cases M and N of document 01, by computing: demand 3 holds of every rule under which more knowledge holds nothing back, these hold of the right one.
+-- Cases M and N of document 01 under both rules, and what tells the rules apart, by computing: demand 3 holds of every rule under which more knowledge
+-- holds nothing back, these hold of the right ones.
 use mathlib.Core.Path.{_≡_, refl}
 use mathlib.Core.Bool.{Bool, true, false}
 use mathlib.Core.List.{List, [], _∷_}
@@ -10,17 +11,20 @@ use Rattle.vector.specs.Vector.{Entry, entry}
 use Rattle.kept.specs.Kept.{remote}
 use Rattle.sorting.specs.Steps.{can, step, after}
 use Rattle.sorting.specs.Quick.{left, best, quick, order as choices}
-use Rattle.sorting.specs.Rules.{queue, deps, system, unmet, rule28, report}
+use Rattle.sorting.specs.Rules.{queue, deps, others, unmet, waits, system, report, byReaches}
+use Rattle.sorting.specs.Rule28.{asks28}
+use Rattle.sorting.specs.Rule13.{before, asks13}
+use Rattle.sorting.specs.Named.{asksOf, ruleOf}
 use Rattle.sorting.specs.Sorted.{insert, insertAll, clients, order, outcome, numbersFrom, numbersBy, orderOf}
 use Rattle.sorting.specs.Sorted.{countsIn, countsOf, reachesIn, reachesOf, pendingIn, pendingOf}
 
--- a binary block at clock 0, perhaps with a left id
-block : ℕ → Bool → Id → Block
-block c there i = record {
+-- a block of some kind, clock and length, perhaps with a left id
+block : ℕ → ℕ → ℕ → ℕ → Bool → Id → Block
+block c clock length kind there i = record {
   client = c;
-  clock = 0;
-  length = record { 0 = 1 };
-  kind = 4;
+  clock = clock;
+  length = record { 0 = length };
+  kind = kind;
   «has_left» = there;
   left = i;
   «has_right» = false;
@@ -34,8 +38,12 @@ block c there i = record {
   part = noPart;
 }
 
+-- a binary block at clock 0, and one that hangs on an id
+binary : ℕ → Block
+binary c = block c 0 1 4 false noId
+
 after-id : ℕ → ℕ → ℕ → Block
-after-id c d k = block c true (record { client = d; clock = k })
+after-id c d k = block c 0 1 4 true (record { client = d; clock = k })
 
 record Answer : Type 0 where
   numbers : List ℕ
@@ -46,14 +54,41 @@ record Answer : Type 0 where
 answer : List ℕ → List ℕ → List ℕ → List ℕ → Answer
 answer o t r p = record { numbers = o; taken = t; reaches = r; pending = p }
 
-sort : List Block → List Entry → Answer
-sort bs v = answer (orderOf bs v) (countsOf bs v) (reachesOf bs v) (pendingOf bs v)
+sort : ℕ → List Block → List Entry → Answer
+sort rule bs v = answer (orderOf (ruleOf rule) bs v) (countsOf (ruleOf rule) bs v) (reachesOf (ruleOf rule) bs v) (pendingOf (ruleOf rule) bs v)
 
-case-M-and-N : (sort (after-id 5 9 0 ∷ block 9 false noId ∷ []) [] ≡ answer (1 ∷ 0 ∷ []) (9 ∷ 1 ∷ 5 ∷ 1 ∷ []) (9 ∷ 1 ∷ 5 ∷ 1 ∷ []) [])
-    × (sort (after-id 5 9 0 ∷ []) [] ≡ answer [] (5 ∷ 0 ∷ []) (5 ∷ 0 ∷ []) (5 ∷ 9 ∷ 0 ∷ []))
-    × (sort (after-id 5 9 0 ∷ after-id 9 5 0 ∷ []) []
+-- M: both taken, one pending, both pending; N: pending at the reach, met below it
+abbrev CasesMN : ℕ → Type 0
+CasesMN rule =
+    (sort rule (after-id 5 9 0 ∷ binary 9 ∷ []) [] ≡ answer (1 ∷ 0 ∷ []) (9 ∷ 1 ∷ 5 ∷ 1 ∷ []) (9 ∷ 1 ∷ 5 ∷ 1 ∷ []) [])
+    × (sort rule (after-id 5 9 0 ∷ []) [] ≡ answer [] (5 ∷ 0 ∷ []) (5 ∷ 0 ∷ []) (5 ∷ 9 ∷ 0 ∷ []))
+    × (sort rule (after-id 5 9 0 ∷ after-id 9 5 0 ∷ []) []
     ≡ answer [] (9 ∷ 0 ∷ 5 ∷ 0 ∷ []) (9 ∷ 0 ∷ 5 ∷ 0 ∷ []) (9 ∷ 5 ∷ 0 ∷ 5 ∷ 9 ∷ 0 ∷ []))
-    × (sort (after-id 5 9 3 ∷ []) (entry 9 3 ∷ []) ≡ answer [] (5 ∷ 0 ∷ []) (9 ∷ 3 ∷ 5 ∷ 0 ∷ []) (5 ∷ 9 ∷ 3 ∷ []))
-    × (sort (after-id 5 9 2 ∷ []) (entry 9 3 ∷ []) ≡ answer (0 ∷ []) (5 ∷ 1 ∷ []) (9 ∷ 3 ∷ 5 ∷ 1 ∷ []) [])
-unfolding sort answer block after-id orderOf countsOf reachesOf pendingOf countsIn reachesIn pendingIn numbersBy numbersFrom outcome order clients insert insertAll quick choices best left can step after system queue deps rule28 unmet report remote
-case-M-and-N = (refl, refl, refl, refl, refl)
+    × (sort rule (after-id 5 9 3 ∷ []) (entry 9 3 ∷ []) ≡ answer [] (5 ∷ 0 ∷ []) (9 ∷ 3 ∷ 5 ∷ 0 ∷ []) (5 ∷ 9 ∷ 3 ∷ []))
+    × (sort rule (after-id 5 9 2 ∷ []) (entry 9 3 ∷ []) ≡ answer (0 ∷ []) (5 ∷ 1 ∷ []) (9 ∷ 3 ∷ 5 ∷ 1 ∷ []) [])
+
+cases-M-and-N : CasesMN 28 × CasesMN 13
+unfolding sort answer block binary after-id orderOf countsOf reachesOf pendingOf countsIn reachesIn pendingIn numbersBy numbersFrom outcome order clients insert insertAll quick choices best left can step after system queue deps others asksOf asks28 asks13 before byReaches waits unmet report remote
+cases-M-and-N = ((refl, refl, refl, refl, refl), (refl, refl, refl, refl, refl))
+
+-- a GC of length 0, a Skip, and a binary block behind a gap
+gc : ℕ → Block
+gc clock = block 5 clock 0 1 false noId
+
+skip : Block
+skip = block 5 0 2 2 false noId
+
+late : Bool → Id → Block
+late there i = block 5 2 1 4 there i
+
+-- W-210: under rule 13 a block waits behind a gap, a GC too, a Skip does not wait and lifts nothing, a block at its own reach is taken, and another
+-- client is reported first; under rule 28 none of it waits for its own client
+behind-a-gap : (sort 13 (gc 3 ∷ []) [] ≡ answer [] (5 ∷ 0 ∷ []) (5 ∷ 0 ∷ []) (5 ∷ 5 ∷ 0 ∷ []))
+    × (sort 28 (gc 3 ∷ []) [] ≡ answer (0 ∷ []) (5 ∷ 1 ∷ []) (5 ∷ 3 ∷ []) [])
+    × (sort 13 (skip ∷ late false noId ∷ []) [] ≡ answer (0 ∷ []) (5 ∷ 1 ∷ []) (5 ∷ 0 ∷ []) (5 ∷ 5 ∷ 0 ∷ []))
+    × (sort 28 (skip ∷ late false noId ∷ []) [] ≡ answer (0 ∷ 1 ∷ []) (5 ∷ 2 ∷ []) (5 ∷ 3 ∷ []) [])
+    × (sort 13 (late false noId ∷ []) (entry 5 2 ∷ []) ≡ answer (0 ∷ []) (5 ∷ 1 ∷ []) (5 ∷ 3 ∷ []) [])
+    × (sort 13 (late false noId ∷ []) (entry 5 1 ∷ []) ≡ answer [] (5 ∷ 0 ∷ []) (5 ∷ 1 ∷ []) (5 ∷ 5 ∷ 1 ∷ []))
+    × (sort 13 (late true (record { client = 9; clock = 0 }) ∷ []) [] ≡ answer [] (5 ∷ 0 ∷ []) (5 ∷ 0 ∷ []) (5 ∷ 9 ∷ 0 ∷ []))
+unfolding gc skip late sort answer block orderOf countsOf reachesOf pendingOf countsIn reachesIn pendingIn numbersBy numbersFrom outcome order clients insert insertAll quick choices best left can step after system queue deps others asksOf asks28 asks13 before byReaches waits unmet report remote
+behind-a-gap = (refl, refl, refl, refl, refl, refl, refl)

@@ -1,37 +1,31 @@
--- Demand 3 and what goes with it, for an update's blocks against a state vector.
+-- Demand 3 and what goes with it, for an update's blocks by any rule under which more knowledge holds nothing back.
 use mathlib.Core.Path.{_≡_, refl}
 use mathlib.Core.Bool.{Bool, true, false, _||_}
-use mathlib.Core.List.{List, [], _∷_}
+use mathlib.Core.List.{List}
 use mathlib.Core.Logic.{_≢_}
 use mathlib.Core.Option.{Option, none, some}
 use Prim.Native.Nat.{ℕ, _+_, _≤_, _<_, max}
 use native.Mathlib.Omega.{arith}
-use lib.Dec.{T, ltb, eqb}
+use lib.Dec.{T}
 use lib.ListN.{length, getD}
-use borrow.Author.Tests.{lt-ltb, ltb-false, eqb-false, eq-eqb, ne-eqb}
+use borrow.Author.Tests.{lt-ltb, eq-eqb, ne-eqb}
 use Rattle.numbers.specs.Number.{pick}
 use Rattle.block.specs.declared.Id.{Id}
 use Rattle.block.specs.declared.Block.{Block}
 use Rattle.block.specs.Row.{noBlock}
-use Rattle.vector.specs.Vector.{Entry}
-use Rattle.kept.specs.Kept.{remote}
 use Rattle.sorting.specs.Steps.{State, start, step, after, Stuck, Ends, Takes, Highest, Sorts}
 use Rattle.sorting.specs.Quick.{Listed}
-use Rattle.sorting.specs.Rules.{queue, isSkip, deps, Rule, free, system, unmet, below, rule28, report}
-use Rattle.sorting.specs.Sorted.{clients, steps, order, outcome}
+use Rattle.sorting.specs.Rules.{queue, isSkip, Rule, waits, free, system, report, byReaches}
+use Rattle.sorting.specs.Sorted.{steps, order, outcome}
 use Rattle.sorting.proofs.Outcome.{can-intro, more-takes}
 use Rattle.sorting.proofs.Quick.{quick-sorts, quick-highest, is-quick}
-use Rattle.sorting.proofs.Rules.{system-monotone, rule28-mono}
-use Rattle.sorting.proofs.Clients.{clients-blocks}
+use Rattle.sorting.proofs.Rules.{RuleMonotone, system-monotone, unmet-is, all-any, report-waits}
 
 -- ---- fronts that are left, under any rule
 
 either : (x y : Bool) → T y → T (x || y)
 either true y t = tt
 either false y t = t
-
-none-some : (d : Id) → none ≡ some d → ⊥
-none-some d p = let z : _≡_ {A = ℕ} 0 1 = cc in omega arith
 
 waited : (o : Option Id) → (T (free o) → ⊥) → (d : Id) × (o ≡ some d)
 waited none h = absurd (h tt)
@@ -44,87 +38,71 @@ unfolding Stuck system report
 stuck-waits R q s stuck c h =
     let b = getD (q c) (s .taken c) noBlock in
     rw (lt-ltb (s .taken c) (length (q c)) h)
-    (waited (R .waits (s .known) c b) (λ t. stuck c (can-intro (system R q) s c h (either (isSkip b) (free (R .waits (s .known) c b)) t))))
+    (waited (waits R (s .known) c b) (λ t. stuck c (can-intro (system R q) s c h (either (isSkip b) (free (waits R (s .known) c b)) t))))
 
--- what a rule waits for by `unmet` is another client's, and not met
-unmet-is : (met : Id → Bool) (c : ℕ) (ds : List Id) (d : Id) → unmet met c ds ≡ some d → (d .client ≢ c) × (met d ≡ false)
-unfolding unmet
-unmet-is met c [] d p = absurd (none-some d p)
-unmet-is met c (e ∷ ds) d p = go (eqb (e .client) c) refl (met e) refl p (unmet-is met c ds d)
-  where
-    go : (x : Bool) → eqb (e .client) c ≡ x → (y : Bool) → met e ≡ y → pick (x || y) (unmet met c ds) (some e) ≡ some d
-        → (unmet met c ds ≡ some d → (d .client ≢ c) × (met d ≡ false)) → (d .client ≢ c) × (met d ≡ false)
-    go true f y g p rec = rec p
-    go false f true g p rec = rec p
-    go false f false g p rec = let q : e ≡ d = cc in rw (← q) (eqb-false (e .client) c f, g)
+-- what is reported is not met
+pub reported : {A : Type 0} (R : Rule A) (q : ℕ → List Block) (s : State A) (c : ℕ) (d : Id) → report R q s c ≡ some d → R .met (s .known) d ≡ false
+unfolding waits
+reported R q s c d p =
+    let asked = R .asks c (getD (q c) (s .taken c) noBlock) in
+    unmet-is (λ (e : Id). Unit {0}) (R .met (s .known)) asked d (all-any asked) (report-waits R q s c d p) .1
 
--- ---- rule 28, from what the vector says
+-- ---- demand 3: the order of these clients, those with blocks among them, from what is known at first
 
--- what is reported is another client's, and its clock not below that client's reach
-pub reported : (q : ℕ → List Block) (s : State ℕ) (c : ℕ) (d : Id) → report rule28 q s c ≡ some d → (d .client ≢ c) × (s .known (d .client) ≤ d .clock)
-unfolding report rule28
-reported q s c d p = go (ltb (s .taken c) (length (q c))) p
-  where
-    go : (x : Bool) → pick x (unmet (below (s .known)) c (deps (getD (q c) (s .taken c) noBlock))) none ≡ some d
-        → (d .client ≢ c) × (s .known (d .client) ≤ d .clock)
-    go true p =
-        let w = unmet-is (below (s .known)) c (deps (getD (q c) (s .taken c) noBlock)) d p in
-        (w .0, ltb-false (d .clock) (s .known (d .client)) (w .1))
-    go false p = absurd (none-some d p)
-
-module _ (bs : List Block) (v : List Entry) where
-  some-of : (c : ℕ) → 0 < steps bs .size c → Listed c (clients bs v)
+module _ {A : Type 0} (R : Rule A) (mono : RuleMonotone R) (bs : List Block) (cs : List ℕ) (all : (c : ℕ) → 0 < length (queue bs c) → Listed c cs)
+    (κ : A → ℕ) where
+  some-of : (c : ℕ) → 0 < steps R bs .size c → Listed c cs
   unfolding system
-  some-of = clients-blocks bs v
+  some-of = all
 
   -- Demand 3
-  pub sorted : Sorts (steps bs) (remote v) (order bs v)
+  pub sorted : Sorts (steps R bs) κ (order R bs cs κ)
   unfolding order
-  sorted = quick-sorts (steps bs) (clients bs v) some-of (system-monotone rule28 (queue bs) rule28-mono) (remote v)
+  sorted = quick-sorts (steps R bs) cs some-of (system-monotone R (queue bs) mono) κ
 
-  pub highest : Highest (steps bs) (start (remote v)) (order bs v)
+  pub highest : Highest (steps R bs) (start κ) (order R bs cs κ)
   unfolding order
-  highest = quick-highest (steps bs) (clients bs v) some-of (start (remote v))
+  highest = quick-highest (steps R bs) cs some-of (start κ)
 
   -- and no other order is both
-  pub is-order : (cs : List ℕ) → Ends (steps bs) (start (remote v)) cs → Highest (steps bs) (start (remote v)) cs → cs ≡ order bs v
+  pub is-order : (ds : List ℕ) → Ends (steps R bs) (start κ) ds → Highest (steps R bs) (start κ) ds → ds ≡ order R bs cs κ
   unfolding order
-  is-order = is-quick (steps bs) (clients bs v) some-of (start (remote v))
+  is-order = is-quick (steps R bs) cs some-of (start κ)
 
-  -- a front that is left is reported, with something of another client that is not met
-  pub left-waits : (c : ℕ) → (outcome bs v) .taken c < length (queue bs c)
-      → (d : Id) × (report rule28 (queue bs) (outcome bs v) c ≡ some d) × (d .client ≢ c) × ((outcome bs v) .known (d .client) ≤ d .clock)
+  -- a front that is left is reported, with something that is not met
+  pub left-waits : (c : ℕ) → (outcome R bs cs κ) .taken c < length (queue bs c)
+      → (d : Id) × (report R (queue bs) (outcome R bs cs κ) c ≡ some d) × (R .met ((outcome R bs cs κ) .known) d ≡ false)
   unfolding outcome
   left-waits c h =
-      let s = after (steps bs) (start (remote v)) (order bs v) in
-      let w = stuck-waits rule28 (queue bs) s (sorted .ends .end) c h in
-      let r = reported (queue bs) s c (w .0) (w .1) in
-      (w .0, w .1, r .0, r .1)
+      let s = after (steps R bs) (start κ) (order R bs cs κ) in
+      let w = stuck-waits R (queue bs) s (sorted .ends .end) c h in
+      (w .0, w .1, reported R (queue bs) s c (w .0) (w .1))
 
 -- W-212: with every reach as high or higher, each block taken before is taken again
-pub none-held-back : (bs : List Block) (v w : List Entry) → ((c : ℕ) → remote v c ≤ remote w c) → (c k : ℕ)
-    → Takes (steps bs) (start (remote v)) (order bs v) c k → Takes (steps bs) (start (remote w)) (order bs w) c k
-none-held-back bs v w more = more-takes (steps bs) (system-monotone rule28 (queue bs) rule28-mono) (remote v) (remote w) more (order bs v) (order bs w)
-    (sorted bs v .ends .run) (sorted bs w .ends)
+pub none-held-back : {A : Type 0} (R : Rule A) → RuleMonotone R → (bs : List Block) (κ κ′ : A → ℕ) → ((a : A) → κ a ≤ κ′ a) → (cs ds : List ℕ)
+    → Sorts (steps R bs) κ cs → Sorts (steps R bs) κ′ ds → (c k : ℕ) → Takes (steps R bs) (start κ) cs c k → Takes (steps R bs) (start κ′) ds c k
+none-held-back R mono bs κ κ′ more cs ds e f =
+    more-takes (steps R bs) (system-monotone R (queue bs) mono) κ κ′ more cs ds (e .ends .run) (f .ends)
 
 -- ---- what a step does to a reach: it lifts its own client's to the block's end if that is higher, and a Skip lifts nothing
 
-abbrev pub front : List Block → State ℕ → ℕ → Block
+abbrev pub front : {A : Type 0} → List Block → State A → ℕ → Block
 front bs s c = getD (queue bs c) (s .taken c) noBlock
 
-pub lifts : (bs : List Block) (s : State ℕ) (c : ℕ) → isSkip (front bs s c) ≡ false
-    → (step (steps bs) s c) .known c ≡ max (s .known c) (front bs s c .clock + front bs s c .length .0)
-unfolding step system rule28
-lifts bs s c h = rw (h, eq-eqb c c refl)
+module _ (asks : ℕ → Block → List Id) (bs : List Block) (s : State ℕ) (c : ℕ) where
+  pub lifts : isSkip (front bs s c) ≡ false
+      → (step (steps (byReaches asks) bs) s c) .known c ≡ max (s .known c) (front bs s c .clock + front bs s c .length .0)
+  unfolding step system byReaches
+  lifts h = rw (h, eq-eqb c c refl)
 
-pub skip-lifts-none : (bs : List Block) (s : State ℕ) (c d : ℕ) → isSkip (front bs s c) ≡ true → (step (steps bs) s c) .known d ≡ s .known d
-unfolding step system rule28
-skip-lifts-none bs s c d h = rw h (omega arith)
+  pub skip-lifts-none : (d : ℕ) → isSkip (front bs s c) ≡ true → (step (steps (byReaches asks) bs) s c) .known d ≡ s .known d
+  unfolding step system byReaches
+  skip-lifts-none d h = rw h (omega arith)
 
-pub others-stay : (bs : List Block) (s : State ℕ) (c d : ℕ) → d ≢ c → (step (steps bs) s c) .known d ≡ s .known d
-unfolding step system rule28
-others-stay bs s c d ne = rw (ne-eqb d c ne) (go (isSkip (front bs s c)))
-  where
-    go : (x : Bool) → max (s .known d) (pick x 0 (pick false (front bs s c .clock + front bs s c .length .0) 0)) ≡ s .known d
-    go true = omega arith
-    go false = omega arith
+  pub others-stay : (d : ℕ) → d ≢ c → (step (steps (byReaches asks) bs) s c) .known d ≡ s .known d
+  unfolding step system byReaches
+  others-stay d ne = rw (ne-eqb d c ne) (go (isSkip (front bs s c)))
+    where
+      go : (x : Bool) → max (s .known d) (pick x 0 (pick false (front bs s c .clock + front bs s c .length .0) 0)) ≡ s .known d
+      go true = omega arith
+      go false = omega arith

@@ -1,9 +1,12 @@
--- One outcome of every monotone system (Outcome), the order of highest clients (Quick), the rule (Rules), the clients reported (Clients), the blocks'
--- numbers (Numbers), all of it for an update's blocks against a state vector (Demand), the same said of the blocks' numbers (Taken), and the worked
--- cases (Cases).
+-- One outcome of every monotone system (Outcome), the order of highest clients (Quick), what holds of every rule (Rules), each rule in the paper's words
+-- (Rule28, Rule13) and by its number (Named), the clients reported (Clients), the blocks' numbers (Numbers), demand 3 by any rule (Demand), the same said
+-- of the blocks' numbers (Taken), and the worked cases (Cases).
 pub mod Outcome
 pub mod Quick
 pub mod Rules
+pub mod Rule28
+pub mod Rule13
+pub mod Named
 pub mod Clients
 pub mod Numbers
 pub mod Demand

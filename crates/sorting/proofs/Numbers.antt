@@ -14,7 +14,7 @@ use Rattle.block.specs.declared.Block.{Block}
 use Rattle.block.specs.Row.{noBlock}
 use Rattle.readings.specs.Sound.{All, Stays, Ordered}
 use Rattle.sorting.specs.Steps.{State, step, after}
-use Rattle.sorting.specs.Rules.{queue}
+use Rattle.sorting.specs.Rules.{queue, Rule}
 use Rattle.sorting.specs.Sorted.{steps, numbersFrom, numbersBy}
 use Rattle.sorting.proofs.Outcome.{below-or}
 
@@ -176,13 +176,14 @@ numbersFrom-at = numbers-at 0
 
 -- ---- the numbers of the blocks that an order takes
 
-pub numbersBy-more : (bs : List Block) (s : State ℕ) (cs : List ℕ) (c : ℕ)
-    → numbersBy bs s (cs ++ (c ∷ [])) ≡ numbersBy bs s cs ++ (getD (numbersFrom 0 bs c) ((after (steps bs) s cs) .taken c) 0 ∷ [])
-unfolding numbersBy after
-numbersBy-more bs s [] c = refl
-numbersBy-more bs s (d ∷ cs) c = ap (λ l. getD (numbersFrom 0 bs d) (s .taken d) 0 ∷ l) (numbersBy-more bs (step (steps bs) s d) cs c)
+module _ {A : Type 0} (R : Rule A) (bs : List Block) where
+  pub numbersBy-more : (s : State A) (cs : List ℕ) (c : ℕ)
+      → numbersBy R bs s (cs ++ (c ∷ [])) ≡ numbersBy R bs s cs ++ (getD (numbersFrom 0 bs c) ((after (steps R bs) s cs) .taken c) 0 ∷ [])
+  unfolding numbersBy after
+  numbersBy-more s [] c = refl
+  numbersBy-more s (d ∷ cs) c = ap (λ l. getD (numbersFrom 0 bs d) (s .taken d) 0 ∷ l) (numbersBy-more (step (steps R bs) s d) cs c)
 
-pub numbersBy-length : (bs : List Block) (s : State ℕ) (cs : List ℕ) → length (numbersBy bs s cs) ≡ length cs
-unfolding numbersBy
-numbersBy-length bs s [] = refl
-numbersBy-length bs s (c ∷ cs) = ap suc (numbersBy-length bs (step (steps bs) s c) cs)
+  pub numbersBy-length : (s : State A) (cs : List ℕ) → length (numbersBy R bs s cs) ≡ length cs
+  unfolding numbersBy
+  numbersBy-length s [] = refl
+  numbersBy-length s (c ∷ cs) = ap suc (numbersBy-length (step (steps R bs) s c) cs)

@@ -1,22 +1,22 @@
--- More knowledge holds no block back: of every rule that is so, and of rule 28.
+-- What holds of every rule: more knowledge holds no block back if what is met stays met, as by reaches it does; and what is waited for is not met.
 use mathlib.Core.Path.{_≡_, refl, sym}
 use mathlib.Core.Bool.{Bool, true, false, _||_}
 use mathlib.Core.List.{List, [], _∷_, map}
 use mathlib.Core.Logic.{inl, inr}
-use mathlib.Core.Option.{some}
+use mathlib.Core.Option.{none, some}
 use Prim.Native.Nat.{ℕ, _≤_, _<_}
 use native.Mathlib.Omega.{arith}
-use lib.Dec.{T, eqb, ltb→lt, lt→ltb}
+use lib.Dec.{T, ltb, eqb, ltb→lt, lt→ltb}
 use lib.ListN.{length, getD}
 use borrow.Author.Tests.{eqb-true, eqb-false}
 use Rattle.numbers.specs.Number.{pick}
 use Rattle.block.specs.declared.Id.{Id}
 use Rattle.block.specs.declared.Block.{Block}
 use Rattle.block.specs.Row.{noBlock}
-use Rattle.readings.specs.Sound.{owner}
-use Rattle.sorting.specs.Steps.{Monotone}
+use Rattle.readings.specs.Sound.{owner, All}
+use Rattle.sorting.specs.Steps.{State, Monotone}
 use Rattle.sorting.specs.Quick.{Listed}
-use Rattle.sorting.specs.Rules.{queue, isSkip, deps, Rule, free, system, unmet, below, rule28}
+use Rattle.sorting.specs.Rules.{queue, isSkip, Rule, unmet, waits, free, system, report, below, byReaches}
 
 pub or-map : (a b c d : Bool) → (T a → T c) → (T b → T d) → T (a || b) → T (c || d)
 or-map true b true d f g t = tt
@@ -24,36 +24,63 @@ or-map true b false d f g t = absurd (f tt)
 or-map false b true d f g t = tt
 or-map false b false d f g t = g t
 
+-- what is met stays met when more is known
 unfoldable pub RuleMonotone : {A : Type 0} → Rule A → Type 0
-RuleMonotone {A} R = (κ κ′ : A → ℕ) → ((a : A) → κ a ≤ κ′ a) → (c : ℕ) (b : Block) → T (free (R .waits κ c b)) → T (free (R .waits κ′ c b))
+RuleMonotone {A} R = (κ κ′ : A → ℕ) → ((a : A) → κ a ≤ κ′ a) → (d : Id) → T (R .met κ d) → T (R .met κ′ d)
 
-pub system-monotone : {A : Type 0} (R : Rule A) (q : ℕ → List Block) → RuleMonotone R → Monotone (system R q)
-unfolding Monotone system RuleMonotone
-system-monotone R q mono κ κ′ up c k t =
-    let b = getD (q c) k noBlock in
-    or-map (isSkip b) (free (R .waits κ c b)) (isSkip b) (free (R .waits κ′ c b)) (λ x. x) (mono κ κ′ up c b) t
-
--- what is met stays met
-pub unmet-mono : (f g : Id → Bool) (c : ℕ) → ((d : Id) → T (f d) → T (g d)) → (ds : List Id) → T (free (unmet f c ds)) → T (free (unmet g c ds))
+pub unmet-mono : (f g : Id → Bool) → ((d : Id) → T (f d) → T (g d)) → (ds : List Id) → T (free (unmet f ds)) → T (free (unmet g ds))
 unfolding unmet
-unmet-mono f g c up [] t = tt
-unmet-mono f g c up (d ∷ ds) t =
-    go (eqb (d .client) c || f d) (eqb (d .client) c || g d) (or-map (eqb (d .client) c) (f d) (eqb (d .client) c) (g d) (λ x. x) (up d))
-    t (unmet-mono f g c up ds)
+unmet-mono f g up [] t = tt
+unmet-mono f g up (d ∷ ds) t = go (f d) (g d) (up d) t (unmet-mono f g up ds)
   where
-    go : (x y : Bool) → (T x → T y) → T (free (pick x (unmet f c ds) (some d)))
-        → (T (free (unmet f c ds)) → T (free (unmet g c ds))) → T (free (pick y (unmet g c ds) (some d)))
+    go : (x y : Bool) → (T x → T y) → T (free (pick x (unmet f ds) (some d)))
+        → (T (free (unmet f ds)) → T (free (unmet g ds))) → T (free (pick y (unmet g ds) (some d)))
     go true true h t rec = rec t
     go true false h t rec = absurd (h tt)
-    go false true h t rec = absurd t
-    go false false h t rec = t
+    go false y h t rec = absurd t
 
+pub system-monotone : {A : Type 0} (R : Rule A) (q : ℕ → List Block) → RuleMonotone R → Monotone (system R q)
+unfolding Monotone system RuleMonotone waits
+system-monotone R q mono κ κ′ up c k t =
+    let b = getD (q c) k noBlock in
+    or-map (isSkip b) (free (unmet (R .met κ) (R .asks c b))) (isSkip b) (free (unmet (R .met κ′) (R .asks c b))) (λ x. x)
+    (unmet-mono (R .met κ) (R .met κ′) (mono κ κ′ up) (R .asks c b)) t
+
+none-some : (d : Id) → none ≡ some d → ⊥
+none-some d p = let z : _≡_ {A = ℕ} 0 1 = cc in omega arith
+
+-- what is waited for is not met, and has what all that is asked for have
+pub unmet-is : (P : Id → Type 0) (met : Id → Bool) (ds : List Id) (d : Id) → All P ds → unmet met ds ≡ some d → P d × (met d ≡ false)
+unfolding unmet
+unmet-is P met [] d all p = absurd (none-some d p)
+unmet-is P met (e ∷ ds) d all p = go (met e) refl p (unmet-is P met ds d (all .1))
+  where
+    go : (x : Bool) → met e ≡ x → pick x (unmet met ds) (some e) ≡ some d → (unmet met ds ≡ some d → P d × (met d ≡ false)) → P d × (met d ≡ false)
+    go true f p rec = rec p
+    go false f p rec = let q : e ≡ d = cc in rw (← q) (all .0, f)
+
+pub all-any : (ds : List Id) → All (λ (d : Id). Unit {0}) ds
+all-any [] = tt
+all-any (d ∷ ds) = (tt, all-any ds)
+
+-- what is reported is what the front waits for
+pub report-waits : {A : Type 0} (R : Rule A) (q : ℕ → List Block) (s : State A) (c : ℕ) (d : Id) → report R q s c ≡ some d
+    → waits R (s .known) c (getD (q c) (s .taken c) noBlock) ≡ some d
+unfolding report
+report-waits R q s c d p = go (ltb (s .taken c) (length (q c))) p
+  where
+    go : (x : Bool) → pick x (waits R (s .known) c (getD (q c) (s .taken c) noBlock)) none ≡ some d
+        → waits R (s .known) c (getD (q c) (s .taken c) noBlock) ≡ some d
+    go true p = p
+    go false p = absurd (none-some d p)
+
+-- a rule by reaches
 pub below-mono : (κ κ′ : ℕ → ℕ) → ((a : ℕ) → κ a ≤ κ′ a) → (d : Id) → T (below κ d) → T (below κ′ d)
 below-mono κ κ′ up d t = lt→ltb (d .clock) (κ′ (d .client)) (omega (arith, ltb→lt (d .clock) (κ (d .client)) t, up (d .client)))
 
-pub rule28-mono : RuleMonotone rule28
-unfolding RuleMonotone rule28
-rule28-mono κ κ′ up c b t = unmet-mono (below κ) (below κ′) c (below-mono κ κ′ up) (deps b) t
+pub reaches-mono : (asks : ℕ → Block → List Id) → RuleMonotone (byReaches asks)
+unfolding RuleMonotone byReaches
+reaches-mono asks = below-mono
 
 -- the blocks' clients are all that have blocks
 pub listed : (bs : List Block) (c : ℕ) → 0 < length (queue bs c) → Listed c (map owner bs)

@@ -1,6 +1,9 @@
--- Steps and runs without any sorter (Steps), the blocks of an update and the rule by which a front is ready (Rules), the order in which the highest client
--- goes first (Quick), and what is reported of an update against a state vector (Sorted).
+-- Steps and runs without any sorter (Steps), the blocks of an update and what a rule is by which a front is ready (Rules), the rules (Rule28, Rule13) and
+-- their numbers (Named), the order in which the highest client goes first (Quick), and what is reported of an update (Sorted).
 pub mod Steps
 pub mod Rules
+pub mod Rule28
+pub mod Rule13
+pub mod Named
 pub mod Quick
 pub mod Sorted

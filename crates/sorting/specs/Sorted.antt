@@ -1,4 +1,4 @@
--- What is reported of an update's blocks, sorted against a state vector.
+-- What is reported of an update's blocks, sorted by a rule: from what is known at first, and from a state vector.
 use Prim.Native.Nat.{ℕ, suc}
 use mathlib.Core.List.{List, [], _∷_, map}
 use mathlib.Core.Option.{Option, none, some}
@@ -11,7 +11,7 @@ use Rattle.vector.specs.Vector.{Entry, clientsIn}
 use Rattle.kept.specs.Kept.{remote}
 use Rattle.readings.specs.Sound.{owner}
 use Rattle.sorting.specs.Steps.{System, State, start, step, after, Run}
-use Rattle.sorting.specs.Rules.{queue, rule28, system, report}
+use Rattle.sorting.specs.Rules.{queue, Rule, system, report}
 use Rattle.sorting.specs.Quick.{Listed, quick}
 
 -- ---- the clients that are reported: those with blocks and the vector's, highest first
@@ -28,17 +28,17 @@ insertAll (c ∷ cs) ds = insertAll cs (insert c ds)
 unfoldable pub clients : List Block → List Entry → List ℕ
 clients bs v = insertAll (clientsIn v) (insertAll (map owner bs) [])
 
--- ---- the steps, and where they end
+-- ---- the steps from what is known at first, of these clients, and where they end
 
-abbrev pub steps : List Block → System ℕ
-steps bs = system rule28 (queue bs)
+abbrev pub steps : {A : Type 0} → Rule A → List Block → System A
+steps R bs = system R (queue bs)
 
 -- the client of each step
-unfoldable pub order : List Block → List Entry → List ℕ
-order bs v = quick (steps bs) (clients bs v) (start (remote v))
+unfoldable pub order : {A : Type 0} → Rule A → List Block → List ℕ → (A → ℕ) → List ℕ
+order R bs cs κ = quick (steps R bs) cs (start κ)
 
-unfoldable pub outcome : List Block → List Entry → State ℕ
-outcome bs v = after (steps bs) (start (remote v)) (order bs v)
+unfoldable pub outcome : {A : Type 0} → Rule A → List Block → List ℕ → (A → ℕ) → State A
+outcome R bs cs κ = after (steps R bs) (start κ) (order R bs cs κ)
 
 -- the numbers of a client's blocks, the first block of all having the number n
 unfoldable pub numbersFrom : ℕ → List Block → ℕ → List ℕ
@@ -46,23 +46,20 @@ numbersFrom n [] c = []
 numbersFrom n (b ∷ bs) c = pick (eqb (b .client) c) (n ∷ numbersFrom (suc n) bs c) (numbersFrom (suc n) bs c)
 
 -- the number of the block that each step takes
-unfoldable pub numbersBy : List Block → State ℕ → List ℕ → List ℕ
-numbersBy bs s [] = []
-numbersBy bs s (c ∷ cs) = getD (numbersFrom 0 bs c) (s .taken c) 0 ∷ numbersBy bs (step (steps bs) s c) cs
-
-unfoldable pub orderOf : List Block → List Entry → List ℕ
-orderOf bs v = numbersBy bs (start (remote v)) (order bs v)
+unfoldable pub numbersBy : {A : Type 0} → Rule A → List Block → State A → List ℕ → List ℕ
+numbersBy R bs s [] = []
+numbersBy R bs s (c ∷ cs) = getD (numbersFrom 0 bs c) (s .taken c) 0 ∷ numbersBy R bs (step (steps R bs) s c) cs
 
 -- an allowed order, carried to its end or not, takes the block of number n
-pub record Taking (bs : List Block) (v : List Entry) (n : ℕ) : Type 0 where
+pub record Taking {A : Type 0} (R : Rule A) (bs : List Block) (κ : A → ℕ) (n : ℕ) : Type 0 where
   pub by : List ℕ
-  pub run : Run (steps bs) (start (remote v)) by
-  pub takes : Listed n (numbersBy bs (start (remote v)) by)
+  pub run : Run (steps R bs) (start κ) by
+  pub takes : Listed n (numbersBy R bs (start κ) by)
 
 -- ---- the reports on a state, of these clients: two words each, three of a client that waits
 
 -- how many blocks were taken of each client that has blocks, 0 too
-unfoldable pub countsIn : List Block → State ℕ → List ℕ → List ℕ
+unfoldable pub countsIn : {A : Type 0} → List Block → State A → List ℕ → List ℕ
 countsIn bs s [] = []
 countsIn bs s (c ∷ cs) = pick (ltb 0 (length (queue bs c))) (c ∷ (s .taken c ∷ countsIn bs s cs)) (countsIn bs s cs)
 
@@ -70,20 +67,29 @@ unfoldable pub reachesIn : State ℕ → List ℕ → List ℕ
 reachesIn s [] = []
 reachesIn s (c ∷ cs) = c ∷ (s .known c ∷ reachesIn s cs)
 
--- the client of the first dependency that is not met, and its reach
-abbrev pub waiting : State ℕ → ℕ → Option Id → List ℕ → List ℕ
-waiting s c none rest = rest
-waiting s c (some d) rest = c ∷ (d .client ∷ (s .known (d .client) ∷ rest))
+-- the client of the first id that is not met, and what the rule says of it
+abbrev pub waiting : (Id → ℕ) → ℕ → Option Id → List ℕ → List ℕ
+waiting says c none rest = rest
+waiting says c (some d) rest = c ∷ (d .client ∷ (says d ∷ rest))
 
-unfoldable pub pendingIn : List Block → State ℕ → List ℕ → List ℕ
-pendingIn bs s [] = []
-pendingIn bs s (c ∷ cs) = waiting s c (report rule28 (queue bs) s c) (pendingIn bs s cs)
+unfoldable pub pendingIn : {A : Type 0} → Rule A → List Block → State A → List ℕ → List ℕ
+pendingIn R bs s [] = []
+pendingIn R bs s (c ∷ cs) = waiting (R .says (s .known)) c (report R (queue bs) s c) (pendingIn R bs s cs)
 
-unfoldable pub countsOf : List Block → List Entry → List ℕ
-countsOf bs v = countsIn bs (outcome bs v) (clients bs v)
+-- ---- sorted against a state vector, by a rule by reaches
 
-unfoldable pub reachesOf : List Block → List Entry → List ℕ
-reachesOf bs v = reachesIn (outcome bs v) (clients bs v)
+-- where its steps end
+abbrev pub outcomeOf : Rule ℕ → List Block → List Entry → State ℕ
+outcomeOf R bs v = outcome R bs (clients bs v) (remote v)
 
-unfoldable pub pendingOf : List Block → List Entry → List ℕ
-pendingOf bs v = pendingIn bs (outcome bs v) (clients bs v)
+unfoldable pub orderOf : Rule ℕ → List Block → List Entry → List ℕ
+orderOf R bs v = numbersBy R bs (start (remote v)) (order R bs (clients bs v) (remote v))
+
+unfoldable pub countsOf : Rule ℕ → List Block → List Entry → List ℕ
+countsOf R bs v = countsIn bs (outcomeOf R bs v) (clients bs v)
+
+unfoldable pub reachesOf : Rule ℕ → List Block → List Entry → List ℕ
+reachesOf R bs v = reachesIn (outcomeOf R bs v) (clients bs v)
+
+unfoldable pub pendingOf : Rule ℕ → List Block → List Entry → List ℕ
+pendingOf R bs v = pendingIn R bs (outcomeOf R bs v) (clients bs v)

@@ -15,14 +15,15 @@ use Rattle.slots.specs.Slots.{Slot, slot}
 use Rattle.picker.specs.Picker.{Desk, nowhere}
 use Rattle.picker.proofs.FrontLaws.{length-opened, opened-front, length-filled, filled-reach}
 use Rattle.reports.specs.Reports.{fitted}
-use Rattle.sorting.specs.Sorted.{outcome, orderOf, countsOf, reachesOf, pendingOf}
-use Rattle.sorting.proofs.Numbers.{numbersBy-length}
+use Rattle.sorting.specs.Rules.{Rule}
+use Rattle.sorting.specs.Named.{ruleOf}
+use Rattle.sorting.specs.Sorted.{outcomeOf, orderOf, countsOf, reachesOf, pendingOf}
 use Rattle.outcome.specs.Tie.{Slotted, Sortable, Opened, overlaid}
 use Rattle.outcome.specs.Came.{Came}
 use Rattle.outcome.proofs.Slotted.{slotted, slots-most}
 use Rattle.outcome.proofs.Picked.{picked-outcome}
 use Rattle.outcome.proofs.Reported.{counts-reported, reaches-reported, pending-reported}
-use Rattle.sorter.specs.Sorter.{slotsFor, maxReaches, reachesAt, frontsAt, deskOn, countsOn, reachesOn, pendingOn, cleared, orderOn, sortingOf, sortingOn}
+use Rattle.sorter.specs.Sorter.{slotsFor, maxReaches, frontWords, reachesAt, frontsAt, deskOn, countsOn, reachesOn, pendingOn, cleared, orderOn, sortingOf, sortingOn}
 
 -- ---- words overlaid by others, and cleared after them, are as many of them as fit
 
@@ -52,7 +53,10 @@ pub record Fair (u : List ℕ) (bs : List Block) (v : List Entry) : Type 0 where
   pub entries : length v ≤ maxClients
   pub clocks : All (λ (e : Entry). e .clock ≤ maxClock) v
 
-module _ (u : List ℕ) (bs : List Block) (v : List Entry) (fair : Fair u bs v) where
+module _ (rule : ℕ) (u : List ℕ) (bs : List Block) (v : List Entry) (fair : Fair u bs v) where
+  abbrev R : Rule ℕ
+  R = ruleOf rule
+
   abbrev ss : List Slot
   ss = slotsFor maxReaches bs (clientsIn v)
 
@@ -60,7 +64,7 @@ module _ (u : List ℕ) (bs : List Block) (v : List Entry) (fair : Fair u bs v) 
   unfolding slotsFor
   is-slotted = slotted bs v maxReaches (fair .owners) (fair .entries) (omega arith) (fair .count)
 
-  few : length ss ≤ 128
+  few : length ss ≤ maxReaches
   few = omega (arith, slots-most bs v ss is-slotted (fair .owners) (fair .entries))
 
   sortable : Sortable bs
@@ -74,51 +78,50 @@ module _ (u : List ℕ) (bs : List Block) (v : List Entry) (fair : Fair u bs v) 
   is-opened : Opened v ss (reachesAt ss v) (frontsAt ss)
   unfolding reachesAt frontsAt
   is-opened =
-      let n : length (replicate {A = ℕ} 128 0) ≡ 128 = length-replicate {A = ℕ} 128 0 in
-      let m : length (replicate {A = ℕ} 768 0) ≡ 768 = length-replicate {A = ℕ} 768 0 in
+      let n : length (replicate {A = ℕ} maxReaches 0) ≡ maxReaches = length-replicate {A = ℕ} maxReaches 0 in
+      let m : length (replicate {A = ℕ} frontWords 0) ≡ frontWords = length-replicate {A = ℕ} frontWords 0 in
       record {
-        room = (omega (arith, length-filled v 0 ss (replicate 128 0), few), omega (arith, length-opened 0 ss (replicate 768 0), few));
-        reaches = λ i h. filled-reach v ss (replicate 128 0) (slot 0 0 0) i h (omega (arith, few));
-        begun = λ i h. opened-front ss (replicate 768 0) (slot 0 0 0) i h (omega (arith, few));
+        room = (omega (arith, length-filled v 0 ss (replicate maxReaches 0), few), omega (arith, length-opened 0 ss (replicate frontWords 0), few));
+        reaches = λ i h. filled-reach v ss (replicate maxReaches 0) (slot 0 0 0) i h (omega (arith, few));
+        begun = λ i h. opened-front ss (replicate frontWords 0) (slot 0 0 0) i h (omega (arith, few));
       }
 
   -- ---- the sorter's looks at the rows that hold the blocks
 
   module _ (rows : List Block) (back : take (length bs) rows ≡ bs) (short : length rows ≤ nowhere) (before : List ℕ) where
     abbrev d : Desk
-    d = deskOn ss rows (length bs) v before
+    d = deskOn rule ss rows (length bs) v before
 
-    came : Came bs v ss before d
+    came : Came rule bs v ss before d
     unfolding deskOn
-    came = picked-outcome u bs rows v ss (reachesAt ss v) (frontsAt ss) before back short sortable (fair .sound) (fair .clocks) is-slotted is-opened
+    came = picked-outcome rule u bs rows v ss (reachesAt ss v) (frontsAt ss) before back short sortable (fair .sound) (fair .clocks) is-slotted is-opened
 
-    pub counts-are : countsOn ss rows (length bs) v before ≡ countsOf bs v
+    pub counts-are : countsOn rule ss rows (length bs) v before ≡ countsOf R bs v
     unfolding countsOn countsOf
-    counts-are = counts-reported bs v ss is-slotted (outcome bs v) (d .reach) (d .fronts) (came .ended)
+    counts-are = counts-reported rule bs v ss is-slotted (outcomeOf R bs v) (d .reach) (d .fronts) (came .ended)
 
-    pub reaches-are : reachesOn ss rows (length bs) v before ≡ reachesOf bs v
+    pub reaches-are : reachesOn rule ss rows (length bs) v before ≡ reachesOf R bs v
     unfolding reachesOn reachesOf
-    reaches-are = reaches-reported bs v ss is-slotted (outcome bs v) (d .reach) (d .fronts) (came .ended)
+    reaches-are = reaches-reported rule bs v ss is-slotted (outcomeOf R bs v) (d .reach) (d .fronts) (came .ended)
 
-    pub pending-are : pendingOn ss rows (length bs) v before ≡ pendingOf bs v
+    pub pending-are : pendingOn rule ss rows (length bs) v before ≡ pendingOf R bs v
     unfolding pendingOn pendingOf
-    pending-are = pending-reported bs v ss is-slotted (outcome bs v) (d .reach) (d .fronts) (came .ended)
+    pending-are = pending-reported rule bs v ss is-slotted (outcomeOf R bs v) (d .reach) (d .fronts) (came .ended)
 
-    steps-are : d .at .steps ≡ length (orderOf bs v)
-    unfolding orderOf
-    steps-are = came .steps ∙ sym (numbersBy-length bs _ _)
+    steps-are : d .at .steps ≡ length (orderOf R bs v)
+    steps-are = came .steps
 
-    pub order-is : orderOn ss rows (length bs) v before ≡ fitted (length before) (orderOf bs v)
+    pub order-is : orderOn rule ss rows (length bs) v before ≡ fitted (length before) (orderOf R bs v)
     unfolding orderOn
-    order-is = rw (steps-are, came .order) (overlaid-fitted before (orderOf bs v))
+    order-is = rw (steps-are, came .order) (overlaid-fitted before (orderOf R bs v))
 
-    pub sorting-is : sortingOn ss rows (length bs) v before
+    pub sorting-is : sortingOn rule ss rows (length bs) v before
         ≡ record {
           number = 0;
-          steps = length (orderOf bs v);
-          counts = length (countsOf bs v);
-          reaches = length (reachesOf bs v);
-          pending = length (pendingOf bs v);
+          steps = length (orderOf R bs v);
+          counts = length (countsOf R bs v);
+          reaches = length (reachesOf R bs v);
+          pending = length (pendingOf R bs v);
         }
     unfolding sortingOn sortingOf
     sorting-is = rw (steps-are, counts-are, reaches-are, pending-are) refl

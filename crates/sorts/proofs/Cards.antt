@@ -13,14 +13,14 @@ use contract.Monad.{Fun, fact, factI}
 use denote.Triple.Statement.{Contract, Triple}
 use denote.Triple.Spec.{tripleOf}
 use denote.Triple.Clauses.{atExit}
-use Rattle.walks.proofs.Rows.{Has, byte, word}
+use Rattle.walks.proofs.Rows.{Has, byte, word, bool-kind}
 use Rattle.walks.proofs.Refs.{Seat, val, mut, read, pass, Card, since}
 use Rattle.block.specs.declared.Block.{Block}
 use Rattle.numbers.specs.declared.Refusal.{Refusal}
 use Rattle.sorter.specs.declared.Sorting.{Sorting}
 use Rattle.updates.specs.declared.Update.{Update}
 use Rattle.numbers.specs.Output.{padded}
-use Rattle.sort_answers.specs.Answers.{answerTo, answered, judged, refusedWith}
+use Rattle.sort_answers.specs.Answers.{answerTo, answered, isRule, judged, refusedWith}
 use Rattle.sorter.specs.Sorter.{countsRead, orderRead, pendingRead, reachesRead, sortingRead}
 use Rattle.updates.specs.Promises.{refused, rowsOf, wordsOf}
 use Rattle.vector.specs.Vector.{vectorOf}
@@ -29,6 +29,8 @@ use Rattle.sorter.proofs.Sorts.{sorting}
 use Rattle.sorts.proofs.Sorts.{sorted}
 use Rattle.table.proofs.Sorts.{block}
 use Rattle.updates.proofs.Sorts.{update}
+use Rattle.sort_answers.proofs.is_rule as sort-answers·is-rule-fn
+use Rattle.sort_answers.proofs.is_rule.Symbol.{name as #sort-answers·is-rule}
 use Rattle.sort_answers.proofs.none as sort-answers·none-fn
 use Rattle.sort_answers.proofs.none.Symbol.{name as #sort-answers·none}
 use Rattle.sorts.proofs.refuse as sorts·refuse-fn
@@ -41,6 +43,9 @@ use Rattle.sorter.proofs.sort_read as sorter·sort-read-fn
 use Rattle.sorter.proofs.sort_read.Symbol.{name as #sorter·sort-read}
 
 module _ {M : Type 1} (𝓤 : URA M) (H : Heap 𝓤) (A : Atoms 𝓤) (mem : Memory → SProp 𝓤) (run : Routine → Fun 𝓤) where
+  abbrev pub Sort-answers·is-rule : Contract 𝓤
+  Sort-answers·is-rule = tripleOf 𝓤 H A sort-answers·is-rule-fn.signature (sort-answers·is-rule-fn.spec 𝓤 H A mem run)
+
   abbrev pub Sort-answers·none : Contract 𝓤
   Sort-answers·none = tripleOf 𝓤 H A sort-answers·none-fn.signature (sort-answers·none-fn.spec 𝓤 H A mem run)
 
@@ -57,6 +62,20 @@ module _ {M : Type 1} (𝓤 : URA M) (H : Heap 𝓤) (A : Atoms 𝓤) (mem : Mem
   Sorter·sort-read = tripleOf 𝓤 H A sorter·sort-read-fn.signature (sorter·sort-read-fn.spec 𝓤 H A mem run)
 
   module _ (C : Calls 𝓤 H) where
+    pub sort-answers·is-rule! : Triple 𝓤 (C #sort-answers·is-rule) Sort-answers·is-rule → (rule₀ : ℕ) (g-rule : Has byte rule₀) → Card 𝓤 H A C #sort-answers·is-rule (val byte rule₀ g-rule ∷ []) bool-kind (isRule rule₀)
+    sort-answers·is-rule! known rule₀ g-rule = record {
+      contract = Sort-answers·is-rule;
+      known = known;
+      ghost = λ x. (x, tt);
+      args = λ ns. refl;
+      asked = emp 𝓤;
+      asks = id⊢ 𝓤 _;
+      into = λ ns. id⊢ 𝓤 _;
+      ensured = λ x r ws. sort-answers·is-rule-fn.clauses 𝓤 H A mem run (x .0) (x .3) .ensures tt r (atExit sort-answers·is-rule-fn.ended (x .0) (x .3) ws);
+      out = λ ns v. id⊢ 𝓤 _;
+      said = λ ns r ws. since 𝓤 (λ e. (e, tt));
+    }
+
     pub sort-answers·none! : Triple 𝓤 (C #sort-answers·none) Sort-answers·none → (why₀ : Refusal) (g-why : Has refusal why₀) → Card 𝓤 H A C #sort-answers·none (val refusal why₀ g-why ∷ []) sorted (answered (refusedWith why₀))
     sort-answers·none! known why₀ g-why = record {
       contract = Sort-answers·none;
@@ -113,8 +132,8 @@ module _ {M : Type 1} (𝓤 : URA M) (H : Heap 𝓤) (A : Atoms 𝓤) (mem : Mem
       said = λ ns r ws. since 𝓤 (λ e. (e, tt));
     }
 
-    pub sorter·sort-read-rows! : Triple 𝓤 (C #sorter·sort-read) Sorter·sort-read → (at-vector : Seat) (vector₀ : List ℕ) (at-rows : Seat) (rows₀ : List Block) (blocks₀ : ℕ) (g-blocks : Has word blocks₀) (at-order : Seat) (order₀ : List ℕ) (at-counts : Seat) (counts₀ : List ℕ) (at-reaches : Seat) (reaches₀ : List ℕ) (at-pending : Seat) (pending₀ : List ℕ) → (blocks₀ ≤ length rows₀) → Card 𝓤 H A C #sorter·sort-read (pass byte at-vector vector₀ ∷ read block at-rows rows₀ ∷ val word blocks₀ g-blocks ∷ mut word at-order order₀ (orderRead (vectorOf vector₀) rows₀ blocks₀ order₀) ∷ mut word at-counts counts₀ (countsRead (vectorOf vector₀) rows₀ blocks₀ order₀ counts₀) ∷ mut word at-reaches reaches₀ (reachesRead (vectorOf vector₀) rows₀ blocks₀ order₀ reaches₀) ∷ mut word at-pending pending₀ (pendingRead (vectorOf vector₀) rows₀ blocks₀ order₀ pending₀) ∷ []) sorting (sortingRead (vectorOf vector₀) rows₀ blocks₀ order₀)
-    sorter·sort-read-rows! known at-vector vector₀ at-rows rows₀ blocks₀ g-blocks at-order order₀ at-counts counts₀ at-reaches reaches₀ at-pending pending₀ h = record {
+    pub sorter·sort-read-rows! : Triple 𝓤 (C #sorter·sort-read) Sorter·sort-read → (rule₀ : ℕ) (g-rule : Has byte rule₀) (at-vector : Seat) (vector₀ : List ℕ) (at-rows : Seat) (rows₀ : List Block) (blocks₀ : ℕ) (g-blocks : Has word blocks₀) (at-order : Seat) (order₀ : List ℕ) (at-counts : Seat) (counts₀ : List ℕ) (at-reaches : Seat) (reaches₀ : List ℕ) (at-pending : Seat) (pending₀ : List ℕ) → (blocks₀ ≤ length rows₀) → Card 𝓤 H A C #sorter·sort-read (val byte rule₀ g-rule ∷ pass byte at-vector vector₀ ∷ read block at-rows rows₀ ∷ val word blocks₀ g-blocks ∷ mut word at-order order₀ (orderRead rule₀ (vectorOf vector₀) rows₀ blocks₀ order₀) ∷ mut word at-counts counts₀ (countsRead rule₀ (vectorOf vector₀) rows₀ blocks₀ order₀ counts₀) ∷ mut word at-reaches reaches₀ (reachesRead rule₀ (vectorOf vector₀) rows₀ blocks₀ order₀ reaches₀) ∷ mut word at-pending pending₀ (pendingRead rule₀ (vectorOf vector₀) rows₀ blocks₀ order₀ pending₀) ∷ []) sorting (sortingRead rule₀ (vectorOf vector₀) rows₀ blocks₀ order₀)
+    sorter·sort-read-rows! known rule₀ g-rule at-vector vector₀ at-rows rows₀ blocks₀ g-blocks at-order order₀ at-counts counts₀ at-reaches reaches₀ at-pending pending₀ h = record {
       contract = Sorter·sort-read;
       known = known;
       ghost = λ x. (x, tt);

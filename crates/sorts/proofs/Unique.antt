@@ -6,12 +6,12 @@ use Rattle.block.specs.declared.Block.{Block}
 use Rattle.sort_answers.specs.declared.Sorted.{Sorted}
 use Rattle.sorts.specs.Promises.{SortUpdate}
 
-pub sort-unique : (form : ℕ) (u v : List ℕ) (rows : List Block) (ranges order counts reaches pending : List ℕ)
+pub sort-unique : (rule form : ℕ) (u v : List ℕ) (rows : List Block) (ranges order counts reaches pending : List ℕ)
     (r s : Sorted) (rows₁ rows₂ : List Block) (ranges₁ ranges₂ order₁ order₂ counts₁ counts₂ reaches₁ reaches₂ pending₁ pending₂ : List ℕ)
-    → SortUpdate form u v rows ranges order counts reaches pending r rows₁ ranges₁ order₁ counts₁ reaches₁ pending₁
-    → SortUpdate form u v rows ranges order counts reaches pending s rows₂ ranges₂ order₂ counts₂ reaches₂ pending₂
+    → SortUpdate rule form u v rows ranges order counts reaches pending r rows₁ ranges₁ order₁ counts₁ reaches₁ pending₁
+    → SortUpdate rule form u v rows ranges order counts reaches pending s rows₂ ranges₂ order₂ counts₂ reaches₂ pending₂
     → (r ≡ s) × (rows₁ ≡ rows₂) × (ranges₁ ≡ ranges₂) × (order₁ ≡ order₂) × (counts₁ ≡ counts₂) × (reaches₁ ≡ reaches₂) × (pending₁ ≡ pending₂)
-sort-unique form u v rows ranges order counts reaches pending r s rows₁ rows₂ ranges₁ ranges₂ order₁ order₂ counts₁ counts₂ reaches₁ reaches₂ pending₁ pending₂ a b = (
+sort-unique rule form u v rows ranges order counts reaches pending r s rows₁ rows₂ ranges₁ ranges₂ order₁ order₂ counts₁ counts₂ reaches₁ reaches₂ pending₁ pending₂ a b = (
   a .0 ∙ sym (b .0),
   a .1 ∙ sym (b .1),
   a .2 ∙ sym (b .2),

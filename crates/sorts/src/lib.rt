@@ -35,11 +35,13 @@ fn refuse(
     sort_answers::none(why)
 }
 
-// The blocks of an update of one form, sorted against a state vector: their numbers in the order in which they are taken (a word each); and, highest
+// The blocks of an update of one form, sorted by a rule (13 or 28) against a state vector: their numbers in the order in which they are taken (a word each); and, highest
 // client first, how many blocks were taken of each client that has any (two words each), how far each client reaches, the vector's too (two words),
-// and what each client waits for that has blocks left: the client of its first unmet dependency, and how far that reaches (three words). Both tables
-// are filled with what was read.
+// and what each client waits for that has blocks left: the client of the first id that is not met, and how far that reaches (three words). Under rule
+// 28 a block waits for its dependencies on other clients, under rule 13 for its own client's reach to come to its clock, too. Both tables are filled
+// with what was read.
 pub fn sort(
+    rule: u8,
     form: u8,
     update: &[u8],
     vector: &[u8],
@@ -50,13 +52,36 @@ pub fn sort(
     reaches: &mut [u64],
     pending: &mut [u64],
 ) -> Sorted
-    ensures { λ r. ⌜ SortUpdate form (now (update .entry)) (now (vector .entry)) (now (rows .entry)) (now (ranges .entry)) (now (order .entry)) (now (counts .entry)) (now (reaches .entry)) (now (pending .entry)) r (now (rows .exit)) (now (ranges .exit)) (now (order .exit)) (now (counts .exit)) (now (reaches .exit)) (now (pending .exit)) ⌝ }
+    ensures { λ r. ⌜ SortUpdate rule form (now (update .entry)) (now (vector .entry)) (now (rows .entry)) (now (ranges .entry)) (now (order .entry)) (now (counts .entry)) (now (reaches .entry)) (now (pending .entry)) r (now (rows .exit)) (now (ranges .exit)) (now (order .exit)) (now (counts .exit)) (now (reaches .exit)) (now (pending .exit)) ⌝ }
 {
+    if !sort_answers::is_rule(rule) {
+        return refuse(
+            rows,
+            ranges,
+            order,
+            counts,
+            reaches,
+            pending,
+            Refusal {
+                number: 12,
+                place: 0,
+            },
+        );
+    }
     let read = updates::read_update(form, update, rows, ranges);
     if read.refusal.number != 0 {
         return refuse(rows, ranges, order, counts, reaches, pending, read.refusal);
     }
-    let sorted = sorter::sort_read(vector, rows, read.blocks, order, counts, reaches, pending);
+    let sorted = sorter::sort_read(
+        rule,
+        vector,
+        rows,
+        read.blocks,
+        order,
+        counts,
+        reaches,
+        pending,
+    );
     let number = sort_answers::judge(
         sorted,
         order.len(),

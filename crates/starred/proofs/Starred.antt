@@ -41,6 +41,8 @@ use Rattle.vector.specs.Vector.{vectorOf}
 use Rattle.kept.specs.Kept.{remote}
 use Rattle.sorting.specs.Steps as steps
 use Rattle.sorting.specs.Rules as rules
+use Rattle.sorting.specs.Rule28 as rule28
+use Rattle.sorting.specs.Named.{asksOf, ruleOf}
 use Rattle.sorting.specs.Quick as quick
 use Rattle.sorting.specs.Sorted as outcomes
 use Rattle.sort_answers.specs.Answers as sort-answers
@@ -119,9 +121,9 @@ updateM2 = 0x01 ∷ 0x01 ∷ 0x05 ∷ 0x00 ∷ 0x83 ∷ 0x09 ∷ 0x00 ∷ 0x01 �
 abbrev pub updateM3 : List ℕ
 updateM3 = 0x02 ∷ 0x01 ∷ 0x05 ∷ 0x00 ∷ 0x83 ∷ 0x09 ∷ 0x00 ∷ 0x01 ∷ 0x61 ∷ 0x01 ∷ 0x09 ∷ 0x00 ∷ 0x83 ∷ 0x05 ∷ 0x00 ∷ 0x01 ∷ 0x62 ∷ 0x00 ∷ []
 
--- sorted against the empty vector, in words that suffice: the order, how many were taken, the reaches, what waits
+-- sorted by rule 28 against the empty vector, in words that suffice: the order, how many were taken, the reaches, what waits
 abbrev pub sorts : List ℕ → ℕ → ℕ → Sort
-sorts u n m = sortOf 1 u (0x00 ∷ []) (suc (suc n)) m (record { order = 2; counts = 4; reaches = 4; pending = 6 })
+sorts u n m = sortOf 28 1 u (0x00 ∷ []) (suc (suc n)) m (record { order = 2; counts = 4; reaches = 4; pending = 6 })
 
 abbrev pub sorted : List ℕ → List ℕ → List ℕ → List ℕ → List Block → Sort
 sorted order counts reaches pending bs = record { refusal = none; order = order; counts = counts; reaches = reaches; pending = pending; reading = blocksRead bs }
@@ -185,18 +187,18 @@ lists = (
 
 -- what the vector of no entries and a reading come to
 abbrev against : promises.Reading → Sort
-against r = afterReading (record { order = 2; counts = 4; reaches = 4; pending = 6 }) (vectorOf (0x00 ∷ [])) r
+against r = afterReading (ruleOf 28) (record { order = 2; counts = 4; reaches = 4; pending = 6 }) (vectorOf (0x00 ∷ [])) r
 
 sorting : (against (blocksRead (after-id 5 9 8 ∷ in-parent 9 15 17 ∷ [])) ≡ sorted (1 ∷ 0 ∷ []) (9 ∷ 1 ∷ 5 ∷ 1 ∷ []) (9 ∷ 1 ∷ 5 ∷ 1 ∷ []) [] (after-id 5 9 8 ∷ in-parent 9 15 17 ∷ []))
     × (against (blocksRead (after-id 5 9 8 ∷ [])) ≡ sorted [] (5 ∷ 0 ∷ []) (5 ∷ 0 ∷ []) (5 ∷ 9 ∷ 0 ∷ []) (after-id 5 9 8 ∷ []))
     × (against (blocksRead (after-id 5 9 8 ∷ after-id 9 5 16 ∷ [])) ≡ sorted [] (9 ∷ 0 ∷ 5 ∷ 0 ∷ []) (9 ∷ 0 ∷ 5 ∷ 0 ∷ []) (9 ∷ 5 ∷ 0 ∷ 5 ∷ 9 ∷ 0 ∷ []) (after-id 5 9 8 ∷ after-id 9 5 16 ∷ []))
-unfolding sort-answers.whyNot sort-promises.whole sort-promises.whySort sort-promises.fitting sort-promises.against sort-promises.afterReading vector.holds vector.entries vector.aVector vector.vectorOf spelling.after spelt placed readUnsigned remote outcomes.insert outcomes.insertAll outcomes.clients outcomes.order outcomes.outcome outcomes.numbersFrom outcomes.numbersBy outcomes.orderOf outcomes.countsIn outcomes.countsOf outcomes.reachesIn outcomes.reachesOf outcomes.pendingIn outcomes.pendingOf quick.order quick.left quick.best quick.quick steps.can steps.step steps.after rules.queue rules.deps rules.system rules.unmet rules.rule28 rules.report line.numberAt line.varAt line.bounded line.upTo line.byteAt line.restored line.deleteAt line.numberOf line.soMany line.bytesAt line.checked line.line grammar._>>=_ course.onDrawn course.run course.items course.ending
+unfolding sort-answers.whyNot sort-promises.whole sort-promises.whySort sort-promises.fitting sort-promises.against sort-promises.afterReading vector.holds vector.entries vector.aVector vector.vectorOf spelling.after spelt placed readUnsigned remote outcomes.insert outcomes.insertAll outcomes.clients outcomes.order outcomes.outcome outcomes.numbersFrom outcomes.numbersBy outcomes.orderOf outcomes.countsIn outcomes.countsOf outcomes.reachesIn outcomes.reachesOf outcomes.pendingIn outcomes.pendingOf quick.order quick.left quick.best quick.quick steps.can steps.step steps.after rules.queue rules.deps rules.others rules.system rules.unmet rules.waits rules.report rules.byReaches rule28.asks28 asksOf line.numberAt line.varAt line.bounded line.upTo line.byteAt line.restored line.deleteAt line.numberOf line.soMany line.bytesAt line.checked line.line grammar._>>=_ course.onDrawn course.run course.items course.ending
 sorting = (refl, refl, refl)
 
 sorts-M : (n m : ℕ) → (sorts updateM1 n m ≡ sorted (1 ∷ 0 ∷ []) (9 ∷ 1 ∷ 5 ∷ 1 ∷ []) (9 ∷ 1 ∷ 5 ∷ 1 ∷ []) [] (after-id 5 9 8 ∷ in-parent 9 15 17 ∷ []))
     × (sorts updateM2 n m ≡ sorted [] (5 ∷ 0 ∷ []) (5 ∷ 0 ∷ []) (5 ∷ 9 ∷ 0 ∷ []) (after-id 5 9 8 ∷ []))
     × (sorts updateM3 n m ≡ sorted [] (9 ∷ 0 ∷ 5 ∷ 0 ∷ []) (9 ∷ 0 ∷ 5 ∷ 0 ∷ []) (9 ∷ 5 ∷ 0 ∷ 5 ∷ 9 ∷ 0 ∷ []) (after-id 5 9 8 ∷ after-id 9 5 16 ∷ []))
-unfolding sortOf
+unfolding sortOf sort-answers.isRule
 sorts-M n m = (
   ap against (updates n m .4) ∙ sorting .0,
   ap against (updates n m .5) ∙ sorting .1,

@@ -16,7 +16,7 @@ returns c =
     let less = seen .before .before in
     let f = less .before .front-at in
     let a = less .before .before .before .before .before .before .before .args in
-    let e = offer-waits (a .slots .now) (a .n) (a .p) (a .reach .now) (a .fronts .now) (a .order .now) (a .b) (f .result) (seen .examine .result) (f .ensures)
+    let e = offer-waits (a .rule) (a .slots .now) (a .n) (a .p) (a .reach .now) (a .fronts .now) (a .order .now) (a .b) (f .result) (seen .examine .result) (f .ensures)
     (seen .examine .ensures) (put .before .before .if1 .taken) in
     rw e (rw (← put .put-front .ensures, ← less .less .ensures) (c .point .ensures), refl, put .put-front .ensures, refl)
 
@@ -29,7 +29,7 @@ returns-2 c =
     let less = seen .before .before in
     let f = less .before .front-at in
     let a = less .before .before .before .before .before .before .before .args in
-    let e = offer-takes (a .slots .now) (a .n) (a .p) (a .reach .now) (a .fronts .now) (a .order .now) (a .b) (f .result) (seen .examine .result) (f .ensures)
+    let e = offer-takes (a .rule) (a .slots .now) (a .n) (a .p) (a .reach .now) (a .fronts .now) (a .order .now) (a .b) (f .result) (seen .examine .result) (f .ensures)
     (seen .examine .ensures) (moves .before .if1 .left) in
     rw (e, ← moves .move-on .ensures, ← put .put-front2 .ensures, ← put .before .before .before .before .raise .ensures) (
       rw (← c .before .before .before .one-more .ensures, ← less .less .ensures) (c .point2 .ensures),

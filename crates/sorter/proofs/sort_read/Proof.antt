@@ -66,56 +66,59 @@ use lib.ListN.{length-replicate}
 use Rattle.sorter.proofs.Exits.{names-fit, exit-read, exit-refused}
 
 abbrev fs : List (Form 6)
-fs = by-ref 0 tt byte ∷ by-ref 1 tt block ∷ by-value word ∷ by-mut 2 tt word ∷ by-mut 3 tt word ∷ by-mut 4 tt word ∷ by-mut 5 tt word ∷ []
+fs = by-value byte ∷ by-ref 0 tt byte ∷ by-ref 1 tt block ∷ by-value word ∷ by-mut 2 tt word ∷ by-mut 3 tt word ∷ by-mut 4 tt word ∷ by-mut 5 tt word ∷ []
 
 -- the function, its large types in their shape of quick computing
 abbrev fn : Fn
-fn = retyped (some (lone (sorting .row .mir)) ∷ none ∷ none ∷ none ∷ none ∷ none ∷ none ∷ none ∷ none ∷ none ∷ none ∷ none ∷ none ∷ some (lone (refusal .row .mir)) ∷ none ∷ none ∷ some (lone (entries .row .mir)) ∷ none ∷ none ∷ none ∷ none ∷ some (lone (sorting .row .mir)) ∷ []) code.function
+fn = retyped (some (lone (sorting .row .mir)) ∷ none ∷ none ∷ none ∷ none ∷ none ∷ none ∷ none ∷ none ∷ none ∷ none ∷ none ∷ none ∷ none ∷ some (lone (refusal .row .mir)) ∷ none ∷ none ∷ some (lone (entries .row .mir)) ∷ none ∷ none ∷ none ∷ none ∷ some (lone (sorting .row .mir)) ∷ []) code.function
 
 module _ {M : Type 1} (𝓤 : URA M) (H : Heap 𝓤) (A : Atoms 𝓤) (W : Given 𝓤 H A) (mem : Memory → SProp 𝓤) (run : Routine → Fun 𝓤) (κs : Lfts 6) (qs : Shares 6) (bounds : AllOutlive 6 (f.signature .outlives) κs) (a : Args f.signature κs)
     (are : Are (typesAt (f.signature .params) κs) (Ises (typesAt (f.signature .params) κs)) a (valss (typesAt (f.signature .params) κs) (spells fs κs) a)) where
+  abbrev rule₀ : ℕ
+  rule₀ = a .0
+
   abbrev at-vector : Seat
-  at-vector = seatOf (κs .0) (qs .0) (a .0)
+  at-vector = seatOf (κs .0) (qs .0) (a .1 .0)
 
   abbrev vector₀ : List ℕ
-  vector₀ = a .0 .now
+  vector₀ = a .1 .0 .now
 
   abbrev at-rows : Seat
-  at-rows = seatOf (κs .1 .0) (qs .1 .0) (a .1 .0)
+  at-rows = seatOf (κs .1 .0) (qs .1 .0) (a .1 .1 .0)
 
   abbrev rows₀ : List Block
-  rows₀ = a .1 .0 .now
+  rows₀ = a .1 .1 .0 .now
 
   abbrev blocks₀ : ℕ
-  blocks₀ = a .1 .1 .0
+  blocks₀ = a .1 .1 .1 .0
 
   abbrev at-order : Seat
-  at-order = seatOf (κs .1 .1 .0) (qs .1 .1 .0) (a .1 .1 .1 .0)
+  at-order = seatOf (κs .1 .1 .0) (qs .1 .1 .0) (a .1 .1 .1 .1 .0)
 
   abbrev order₀ : List ℕ
-  order₀ = a .1 .1 .1 .0 .now
+  order₀ = a .1 .1 .1 .1 .0 .now
 
   abbrev at-counts : Seat
-  at-counts = seatOf (κs .1 .1 .1 .0) (qs .1 .1 .1 .0) (a .1 .1 .1 .1 .0)
+  at-counts = seatOf (κs .1 .1 .1 .0) (qs .1 .1 .1 .0) (a .1 .1 .1 .1 .1 .0)
 
   abbrev counts₀ : List ℕ
-  counts₀ = a .1 .1 .1 .1 .0 .now
+  counts₀ = a .1 .1 .1 .1 .1 .0 .now
 
   abbrev at-reaches : Seat
-  at-reaches = seatOf (κs .1 .1 .1 .1 .0) (qs .1 .1 .1 .1 .0) (a .1 .1 .1 .1 .1 .0)
+  at-reaches = seatOf (κs .1 .1 .1 .1 .0) (qs .1 .1 .1 .1 .0) (a .1 .1 .1 .1 .1 .1 .0)
 
   abbrev reaches₀ : List ℕ
-  reaches₀ = a .1 .1 .1 .1 .1 .0 .now
+  reaches₀ = a .1 .1 .1 .1 .1 .1 .0 .now
 
   abbrev at-pending : Seat
-  at-pending = seatOf (κs .1 .1 .1 .1 .1 .0) (qs .1 .1 .1 .1 .1 .0) (a .1 .1 .1 .1 .1 .1 .0)
+  at-pending = seatOf (κs .1 .1 .1 .1 .1 .0) (qs .1 .1 .1 .1 .1 .0) (a .1 .1 .1 .1 .1 .1 .1 .0)
 
   abbrev pending₀ : List ℕ
-  pending₀ = a .1 .1 .1 .1 .1 .1 .0 .now
+  pending₀ = a .1 .1 .1 .1 .1 .1 .1 .0 .now
 
   -- the parameters, with the lists at exit
   abbrev ps : List ℕ → List ℕ → List ℕ → List ℕ → List Arg
-  ps order₁ counts₁ reaches₁ pending₁ = pass byte at-vector vector₀ ∷ pass block at-rows rows₀ ∷ val word blocks₀ (are .1 .1 .0) ∷ mut word at-order order₀ order₁ ∷ mut word at-counts counts₀ counts₁ ∷ mut word at-reaches reaches₀ reaches₁ ∷ mut word at-pending pending₀ pending₁ ∷ []
+  ps order₁ counts₁ reaches₁ pending₁ = val byte rule₀ (are .0) ∷ pass byte at-vector vector₀ ∷ pass block at-rows rows₀ ∷ val word blocks₀ (are .1 .1 .1 .0) ∷ mut word at-order order₀ order₁ ∷ mut word at-counts counts₀ counts₁ ∷ mut word at-reaches reaches₀ reaches₁ ∷ mut word at-pending pending₀ pending₁ ∷ []
 
   abbrev hs : List ℕ → List ℕ → List ℕ → List ℕ → List Held
   hs order₁ counts₁ reaches₁ pending₁ = back (ps order₁ counts₁ reaches₁ pending₁)
@@ -128,7 +131,7 @@ module _ {M : Type 1} (𝓤 : URA M) (H : Heap 𝓤) (A : Atoms 𝓤) (W : Given
 
   -- the contract
   abbrev Right : Sorting → List ℕ → List ℕ → List ℕ → List ℕ → Type 0
-  Right r order₁ counts₁ reaches₁ pending₁ = (r ≡ sortingRead (vectorOf vector₀) rows₀ blocks₀ order₀) × (order₁ ≡ orderRead (vectorOf vector₀) rows₀ blocks₀ order₀) × (counts₁ ≡ countsRead (vectorOf vector₀) rows₀ blocks₀ order₀ counts₀) × (reaches₁ ≡ reachesRead (vectorOf vector₀) rows₀ blocks₀ order₀ reaches₀) × (pending₁ ≡ pendingRead (vectorOf vector₀) rows₀ blocks₀ order₀ pending₀)
+  Right r order₁ counts₁ reaches₁ pending₁ = (r ≡ sortingRead rule₀ (vectorOf vector₀) rows₀ blocks₀ order₀) × (order₁ ≡ orderRead rule₀ (vectorOf vector₀) rows₀ blocks₀ order₀) × (counts₁ ≡ countsRead rule₀ (vectorOf vector₀) rows₀ blocks₀ order₀ counts₀) × (reaches₁ ≡ reachesRead rule₀ (vectorOf vector₀) rows₀ blocks₀ order₀ reaches₀) × (pending₁ ≡ pendingRead rule₀ (vectorOf vector₀) rows₀ blocks₀ order₀ pending₀)
 
   exits : (r : Sorting) (order₁ : List ℕ) (counts₁ : List ℕ) (reaches₁ : List ℕ) (pending₁ : List ℕ) → Has sorting r → Right r order₁ counts₁ reaches₁ pending₁ → ent 𝓤 (sem 𝓤 H A (refs (hs order₁ counts₁ reaches₁ pending₁))) (Post (sorting .val r))
   exits r order₁ counts₁ reaches₁ pending₁ g e = leaves 𝓤 H A W (ps order₁ counts₁ reaches₁ pending₁) (refl, (refl, (refl, (refl, tt)))) sorting r g (Right r order₁ counts₁ reaches₁ pending₁) e (Post (sorting .val r)) (λ fit. ends-at 𝓤 H A f.ended (stays fs) (f.clauses 𝓤 H A mem run) W ((κs, qs, bounds, a, at-entry), tt) (sorting .val r) r (ends (ps order₁ counts₁ reaches₁ pending₁)) fit)
@@ -137,24 +140,24 @@ module _ {M : Type 1} (𝓤 : URA M) (H : Heap 𝓤) (A : Atoms 𝓤) (W : Given
     walk : (blocks₀ ≤ length rows₀) → ent 𝓤 (onEntry 𝓤 H A f.signature κs qs a at-entry) (WpFn 𝓤 H (𝓣 .C) (𝓣 .Λ) fn (vals (ps order₀ counts₀ reaches₀ pending₀)) Post)
     walk req =
         qed W (raw (onEntry 𝓤 H A f.signature κs qs a at-entry) ∷ []) ∵ use1 W (‵ (refs (hs order₀ counts₀ reaches₀ pending₀))) (enters 𝓤 H A W (ps order₀ counts₀ reaches₀ pending₀)) $ enter ! (𝓣 .C) (𝓣 .Λ) fn (vals (ps order₀ counts₀ reaches₀ pending₀)) _ $
-        alloc-all ! (fn .locals) (λ l₀ l₁ l₂ l₃ l₄ l₅ l₆ l₇ l₈ l₉ l₁₀ l₁₁ l₁₂ l₁₃ l₁₄ l₁₅ l₁₆ l₁₇ l₁₈ l₁₉ l₂₀ l₂₁ l₂₂ l₂₃ l₂₄ l₂₅ l₂₆ l₂₇ l₂₈ l₂₉ l₃₀ l₃₁ l₃₂ l₃₃. let ls : List ℕ = l₀ ∷ l₁ ∷ l₂ ∷ l₃ ∷ l₄ ∷ l₅ ∷ l₆ ∷ l₇ ∷ l₈ ∷ l₉ ∷ l₁₀ ∷ l₁₁ ∷ l₁₂ ∷ l₁₃ ∷ l₁₄ ∷ l₁₅ ∷ l₁₆ ∷ l₁₇ ∷ l₁₈ ∷ l₁₉ ∷ l₂₀ ∷ l₂₁ ∷ l₂₂ ∷ l₂₃ ∷ l₂₄ ∷ l₂₅ ∷ l₂₆ ∷ l₂₇ ∷ l₂₈ ∷ l₂₉ ∷ l₃₀ ∷ l₃₁ ∷ l₃₂ ∷ l₃₃ ∷ [] in let En : Envs = envOf (fn .locals) ls in
-        params1 ! $ pass1 ! (init ! 64 refl (tt, (tt, (record { fits = are .0 .0 .1 .0 }, tt)))) $ pass1 ! (init ! 62 refl (tt, (tt, (record { fits = are .1 .0 .0 .1 .0 }, tt)))) $ pass1 ! (init ! 60 refl (word .lawful M 𝓤 H A W .typed blocks₀ _ (are .1 .1 .0) .0)) $ pass1 ! (init ! 58 refl (tt, (tt, (record { fits = are .1 .1 .1 .0 .0 .1 .0 }, tt)))) $ pass1 ! (init ! 56 refl (tt, (tt, (record { fits = are .1 .1 .1 .1 .0 .0 .1 .0 }, tt)))) $ pass1 ! (init ! 54 refl (tt, (tt, (record { fits = are .1 .1 .1 .1 .1 .0 .0 .1 .0 }, tt)))) $ pass1 ! (init ! 52 refl (tt, (tt, (record { fits = are .1 .1 .1 .1 .1 .1 .0 .0 .1 .0 }, tt)))) $ pass0 ! $ move ! (68 ∷ []) $
-        -- [the references; _33 at 1; _32 at 3; _31 at 5; _30 at 7; _29 at 9; _28 at 11; _27 at 13; _26 at 15; _25 at 17; _24 at 19; _23 at 21; _22 at 23; _21 at 25; _20 at 27; _19 at 29; _18 at 31; _17 at 33; _16 at 35; _15 at 37; _14 at 39; _13 at 41; _12 at 43; _11 at 45; _10 at 47; _9 at 49; _8 at 51; _7 at 53; _6 at 55; _5 at 57; _4 at 59; _3 at 61; _2 at 63; _1 at 65; _0 at 67]
-        array-typed ! word 64 0 (refl, lit< tt) (λ ty₈.
-        assigns ! (rep ! 64 (lit ! tt)) (from ! (stop !)) (init ! 51 refl (ty₈ .0)) $
+        alloc-all ! (fn .locals) (λ l₀ l₁ l₂ l₃ l₄ l₅ l₆ l₇ l₈ l₉ l₁₀ l₁₁ l₁₂ l₁₃ l₁₄ l₁₅ l₁₆ l₁₇ l₁₈ l₁₉ l₂₀ l₂₁ l₂₂ l₂₃ l₂₄ l₂₅ l₂₆ l₂₇ l₂₈ l₂₉ l₃₀ l₃₁ l₃₂ l₃₃ l₃₄. let ls : List ℕ = l₀ ∷ l₁ ∷ l₂ ∷ l₃ ∷ l₄ ∷ l₅ ∷ l₆ ∷ l₇ ∷ l₈ ∷ l₉ ∷ l₁₀ ∷ l₁₁ ∷ l₁₂ ∷ l₁₃ ∷ l₁₄ ∷ l₁₅ ∷ l₁₆ ∷ l₁₇ ∷ l₁₈ ∷ l₁₉ ∷ l₂₀ ∷ l₂₁ ∷ l₂₂ ∷ l₂₃ ∷ l₂₄ ∷ l₂₅ ∷ l₂₆ ∷ l₂₇ ∷ l₂₈ ∷ l₂₉ ∷ l₃₀ ∷ l₃₁ ∷ l₃₂ ∷ l₃₃ ∷ l₃₄ ∷ [] in let En : Envs = envOf (fn .locals) ls in
+        params1 ! $ pass1 ! (init ! 66 refl (byte .lawful M 𝓤 H A W .typed rule₀ _ (are .0) .0)) $ pass1 ! (init ! 64 refl (tt, (tt, (record { fits = are .1 .0 .0 .1 .0 }, tt)))) $ pass1 ! (init ! 62 refl (tt, (tt, (record { fits = are .1 .1 .0 .0 .1 .0 }, tt)))) $ pass1 ! (init ! 60 refl (word .lawful M 𝓤 H A W .typed blocks₀ _ (are .1 .1 .1 .0) .0)) $ pass1 ! (init ! 58 refl (tt, (tt, (record { fits = are .1 .1 .1 .1 .0 .0 .1 .0 }, tt)))) $ pass1 ! (init ! 56 refl (tt, (tt, (record { fits = are .1 .1 .1 .1 .1 .0 .0 .1 .0 }, tt)))) $ pass1 ! (init ! 54 refl (tt, (tt, (record { fits = are .1 .1 .1 .1 .1 .1 .0 .0 .1 .0 }, tt)))) $ pass1 ! (init ! 52 refl (tt, (tt, (record { fits = are .1 .1 .1 .1 .1 .1 .1 .0 .0 .1 .0 }, tt)))) $ pass0 ! $ move ! (70 ∷ []) $
+        -- [the references; _34 at 1; _33 at 3; _32 at 5; _31 at 7; _30 at 9; _29 at 11; _28 at 13; _27 at 15; _26 at 17; _25 at 19; _24 at 21; _23 at 23; _22 at 25; _21 at 27; _20 at 29; _19 at 31; _18 at 33; _17 at 35; _16 at 37; _15 at 39; _14 at 41; _13 at 43; _12 at 45; _11 at 47; _10 at 49; _9 at 51; _8 at 53; _7 at 55; _6 at 57; _5 at 59; _4 at 61; _3 at 63; _2 at 65; _1 at 67; _0 at 69]
+        array-typed ! word 64 0 (refl, lit< tt) (λ ty₉.
+        assigns ! (rep ! 64 (lit ! tt)) (from ! (stop !)) (init ! 51 refl (ty₉ .0)) $
         assigns ! (addr ! (from ! (stop !))) (from ! (stop !)) (init ! 39 refl (tt, tt)) $
         assigns ! (agg ! (and-then ! (load ! (from ! (stop !)) (look ! 39 refl)) (and-then ! (lit ! tt) (no-more !)))) (from ! (stop !)) (init ! 49 refl (tt, (tt, (record { fits = lit< tt }, tt)))) $
-        move ! (0 ∷ 51 ∷ []) $ own-lends ! tt word tt 64 64 (omega (arith)) 0 l₈ (refl, lit< tt) (lit< tt, lit< tt) (hs order₀ counts₀ reaches₀ pending₀) (λ ν₈ δ₈. move ! (0 ∷ 2 ∷ 3 ∷ 4 ∷ 5 ∷ 6 ∷ 7 ∷ 8 ∷ 9 ∷ 10 ∷ 11 ∷ 12 ∷ 13 ∷ 14 ∷ 15 ∷ 16 ∷ 17 ∷ 18 ∷ 19 ∷ 20 ∷ 21 ∷ 22 ∷ 23 ∷ 24 ∷ 25 ∷ 26 ∷ 27 ∷ 28 ∷ 29 ∷ 30 ∷ 31 ∷ 32 ∷ 33 ∷ 34 ∷ 35 ∷ 36 ∷ 37 ∷ 38 ∷ 39 ∷ 40 ∷ 41 ∷ 42 ∷ 43 ∷ 44 ∷ 45 ∷ 46 ∷ 47 ∷ 48 ∷ 49 ∷ 50 ∷ 51 ∷ 1 ∷ []) $
-        array-typed ! word 64 0 (refl, lit< tt) (λ ty₁₀.
-        assigns ! (rep ! 64 (lit ! tt)) (from ! (stop !)) (init ! 47 refl (ty₁₀ .0)) $
+        move ! (0 ∷ 51 ∷ []) $ own-lends ! tt word tt 64 64 (omega (arith)) 0 l₉ (refl, lit< tt) (lit< tt, lit< tt) (hs order₀ counts₀ reaches₀ pending₀) (λ ν₉ δ₉. move ! (0 ∷ 2 ∷ 3 ∷ 4 ∷ 5 ∷ 6 ∷ 7 ∷ 8 ∷ 9 ∷ 10 ∷ 11 ∷ 12 ∷ 13 ∷ 14 ∷ 15 ∷ 16 ∷ 17 ∷ 18 ∷ 19 ∷ 20 ∷ 21 ∷ 22 ∷ 23 ∷ 24 ∷ 25 ∷ 26 ∷ 27 ∷ 28 ∷ 29 ∷ 30 ∷ 31 ∷ 32 ∷ 33 ∷ 34 ∷ 35 ∷ 36 ∷ 37 ∷ 38 ∷ 39 ∷ 40 ∷ 41 ∷ 42 ∷ 43 ∷ 44 ∷ 45 ∷ 46 ∷ 47 ∷ 48 ∷ 49 ∷ 50 ∷ 51 ∷ 1 ∷ []) $
+        array-typed ! word 64 0 (refl, lit< tt) (λ ty₁₁.
+        assigns ! (rep ! 64 (lit ! tt)) (from ! (stop !)) (init ! 47 refl (ty₁₁ .0)) $
         assigns ! (addr ! (from ! (stop !))) (from ! (stop !)) (init ! 37 refl (tt, tt)) $
         assigns ! (agg ! (and-then ! (load ! (from ! (stop !)) (look ! 37 refl)) (and-then ! (lit ! tt) (no-more !)))) (from ! (stop !)) (init ! 45 refl (tt, (tt, (record { fits = lit< tt }, tt)))) $
-        move ! (0 ∷ 47 ∷ []) $ own-lends ! tt word tt 64 64 (omega (arith)) 0 l₁₀ (refl, lit< tt) (lit< tt, lit< tt) (tab word (own-seat l₈ 64 ν₈ δ₈) (replicate 64 0) ∷ hs order₀ counts₀ reaches₀ pending₀) (λ ν₁₀ δ₁₀. move ! (0 ∷ 2 ∷ 3 ∷ 4 ∷ 5 ∷ 6 ∷ 7 ∷ 8 ∷ 9 ∷ 10 ∷ 11 ∷ 12 ∷ 13 ∷ 14 ∷ 15 ∷ 16 ∷ 17 ∷ 18 ∷ 19 ∷ 20 ∷ 21 ∷ 22 ∷ 23 ∷ 24 ∷ 25 ∷ 26 ∷ 27 ∷ 28 ∷ 29 ∷ 30 ∷ 31 ∷ 32 ∷ 33 ∷ 34 ∷ 35 ∷ 36 ∷ 37 ∷ 38 ∷ 39 ∷ 40 ∷ 41 ∷ 42 ∷ 43 ∷ 44 ∷ 45 ∷ 46 ∷ 47 ∷ 1 ∷ []) $
+        move ! (0 ∷ 47 ∷ []) $ own-lends ! tt word tt 64 64 (omega (arith)) 0 l₁₁ (refl, lit< tt) (lit< tt, lit< tt) (tab word (own-seat l₉ 64 ν₉ δ₉) (replicate 64 0) ∷ hs order₀ counts₀ reaches₀ pending₀) (λ ν₁₁ δ₁₁. move ! (0 ∷ 2 ∷ 3 ∷ 4 ∷ 5 ∷ 6 ∷ 7 ∷ 8 ∷ 9 ∷ 10 ∷ 11 ∷ 12 ∷ 13 ∷ 14 ∷ 15 ∷ 16 ∷ 17 ∷ 18 ∷ 19 ∷ 20 ∷ 21 ∷ 22 ∷ 23 ∷ 24 ∷ 25 ∷ 26 ∷ 27 ∷ 28 ∷ 29 ∷ 30 ∷ 31 ∷ 32 ∷ 33 ∷ 34 ∷ 35 ∷ 36 ∷ 37 ∷ 38 ∷ 39 ∷ 40 ∷ 41 ∷ 42 ∷ 43 ∷ 44 ∷ 45 ∷ 46 ∷ 47 ∷ 1 ∷ []) $
         assigns ! (addr ! (from ! (fld ! refl (hop ! (look-in ! 49 (sub ! 0 refl (whole !))) (stop !))))) (from ! (stop !)) (init ! 33 refl (tt, tt)) $
         assigns ! (agg ! (and-then ! (load ! (from ! (stop !)) (look ! 33 refl)) (and-then ! (load ! (from ! (fld ! refl (stop !))) (look-in ! 49 (sub ! 1 refl (whole !)))) (no-more !)))) (from ! (stop !)) (init ! 31 refl (tt, (tt, (record { fits = lit< tt }, tt)))) $
         assigns ! (addr ! (from ! (fld ! refl (hop ! (look-in ! 45 (sub ! 0 refl (whole !))) (stop !))))) (from ! (stop !)) (init ! 29 refl (tt, tt)) $
         assigns ! (agg ! (and-then ! (load ! (from ! (stop !)) (look ! 29 refl)) (and-then ! (load ! (from ! (fld ! refl (stop !))) (look-in ! 45 (sub ! 1 refl (whole !)))) (no-more !)))) (from ! (stop !)) (init ! 27 refl (tt, (tt, (record { fits = lit< tt }, tt)))) $
-        calls-by ! (fmOf 𝓤 H (W .laws) 𝓣) (2 ∷ 1 ∷ 0 ∷ []) (tab word (own-seat l₁₀ 64 ν₁₀ δ₁₀) (replicate 64 0) ∷ tab word (own-seat l₈ 64 ν₈ δ₈) (replicate 64 0) ∷ hs order₀ counts₀ reaches₀ pending₀) (vector·read-entries! 𝓤 H A mem run (𝓣 .C) known-vector·read-entries at-vector vector₀ (own-seat l₈ 64 ν₈ δ₈) (replicate 64 0) (own-seat l₁₀ 64 ν₁₀ δ₁₀) (replicate 64 0) (omega (arith, length-replicate {A = ℕ} 64 0), omega (arith, length-replicate {A = ℕ} 64 0))) refl (λ P. and-then ! (load ! (from ! (stop !)) (look ! 65 refl)) (and-then ! (load ! (from ! (stop !)) (look ! 31 refl)) (and-then ! (load ! (from ! (stop !)) (look ! 27 refl)) (no-more !)))) (λ g₁.
+        calls-by ! (fmOf 𝓤 H (W .laws) 𝓣) (2 ∷ 1 ∷ 0 ∷ []) (tab word (own-seat l₁₁ 64 ν₁₁ δ₁₁) (replicate 64 0) ∷ tab word (own-seat l₉ 64 ν₉ δ₉) (replicate 64 0) ∷ hs order₀ counts₀ reaches₀ pending₀) (vector·read-entries! 𝓤 H A mem run (𝓣 .C) known-vector·read-entries at-vector vector₀ (own-seat l₉ 64 ν₉ δ₉) (replicate 64 0) (own-seat l₁₁ 64 ν₁₁ δ₁₁) (replicate 64 0) (omega (arith, length-replicate {A = ℕ} 64 0), omega (arith, length-replicate {A = ℕ} 64 0))) refl (λ P. and-then ! (load ! (from ! (stop !)) (look ! 65 refl)) (and-then ! (load ! (from ! (stop !)) (look ! 31 refl)) (and-then ! (load ! (from ! (stop !)) (look ! 27 refl)) (no-more !)))) (λ g₁.
         land ! (from ! (stop !)) (init ! 35 refl (g₁ .1 .0)) $
         entries-cases (vectorEntries (vectorOf vector₀))
         (λ x₂ e₂.  -- Read
@@ -172,37 +175,37 @@ module _ {M : Type 1} (𝓤 : URA M) (H : Heap 𝓤) (A : Atoms 𝓤) (W : Given
         flat ! $
         assigns ! (addr ! (from ! (fld ! refl (hop ! (look-in ! 59 (sub ! 0 refl (whole !))) (stop !))))) (from ! (stop !)) (init ! 15 refl (tt, tt)) $
         flat ! $
-        assigns ! (agg ! (and-then ! (load ! (from ! (stop !)) (look ! 15 refl)) (and-then ! (load ! (from ! (fld ! refl (stop !))) (look-in ! 59 (sub ! 1 refl (whole !)))) (no-more !)))) (from ! (stop !)) (init ! 13 refl (tt, (tt, (record { fits = are .1 .1 .1 .0 .0 .1 .0 }, tt)))) $
+        assigns ! (agg ! (and-then ! (load ! (from ! (stop !)) (look ! 15 refl)) (and-then ! (load ! (from ! (fld ! refl (stop !))) (look-in ! 59 (sub ! 1 refl (whole !)))) (no-more !)))) (from ! (stop !)) (init ! 13 refl (tt, (tt, (record { fits = are .1 .1 .1 .1 .0 .0 .1 .0 }, tt)))) $
         flat ! $
         assigns ! (addr ! (from ! (fld ! refl (hop ! (look-in ! 57 (sub ! 0 refl (whole !))) (stop !))))) (from ! (stop !)) (init ! 11 refl (tt, tt)) $
         flat ! $
-        assigns ! (agg ! (and-then ! (load ! (from ! (stop !)) (look ! 11 refl)) (and-then ! (load ! (from ! (fld ! refl (stop !))) (look-in ! 57 (sub ! 1 refl (whole !)))) (no-more !)))) (from ! (stop !)) (init ! 9 refl (tt, (tt, (record { fits = are .1 .1 .1 .1 .0 .0 .1 .0 }, tt)))) $
+        assigns ! (agg ! (and-then ! (load ! (from ! (stop !)) (look ! 11 refl)) (and-then ! (load ! (from ! (fld ! refl (stop !))) (look-in ! 57 (sub ! 1 refl (whole !)))) (no-more !)))) (from ! (stop !)) (init ! 9 refl (tt, (tt, (record { fits = are .1 .1 .1 .1 .1 .0 .0 .1 .0 }, tt)))) $
         flat ! $
         assigns ! (addr ! (from ! (fld ! refl (hop ! (look-in ! 55 (sub ! 0 refl (whole !))) (stop !))))) (from ! (stop !)) (init ! 7 refl (tt, tt)) $
         flat ! $
-        assigns ! (agg ! (and-then ! (load ! (from ! (stop !)) (look ! 7 refl)) (and-then ! (load ! (from ! (fld ! refl (stop !))) (look-in ! 55 (sub ! 1 refl (whole !)))) (no-more !)))) (from ! (stop !)) (init ! 5 refl (tt, (tt, (record { fits = are .1 .1 .1 .1 .1 .0 .0 .1 .0 }, tt)))) $
+        assigns ! (agg ! (and-then ! (load ! (from ! (stop !)) (look ! 7 refl)) (and-then ! (load ! (from ! (fld ! refl (stop !))) (look-in ! 55 (sub ! 1 refl (whole !)))) (no-more !)))) (from ! (stop !)) (init ! 5 refl (tt, (tt, (record { fits = are .1 .1 .1 .1 .1 .1 .0 .0 .1 .0 }, tt)))) $
         flat ! $
         assigns ! (addr ! (from ! (fld ! refl (hop ! (look-in ! 53 (sub ! 0 refl (whole !))) (stop !))))) (from ! (stop !)) (init ! 3 refl (tt, tt)) $
         flat ! $
-        assigns ! (agg ! (and-then ! (load ! (from ! (stop !)) (look ! 3 refl)) (and-then ! (load ! (from ! (fld ! refl (stop !))) (look-in ! 53 (sub ! 1 refl (whole !)))) (no-more !)))) (from ! (stop !)) (init ! 1 refl (tt, (tt, (record { fits = are .1 .1 .1 .1 .1 .1 .0 .0 .1 .0 }, tt)))) $
-        calls-by ! (fmOf 𝓤 H (W .laws) 𝓣) (3 ∷ 1 ∷ 0 ∷ 4 ∷ 5 ∷ 6 ∷ 7 ∷ []) (tab word (own-seat l₁₀ 64 ν₁₀ δ₁₀) (padded (length (replicate {A = ℕ} 64 0)) (clocksIn (kept (vectorOf vector₀)))) ∷ tab word (own-seat l₈ 64 ν₈ δ₈) (padded (length (replicate {A = ℕ} 64 0)) (clientsIn (kept (vectorOf vector₀)))) ∷ hs order₀ counts₀ reaches₀ pending₀) (sorter·sort-kept-clients-clocks! 𝓤 H A mem run (𝓣 .C) known-sorter·sort-kept at-rows rows₀ blocks₀ (are .1 .1 .0) (own-seat l₈ 64 ν₈ δ₈) (padded (length (replicate {A = ℕ} 64 0)) (clientsIn (kept (vectorOf vector₀)))) (own-seat l₁₀ 64 ν₁₀ δ₁₀) (padded (length (replicate {A = ℕ} 64 0)) (clocksIn (kept (vectorOf vector₀)))) x₂ (entries·read-0 x₂ (subst (Has entries) e₂ (g₁ .0))) at-order order₀ at-counts counts₀ at-reaches reaches₀ at-pending pending₀ (req, names-fit (vectorOf vector₀) rows₀ blocks₀ order₀ counts₀ reaches₀ pending₀ x₂ (length (replicate {A = ℕ} 64 0)) (length (replicate {A = ℕ} 64 0)) e₂)) refl (λ P. and-then ! (load ! (from ! (stop !)) (look ! 63 refl)) (and-then ! (load ! (from ! (stop !)) (look ! 61 refl)) (and-then ! (load ! (from ! (stop !)) (look ! 21 refl)) (and-then ! (load ! (from ! (stop !)) (look ! 17 refl)) (and-then ! (load ! (from ! (stop !)) (look ! 43 refl)) (and-then ! (load ! (from ! (stop !)) (look ! 13 refl)) (and-then ! (load ! (from ! (stop !)) (look ! 9 refl)) (and-then ! (load ! (from ! (stop !)) (look ! 5 refl)) (and-then ! (load ! (from ! (stop !)) (look ! 1 refl)) (no-more !)))))))))) (λ g₃.
+        assigns ! (agg ! (and-then ! (load ! (from ! (stop !)) (look ! 3 refl)) (and-then ! (load ! (from ! (fld ! refl (stop !))) (look-in ! 53 (sub ! 1 refl (whole !)))) (no-more !)))) (from ! (stop !)) (init ! 1 refl (tt, (tt, (record { fits = are .1 .1 .1 .1 .1 .1 .1 .0 .0 .1 .0 }, tt)))) $
+        calls-by ! (fmOf 𝓤 H (W .laws) 𝓣) (3 ∷ 1 ∷ 0 ∷ 4 ∷ 5 ∷ 6 ∷ 7 ∷ []) (tab word (own-seat l₁₁ 64 ν₁₁ δ₁₁) (padded (length (replicate {A = ℕ} 64 0)) (clocksIn (kept (vectorOf vector₀)))) ∷ tab word (own-seat l₉ 64 ν₉ δ₉) (padded (length (replicate {A = ℕ} 64 0)) (clientsIn (kept (vectorOf vector₀)))) ∷ hs order₀ counts₀ reaches₀ pending₀) (sorter·sort-kept-clients-clocks! 𝓤 H A mem run (𝓣 .C) known-sorter·sort-kept rule₀ (are .0) at-rows rows₀ blocks₀ (are .1 .1 .1 .0) (own-seat l₉ 64 ν₉ δ₉) (padded (length (replicate {A = ℕ} 64 0)) (clientsIn (kept (vectorOf vector₀)))) (own-seat l₁₁ 64 ν₁₁ δ₁₁) (padded (length (replicate {A = ℕ} 64 0)) (clocksIn (kept (vectorOf vector₀)))) x₂ (entries·read-0 x₂ (subst (Has entries) e₂ (g₁ .0))) at-order order₀ at-counts counts₀ at-reaches reaches₀ at-pending pending₀ (req, names-fit rule₀ (vectorOf vector₀) rows₀ blocks₀ order₀ counts₀ reaches₀ pending₀ x₂ (length (replicate {A = ℕ} 64 0)) (length (replicate {A = ℕ} 64 0)) e₂)) refl (λ P. and-then ! (load ! (from ! (stop !)) (look ! 67 refl)) (and-then ! (load ! (from ! (stop !)) (look ! 63 refl)) (and-then ! (load ! (from ! (stop !)) (look ! 61 refl)) (and-then ! (load ! (from ! (stop !)) (look ! 21 refl)) (and-then ! (load ! (from ! (stop !)) (look ! 17 refl)) (and-then ! (load ! (from ! (stop !)) (look ! 43 refl)) (and-then ! (load ! (from ! (stop !)) (look ! 13 refl)) (and-then ! (load ! (from ! (stop !)) (look ! 9 refl)) (and-then ! (load ! (from ! (stop !)) (look ! 5 refl)) (and-then ! (load ! (from ! (stop !)) (look ! 1 refl)) (no-more !))))))))))) (λ g₃.
         land ! (from ! (stop !)) (init ! 25 refl (g₃ .1 .0)) $
-        assigns ! (of-opd ! (load ! (from ! (stop !)) (look ! 25 refl))) (from ! (stop !)) (init ! 67 refl (g₃ .1 .0)) $
-        move ! (0 ∷ 47 ∷ []) $ own-back ! tt word 64 64 (omega (arith)) 0 (padded (length (replicate {A = ℕ} 64 0)) (clocksIn (kept (vectorOf vector₀)))) l₁₀ ν₁₀ δ₁₀ (tab word (own-seat l₈ 64 ν₈ δ₈) (padded (length (replicate {A = ℕ} 64 0)) (clientsIn (kept (vectorOf vector₀)))) ∷ hs (orderOn (slotsFor maxReaches (take blocks₀ rows₀) (take x₂ (padded (length (replicate {A = ℕ} 64 0)) (clientsIn (kept (vectorOf vector₀)))))) rows₀ blocks₀ (entriesOf x₂ (padded (length (replicate {A = ℕ} 64 0)) (clientsIn (kept (vectorOf vector₀)))) (padded (length (replicate {A = ℕ} 64 0)) (clocksIn (kept (vectorOf vector₀))))) order₀) (fitted (length counts₀) (countsOn (slotsFor maxReaches (take blocks₀ rows₀) (take x₂ (padded (length (replicate {A = ℕ} 64 0)) (clientsIn (kept (vectorOf vector₀)))))) rows₀ blocks₀ (entriesOf x₂ (padded (length (replicate {A = ℕ} 64 0)) (clientsIn (kept (vectorOf vector₀)))) (padded (length (replicate {A = ℕ} 64 0)) (clocksIn (kept (vectorOf vector₀))))) order₀)) (fitted (length reaches₀) (reachesOn (slotsFor maxReaches (take blocks₀ rows₀) (take x₂ (padded (length (replicate {A = ℕ} 64 0)) (clientsIn (kept (vectorOf vector₀)))))) rows₀ blocks₀ (entriesOf x₂ (padded (length (replicate {A = ℕ} 64 0)) (clientsIn (kept (vectorOf vector₀)))) (padded (length (replicate {A = ℕ} 64 0)) (clocksIn (kept (vectorOf vector₀))))) order₀)) (fitted (length pending₀) (pendingOn (slotsFor maxReaches (take blocks₀ rows₀) (take x₂ (padded (length (replicate {A = ℕ} 64 0)) (clientsIn (kept (vectorOf vector₀)))))) rows₀ blocks₀ (entriesOf x₂ (padded (length (replicate {A = ℕ} 64 0)) (clientsIn (kept (vectorOf vector₀)))) (padded (length (replicate {A = ℕ} 64 0)) (clocksIn (kept (vectorOf vector₀))))) order₀))) $ move ! (0 ∷ 2 ∷ 3 ∷ 4 ∷ 5 ∷ 6 ∷ 7 ∷ 8 ∷ 9 ∷ 10 ∷ 11 ∷ 12 ∷ 13 ∷ 14 ∷ 15 ∷ 16 ∷ 17 ∷ 18 ∷ 19 ∷ 20 ∷ 21 ∷ 22 ∷ 23 ∷ 24 ∷ 25 ∷ 26 ∷ 27 ∷ 28 ∷ 29 ∷ 30 ∷ 31 ∷ 32 ∷ 33 ∷ 34 ∷ 35 ∷ 36 ∷ 37 ∷ 38 ∷ 39 ∷ 40 ∷ 41 ∷ 42 ∷ 43 ∷ 44 ∷ 45 ∷ 46 ∷ 47 ∷ 1 ∷ []) $
-        move ! (0 ∷ 51 ∷ []) $ own-back ! tt word 64 64 (omega (arith)) 0 (padded (length (replicate {A = ℕ} 64 0)) (clientsIn (kept (vectorOf vector₀)))) l₈ ν₈ δ₈ (hs (orderOn (slotsFor maxReaches (take blocks₀ rows₀) (take x₂ (padded (length (replicate {A = ℕ} 64 0)) (clientsIn (kept (vectorOf vector₀)))))) rows₀ blocks₀ (entriesOf x₂ (padded (length (replicate {A = ℕ} 64 0)) (clientsIn (kept (vectorOf vector₀)))) (padded (length (replicate {A = ℕ} 64 0)) (clocksIn (kept (vectorOf vector₀))))) order₀) (fitted (length counts₀) (countsOn (slotsFor maxReaches (take blocks₀ rows₀) (take x₂ (padded (length (replicate {A = ℕ} 64 0)) (clientsIn (kept (vectorOf vector₀)))))) rows₀ blocks₀ (entriesOf x₂ (padded (length (replicate {A = ℕ} 64 0)) (clientsIn (kept (vectorOf vector₀)))) (padded (length (replicate {A = ℕ} 64 0)) (clocksIn (kept (vectorOf vector₀))))) order₀)) (fitted (length reaches₀) (reachesOn (slotsFor maxReaches (take blocks₀ rows₀) (take x₂ (padded (length (replicate {A = ℕ} 64 0)) (clientsIn (kept (vectorOf vector₀)))))) rows₀ blocks₀ (entriesOf x₂ (padded (length (replicate {A = ℕ} 64 0)) (clientsIn (kept (vectorOf vector₀)))) (padded (length (replicate {A = ℕ} 64 0)) (clocksIn (kept (vectorOf vector₀))))) order₀)) (fitted (length pending₀) (pendingOn (slotsFor maxReaches (take blocks₀ rows₀) (take x₂ (padded (length (replicate {A = ℕ} 64 0)) (clientsIn (kept (vectorOf vector₀)))))) rows₀ blocks₀ (entriesOf x₂ (padded (length (replicate {A = ℕ} 64 0)) (clientsIn (kept (vectorOf vector₀)))) (padded (length (replicate {A = ℕ} 64 0)) (clocksIn (kept (vectorOf vector₀))))) order₀))) $ move ! (0 ∷ 2 ∷ 3 ∷ 4 ∷ 5 ∷ 6 ∷ 7 ∷ 8 ∷ 9 ∷ 10 ∷ 11 ∷ 12 ∷ 13 ∷ 14 ∷ 15 ∷ 16 ∷ 17 ∷ 18 ∷ 19 ∷ 20 ∷ 21 ∷ 22 ∷ 23 ∷ 24 ∷ 25 ∷ 26 ∷ 27 ∷ 28 ∷ 29 ∷ 30 ∷ 31 ∷ 32 ∷ 33 ∷ 34 ∷ 35 ∷ 36 ∷ 37 ∷ 38 ∷ 39 ∷ 40 ∷ 41 ∷ 42 ∷ 43 ∷ 44 ∷ 45 ∷ 46 ∷ 47 ∷ 48 ∷ 49 ∷ 50 ∷ 51 ∷ 1 ∷ []) $
-        returns-within ! Post refl (look ! 67 refl) $
-        free-all ! (_ ∷ []) En (has _ ∷ has _ ∷ has _ ∷ has _ ∷ has _ ∷ has _ ∷ has _ ∷ has _ ∷ has _ ∷ has _ ∷ has _ ∷ has _ ∷ has _ ∷ bare ∷ has _ ∷ has _ ∷ has _ ∷ has _ ∷ has _ ∷ has _ ∷ has _ ∷ has _ ∷ has _ ∷ has _ ∷ has _ ∷ has _ ∷ has _ ∷ has _ ∷ has _ ∷ has _ ∷ has _ ∷ has _ ∷ has _ ∷ has _ ∷ []) [] $ by ! (exits (sortingOn (slotsFor maxReaches (take blocks₀ rows₀) (take x₂ (padded (length (replicate {A = ℕ} 64 0)) (clientsIn (kept (vectorOf vector₀)))))) rows₀ blocks₀ (entriesOf x₂ (padded (length (replicate {A = ℕ} 64 0)) (clientsIn (kept (vectorOf vector₀)))) (padded (length (replicate {A = ℕ} 64 0)) (clocksIn (kept (vectorOf vector₀))))) order₀) (orderOn (slotsFor maxReaches (take blocks₀ rows₀) (take x₂ (padded (length (replicate {A = ℕ} 64 0)) (clientsIn (kept (vectorOf vector₀)))))) rows₀ blocks₀ (entriesOf x₂ (padded (length (replicate {A = ℕ} 64 0)) (clientsIn (kept (vectorOf vector₀)))) (padded (length (replicate {A = ℕ} 64 0)) (clocksIn (kept (vectorOf vector₀))))) order₀) (fitted (length counts₀) (countsOn (slotsFor maxReaches (take blocks₀ rows₀) (take x₂ (padded (length (replicate {A = ℕ} 64 0)) (clientsIn (kept (vectorOf vector₀)))))) rows₀ blocks₀ (entriesOf x₂ (padded (length (replicate {A = ℕ} 64 0)) (clientsIn (kept (vectorOf vector₀)))) (padded (length (replicate {A = ℕ} 64 0)) (clocksIn (kept (vectorOf vector₀))))) order₀)) (fitted (length reaches₀) (reachesOn (slotsFor maxReaches (take blocks₀ rows₀) (take x₂ (padded (length (replicate {A = ℕ} 64 0)) (clientsIn (kept (vectorOf vector₀)))))) rows₀ blocks₀ (entriesOf x₂ (padded (length (replicate {A = ℕ} 64 0)) (clientsIn (kept (vectorOf vector₀)))) (padded (length (replicate {A = ℕ} 64 0)) (clocksIn (kept (vectorOf vector₀))))) order₀)) (fitted (length pending₀) (pendingOn (slotsFor maxReaches (take blocks₀ rows₀) (take x₂ (padded (length (replicate {A = ℕ} 64 0)) (clientsIn (kept (vectorOf vector₀)))))) rows₀ blocks₀ (entriesOf x₂ (padded (length (replicate {A = ℕ} 64 0)) (clientsIn (kept (vectorOf vector₀)))) (padded (length (replicate {A = ℕ} 64 0)) (clocksIn (kept (vectorOf vector₀))))) order₀)) (g₃ .0) (exit-read (vectorOf vector₀) rows₀ blocks₀ order₀ counts₀ reaches₀ pending₀ x₂ (length (replicate {A = ℕ} 64 0)) (length (replicate {A = ℕ} 64 0)) e₂))))
+        assigns ! (of-opd ! (load ! (from ! (stop !)) (look ! 25 refl))) (from ! (stop !)) (init ! 69 refl (g₃ .1 .0)) $
+        move ! (0 ∷ 47 ∷ []) $ own-back ! tt word 64 64 (omega (arith)) 0 (padded (length (replicate {A = ℕ} 64 0)) (clocksIn (kept (vectorOf vector₀)))) l₁₁ ν₁₁ δ₁₁ (tab word (own-seat l₉ 64 ν₉ δ₉) (padded (length (replicate {A = ℕ} 64 0)) (clientsIn (kept (vectorOf vector₀)))) ∷ hs (orderOn rule₀ (slotsFor maxReaches (take blocks₀ rows₀) (take x₂ (padded (length (replicate {A = ℕ} 64 0)) (clientsIn (kept (vectorOf vector₀)))))) rows₀ blocks₀ (entriesOf x₂ (padded (length (replicate {A = ℕ} 64 0)) (clientsIn (kept (vectorOf vector₀)))) (padded (length (replicate {A = ℕ} 64 0)) (clocksIn (kept (vectorOf vector₀))))) order₀) (fitted (length counts₀) (countsOn rule₀ (slotsFor maxReaches (take blocks₀ rows₀) (take x₂ (padded (length (replicate {A = ℕ} 64 0)) (clientsIn (kept (vectorOf vector₀)))))) rows₀ blocks₀ (entriesOf x₂ (padded (length (replicate {A = ℕ} 64 0)) (clientsIn (kept (vectorOf vector₀)))) (padded (length (replicate {A = ℕ} 64 0)) (clocksIn (kept (vectorOf vector₀))))) order₀)) (fitted (length reaches₀) (reachesOn rule₀ (slotsFor maxReaches (take blocks₀ rows₀) (take x₂ (padded (length (replicate {A = ℕ} 64 0)) (clientsIn (kept (vectorOf vector₀)))))) rows₀ blocks₀ (entriesOf x₂ (padded (length (replicate {A = ℕ} 64 0)) (clientsIn (kept (vectorOf vector₀)))) (padded (length (replicate {A = ℕ} 64 0)) (clocksIn (kept (vectorOf vector₀))))) order₀)) (fitted (length pending₀) (pendingOn rule₀ (slotsFor maxReaches (take blocks₀ rows₀) (take x₂ (padded (length (replicate {A = ℕ} 64 0)) (clientsIn (kept (vectorOf vector₀)))))) rows₀ blocks₀ (entriesOf x₂ (padded (length (replicate {A = ℕ} 64 0)) (clientsIn (kept (vectorOf vector₀)))) (padded (length (replicate {A = ℕ} 64 0)) (clocksIn (kept (vectorOf vector₀))))) order₀))) $ move ! (0 ∷ 2 ∷ 3 ∷ 4 ∷ 5 ∷ 6 ∷ 7 ∷ 8 ∷ 9 ∷ 10 ∷ 11 ∷ 12 ∷ 13 ∷ 14 ∷ 15 ∷ 16 ∷ 17 ∷ 18 ∷ 19 ∷ 20 ∷ 21 ∷ 22 ∷ 23 ∷ 24 ∷ 25 ∷ 26 ∷ 27 ∷ 28 ∷ 29 ∷ 30 ∷ 31 ∷ 32 ∷ 33 ∷ 34 ∷ 35 ∷ 36 ∷ 37 ∷ 38 ∷ 39 ∷ 40 ∷ 41 ∷ 42 ∷ 43 ∷ 44 ∷ 45 ∷ 46 ∷ 47 ∷ 1 ∷ []) $
+        move ! (0 ∷ 51 ∷ []) $ own-back ! tt word 64 64 (omega (arith)) 0 (padded (length (replicate {A = ℕ} 64 0)) (clientsIn (kept (vectorOf vector₀)))) l₉ ν₉ δ₉ (hs (orderOn rule₀ (slotsFor maxReaches (take blocks₀ rows₀) (take x₂ (padded (length (replicate {A = ℕ} 64 0)) (clientsIn (kept (vectorOf vector₀)))))) rows₀ blocks₀ (entriesOf x₂ (padded (length (replicate {A = ℕ} 64 0)) (clientsIn (kept (vectorOf vector₀)))) (padded (length (replicate {A = ℕ} 64 0)) (clocksIn (kept (vectorOf vector₀))))) order₀) (fitted (length counts₀) (countsOn rule₀ (slotsFor maxReaches (take blocks₀ rows₀) (take x₂ (padded (length (replicate {A = ℕ} 64 0)) (clientsIn (kept (vectorOf vector₀)))))) rows₀ blocks₀ (entriesOf x₂ (padded (length (replicate {A = ℕ} 64 0)) (clientsIn (kept (vectorOf vector₀)))) (padded (length (replicate {A = ℕ} 64 0)) (clocksIn (kept (vectorOf vector₀))))) order₀)) (fitted (length reaches₀) (reachesOn rule₀ (slotsFor maxReaches (take blocks₀ rows₀) (take x₂ (padded (length (replicate {A = ℕ} 64 0)) (clientsIn (kept (vectorOf vector₀)))))) rows₀ blocks₀ (entriesOf x₂ (padded (length (replicate {A = ℕ} 64 0)) (clientsIn (kept (vectorOf vector₀)))) (padded (length (replicate {A = ℕ} 64 0)) (clocksIn (kept (vectorOf vector₀))))) order₀)) (fitted (length pending₀) (pendingOn rule₀ (slotsFor maxReaches (take blocks₀ rows₀) (take x₂ (padded (length (replicate {A = ℕ} 64 0)) (clientsIn (kept (vectorOf vector₀)))))) rows₀ blocks₀ (entriesOf x₂ (padded (length (replicate {A = ℕ} 64 0)) (clientsIn (kept (vectorOf vector₀)))) (padded (length (replicate {A = ℕ} 64 0)) (clocksIn (kept (vectorOf vector₀))))) order₀))) $ move ! (0 ∷ 2 ∷ 3 ∷ 4 ∷ 5 ∷ 6 ∷ 7 ∷ 8 ∷ 9 ∷ 10 ∷ 11 ∷ 12 ∷ 13 ∷ 14 ∷ 15 ∷ 16 ∷ 17 ∷ 18 ∷ 19 ∷ 20 ∷ 21 ∷ 22 ∷ 23 ∷ 24 ∷ 25 ∷ 26 ∷ 27 ∷ 28 ∷ 29 ∷ 30 ∷ 31 ∷ 32 ∷ 33 ∷ 34 ∷ 35 ∷ 36 ∷ 37 ∷ 38 ∷ 39 ∷ 40 ∷ 41 ∷ 42 ∷ 43 ∷ 44 ∷ 45 ∷ 46 ∷ 47 ∷ 48 ∷ 49 ∷ 50 ∷ 51 ∷ 1 ∷ []) $
+        returns-within ! Post refl (look ! 69 refl) $
+        free-all ! (_ ∷ []) En (has _ ∷ has _ ∷ has _ ∷ has _ ∷ has _ ∷ has _ ∷ has _ ∷ has _ ∷ has _ ∷ has _ ∷ has _ ∷ has _ ∷ has _ ∷ has _ ∷ bare ∷ has _ ∷ has _ ∷ has _ ∷ has _ ∷ has _ ∷ has _ ∷ has _ ∷ has _ ∷ has _ ∷ has _ ∷ has _ ∷ has _ ∷ has _ ∷ has _ ∷ has _ ∷ has _ ∷ has _ ∷ has _ ∷ has _ ∷ has _ ∷ []) [] $ by ! (exits (sortingOn rule₀ (slotsFor maxReaches (take blocks₀ rows₀) (take x₂ (padded (length (replicate {A = ℕ} 64 0)) (clientsIn (kept (vectorOf vector₀)))))) rows₀ blocks₀ (entriesOf x₂ (padded (length (replicate {A = ℕ} 64 0)) (clientsIn (kept (vectorOf vector₀)))) (padded (length (replicate {A = ℕ} 64 0)) (clocksIn (kept (vectorOf vector₀))))) order₀) (orderOn rule₀ (slotsFor maxReaches (take blocks₀ rows₀) (take x₂ (padded (length (replicate {A = ℕ} 64 0)) (clientsIn (kept (vectorOf vector₀)))))) rows₀ blocks₀ (entriesOf x₂ (padded (length (replicate {A = ℕ} 64 0)) (clientsIn (kept (vectorOf vector₀)))) (padded (length (replicate {A = ℕ} 64 0)) (clocksIn (kept (vectorOf vector₀))))) order₀) (fitted (length counts₀) (countsOn rule₀ (slotsFor maxReaches (take blocks₀ rows₀) (take x₂ (padded (length (replicate {A = ℕ} 64 0)) (clientsIn (kept (vectorOf vector₀)))))) rows₀ blocks₀ (entriesOf x₂ (padded (length (replicate {A = ℕ} 64 0)) (clientsIn (kept (vectorOf vector₀)))) (padded (length (replicate {A = ℕ} 64 0)) (clocksIn (kept (vectorOf vector₀))))) order₀)) (fitted (length reaches₀) (reachesOn rule₀ (slotsFor maxReaches (take blocks₀ rows₀) (take x₂ (padded (length (replicate {A = ℕ} 64 0)) (clientsIn (kept (vectorOf vector₀)))))) rows₀ blocks₀ (entriesOf x₂ (padded (length (replicate {A = ℕ} 64 0)) (clientsIn (kept (vectorOf vector₀)))) (padded (length (replicate {A = ℕ} 64 0)) (clocksIn (kept (vectorOf vector₀))))) order₀)) (fitted (length pending₀) (pendingOn rule₀ (slotsFor maxReaches (take blocks₀ rows₀) (take x₂ (padded (length (replicate {A = ℕ} 64 0)) (clientsIn (kept (vectorOf vector₀)))))) rows₀ blocks₀ (entriesOf x₂ (padded (length (replicate {A = ℕ} 64 0)) (clientsIn (kept (vectorOf vector₀)))) (padded (length (replicate {A = ℕ} 64 0)) (clocksIn (kept (vectorOf vector₀))))) order₀)) (g₃ .0) (exit-read rule₀ (vectorOf vector₀) rows₀ blocks₀ order₀ counts₀ reaches₀ pending₀ x₂ (length (replicate {A = ℕ} 64 0)) (length (replicate {A = ℕ} 64 0)) e₂))))
         (λ x₂ e₂.  -- Refused
         revalue ! 35 (entries .val) e₂ refl $ switches-to ! (load ! (from ! (vrt ! refl (fld ! refl (stop !)))) (look-tag ! 35 (whole !))) refl $
         flat ! $
         assigns ! (of-opd ! (load ! (from ! (vrt ! refl (fld ! refl (stop !)))) (look-in ! 35 (in-variant ! 1 0 refl refl (whole !))))) (from ! (stop !)) (init ! 41 refl (refusal .lawful M 𝓤 H A W .typed x₂ _ (entries·refused-0 x₂ (subst (Has entries) e₂ (g₁ .0))) .0)) $
-        calls-by ! (fmOf 𝓤 H (W .laws) 𝓣) ([]) (tab word (own-seat l₁₀ 64 ν₁₀ δ₁₀) (padded (length (replicate {A = ℕ} 64 0)) (clocksIn (kept (vectorOf vector₀)))) ∷ tab word (own-seat l₈ 64 ν₈ δ₈) (padded (length (replicate {A = ℕ} 64 0)) (clientsIn (kept (vectorOf vector₀)))) ∷ hs order₀ counts₀ reaches₀ pending₀) (sorter·refused! 𝓤 H A mem run (𝓣 .C) known-sorter·refused (x₂ .number) (refusal-number x₂ (entries·refused-0 x₂ (subst (Has entries) e₂ (g₁ .0))))) refl (λ P. and-then ! (load ! (from ! (fld ! refl (stop !))) (look-in ! 41 (sub ! 0 refl (whole !)))) (no-more !)) (λ g₄.
+        calls-by ! (fmOf 𝓤 H (W .laws) 𝓣) ([]) (tab word (own-seat l₁₁ 64 ν₁₁ δ₁₁) (padded (length (replicate {A = ℕ} 64 0)) (clocksIn (kept (vectorOf vector₀)))) ∷ tab word (own-seat l₉ 64 ν₉ δ₉) (padded (length (replicate {A = ℕ} 64 0)) (clientsIn (kept (vectorOf vector₀)))) ∷ hs order₀ counts₀ reaches₀ pending₀) (sorter·refused! 𝓤 H A mem run (𝓣 .C) known-sorter·refused (x₂ .number) (refusal-number x₂ (entries·refused-0 x₂ (subst (Has entries) e₂ (g₁ .0))))) refl (λ P. and-then ! (load ! (from ! (fld ! refl (stop !))) (look-in ! 41 (sub ! 0 refl (whole !)))) (no-more !)) (λ g₄.
         land ! (from ! (stop !)) (init ! 25 refl (g₄ .1 .0)) $
-        assigns ! (of-opd ! (load ! (from ! (stop !)) (look ! 25 refl))) (from ! (stop !)) (init ! 67 refl (g₄ .1 .0)) $
-        move ! (0 ∷ 47 ∷ []) $ own-back ! tt word 64 64 (omega (arith)) 0 (padded (length (replicate {A = ℕ} 64 0)) (clocksIn (kept (vectorOf vector₀)))) l₁₀ ν₁₀ δ₁₀ (tab word (own-seat l₈ 64 ν₈ δ₈) (padded (length (replicate {A = ℕ} 64 0)) (clientsIn (kept (vectorOf vector₀)))) ∷ hs order₀ counts₀ reaches₀ pending₀) $ move ! (0 ∷ 2 ∷ 3 ∷ 4 ∷ 5 ∷ 6 ∷ 7 ∷ 8 ∷ 9 ∷ 10 ∷ 11 ∷ 12 ∷ 13 ∷ 14 ∷ 15 ∷ 16 ∷ 17 ∷ 18 ∷ 19 ∷ 20 ∷ 21 ∷ 22 ∷ 23 ∷ 24 ∷ 25 ∷ 26 ∷ 27 ∷ 28 ∷ 29 ∷ 30 ∷ 31 ∷ 32 ∷ 33 ∷ 34 ∷ 35 ∷ 36 ∷ 37 ∷ 38 ∷ 39 ∷ 40 ∷ 41 ∷ 42 ∷ 43 ∷ 44 ∷ 45 ∷ 46 ∷ 47 ∷ 1 ∷ []) $
-        move ! (0 ∷ 51 ∷ []) $ own-back ! tt word 64 64 (omega (arith)) 0 (padded (length (replicate {A = ℕ} 64 0)) (clientsIn (kept (vectorOf vector₀)))) l₈ ν₈ δ₈ (hs order₀ counts₀ reaches₀ pending₀) $ move ! (0 ∷ 2 ∷ 3 ∷ 4 ∷ 5 ∷ 6 ∷ 7 ∷ 8 ∷ 9 ∷ 10 ∷ 11 ∷ 12 ∷ 13 ∷ 14 ∷ 15 ∷ 16 ∷ 17 ∷ 18 ∷ 19 ∷ 20 ∷ 21 ∷ 22 ∷ 23 ∷ 24 ∷ 25 ∷ 26 ∷ 27 ∷ 28 ∷ 29 ∷ 30 ∷ 31 ∷ 32 ∷ 33 ∷ 34 ∷ 35 ∷ 36 ∷ 37 ∷ 38 ∷ 39 ∷ 40 ∷ 41 ∷ 42 ∷ 43 ∷ 44 ∷ 45 ∷ 46 ∷ 47 ∷ 48 ∷ 49 ∷ 50 ∷ 51 ∷ 1 ∷ []) $
-        returns-within ! Post refl (look ! 67 refl) $
-        free-all ! (_ ∷ []) En (has _ ∷ has _ ∷ has _ ∷ has _ ∷ has _ ∷ has _ ∷ has _ ∷ has _ ∷ has _ ∷ has _ ∷ has _ ∷ has _ ∷ bare ∷ has _ ∷ has _ ∷ has _ ∷ has _ ∷ has _ ∷ has _ ∷ has _ ∷ has _ ∷ has _ ∷ []) [] $ by ! (exits (noSorting (x₂ .number)) order₀ counts₀ reaches₀ pending₀ (g₄ .0) (exit-refused (vectorOf vector₀) rows₀ blocks₀ order₀ counts₀ reaches₀ pending₀ x₂ e₂))))))))))
+        assigns ! (of-opd ! (load ! (from ! (stop !)) (look ! 25 refl))) (from ! (stop !)) (init ! 69 refl (g₄ .1 .0)) $
+        move ! (0 ∷ 47 ∷ []) $ own-back ! tt word 64 64 (omega (arith)) 0 (padded (length (replicate {A = ℕ} 64 0)) (clocksIn (kept (vectorOf vector₀)))) l₁₁ ν₁₁ δ₁₁ (tab word (own-seat l₉ 64 ν₉ δ₉) (padded (length (replicate {A = ℕ} 64 0)) (clientsIn (kept (vectorOf vector₀)))) ∷ hs order₀ counts₀ reaches₀ pending₀) $ move ! (0 ∷ 2 ∷ 3 ∷ 4 ∷ 5 ∷ 6 ∷ 7 ∷ 8 ∷ 9 ∷ 10 ∷ 11 ∷ 12 ∷ 13 ∷ 14 ∷ 15 ∷ 16 ∷ 17 ∷ 18 ∷ 19 ∷ 20 ∷ 21 ∷ 22 ∷ 23 ∷ 24 ∷ 25 ∷ 26 ∷ 27 ∷ 28 ∷ 29 ∷ 30 ∷ 31 ∷ 32 ∷ 33 ∷ 34 ∷ 35 ∷ 36 ∷ 37 ∷ 38 ∷ 39 ∷ 40 ∷ 41 ∷ 42 ∷ 43 ∷ 44 ∷ 45 ∷ 46 ∷ 47 ∷ 1 ∷ []) $
+        move ! (0 ∷ 51 ∷ []) $ own-back ! tt word 64 64 (omega (arith)) 0 (padded (length (replicate {A = ℕ} 64 0)) (clientsIn (kept (vectorOf vector₀)))) l₉ ν₉ δ₉ (hs order₀ counts₀ reaches₀ pending₀) $ move ! (0 ∷ 2 ∷ 3 ∷ 4 ∷ 5 ∷ 6 ∷ 7 ∷ 8 ∷ 9 ∷ 10 ∷ 11 ∷ 12 ∷ 13 ∷ 14 ∷ 15 ∷ 16 ∷ 17 ∷ 18 ∷ 19 ∷ 20 ∷ 21 ∷ 22 ∷ 23 ∷ 24 ∷ 25 ∷ 26 ∷ 27 ∷ 28 ∷ 29 ∷ 30 ∷ 31 ∷ 32 ∷ 33 ∷ 34 ∷ 35 ∷ 36 ∷ 37 ∷ 38 ∷ 39 ∷ 40 ∷ 41 ∷ 42 ∷ 43 ∷ 44 ∷ 45 ∷ 46 ∷ 47 ∷ 48 ∷ 49 ∷ 50 ∷ 51 ∷ 1 ∷ []) $
+        returns-within ! Post refl (look ! 69 refl) $
+        free-all ! (_ ∷ []) En (has _ ∷ has _ ∷ has _ ∷ has _ ∷ has _ ∷ has _ ∷ has _ ∷ has _ ∷ has _ ∷ has _ ∷ has _ ∷ has _ ∷ has _ ∷ bare ∷ has _ ∷ has _ ∷ has _ ∷ has _ ∷ has _ ∷ has _ ∷ has _ ∷ has _ ∷ has _ ∷ []) [] $ by ! (exits (noSorting (x₂ .number)) order₀ counts₀ reaches₀ pending₀ (g₄ .0) (exit-refused rule₀ (vectorOf vector₀) rows₀ blocks₀ order₀ counts₀ reaches₀ pending₀ x₂ e₂))))))))))
 
 pub sort-read-spec : {M : Type 1} → stated.statement M
 unfolding code.routine tablesOf

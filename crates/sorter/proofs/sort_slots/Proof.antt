@@ -30,7 +30,7 @@ use denote.Triple.Entry.{Args, Vals, onEntry}
 use denote.Triple.Spec.{tripleOf}
 use denote.Triple.Table.{entered, cited}
 use denote.Triple.Walked.{needs, walkOf, ends-at}
-use Rattle.walks.proofs.Rows.{Has, word}
+use Rattle.walks.proofs.Rows.{Has, byte, word}
 use Rattle.walks.proofs.Refs.{Seat, seatOf, Arg, val, mut, pass, Held, tab, refs, back, vals, ends, enters, leaves, calls-by}
 use Rattle.walks.proofs.Params.{Form, by-value, by-mut, by-ref, stays, goes, spells, tells}
 use Rattle.walks.proofs.Own.{own-seat, array-typed, own-lends, own-back}
@@ -77,74 +77,77 @@ use Rattle.sorter.proofs.sort_slots.Code as code
 use Rattle.sorter.proofs.Exits.{exit-slots}
 
 abbrev fs : List (Form 8)
-fs = by-ref 0 tt block ∷ by-value word ∷ by-ref 1 tt word ∷ by-value word ∷ by-ref 2 tt word ∷ by-ref 3 tt word ∷ by-value word ∷ by-mut 4 tt word ∷ by-mut 5 tt word ∷ by-mut 6 tt word ∷ by-mut 7 tt word ∷ []
+fs = by-value byte ∷ by-ref 0 tt block ∷ by-value word ∷ by-ref 1 tt word ∷ by-value word ∷ by-ref 2 tt word ∷ by-ref 3 tt word ∷ by-value word ∷ by-mut 4 tt word ∷ by-mut 5 tt word ∷ by-mut 6 tt word ∷ by-mut 7 tt word ∷ []
 
 -- the function, its large types in their shape of quick computing
 abbrev fn : Fn
-fn = retyped (some (lone (sorting .row .mir)) ∷ none ∷ none ∷ none ∷ none ∷ none ∷ none ∷ none ∷ none ∷ none ∷ none ∷ none ∷ none ∷ none ∷ none ∷ none ∷ some (lone (picker·look .row .mir)) ∷ []) code.function
+fn = retyped (some (lone (sorting .row .mir)) ∷ none ∷ none ∷ none ∷ none ∷ none ∷ none ∷ none ∷ none ∷ none ∷ none ∷ none ∷ none ∷ none ∷ none ∷ none ∷ none ∷ some (lone (picker·look .row .mir)) ∷ []) code.function
 
 module _ {M : Type 1} (𝓤 : URA M) (H : Heap 𝓤) (A : Atoms 𝓤) (W : Given 𝓤 H A) (mem : Memory → SProp 𝓤) (run : Routine → Fun 𝓤) (κs : Lfts 8) (qs : Shares 8) (bounds : AllOutlive 8 (f.signature .outlives) κs) (a : Args f.signature κs)
     (are : Are (typesAt (f.signature .params) κs) (Ises (typesAt (f.signature .params) κs)) a (valss (typesAt (f.signature .params) κs) (spells fs κs) a)) where
+  abbrev rule₀ : ℕ
+  rule₀ = a .0
+
   abbrev at-rows : Seat
-  at-rows = seatOf (κs .0) (qs .0) (a .0)
+  at-rows = seatOf (κs .0) (qs .0) (a .1 .0)
 
   abbrev rows₀ : List Block
-  rows₀ = a .0 .now
+  rows₀ = a .1 .0 .now
 
   abbrev blocks₀ : ℕ
-  blocks₀ = a .1 .0
+  blocks₀ = a .1 .1 .0
 
   abbrev at-slots : Seat
-  at-slots = seatOf (κs .1 .0) (qs .1 .0) (a .1 .1 .0)
+  at-slots = seatOf (κs .1 .0) (qs .1 .0) (a .1 .1 .1 .0)
 
   abbrev slots₀ : List ℕ
-  slots₀ = a .1 .1 .0 .now
+  slots₀ = a .1 .1 .1 .0 .now
 
   abbrev n₀ : ℕ
-  n₀ = a .1 .1 .1 .0
+  n₀ = a .1 .1 .1 .1 .0
 
   abbrev at-clients : Seat
-  at-clients = seatOf (κs .1 .1 .0) (qs .1 .1 .0) (a .1 .1 .1 .1 .0)
+  at-clients = seatOf (κs .1 .1 .0) (qs .1 .1 .0) (a .1 .1 .1 .1 .1 .0)
 
   abbrev clients₀ : List ℕ
-  clients₀ = a .1 .1 .1 .1 .0 .now
+  clients₀ = a .1 .1 .1 .1 .1 .0 .now
 
   abbrev at-clocks : Seat
-  at-clocks = seatOf (κs .1 .1 .1 .0) (qs .1 .1 .1 .0) (a .1 .1 .1 .1 .1 .0)
+  at-clocks = seatOf (κs .1 .1 .1 .0) (qs .1 .1 .1 .0) (a .1 .1 .1 .1 .1 .1 .0)
 
   abbrev clocks₀ : List ℕ
-  clocks₀ = a .1 .1 .1 .1 .1 .0 .now
+  clocks₀ = a .1 .1 .1 .1 .1 .1 .0 .now
 
   abbrev m₀ : ℕ
-  m₀ = a .1 .1 .1 .1 .1 .1 .0
+  m₀ = a .1 .1 .1 .1 .1 .1 .1 .0
 
   abbrev at-order : Seat
-  at-order = seatOf (κs .1 .1 .1 .1 .0) (qs .1 .1 .1 .1 .0) (a .1 .1 .1 .1 .1 .1 .1 .0)
+  at-order = seatOf (κs .1 .1 .1 .1 .0) (qs .1 .1 .1 .1 .0) (a .1 .1 .1 .1 .1 .1 .1 .1 .0)
 
   abbrev order₀ : List ℕ
-  order₀ = a .1 .1 .1 .1 .1 .1 .1 .0 .now
+  order₀ = a .1 .1 .1 .1 .1 .1 .1 .1 .0 .now
 
   abbrev at-counts : Seat
-  at-counts = seatOf (κs .1 .1 .1 .1 .1 .0) (qs .1 .1 .1 .1 .1 .0) (a .1 .1 .1 .1 .1 .1 .1 .1 .0)
+  at-counts = seatOf (κs .1 .1 .1 .1 .1 .0) (qs .1 .1 .1 .1 .1 .0) (a .1 .1 .1 .1 .1 .1 .1 .1 .1 .0)
 
   abbrev counts₀ : List ℕ
-  counts₀ = a .1 .1 .1 .1 .1 .1 .1 .1 .0 .now
+  counts₀ = a .1 .1 .1 .1 .1 .1 .1 .1 .1 .0 .now
 
   abbrev at-reaches : Seat
-  at-reaches = seatOf (κs .1 .1 .1 .1 .1 .1 .0) (qs .1 .1 .1 .1 .1 .1 .0) (a .1 .1 .1 .1 .1 .1 .1 .1 .1 .0)
+  at-reaches = seatOf (κs .1 .1 .1 .1 .1 .1 .0) (qs .1 .1 .1 .1 .1 .1 .0) (a .1 .1 .1 .1 .1 .1 .1 .1 .1 .1 .0)
 
   abbrev reaches₀ : List ℕ
-  reaches₀ = a .1 .1 .1 .1 .1 .1 .1 .1 .1 .0 .now
+  reaches₀ = a .1 .1 .1 .1 .1 .1 .1 .1 .1 .1 .0 .now
 
   abbrev at-pending : Seat
-  at-pending = seatOf (κs .1 .1 .1 .1 .1 .1 .1 .0) (qs .1 .1 .1 .1 .1 .1 .1 .0) (a .1 .1 .1 .1 .1 .1 .1 .1 .1 .1 .0)
+  at-pending = seatOf (κs .1 .1 .1 .1 .1 .1 .1 .0) (qs .1 .1 .1 .1 .1 .1 .1 .0) (a .1 .1 .1 .1 .1 .1 .1 .1 .1 .1 .1 .0)
 
   abbrev pending₀ : List ℕ
-  pending₀ = a .1 .1 .1 .1 .1 .1 .1 .1 .1 .1 .0 .now
+  pending₀ = a .1 .1 .1 .1 .1 .1 .1 .1 .1 .1 .1 .0 .now
 
   -- the parameters, with the lists at exit
   abbrev ps : List ℕ → List ℕ → List ℕ → List ℕ → List Arg
-  ps order₁ counts₁ reaches₁ pending₁ = pass block at-rows rows₀ ∷ val word blocks₀ (are .1 .0) ∷ pass word at-slots slots₀ ∷ val word n₀ (are .1 .1 .1 .0) ∷ pass word at-clients clients₀ ∷ pass word at-clocks clocks₀ ∷ val word m₀ (are .1 .1 .1 .1 .1 .1 .0) ∷ mut word at-order order₀ order₁ ∷ mut word at-counts counts₀ counts₁ ∷ mut word at-reaches reaches₀ reaches₁ ∷ mut word at-pending pending₀ pending₁ ∷ []
+  ps order₁ counts₁ reaches₁ pending₁ = val byte rule₀ (are .0) ∷ pass block at-rows rows₀ ∷ val word blocks₀ (are .1 .1 .0) ∷ pass word at-slots slots₀ ∷ val word n₀ (are .1 .1 .1 .1 .0) ∷ pass word at-clients clients₀ ∷ pass word at-clocks clocks₀ ∷ val word m₀ (are .1 .1 .1 .1 .1 .1 .1 .0) ∷ mut word at-order order₀ order₁ ∷ mut word at-counts counts₀ counts₁ ∷ mut word at-reaches reaches₀ reaches₁ ∷ mut word at-pending pending₀ pending₁ ∷ []
 
   abbrev hs : List ℕ → List ℕ → List ℕ → List ℕ → List Held
   hs order₁ counts₁ reaches₁ pending₁ = back (ps order₁ counts₁ reaches₁ pending₁)
@@ -157,7 +160,7 @@ module _ {M : Type 1} (𝓤 : URA M) (H : Heap 𝓤) (A : Atoms 𝓤) (W : Given
 
   -- the contract
   abbrev Right : Sorting → List ℕ → List ℕ → List ℕ → List ℕ → Type 0
-  Right r order₁ counts₁ reaches₁ pending₁ = (r ≡ sortingOn (slotsFrom slots₀ 0 n₀) rows₀ blocks₀ (entriesOf m₀ clients₀ clocks₀) order₀) × (order₁ ≡ orderOn (slotsFrom slots₀ 0 n₀) rows₀ blocks₀ (entriesOf m₀ clients₀ clocks₀) order₀) × (counts₁ ≡ fitted (length counts₀) (countsOn (slotsFrom slots₀ 0 n₀) rows₀ blocks₀ (entriesOf m₀ clients₀ clocks₀) order₀)) × (reaches₁ ≡ fitted (length reaches₀) (reachesOn (slotsFrom slots₀ 0 n₀) rows₀ blocks₀ (entriesOf m₀ clients₀ clocks₀) order₀)) × (pending₁ ≡ fitted (length pending₀) (pendingOn (slotsFrom slots₀ 0 n₀) rows₀ blocks₀ (entriesOf m₀ clients₀ clocks₀) order₀))
+  Right r order₁ counts₁ reaches₁ pending₁ = (r ≡ sortingOn rule₀ (slotsFrom slots₀ 0 n₀) rows₀ blocks₀ (entriesOf m₀ clients₀ clocks₀) order₀) × (order₁ ≡ orderOn rule₀ (slotsFrom slots₀ 0 n₀) rows₀ blocks₀ (entriesOf m₀ clients₀ clocks₀) order₀) × (counts₁ ≡ fitted (length counts₀) (countsOn rule₀ (slotsFrom slots₀ 0 n₀) rows₀ blocks₀ (entriesOf m₀ clients₀ clocks₀) order₀)) × (reaches₁ ≡ fitted (length reaches₀) (reachesOn rule₀ (slotsFrom slots₀ 0 n₀) rows₀ blocks₀ (entriesOf m₀ clients₀ clocks₀) order₀)) × (pending₁ ≡ fitted (length pending₀) (pendingOn rule₀ (slotsFrom slots₀ 0 n₀) rows₀ blocks₀ (entriesOf m₀ clients₀ clocks₀) order₀))
 
   exits : (r : Sorting) (order₁ : List ℕ) (counts₁ : List ℕ) (reaches₁ : List ℕ) (pending₁ : List ℕ) → Has sorting r → Right r order₁ counts₁ reaches₁ pending₁ → ent 𝓤 (sem 𝓤 H A (refs (hs order₁ counts₁ reaches₁ pending₁))) (Post (sorting .val r))
   exits r order₁ counts₁ reaches₁ pending₁ g e = leaves 𝓤 H A W (ps order₁ counts₁ reaches₁ pending₁) (refl, (refl, (refl, (refl, tt)))) sorting r g (Right r order₁ counts₁ reaches₁ pending₁) e (Post (sorting .val r)) (λ fit. ends-at 𝓤 H A f.ended (stays fs) (f.clauses 𝓤 H A mem run) W ((κs, qs, bounds, a, at-entry), tt) (sorting .val r) r (ends (ps order₁ counts₁ reaches₁ pending₁)) fit)
@@ -166,65 +169,65 @@ module _ {M : Type 1} (𝓤 : URA M) (H : Heap 𝓤) (A : Atoms 𝓤) (W : Given
     walk : ((3 * n₀ ≤ length slots₀) × Falling (slotsFrom slots₀ 0 n₀)) → ent 𝓤 (onEntry 𝓤 H A f.signature κs qs a at-entry) (WpFn 𝓤 H (𝓣 .C) (𝓣 .Λ) fn (vals (ps order₀ counts₀ reaches₀ pending₀)) Post)
     walk req =
         qed W (raw (onEntry 𝓤 H A f.signature κs qs a at-entry) ∷ []) ∵ use1 W (‵ (refs (hs order₀ counts₀ reaches₀ pending₀))) (enters 𝓤 H A W (ps order₀ counts₀ reaches₀ pending₀)) $ enter ! (𝓣 .C) (𝓣 .Λ) fn (vals (ps order₀ counts₀ reaches₀ pending₀)) _ $
-        alloc-all ! (fn .locals) (λ l₀ l₁ l₂ l₃ l₄ l₅ l₆ l₇ l₈ l₉ l₁₀ l₁₁ l₁₂ l₁₃ l₁₄ l₁₅ l₁₆ l₁₇ l₁₈ l₁₉ l₂₀ l₂₁ l₂₂ l₂₃ l₂₄ l₂₅ l₂₆ l₂₇ l₂₈ l₂₉ l₃₀ l₃₁ l₃₂ l₃₃ l₃₄ l₃₅ l₃₆ l₃₇ l₃₈ l₃₉ l₄₀ l₄₁ l₄₂ l₄₃ l₄₄ l₄₅ l₄₆ l₄₇ l₄₈. let ls : List ℕ = l₀ ∷ l₁ ∷ l₂ ∷ l₃ ∷ l₄ ∷ l₅ ∷ l₆ ∷ l₇ ∷ l₈ ∷ l₉ ∷ l₁₀ ∷ l₁₁ ∷ l₁₂ ∷ l₁₃ ∷ l₁₄ ∷ l₁₅ ∷ l₁₆ ∷ l₁₇ ∷ l₁₈ ∷ l₁₉ ∷ l₂₀ ∷ l₂₁ ∷ l₂₂ ∷ l₂₃ ∷ l₂₄ ∷ l₂₅ ∷ l₂₆ ∷ l₂₇ ∷ l₂₈ ∷ l₂₉ ∷ l₃₀ ∷ l₃₁ ∷ l₃₂ ∷ l₃₃ ∷ l₃₄ ∷ l₃₅ ∷ l₃₆ ∷ l₃₇ ∷ l₃₈ ∷ l₃₉ ∷ l₄₀ ∷ l₄₁ ∷ l₄₂ ∷ l₄₃ ∷ l₄₄ ∷ l₄₅ ∷ l₄₆ ∷ l₄₇ ∷ l₄₈ ∷ [] in let En : Envs = envOf (fn .locals) ls in
-        params1 ! $ pass1 ! (init ! 94 refl (tt, (tt, (record { fits = are .0 .0 .1 .0 }, tt)))) $ pass1 ! (init ! 92 refl (word .lawful M 𝓤 H A W .typed blocks₀ _ (are .1 .0) .0)) $ pass1 ! (init ! 90 refl (tt, (tt, (record { fits = are .1 .1 .0 .0 .1 .0 }, tt)))) $ pass1 ! (init ! 88 refl (word .lawful M 𝓤 H A W .typed n₀ _ (are .1 .1 .1 .0) .0)) $ pass1 ! (init ! 86 refl (tt, (tt, (record { fits = are .1 .1 .1 .1 .0 .0 .1 .0 }, tt)))) $ pass1 ! (init ! 84 refl (tt, (tt, (record { fits = are .1 .1 .1 .1 .1 .0 .0 .1 .0 }, tt)))) $ pass1 ! (init ! 82 refl (word .lawful M 𝓤 H A W .typed m₀ _ (are .1 .1 .1 .1 .1 .1 .0) .0)) $ pass1 ! (init ! 80 refl (tt, (tt, (record { fits = are .1 .1 .1 .1 .1 .1 .1 .0 .0 .1 .0 }, tt)))) $ pass1 ! (init ! 78 refl (tt, (tt, (record { fits = are .1 .1 .1 .1 .1 .1 .1 .1 .0 .0 .1 .0 }, tt)))) $ pass1 ! (init ! 76 refl (tt, (tt, (record { fits = are .1 .1 .1 .1 .1 .1 .1 .1 .1 .0 .0 .1 .0 }, tt)))) $ pass1 ! (init ! 74 refl (tt, (tt, (record { fits = are .1 .1 .1 .1 .1 .1 .1 .1 .1 .1 .0 .0 .1 .0 }, tt)))) $ pass0 ! $ move ! (98 ∷ []) $
-        -- [the references; _48 at 1; _47 at 3; _46 at 5; _45 at 7; _44 at 9; _43 at 11; _42 at 13; _41 at 15; _40 at 17; _39 at 19; _38 at 21; _37 at 23; _36 at 25; _35 at 27; _34 at 29; _33 at 31; _32 at 33; _31 at 35; _30 at 37; _29 at 39; _28 at 41; _27 at 43; _26 at 45; _25 at 47; _24 at 49; _23 at 51; _22 at 53; _21 at 55; _20 at 57; _19 at 59; _18 at 61; _17 at 63; _16 at 65; _15 at 67; _14 at 69; _13 at 71; _12 at 73; _11 at 75; _10 at 77; _9 at 79; _8 at 81; _7 at 83; _6 at 85; _5 at 87; _4 at 89; _3 at 91; _2 at 93; _1 at 95; _0 at 97]
-        array-typed ! word 128 0 (refl, lit< tt) (λ ty₁₂.
-        assigns ! (rep ! 128 (lit ! tt)) (from ! (stop !)) (init ! 73 refl (ty₁₂ .0)) $
+        alloc-all ! (fn .locals) (λ l₀ l₁ l₂ l₃ l₄ l₅ l₆ l₇ l₈ l₉ l₁₀ l₁₁ l₁₂ l₁₃ l₁₄ l₁₅ l₁₆ l₁₇ l₁₈ l₁₉ l₂₀ l₂₁ l₂₂ l₂₃ l₂₄ l₂₅ l₂₆ l₂₇ l₂₈ l₂₉ l₃₀ l₃₁ l₃₂ l₃₃ l₃₄ l₃₅ l₃₆ l₃₇ l₃₈ l₃₉ l₄₀ l₄₁ l₄₂ l₄₃ l₄₄ l₄₅ l₄₆ l₄₇ l₄₈ l₄₉. let ls : List ℕ = l₀ ∷ l₁ ∷ l₂ ∷ l₃ ∷ l₄ ∷ l₅ ∷ l₆ ∷ l₇ ∷ l₈ ∷ l₉ ∷ l₁₀ ∷ l₁₁ ∷ l₁₂ ∷ l₁₃ ∷ l₁₄ ∷ l₁₅ ∷ l₁₆ ∷ l₁₇ ∷ l₁₈ ∷ l₁₉ ∷ l₂₀ ∷ l₂₁ ∷ l₂₂ ∷ l₂₃ ∷ l₂₄ ∷ l₂₅ ∷ l₂₆ ∷ l₂₇ ∷ l₂₈ ∷ l₂₉ ∷ l₃₀ ∷ l₃₁ ∷ l₃₂ ∷ l₃₃ ∷ l₃₄ ∷ l₃₅ ∷ l₃₆ ∷ l₃₇ ∷ l₃₈ ∷ l₃₉ ∷ l₄₀ ∷ l₄₁ ∷ l₄₂ ∷ l₄₃ ∷ l₄₄ ∷ l₄₅ ∷ l₄₆ ∷ l₄₇ ∷ l₄₈ ∷ l₄₉ ∷ [] in let En : Envs = envOf (fn .locals) ls in
+        params1 ! $ pass1 ! (init ! 96 refl (byte .lawful M 𝓤 H A W .typed rule₀ _ (are .0) .0)) $ pass1 ! (init ! 94 refl (tt, (tt, (record { fits = are .1 .0 .0 .1 .0 }, tt)))) $ pass1 ! (init ! 92 refl (word .lawful M 𝓤 H A W .typed blocks₀ _ (are .1 .1 .0) .0)) $ pass1 ! (init ! 90 refl (tt, (tt, (record { fits = are .1 .1 .1 .0 .0 .1 .0 }, tt)))) $ pass1 ! (init ! 88 refl (word .lawful M 𝓤 H A W .typed n₀ _ (are .1 .1 .1 .1 .0) .0)) $ pass1 ! (init ! 86 refl (tt, (tt, (record { fits = are .1 .1 .1 .1 .1 .0 .0 .1 .0 }, tt)))) $ pass1 ! (init ! 84 refl (tt, (tt, (record { fits = are .1 .1 .1 .1 .1 .1 .0 .0 .1 .0 }, tt)))) $ pass1 ! (init ! 82 refl (word .lawful M 𝓤 H A W .typed m₀ _ (are .1 .1 .1 .1 .1 .1 .1 .0) .0)) $ pass1 ! (init ! 80 refl (tt, (tt, (record { fits = are .1 .1 .1 .1 .1 .1 .1 .1 .0 .0 .1 .0 }, tt)))) $ pass1 ! (init ! 78 refl (tt, (tt, (record { fits = are .1 .1 .1 .1 .1 .1 .1 .1 .1 .0 .0 .1 .0 }, tt)))) $ pass1 ! (init ! 76 refl (tt, (tt, (record { fits = are .1 .1 .1 .1 .1 .1 .1 .1 .1 .1 .0 .0 .1 .0 }, tt)))) $ pass1 ! (init ! 74 refl (tt, (tt, (record { fits = are .1 .1 .1 .1 .1 .1 .1 .1 .1 .1 .1 .0 .0 .1 .0 }, tt)))) $ pass0 ! $ move ! (100 ∷ []) $
+        -- [the references; _49 at 1; _48 at 3; _47 at 5; _46 at 7; _45 at 9; _44 at 11; _43 at 13; _42 at 15; _41 at 17; _40 at 19; _39 at 21; _38 at 23; _37 at 25; _36 at 27; _35 at 29; _34 at 31; _33 at 33; _32 at 35; _31 at 37; _30 at 39; _29 at 41; _28 at 43; _27 at 45; _26 at 47; _25 at 49; _24 at 51; _23 at 53; _22 at 55; _21 at 57; _20 at 59; _19 at 61; _18 at 63; _17 at 65; _16 at 67; _15 at 69; _14 at 71; _13 at 73; _12 at 75; _11 at 77; _10 at 79; _9 at 81; _8 at 83; _7 at 85; _6 at 87; _5 at 89; _4 at 91; _3 at 93; _2 at 95; _1 at 97; _0 at 99]
+        array-typed ! word 128 0 (refl, lit< tt) (λ ty₁₃.
+        assigns ! (rep ! 128 (lit ! tt)) (from ! (stop !)) (init ! 73 refl (ty₁₃ .0)) $
         assigns ! (addr ! (from ! (stop !))) (from ! (stop !)) (init ! 57 refl (tt, tt)) $
         assigns ! (agg ! (and-then ! (load ! (from ! (stop !)) (look ! 57 refl)) (and-then ! (lit ! tt) (no-more !)))) (from ! (stop !)) (init ! 71 refl (tt, (tt, (record { fits = lit< tt }, tt)))) $
-        move ! (0 ∷ 73 ∷ []) $ own-lends ! tt word tt 128 128 (omega (arith)) 0 l₁₂ (refl, lit< tt) (lit< tt, lit< tt) (hs order₀ counts₀ reaches₀ pending₀) (λ ν₁₂ δ₁₂. move ! (0 ∷ 2 ∷ 3 ∷ 4 ∷ 5 ∷ 6 ∷ 7 ∷ 8 ∷ 9 ∷ 10 ∷ 11 ∷ 12 ∷ 13 ∷ 14 ∷ 15 ∷ 16 ∷ 17 ∷ 18 ∷ 19 ∷ 20 ∷ 21 ∷ 22 ∷ 23 ∷ 24 ∷ 25 ∷ 26 ∷ 27 ∷ 28 ∷ 29 ∷ 30 ∷ 31 ∷ 32 ∷ 33 ∷ 34 ∷ 35 ∷ 36 ∷ 37 ∷ 38 ∷ 39 ∷ 40 ∷ 41 ∷ 42 ∷ 43 ∷ 44 ∷ 45 ∷ 46 ∷ 47 ∷ 48 ∷ 49 ∷ 50 ∷ 51 ∷ 52 ∷ 53 ∷ 54 ∷ 55 ∷ 56 ∷ 57 ∷ 58 ∷ 59 ∷ 60 ∷ 61 ∷ 62 ∷ 63 ∷ 64 ∷ 65 ∷ 66 ∷ 67 ∷ 68 ∷ 69 ∷ 70 ∷ 71 ∷ 72 ∷ 73 ∷ 1 ∷ []) $
-        array-typed ! word 768 0 (refl, lit< tt) (λ ty₁₄.
-        assigns ! (rep ! 768 (lit ! tt)) (from ! (stop !)) (init ! 69 refl (ty₁₄ .0)) $
+        move ! (0 ∷ 73 ∷ []) $ own-lends ! tt word tt 128 128 (omega (arith)) 0 l₁₃ (refl, lit< tt) (lit< tt, lit< tt) (hs order₀ counts₀ reaches₀ pending₀) (λ ν₁₃ δ₁₃. move ! (0 ∷ 2 ∷ 3 ∷ 4 ∷ 5 ∷ 6 ∷ 7 ∷ 8 ∷ 9 ∷ 10 ∷ 11 ∷ 12 ∷ 13 ∷ 14 ∷ 15 ∷ 16 ∷ 17 ∷ 18 ∷ 19 ∷ 20 ∷ 21 ∷ 22 ∷ 23 ∷ 24 ∷ 25 ∷ 26 ∷ 27 ∷ 28 ∷ 29 ∷ 30 ∷ 31 ∷ 32 ∷ 33 ∷ 34 ∷ 35 ∷ 36 ∷ 37 ∷ 38 ∷ 39 ∷ 40 ∷ 41 ∷ 42 ∷ 43 ∷ 44 ∷ 45 ∷ 46 ∷ 47 ∷ 48 ∷ 49 ∷ 50 ∷ 51 ∷ 52 ∷ 53 ∷ 54 ∷ 55 ∷ 56 ∷ 57 ∷ 58 ∷ 59 ∷ 60 ∷ 61 ∷ 62 ∷ 63 ∷ 64 ∷ 65 ∷ 66 ∷ 67 ∷ 68 ∷ 69 ∷ 70 ∷ 71 ∷ 72 ∷ 73 ∷ 1 ∷ []) $
+        array-typed ! word 768 0 (refl, lit< tt) (λ ty₁₅.
+        assigns ! (rep ! 768 (lit ! tt)) (from ! (stop !)) (init ! 69 refl (ty₁₅ .0)) $
         assigns ! (addr ! (from ! (stop !))) (from ! (stop !)) (init ! 55 refl (tt, tt)) $
         assigns ! (agg ! (and-then ! (load ! (from ! (stop !)) (look ! 55 refl)) (and-then ! (lit ! tt) (no-more !)))) (from ! (stop !)) (init ! 67 refl (tt, (tt, (record { fits = lit< tt }, tt)))) $
-        move ! (0 ∷ 69 ∷ []) $ own-lends ! tt word tt 768 768 (omega (arith)) 0 l₁₄ (refl, lit< tt) (lit< tt, lit< tt) (tab word (own-seat l₁₂ 128 ν₁₂ δ₁₂) (replicate 128 0) ∷ hs order₀ counts₀ reaches₀ pending₀) (λ ν₁₄ δ₁₄. move ! (0 ∷ 2 ∷ 3 ∷ 4 ∷ 5 ∷ 6 ∷ 7 ∷ 8 ∷ 9 ∷ 10 ∷ 11 ∷ 12 ∷ 13 ∷ 14 ∷ 15 ∷ 16 ∷ 17 ∷ 18 ∷ 19 ∷ 20 ∷ 21 ∷ 22 ∷ 23 ∷ 24 ∷ 25 ∷ 26 ∷ 27 ∷ 28 ∷ 29 ∷ 30 ∷ 31 ∷ 32 ∷ 33 ∷ 34 ∷ 35 ∷ 36 ∷ 37 ∷ 38 ∷ 39 ∷ 40 ∷ 41 ∷ 42 ∷ 43 ∷ 44 ∷ 45 ∷ 46 ∷ 47 ∷ 48 ∷ 49 ∷ 50 ∷ 51 ∷ 52 ∷ 53 ∷ 54 ∷ 55 ∷ 56 ∷ 57 ∷ 58 ∷ 59 ∷ 60 ∷ 61 ∷ 62 ∷ 63 ∷ 64 ∷ 65 ∷ 66 ∷ 67 ∷ 68 ∷ 69 ∷ 1 ∷ []) $
+        move ! (0 ∷ 69 ∷ []) $ own-lends ! tt word tt 768 768 (omega (arith)) 0 l₁₅ (refl, lit< tt) (lit< tt, lit< tt) (tab word (own-seat l₁₃ 128 ν₁₃ δ₁₃) (replicate 128 0) ∷ hs order₀ counts₀ reaches₀ pending₀) (λ ν₁₅ δ₁₅. move ! (0 ∷ 2 ∷ 3 ∷ 4 ∷ 5 ∷ 6 ∷ 7 ∷ 8 ∷ 9 ∷ 10 ∷ 11 ∷ 12 ∷ 13 ∷ 14 ∷ 15 ∷ 16 ∷ 17 ∷ 18 ∷ 19 ∷ 20 ∷ 21 ∷ 22 ∷ 23 ∷ 24 ∷ 25 ∷ 26 ∷ 27 ∷ 28 ∷ 29 ∷ 30 ∷ 31 ∷ 32 ∷ 33 ∷ 34 ∷ 35 ∷ 36 ∷ 37 ∷ 38 ∷ 39 ∷ 40 ∷ 41 ∷ 42 ∷ 43 ∷ 44 ∷ 45 ∷ 46 ∷ 47 ∷ 48 ∷ 49 ∷ 50 ∷ 51 ∷ 52 ∷ 53 ∷ 54 ∷ 55 ∷ 56 ∷ 57 ∷ 58 ∷ 59 ∷ 60 ∷ 61 ∷ 62 ∷ 63 ∷ 64 ∷ 65 ∷ 66 ∷ 67 ∷ 68 ∷ 69 ∷ 1 ∷ []) $
         assigns ! (addr ! (from ! (fld ! refl (hop ! (look-in ! 71 (sub ! 0 refl (whole !))) (stop !))))) (from ! (stop !)) (init ! 51 refl (tt, tt)) $
         assigns ! (agg ! (and-then ! (load ! (from ! (stop !)) (look ! 51 refl)) (and-then ! (load ! (from ! (fld ! refl (stop !))) (look-in ! 71 (sub ! 1 refl (whole !)))) (no-more !)))) (from ! (stop !)) (init ! 49 refl (tt, (tt, (record { fits = lit< tt }, tt)))) $
-        calls-by ! (fmOf 𝓤 H (W .laws) 𝓣) (3 ∷ 4 ∷ 5 ∷ 1 ∷ []) (tab word (own-seat l₁₄ 768 ν₁₄ δ₁₄) (replicate 768 0) ∷ tab word (own-seat l₁₂ 128 ν₁₂ δ₁₂) (replicate 128 0) ∷ hs order₀ counts₀ reaches₀ pending₀) (picker·fronts·fill-reaches! 𝓤 H A mem run (𝓣 .C) known-picker·fronts·fill-reaches at-slots slots₀ n₀ (are .1 .1 .1 .0) at-clients clients₀ at-clocks clocks₀ m₀ (are .1 .1 .1 .1 .1 .1 .0) (own-seat l₁₂ 128 ν₁₂ δ₁₂) (replicate 128 0) (req .0)) refl (λ P. and-then ! (load ! (from ! (stop !)) (look ! 91 refl)) (and-then ! (load ! (from ! (stop !)) (look ! 89 refl)) (and-then ! (load ! (from ! (stop !)) (look ! 87 refl)) (and-then ! (load ! (from ! (stop !)) (look ! 85 refl)) (and-then ! (load ! (from ! (stop !)) (look ! 83 refl)) (and-then ! (load ! (from ! (stop !)) (look ! 49 refl)) (no-more !))))))) (λ g₁.
+        calls-by ! (fmOf 𝓤 H (W .laws) 𝓣) (3 ∷ 4 ∷ 5 ∷ 1 ∷ []) (tab word (own-seat l₁₅ 768 ν₁₅ δ₁₅) (replicate 768 0) ∷ tab word (own-seat l₁₃ 128 ν₁₃ δ₁₃) (replicate 128 0) ∷ hs order₀ counts₀ reaches₀ pending₀) (picker·fronts·fill-reaches! 𝓤 H A mem run (𝓣 .C) known-picker·fronts·fill-reaches at-slots slots₀ n₀ (are .1 .1 .1 .1 .0) at-clients clients₀ at-clocks clocks₀ m₀ (are .1 .1 .1 .1 .1 .1 .1 .0) (own-seat l₁₃ 128 ν₁₃ δ₁₃) (replicate 128 0) (req .0)) refl (λ P. and-then ! (load ! (from ! (stop !)) (look ! 91 refl)) (and-then ! (load ! (from ! (stop !)) (look ! 89 refl)) (and-then ! (load ! (from ! (stop !)) (look ! 87 refl)) (and-then ! (load ! (from ! (stop !)) (look ! 85 refl)) (and-then ! (load ! (from ! (stop !)) (look ! 83 refl)) (and-then ! (load ! (from ! (stop !)) (look ! 49 refl)) (no-more !))))))) (λ g₁.
         land ! (from ! (stop !)) (init ! 53 refl (g₁ .1 .0)) $
         assigns ! (addr ! (from ! (fld ! refl (hop ! (look-in ! 67 (sub ! 0 refl (whole !))) (stop !))))) (from ! (stop !)) (init ! 47 refl (tt, tt)) $
         assigns ! (agg ! (and-then ! (load ! (from ! (stop !)) (look ! 47 refl)) (and-then ! (load ! (from ! (fld ! refl (stop !))) (look-in ! 67 (sub ! 1 refl (whole !)))) (no-more !)))) (from ! (stop !)) (init ! 45 refl (tt, (tt, (record { fits = lit< tt }, tt)))) $
-        calls-by ! (fmOf 𝓤 H (W .laws) 𝓣) (3 ∷ 0 ∷ []) (tab word (own-seat l₁₄ 768 ν₁₄ δ₁₄) (replicate 768 0) ∷ tab word (own-seat l₁₂ 128 ν₁₂ δ₁₂) (filledFrom 0 (slotsFrom slots₀ 0 n₀) (entriesOf m₀ clients₀ clocks₀) (replicate 128 0)) ∷ hs order₀ counts₀ reaches₀ pending₀) (picker·fronts·open! 𝓤 H A mem run (𝓣 .C) known-picker·fronts·open at-slots slots₀ n₀ (are .1 .1 .1 .0) (own-seat l₁₄ 768 ν₁₄ δ₁₄) (replicate 768 0) (req .0)) refl (λ P. and-then ! (load ! (from ! (stop !)) (look ! 91 refl)) (and-then ! (load ! (from ! (stop !)) (look ! 89 refl)) (and-then ! (load ! (from ! (stop !)) (look ! 45 refl)) (no-more !)))) (λ g₂.
+        calls-by ! (fmOf 𝓤 H (W .laws) 𝓣) (3 ∷ 0 ∷ []) (tab word (own-seat l₁₅ 768 ν₁₅ δ₁₅) (replicate 768 0) ∷ tab word (own-seat l₁₃ 128 ν₁₃ δ₁₃) (filledFrom 0 (slotsFrom slots₀ 0 n₀) (entriesOf m₀ clients₀ clocks₀) (replicate 128 0)) ∷ hs order₀ counts₀ reaches₀ pending₀) (picker·fronts·open! 𝓤 H A mem run (𝓣 .C) known-picker·fronts·open at-slots slots₀ n₀ (are .1 .1 .1 .1 .0) (own-seat l₁₅ 768 ν₁₅ δ₁₅) (replicate 768 0) (req .0)) refl (λ P. and-then ! (load ! (from ! (stop !)) (look ! 91 refl)) (and-then ! (load ! (from ! (stop !)) (look ! 89 refl)) (and-then ! (load ! (from ! (stop !)) (look ! 45 refl)) (no-more !)))) (λ g₂.
         land ! (from ! (stop !)) (store ! 53 refl (g₂ .1 .0)) $
         assigns ! (addr ! (from ! (fld ! refl (hop ! (look-in ! 71 (sub ! 0 refl (whole !))) (stop !))))) (from ! (stop !)) (init ! 43 refl (tt, tt)) $
         assigns ! (agg ! (and-then ! (load ! (from ! (stop !)) (look ! 43 refl)) (and-then ! (load ! (from ! (fld ! refl (stop !))) (look-in ! 71 (sub ! 1 refl (whole !)))) (no-more !)))) (from ! (stop !)) (init ! 41 refl (tt, (tt, (record { fits = lit< tt }, tt)))) $
         assigns ! (addr ! (from ! (fld ! refl (hop ! (look-in ! 67 (sub ! 0 refl (whole !))) (stop !))))) (from ! (stop !)) (init ! 39 refl (tt, tt)) $
         assigns ! (agg ! (and-then ! (load ! (from ! (stop !)) (look ! 39 refl)) (and-then ! (load ! (from ! (fld ! refl (stop !))) (look-in ! 67 (sub ! 1 refl (whole !)))) (no-more !)))) (from ! (stop !)) (init ! 37 refl (tt, (tt, (record { fits = lit< tt }, tt)))) $
         assigns ! (addr ! (from ! (fld ! refl (hop ! (look-in ! 81 (sub ! 0 refl (whole !))) (stop !))))) (from ! (stop !)) (init ! 35 refl (tt, tt)) $
-        assigns ! (agg ! (and-then ! (load ! (from ! (stop !)) (look ! 35 refl)) (and-then ! (load ! (from ! (fld ! refl (stop !))) (look-in ! 81 (sub ! 1 refl (whole !)))) (no-more !)))) (from ! (stop !)) (init ! 33 refl (tt, (tt, (record { fits = are .1 .1 .1 .1 .1 .1 .1 .0 .0 .1 .0 }, tt)))) $
-        calls-by ! (fmOf 𝓤 H (W .laws) 𝓣) (2 ∷ 3 ∷ 1 ∷ 0 ∷ 6 ∷ []) (tab word (own-seat l₁₄ 768 ν₁₄ δ₁₄) (openedFrom 0 (slotsFrom slots₀ 0 n₀) (replicate 768 0)) ∷ tab word (own-seat l₁₂ 128 ν₁₂ δ₁₂) (filledFrom 0 (slotsFrom slots₀ 0 n₀) (entriesOf m₀ clients₀ clocks₀) (replicate 128 0)) ∷ hs order₀ counts₀ reaches₀ pending₀) (sorter·pick-rows! 𝓤 H A mem run (𝓣 .C) known-sorter·pick-rows at-rows rows₀ blocks₀ (are .1 .0) at-slots slots₀ n₀ (are .1 .1 .1 .0) (own-seat l₁₂ 128 ν₁₂ δ₁₂) (filledFrom 0 (slotsFrom slots₀ 0 n₀) (entriesOf m₀ clients₀ clocks₀) (replicate 128 0)) (own-seat l₁₄ 768 ν₁₄ δ₁₄) (openedFrom 0 (slotsFrom slots₀ 0 n₀) (replicate 768 0)) at-order order₀ req) refl (λ P. and-then ! (load ! (from ! (stop !)) (look ! 95 refl)) (and-then ! (load ! (from ! (stop !)) (look ! 93 refl)) (and-then ! (load ! (from ! (stop !)) (look ! 91 refl)) (and-then ! (load ! (from ! (stop !)) (look ! 89 refl)) (and-then ! (load ! (from ! (stop !)) (look ! 41 refl)) (and-then ! (load ! (from ! (stop !)) (look ! 37 refl)) (and-then ! (load ! (from ! (stop !)) (look ! 33 refl)) (no-more !)))))))) (λ g₃.
+        assigns ! (agg ! (and-then ! (load ! (from ! (stop !)) (look ! 35 refl)) (and-then ! (load ! (from ! (fld ! refl (stop !))) (look-in ! 81 (sub ! 1 refl (whole !)))) (no-more !)))) (from ! (stop !)) (init ! 33 refl (tt, (tt, (record { fits = are .1 .1 .1 .1 .1 .1 .1 .1 .0 .0 .1 .0 }, tt)))) $
+        calls-by ! (fmOf 𝓤 H (W .laws) 𝓣) (2 ∷ 3 ∷ 1 ∷ 0 ∷ 6 ∷ []) (tab word (own-seat l₁₅ 768 ν₁₅ δ₁₅) (openedFrom 0 (slotsFrom slots₀ 0 n₀) (replicate 768 0)) ∷ tab word (own-seat l₁₃ 128 ν₁₃ δ₁₃) (filledFrom 0 (slotsFrom slots₀ 0 n₀) (entriesOf m₀ clients₀ clocks₀) (replicate 128 0)) ∷ hs order₀ counts₀ reaches₀ pending₀) (sorter·pick-rows! 𝓤 H A mem run (𝓣 .C) known-sorter·pick-rows rule₀ (are .0) at-rows rows₀ blocks₀ (are .1 .1 .0) at-slots slots₀ n₀ (are .1 .1 .1 .1 .0) (own-seat l₁₃ 128 ν₁₃ δ₁₃) (filledFrom 0 (slotsFrom slots₀ 0 n₀) (entriesOf m₀ clients₀ clocks₀) (replicate 128 0)) (own-seat l₁₅ 768 ν₁₅ δ₁₅) (openedFrom 0 (slotsFrom slots₀ 0 n₀) (replicate 768 0)) at-order order₀ req) refl (λ P. and-then ! (load ! (from ! (stop !)) (look ! 97 refl)) (and-then ! (load ! (from ! (stop !)) (look ! 95 refl)) (and-then ! (load ! (from ! (stop !)) (look ! 93 refl)) (and-then ! (load ! (from ! (stop !)) (look ! 91 refl)) (and-then ! (load ! (from ! (stop !)) (look ! 89 refl)) (and-then ! (load ! (from ! (stop !)) (look ! 41 refl)) (and-then ! (load ! (from ! (stop !)) (look ! 37 refl)) (and-then ! (load ! (from ! (stop !)) (look ! 33 refl)) (no-more !))))))))) (λ g₃.
         land ! (from ! (stop !)) (init ! 65 refl (g₃ .1 .0)) $
         assigns ! (addr ! (from ! (fld ! refl (hop ! (look-in ! 81 (sub ! 0 refl (whole !))) (stop !))))) (from ! (stop !)) (init ! 31 refl (tt, tt)) $
-        assigns ! (agg ! (and-then ! (load ! (from ! (stop !)) (look ! 31 refl)) (and-then ! (load ! (from ! (fld ! refl (stop !))) (look-in ! 81 (sub ! 1 refl (whole !)))) (no-more !)))) (from ! (stop !)) (init ! 29 refl (tt, (tt, (record { fits = are .1 .1 .1 .1 .1 .1 .1 .0 .0 .1 .0 }, tt)))) $
-        calls-by ! (fmOf 𝓤 H (W .laws) 𝓣) (6 ∷ []) (tab word (own-seat l₁₄ 768 ν₁₄ δ₁₄) (allPicked (slotsFrom slots₀ 0 n₀) rows₀ blocks₀ (filledFrom 0 (slotsFrom slots₀ 0 n₀) (entriesOf m₀ clients₀ clocks₀) (replicate 128 0)) (openedFrom 0 (slotsFrom slots₀ 0 n₀) (replicate 768 0)) order₀ .fronts) ∷ tab word (own-seat l₁₂ 128 ν₁₂ δ₁₂) (allPicked (slotsFrom slots₀ 0 n₀) rows₀ blocks₀ (filledFrom 0 (slotsFrom slots₀ 0 n₀) (entriesOf m₀ clients₀ clocks₀) (replicate 128 0)) (openedFrom 0 (slotsFrom slots₀ 0 n₀) (replicate 768 0)) order₀ .reach) ∷ hs (allPicked (slotsFrom slots₀ 0 n₀) rows₀ blocks₀ (filledFrom 0 (slotsFrom slots₀ 0 n₀) (entriesOf m₀ clients₀ clocks₀) (replicate 128 0)) (openedFrom 0 (slotsFrom slots₀ 0 n₀) (replicate 768 0)) order₀ .order) counts₀ reaches₀ pending₀) (reports·clear-after! 𝓤 H A mem run (𝓣 .C) known-reports·clear-after at-order (allPicked (slotsFrom slots₀ 0 n₀) rows₀ blocks₀ (filledFrom 0 (slotsFrom slots₀ 0 n₀) (entriesOf m₀ clients₀ clocks₀) (replicate 128 0)) (openedFrom 0 (slotsFrom slots₀ 0 n₀) (replicate 768 0)) order₀ .order) ((allPicked (slotsFrom slots₀ 0 n₀) rows₀ blocks₀ (filledFrom 0 (slotsFrom slots₀ 0 n₀) (entriesOf m₀ clients₀ clocks₀) (replicate 128 0)) (openedFrom 0 (slotsFrom slots₀ 0 n₀) (replicate 768 0)) order₀ .at) .steps) (picker·look-steps (allPicked (slotsFrom slots₀ 0 n₀) rows₀ blocks₀ (filledFrom 0 (slotsFrom slots₀ 0 n₀) (entriesOf m₀ clients₀ clocks₀) (replicate 128 0)) (openedFrom 0 (slotsFrom slots₀ 0 n₀) (replicate 768 0)) order₀ .at) (g₃ .0))) refl (λ P. and-then ! (load ! (from ! (stop !)) (look ! 29 refl)) (and-then ! (load ! (from ! (fld ! refl (stop !))) (look-in ! 65 (sub ! 2 refl (whole !)))) (no-more !))) (λ g₄.
+        assigns ! (agg ! (and-then ! (load ! (from ! (stop !)) (look ! 31 refl)) (and-then ! (load ! (from ! (fld ! refl (stop !))) (look-in ! 81 (sub ! 1 refl (whole !)))) (no-more !)))) (from ! (stop !)) (init ! 29 refl (tt, (tt, (record { fits = are .1 .1 .1 .1 .1 .1 .1 .1 .0 .0 .1 .0 }, tt)))) $
+        calls-by ! (fmOf 𝓤 H (W .laws) 𝓣) (6 ∷ []) (tab word (own-seat l₁₅ 768 ν₁₅ δ₁₅) (allPicked rule₀ (slotsFrom slots₀ 0 n₀) rows₀ blocks₀ (filledFrom 0 (slotsFrom slots₀ 0 n₀) (entriesOf m₀ clients₀ clocks₀) (replicate 128 0)) (openedFrom 0 (slotsFrom slots₀ 0 n₀) (replicate 768 0)) order₀ .fronts) ∷ tab word (own-seat l₁₃ 128 ν₁₃ δ₁₃) (allPicked rule₀ (slotsFrom slots₀ 0 n₀) rows₀ blocks₀ (filledFrom 0 (slotsFrom slots₀ 0 n₀) (entriesOf m₀ clients₀ clocks₀) (replicate 128 0)) (openedFrom 0 (slotsFrom slots₀ 0 n₀) (replicate 768 0)) order₀ .reach) ∷ hs (allPicked rule₀ (slotsFrom slots₀ 0 n₀) rows₀ blocks₀ (filledFrom 0 (slotsFrom slots₀ 0 n₀) (entriesOf m₀ clients₀ clocks₀) (replicate 128 0)) (openedFrom 0 (slotsFrom slots₀ 0 n₀) (replicate 768 0)) order₀ .order) counts₀ reaches₀ pending₀) (reports·clear-after! 𝓤 H A mem run (𝓣 .C) known-reports·clear-after at-order (allPicked rule₀ (slotsFrom slots₀ 0 n₀) rows₀ blocks₀ (filledFrom 0 (slotsFrom slots₀ 0 n₀) (entriesOf m₀ clients₀ clocks₀) (replicate 128 0)) (openedFrom 0 (slotsFrom slots₀ 0 n₀) (replicate 768 0)) order₀ .order) ((allPicked rule₀ (slotsFrom slots₀ 0 n₀) rows₀ blocks₀ (filledFrom 0 (slotsFrom slots₀ 0 n₀) (entriesOf m₀ clients₀ clocks₀) (replicate 128 0)) (openedFrom 0 (slotsFrom slots₀ 0 n₀) (replicate 768 0)) order₀ .at) .steps) (picker·look-steps (allPicked rule₀ (slotsFrom slots₀ 0 n₀) rows₀ blocks₀ (filledFrom 0 (slotsFrom slots₀ 0 n₀) (entriesOf m₀ clients₀ clocks₀) (replicate 128 0)) (openedFrom 0 (slotsFrom slots₀ 0 n₀) (replicate 768 0)) order₀ .at) (g₃ .0))) refl (λ P. and-then ! (load ! (from ! (stop !)) (look ! 29 refl)) (and-then ! (load ! (from ! (fld ! refl (stop !))) (look-in ! 65 (sub ! 2 refl (whole !)))) (no-more !))) (λ g₄.
         land ! (from ! (stop !)) (store ! 53 refl (g₄ .1 .0)) $
         assigns ! (addr ! (from ! (fld ! refl (hop ! (look-in ! 67 (sub ! 0 refl (whole !))) (stop !))))) (from ! (stop !)) (init ! 27 refl (tt, tt)) $
         assigns ! (agg ! (and-then ! (load ! (from ! (stop !)) (look ! 27 refl)) (and-then ! (load ! (from ! (fld ! refl (stop !))) (look-in ! 67 (sub ! 1 refl (whole !)))) (no-more !)))) (from ! (stop !)) (init ! 25 refl (tt, (tt, (record { fits = lit< tt }, tt)))) $
         assigns ! (addr ! (from ! (fld ! refl (hop ! (look-in ! 79 (sub ! 0 refl (whole !))) (stop !))))) (from ! (stop !)) (init ! 23 refl (tt, tt)) $
-        assigns ! (agg ! (and-then ! (load ! (from ! (stop !)) (look ! 23 refl)) (and-then ! (load ! (from ! (fld ! refl (stop !))) (look-in ! 79 (sub ! 1 refl (whole !)))) (no-more !)))) (from ! (stop !)) (init ! 21 refl (tt, (tt, (record { fits = are .1 .1 .1 .1 .1 .1 .1 .1 .0 .0 .1 .0 }, tt)))) $
-        calls-by ! (fmOf 𝓤 H (W .laws) 𝓣) (3 ∷ 0 ∷ 7 ∷ []) (tab word (own-seat l₁₄ 768 ν₁₄ δ₁₄) (allPicked (slotsFrom slots₀ 0 n₀) rows₀ blocks₀ (filledFrom 0 (slotsFrom slots₀ 0 n₀) (entriesOf m₀ clients₀ clocks₀) (replicate 128 0)) (openedFrom 0 (slotsFrom slots₀ 0 n₀) (replicate 768 0)) order₀ .fronts) ∷ tab word (own-seat l₁₂ 128 ν₁₂ δ₁₂) (allPicked (slotsFrom slots₀ 0 n₀) rows₀ blocks₀ (filledFrom 0 (slotsFrom slots₀ 0 n₀) (entriesOf m₀ clients₀ clocks₀) (replicate 128 0)) (openedFrom 0 (slotsFrom slots₀ 0 n₀) (replicate 768 0)) order₀ .reach) ∷ hs (take ((allPicked (slotsFrom slots₀ 0 n₀) rows₀ blocks₀ (filledFrom 0 (slotsFrom slots₀ 0 n₀) (entriesOf m₀ clients₀ clocks₀) (replicate 128 0)) (openedFrom 0 (slotsFrom slots₀ 0 n₀) (replicate 768 0)) order₀ .at) .steps) (allPicked (slotsFrom slots₀ 0 n₀) rows₀ blocks₀ (filledFrom 0 (slotsFrom slots₀ 0 n₀) (entriesOf m₀ clients₀ clocks₀) (replicate 128 0)) (openedFrom 0 (slotsFrom slots₀ 0 n₀) (replicate 768 0)) order₀ .order) ++ replicate (length (allPicked (slotsFrom slots₀ 0 n₀) rows₀ blocks₀ (filledFrom 0 (slotsFrom slots₀ 0 n₀) (entriesOf m₀ clients₀ clocks₀) (replicate 128 0)) (openedFrom 0 (slotsFrom slots₀ 0 n₀) (replicate 768 0)) order₀ .order) - ((allPicked (slotsFrom slots₀ 0 n₀) rows₀ blocks₀ (filledFrom 0 (slotsFrom slots₀ 0 n₀) (entriesOf m₀ clients₀ clocks₀) (replicate 128 0)) (openedFrom 0 (slotsFrom slots₀ 0 n₀) (replicate 768 0)) order₀ .at) .steps)) 0) counts₀ reaches₀ pending₀) (reports·report-counts-fronts! 𝓤 H A mem run (𝓣 .C) known-reports·report-counts at-slots slots₀ n₀ (are .1 .1 .1 .0) (own-seat l₁₄ 768 ν₁₄ δ₁₄) (allPicked (slotsFrom slots₀ 0 n₀) rows₀ blocks₀ (filledFrom 0 (slotsFrom slots₀ 0 n₀) (entriesOf m₀ clients₀ clocks₀) (replicate 128 0)) (openedFrom 0 (slotsFrom slots₀ 0 n₀) (replicate 768 0)) order₀ .fronts) at-counts counts₀ (req .0)) refl (λ P. and-then ! (load ! (from ! (stop !)) (look ! 91 refl)) (and-then ! (load ! (from ! (stop !)) (look ! 89 refl)) (and-then ! (load ! (from ! (stop !)) (look ! 25 refl)) (and-then ! (load ! (from ! (stop !)) (look ! 21 refl)) (no-more !))))) (λ g₅.
+        assigns ! (agg ! (and-then ! (load ! (from ! (stop !)) (look ! 23 refl)) (and-then ! (load ! (from ! (fld ! refl (stop !))) (look-in ! 79 (sub ! 1 refl (whole !)))) (no-more !)))) (from ! (stop !)) (init ! 21 refl (tt, (tt, (record { fits = are .1 .1 .1 .1 .1 .1 .1 .1 .1 .0 .0 .1 .0 }, tt)))) $
+        calls-by ! (fmOf 𝓤 H (W .laws) 𝓣) (3 ∷ 0 ∷ 7 ∷ []) (tab word (own-seat l₁₅ 768 ν₁₅ δ₁₅) (allPicked rule₀ (slotsFrom slots₀ 0 n₀) rows₀ blocks₀ (filledFrom 0 (slotsFrom slots₀ 0 n₀) (entriesOf m₀ clients₀ clocks₀) (replicate 128 0)) (openedFrom 0 (slotsFrom slots₀ 0 n₀) (replicate 768 0)) order₀ .fronts) ∷ tab word (own-seat l₁₃ 128 ν₁₃ δ₁₃) (allPicked rule₀ (slotsFrom slots₀ 0 n₀) rows₀ blocks₀ (filledFrom 0 (slotsFrom slots₀ 0 n₀) (entriesOf m₀ clients₀ clocks₀) (replicate 128 0)) (openedFrom 0 (slotsFrom slots₀ 0 n₀) (replicate 768 0)) order₀ .reach) ∷ hs (take ((allPicked rule₀ (slotsFrom slots₀ 0 n₀) rows₀ blocks₀ (filledFrom 0 (slotsFrom slots₀ 0 n₀) (entriesOf m₀ clients₀ clocks₀) (replicate 128 0)) (openedFrom 0 (slotsFrom slots₀ 0 n₀) (replicate 768 0)) order₀ .at) .steps) (allPicked rule₀ (slotsFrom slots₀ 0 n₀) rows₀ blocks₀ (filledFrom 0 (slotsFrom slots₀ 0 n₀) (entriesOf m₀ clients₀ clocks₀) (replicate 128 0)) (openedFrom 0 (slotsFrom slots₀ 0 n₀) (replicate 768 0)) order₀ .order) ++ replicate (length (allPicked rule₀ (slotsFrom slots₀ 0 n₀) rows₀ blocks₀ (filledFrom 0 (slotsFrom slots₀ 0 n₀) (entriesOf m₀ clients₀ clocks₀) (replicate 128 0)) (openedFrom 0 (slotsFrom slots₀ 0 n₀) (replicate 768 0)) order₀ .order) - ((allPicked rule₀ (slotsFrom slots₀ 0 n₀) rows₀ blocks₀ (filledFrom 0 (slotsFrom slots₀ 0 n₀) (entriesOf m₀ clients₀ clocks₀) (replicate 128 0)) (openedFrom 0 (slotsFrom slots₀ 0 n₀) (replicate 768 0)) order₀ .at) .steps)) 0) counts₀ reaches₀ pending₀) (reports·report-counts-fronts! 𝓤 H A mem run (𝓣 .C) known-reports·report-counts at-slots slots₀ n₀ (are .1 .1 .1 .1 .0) (own-seat l₁₅ 768 ν₁₅ δ₁₅) (allPicked rule₀ (slotsFrom slots₀ 0 n₀) rows₀ blocks₀ (filledFrom 0 (slotsFrom slots₀ 0 n₀) (entriesOf m₀ clients₀ clocks₀) (replicate 128 0)) (openedFrom 0 (slotsFrom slots₀ 0 n₀) (replicate 768 0)) order₀ .fronts) at-counts counts₀ (req .0)) refl (λ P. and-then ! (load ! (from ! (stop !)) (look ! 91 refl)) (and-then ! (load ! (from ! (stop !)) (look ! 89 refl)) (and-then ! (load ! (from ! (stop !)) (look ! 25 refl)) (and-then ! (load ! (from ! (stop !)) (look ! 21 refl)) (no-more !))))) (λ g₅.
         land ! (from ! (stop !)) (init ! 63 refl (g₅ .1 .0)) $
         assigns ! (addr ! (from ! (fld ! refl (hop ! (look-in ! 71 (sub ! 0 refl (whole !))) (stop !))))) (from ! (stop !)) (init ! 19 refl (tt, tt)) $
         assigns ! (agg ! (and-then ! (load ! (from ! (stop !)) (look ! 19 refl)) (and-then ! (load ! (from ! (fld ! refl (stop !))) (look-in ! 71 (sub ! 1 refl (whole !)))) (no-more !)))) (from ! (stop !)) (init ! 17 refl (tt, (tt, (record { fits = lit< tt }, tt)))) $
         assigns ! (addr ! (from ! (fld ! refl (hop ! (look-in ! 77 (sub ! 0 refl (whole !))) (stop !))))) (from ! (stop !)) (init ! 15 refl (tt, tt)) $
-        assigns ! (agg ! (and-then ! (load ! (from ! (stop !)) (look ! 15 refl)) (and-then ! (load ! (from ! (fld ! refl (stop !))) (look-in ! 77 (sub ! 1 refl (whole !)))) (no-more !)))) (from ! (stop !)) (init ! 13 refl (tt, (tt, (record { fits = are .1 .1 .1 .1 .1 .1 .1 .1 .1 .0 .0 .1 .0 }, tt)))) $
-        calls-by ! (fmOf 𝓤 H (W .laws) 𝓣) (3 ∷ 1 ∷ 8 ∷ []) (tab word (own-seat l₁₄ 768 ν₁₄ δ₁₄) (allPicked (slotsFrom slots₀ 0 n₀) rows₀ blocks₀ (filledFrom 0 (slotsFrom slots₀ 0 n₀) (entriesOf m₀ clients₀ clocks₀) (replicate 128 0)) (openedFrom 0 (slotsFrom slots₀ 0 n₀) (replicate 768 0)) order₀ .fronts) ∷ tab word (own-seat l₁₂ 128 ν₁₂ δ₁₂) (allPicked (slotsFrom slots₀ 0 n₀) rows₀ blocks₀ (filledFrom 0 (slotsFrom slots₀ 0 n₀) (entriesOf m₀ clients₀ clocks₀) (replicate 128 0)) (openedFrom 0 (slotsFrom slots₀ 0 n₀) (replicate 768 0)) order₀ .reach) ∷ hs (take ((allPicked (slotsFrom slots₀ 0 n₀) rows₀ blocks₀ (filledFrom 0 (slotsFrom slots₀ 0 n₀) (entriesOf m₀ clients₀ clocks₀) (replicate 128 0)) (openedFrom 0 (slotsFrom slots₀ 0 n₀) (replicate 768 0)) order₀ .at) .steps) (allPicked (slotsFrom slots₀ 0 n₀) rows₀ blocks₀ (filledFrom 0 (slotsFrom slots₀ 0 n₀) (entriesOf m₀ clients₀ clocks₀) (replicate 128 0)) (openedFrom 0 (slotsFrom slots₀ 0 n₀) (replicate 768 0)) order₀ .order) ++ replicate (length (allPicked (slotsFrom slots₀ 0 n₀) rows₀ blocks₀ (filledFrom 0 (slotsFrom slots₀ 0 n₀) (entriesOf m₀ clients₀ clocks₀) (replicate 128 0)) (openedFrom 0 (slotsFrom slots₀ 0 n₀) (replicate 768 0)) order₀ .order) - ((allPicked (slotsFrom slots₀ 0 n₀) rows₀ blocks₀ (filledFrom 0 (slotsFrom slots₀ 0 n₀) (entriesOf m₀ clients₀ clocks₀) (replicate 128 0)) (openedFrom 0 (slotsFrom slots₀ 0 n₀) (replicate 768 0)) order₀ .at) .steps)) 0) (fitted (length counts₀) (countsFrom 0 (slotsFrom slots₀ 0 n₀) (allPicked (slotsFrom slots₀ 0 n₀) rows₀ blocks₀ (filledFrom 0 (slotsFrom slots₀ 0 n₀) (entriesOf m₀ clients₀ clocks₀) (replicate 128 0)) (openedFrom 0 (slotsFrom slots₀ 0 n₀) (replicate 768 0)) order₀ .fronts))) reaches₀ pending₀) (reports·report-reaches-reach! 𝓤 H A mem run (𝓣 .C) known-reports·report-reaches at-slots slots₀ n₀ (are .1 .1 .1 .0) (own-seat l₁₂ 128 ν₁₂ δ₁₂) (allPicked (slotsFrom slots₀ 0 n₀) rows₀ blocks₀ (filledFrom 0 (slotsFrom slots₀ 0 n₀) (entriesOf m₀ clients₀ clocks₀) (replicate 128 0)) (openedFrom 0 (slotsFrom slots₀ 0 n₀) (replicate 768 0)) order₀ .reach) at-reaches reaches₀ (req .0)) refl (λ P. and-then ! (load ! (from ! (stop !)) (look ! 91 refl)) (and-then ! (load ! (from ! (stop !)) (look ! 89 refl)) (and-then ! (load ! (from ! (stop !)) (look ! 17 refl)) (and-then ! (load ! (from ! (stop !)) (look ! 13 refl)) (no-more !))))) (λ g₆.
+        assigns ! (agg ! (and-then ! (load ! (from ! (stop !)) (look ! 15 refl)) (and-then ! (load ! (from ! (fld ! refl (stop !))) (look-in ! 77 (sub ! 1 refl (whole !)))) (no-more !)))) (from ! (stop !)) (init ! 13 refl (tt, (tt, (record { fits = are .1 .1 .1 .1 .1 .1 .1 .1 .1 .1 .0 .0 .1 .0 }, tt)))) $
+        calls-by ! (fmOf 𝓤 H (W .laws) 𝓣) (3 ∷ 1 ∷ 8 ∷ []) (tab word (own-seat l₁₅ 768 ν₁₅ δ₁₅) (allPicked rule₀ (slotsFrom slots₀ 0 n₀) rows₀ blocks₀ (filledFrom 0 (slotsFrom slots₀ 0 n₀) (entriesOf m₀ clients₀ clocks₀) (replicate 128 0)) (openedFrom 0 (slotsFrom slots₀ 0 n₀) (replicate 768 0)) order₀ .fronts) ∷ tab word (own-seat l₁₃ 128 ν₁₃ δ₁₃) (allPicked rule₀ (slotsFrom slots₀ 0 n₀) rows₀ blocks₀ (filledFrom 0 (slotsFrom slots₀ 0 n₀) (entriesOf m₀ clients₀ clocks₀) (replicate 128 0)) (openedFrom 0 (slotsFrom slots₀ 0 n₀) (replicate 768 0)) order₀ .reach) ∷ hs (take ((allPicked rule₀ (slotsFrom slots₀ 0 n₀) rows₀ blocks₀ (filledFrom 0 (slotsFrom slots₀ 0 n₀) (entriesOf m₀ clients₀ clocks₀) (replicate 128 0)) (openedFrom 0 (slotsFrom slots₀ 0 n₀) (replicate 768 0)) order₀ .at) .steps) (allPicked rule₀ (slotsFrom slots₀ 0 n₀) rows₀ blocks₀ (filledFrom 0 (slotsFrom slots₀ 0 n₀) (entriesOf m₀ clients₀ clocks₀) (replicate 128 0)) (openedFrom 0 (slotsFrom slots₀ 0 n₀) (replicate 768 0)) order₀ .order) ++ replicate (length (allPicked rule₀ (slotsFrom slots₀ 0 n₀) rows₀ blocks₀ (filledFrom 0 (slotsFrom slots₀ 0 n₀) (entriesOf m₀ clients₀ clocks₀) (replicate 128 0)) (openedFrom 0 (slotsFrom slots₀ 0 n₀) (replicate 768 0)) order₀ .order) - ((allPicked rule₀ (slotsFrom slots₀ 0 n₀) rows₀ blocks₀ (filledFrom 0 (slotsFrom slots₀ 0 n₀) (entriesOf m₀ clients₀ clocks₀) (replicate 128 0)) (openedFrom 0 (slotsFrom slots₀ 0 n₀) (replicate 768 0)) order₀ .at) .steps)) 0) (fitted (length counts₀) (countsFrom 0 (slotsFrom slots₀ 0 n₀) (allPicked rule₀ (slotsFrom slots₀ 0 n₀) rows₀ blocks₀ (filledFrom 0 (slotsFrom slots₀ 0 n₀) (entriesOf m₀ clients₀ clocks₀) (replicate 128 0)) (openedFrom 0 (slotsFrom slots₀ 0 n₀) (replicate 768 0)) order₀ .fronts))) reaches₀ pending₀) (reports·report-reaches-reach! 𝓤 H A mem run (𝓣 .C) known-reports·report-reaches at-slots slots₀ n₀ (are .1 .1 .1 .1 .0) (own-seat l₁₃ 128 ν₁₃ δ₁₃) (allPicked rule₀ (slotsFrom slots₀ 0 n₀) rows₀ blocks₀ (filledFrom 0 (slotsFrom slots₀ 0 n₀) (entriesOf m₀ clients₀ clocks₀) (replicate 128 0)) (openedFrom 0 (slotsFrom slots₀ 0 n₀) (replicate 768 0)) order₀ .reach) at-reaches reaches₀ (req .0)) refl (λ P. and-then ! (load ! (from ! (stop !)) (look ! 91 refl)) (and-then ! (load ! (from ! (stop !)) (look ! 89 refl)) (and-then ! (load ! (from ! (stop !)) (look ! 17 refl)) (and-then ! (load ! (from ! (stop !)) (look ! 13 refl)) (no-more !))))) (λ g₆.
         land ! (from ! (stop !)) (init ! 61 refl (g₆ .1 .0)) $
         assigns ! (addr ! (from ! (fld ! refl (hop ! (look-in ! 67 (sub ! 0 refl (whole !))) (stop !))))) (from ! (stop !)) (init ! 11 refl (tt, tt)) $
         assigns ! (agg ! (and-then ! (load ! (from ! (stop !)) (look ! 11 refl)) (and-then ! (load ! (from ! (fld ! refl (stop !))) (look-in ! 67 (sub ! 1 refl (whole !)))) (no-more !)))) (from ! (stop !)) (init ! 9 refl (tt, (tt, (record { fits = lit< tt }, tt)))) $
         assigns ! (addr ! (from ! (fld ! refl (hop ! (look-in ! 71 (sub ! 0 refl (whole !))) (stop !))))) (from ! (stop !)) (init ! 7 refl (tt, tt)) $
         assigns ! (agg ! (and-then ! (load ! (from ! (stop !)) (look ! 7 refl)) (and-then ! (load ! (from ! (fld ! refl (stop !))) (look-in ! 71 (sub ! 1 refl (whole !)))) (no-more !)))) (from ! (stop !)) (init ! 5 refl (tt, (tt, (record { fits = lit< tt }, tt)))) $
         assigns ! (addr ! (from ! (fld ! refl (hop ! (look-in ! 75 (sub ! 0 refl (whole !))) (stop !))))) (from ! (stop !)) (init ! 3 refl (tt, tt)) $
-        assigns ! (agg ! (and-then ! (load ! (from ! (stop !)) (look ! 3 refl)) (and-then ! (load ! (from ! (fld ! refl (stop !))) (look-in ! 75 (sub ! 1 refl (whole !)))) (no-more !)))) (from ! (stop !)) (init ! 1 refl (tt, (tt, (record { fits = are .1 .1 .1 .1 .1 .1 .1 .1 .1 .1 .0 .0 .1 .0 }, tt)))) $
-        calls-by ! (fmOf 𝓤 H (W .laws) 𝓣) (3 ∷ 0 ∷ 1 ∷ 9 ∷ []) (tab word (own-seat l₁₄ 768 ν₁₄ δ₁₄) (allPicked (slotsFrom slots₀ 0 n₀) rows₀ blocks₀ (filledFrom 0 (slotsFrom slots₀ 0 n₀) (entriesOf m₀ clients₀ clocks₀) (replicate 128 0)) (openedFrom 0 (slotsFrom slots₀ 0 n₀) (replicate 768 0)) order₀ .fronts) ∷ tab word (own-seat l₁₂ 128 ν₁₂ δ₁₂) (allPicked (slotsFrom slots₀ 0 n₀) rows₀ blocks₀ (filledFrom 0 (slotsFrom slots₀ 0 n₀) (entriesOf m₀ clients₀ clocks₀) (replicate 128 0)) (openedFrom 0 (slotsFrom slots₀ 0 n₀) (replicate 768 0)) order₀ .reach) ∷ hs (take ((allPicked (slotsFrom slots₀ 0 n₀) rows₀ blocks₀ (filledFrom 0 (slotsFrom slots₀ 0 n₀) (entriesOf m₀ clients₀ clocks₀) (replicate 128 0)) (openedFrom 0 (slotsFrom slots₀ 0 n₀) (replicate 768 0)) order₀ .at) .steps) (allPicked (slotsFrom slots₀ 0 n₀) rows₀ blocks₀ (filledFrom 0 (slotsFrom slots₀ 0 n₀) (entriesOf m₀ clients₀ clocks₀) (replicate 128 0)) (openedFrom 0 (slotsFrom slots₀ 0 n₀) (replicate 768 0)) order₀ .order) ++ replicate (length (allPicked (slotsFrom slots₀ 0 n₀) rows₀ blocks₀ (filledFrom 0 (slotsFrom slots₀ 0 n₀) (entriesOf m₀ clients₀ clocks₀) (replicate 128 0)) (openedFrom 0 (slotsFrom slots₀ 0 n₀) (replicate 768 0)) order₀ .order) - ((allPicked (slotsFrom slots₀ 0 n₀) rows₀ blocks₀ (filledFrom 0 (slotsFrom slots₀ 0 n₀) (entriesOf m₀ clients₀ clocks₀) (replicate 128 0)) (openedFrom 0 (slotsFrom slots₀ 0 n₀) (replicate 768 0)) order₀ .at) .steps)) 0) (fitted (length counts₀) (countsFrom 0 (slotsFrom slots₀ 0 n₀) (allPicked (slotsFrom slots₀ 0 n₀) rows₀ blocks₀ (filledFrom 0 (slotsFrom slots₀ 0 n₀) (entriesOf m₀ clients₀ clocks₀) (replicate 128 0)) (openedFrom 0 (slotsFrom slots₀ 0 n₀) (replicate 768 0)) order₀ .fronts))) (fitted (length reaches₀) (reachesFrom 0 (slotsFrom slots₀ 0 n₀) (allPicked (slotsFrom slots₀ 0 n₀) rows₀ blocks₀ (filledFrom 0 (slotsFrom slots₀ 0 n₀) (entriesOf m₀ clients₀ clocks₀) (replicate 128 0)) (openedFrom 0 (slotsFrom slots₀ 0 n₀) (replicate 768 0)) order₀ .reach))) pending₀) (reports·report-pending-fronts-reach! 𝓤 H A mem run (𝓣 .C) known-reports·report-pending at-slots slots₀ n₀ (are .1 .1 .1 .0) (own-seat l₁₄ 768 ν₁₄ δ₁₄) (allPicked (slotsFrom slots₀ 0 n₀) rows₀ blocks₀ (filledFrom 0 (slotsFrom slots₀ 0 n₀) (entriesOf m₀ clients₀ clocks₀) (replicate 128 0)) (openedFrom 0 (slotsFrom slots₀ 0 n₀) (replicate 768 0)) order₀ .fronts) (own-seat l₁₂ 128 ν₁₂ δ₁₂) (allPicked (slotsFrom slots₀ 0 n₀) rows₀ blocks₀ (filledFrom 0 (slotsFrom slots₀ 0 n₀) (entriesOf m₀ clients₀ clocks₀) (replicate 128 0)) (openedFrom 0 (slotsFrom slots₀ 0 n₀) (replicate 768 0)) order₀ .reach) at-pending pending₀ (req .0)) refl (λ P. and-then ! (load ! (from ! (stop !)) (look ! 91 refl)) (and-then ! (load ! (from ! (stop !)) (look ! 89 refl)) (and-then ! (load ! (from ! (stop !)) (look ! 9 refl)) (and-then ! (load ! (from ! (stop !)) (look ! 5 refl)) (and-then ! (load ! (from ! (stop !)) (look ! 1 refl)) (no-more !)))))) (λ g₇.
+        assigns ! (agg ! (and-then ! (load ! (from ! (stop !)) (look ! 3 refl)) (and-then ! (load ! (from ! (fld ! refl (stop !))) (look-in ! 75 (sub ! 1 refl (whole !)))) (no-more !)))) (from ! (stop !)) (init ! 1 refl (tt, (tt, (record { fits = are .1 .1 .1 .1 .1 .1 .1 .1 .1 .1 .1 .0 .0 .1 .0 }, tt)))) $
+        calls-by ! (fmOf 𝓤 H (W .laws) 𝓣) (3 ∷ 0 ∷ 1 ∷ 9 ∷ []) (tab word (own-seat l₁₅ 768 ν₁₅ δ₁₅) (allPicked rule₀ (slotsFrom slots₀ 0 n₀) rows₀ blocks₀ (filledFrom 0 (slotsFrom slots₀ 0 n₀) (entriesOf m₀ clients₀ clocks₀) (replicate 128 0)) (openedFrom 0 (slotsFrom slots₀ 0 n₀) (replicate 768 0)) order₀ .fronts) ∷ tab word (own-seat l₁₃ 128 ν₁₃ δ₁₃) (allPicked rule₀ (slotsFrom slots₀ 0 n₀) rows₀ blocks₀ (filledFrom 0 (slotsFrom slots₀ 0 n₀) (entriesOf m₀ clients₀ clocks₀) (replicate 128 0)) (openedFrom 0 (slotsFrom slots₀ 0 n₀) (replicate 768 0)) order₀ .reach) ∷ hs (take ((allPicked rule₀ (slotsFrom slots₀ 0 n₀) rows₀ blocks₀ (filledFrom 0 (slotsFrom slots₀ 0 n₀) (entriesOf m₀ clients₀ clocks₀) (replicate 128 0)) (openedFrom 0 (slotsFrom slots₀ 0 n₀) (replicate 768 0)) order₀ .at) .steps) (allPicked rule₀ (slotsFrom slots₀ 0 n₀) rows₀ blocks₀ (filledFrom 0 (slotsFrom slots₀ 0 n₀) (entriesOf m₀ clients₀ clocks₀) (replicate 128 0)) (openedFrom 0 (slotsFrom slots₀ 0 n₀) (replicate 768 0)) order₀ .order) ++ replicate (length (allPicked rule₀ (slotsFrom slots₀ 0 n₀) rows₀ blocks₀ (filledFrom 0 (slotsFrom slots₀ 0 n₀) (entriesOf m₀ clients₀ clocks₀) (replicate 128 0)) (openedFrom 0 (slotsFrom slots₀ 0 n₀) (replicate 768 0)) order₀ .order) - ((allPicked rule₀ (slotsFrom slots₀ 0 n₀) rows₀ blocks₀ (filledFrom 0 (slotsFrom slots₀ 0 n₀) (entriesOf m₀ clients₀ clocks₀) (replicate 128 0)) (openedFrom 0 (slotsFrom slots₀ 0 n₀) (replicate 768 0)) order₀ .at) .steps)) 0) (fitted (length counts₀) (countsFrom 0 (slotsFrom slots₀ 0 n₀) (allPicked rule₀ (slotsFrom slots₀ 0 n₀) rows₀ blocks₀ (filledFrom 0 (slotsFrom slots₀ 0 n₀) (entriesOf m₀ clients₀ clocks₀) (replicate 128 0)) (openedFrom 0 (slotsFrom slots₀ 0 n₀) (replicate 768 0)) order₀ .fronts))) (fitted (length reaches₀) (reachesFrom 0 (slotsFrom slots₀ 0 n₀) (allPicked rule₀ (slotsFrom slots₀ 0 n₀) rows₀ blocks₀ (filledFrom 0 (slotsFrom slots₀ 0 n₀) (entriesOf m₀ clients₀ clocks₀) (replicate 128 0)) (openedFrom 0 (slotsFrom slots₀ 0 n₀) (replicate 768 0)) order₀ .reach))) pending₀) (reports·report-pending-fronts-reach! 𝓤 H A mem run (𝓣 .C) known-reports·report-pending at-slots slots₀ n₀ (are .1 .1 .1 .1 .0) (own-seat l₁₅ 768 ν₁₅ δ₁₅) (allPicked rule₀ (slotsFrom slots₀ 0 n₀) rows₀ blocks₀ (filledFrom 0 (slotsFrom slots₀ 0 n₀) (entriesOf m₀ clients₀ clocks₀) (replicate 128 0)) (openedFrom 0 (slotsFrom slots₀ 0 n₀) (replicate 768 0)) order₀ .fronts) (own-seat l₁₃ 128 ν₁₃ δ₁₃) (allPicked rule₀ (slotsFrom slots₀ 0 n₀) rows₀ blocks₀ (filledFrom 0 (slotsFrom slots₀ 0 n₀) (entriesOf m₀ clients₀ clocks₀) (replicate 128 0)) (openedFrom 0 (slotsFrom slots₀ 0 n₀) (replicate 768 0)) order₀ .reach) at-pending pending₀ (req .0)) refl (λ P. and-then ! (load ! (from ! (stop !)) (look ! 91 refl)) (and-then ! (load ! (from ! (stop !)) (look ! 89 refl)) (and-then ! (load ! (from ! (stop !)) (look ! 9 refl)) (and-then ! (load ! (from ! (stop !)) (look ! 5 refl)) (and-then ! (load ! (from ! (stop !)) (look ! 1 refl)) (no-more !)))))) (λ g₇.
         land ! (from ! (stop !)) (init ! 59 refl (g₇ .1 .0)) $
-        calls-by ! (fmOf 𝓤 H (W .laws) 𝓣) ([]) (tab word (own-seat l₁₄ 768 ν₁₄ δ₁₄) (allPicked (slotsFrom slots₀ 0 n₀) rows₀ blocks₀ (filledFrom 0 (slotsFrom slots₀ 0 n₀) (entriesOf m₀ clients₀ clocks₀) (replicate 128 0)) (openedFrom 0 (slotsFrom slots₀ 0 n₀) (replicate 768 0)) order₀ .fronts) ∷ tab word (own-seat l₁₂ 128 ν₁₂ δ₁₂) (allPicked (slotsFrom slots₀ 0 n₀) rows₀ blocks₀ (filledFrom 0 (slotsFrom slots₀ 0 n₀) (entriesOf m₀ clients₀ clocks₀) (replicate 128 0)) (openedFrom 0 (slotsFrom slots₀ 0 n₀) (replicate 768 0)) order₀ .reach) ∷ hs (take ((allPicked (slotsFrom slots₀ 0 n₀) rows₀ blocks₀ (filledFrom 0 (slotsFrom slots₀ 0 n₀) (entriesOf m₀ clients₀ clocks₀) (replicate 128 0)) (openedFrom 0 (slotsFrom slots₀ 0 n₀) (replicate 768 0)) order₀ .at) .steps) (allPicked (slotsFrom slots₀ 0 n₀) rows₀ blocks₀ (filledFrom 0 (slotsFrom slots₀ 0 n₀) (entriesOf m₀ clients₀ clocks₀) (replicate 128 0)) (openedFrom 0 (slotsFrom slots₀ 0 n₀) (replicate 768 0)) order₀ .order) ++ replicate (length (allPicked (slotsFrom slots₀ 0 n₀) rows₀ blocks₀ (filledFrom 0 (slotsFrom slots₀ 0 n₀) (entriesOf m₀ clients₀ clocks₀) (replicate 128 0)) (openedFrom 0 (slotsFrom slots₀ 0 n₀) (replicate 768 0)) order₀ .order) - ((allPicked (slotsFrom slots₀ 0 n₀) rows₀ blocks₀ (filledFrom 0 (slotsFrom slots₀ 0 n₀) (entriesOf m₀ clients₀ clocks₀) (replicate 128 0)) (openedFrom 0 (slotsFrom slots₀ 0 n₀) (replicate 768 0)) order₀ .at) .steps)) 0) (fitted (length counts₀) (countsFrom 0 (slotsFrom slots₀ 0 n₀) (allPicked (slotsFrom slots₀ 0 n₀) rows₀ blocks₀ (filledFrom 0 (slotsFrom slots₀ 0 n₀) (entriesOf m₀ clients₀ clocks₀) (replicate 128 0)) (openedFrom 0 (slotsFrom slots₀ 0 n₀) (replicate 768 0)) order₀ .fronts))) (fitted (length reaches₀) (reachesFrom 0 (slotsFrom slots₀ 0 n₀) (allPicked (slotsFrom slots₀ 0 n₀) rows₀ blocks₀ (filledFrom 0 (slotsFrom slots₀ 0 n₀) (entriesOf m₀ clients₀ clocks₀) (replicate 128 0)) (openedFrom 0 (slotsFrom slots₀ 0 n₀) (replicate 768 0)) order₀ .reach))) (fitted (length pending₀) (pendingFrom 0 (slotsFrom slots₀ 0 n₀) (allPicked (slotsFrom slots₀ 0 n₀) rows₀ blocks₀ (filledFrom 0 (slotsFrom slots₀ 0 n₀) (entriesOf m₀ clients₀ clocks₀) (replicate 128 0)) (openedFrom 0 (slotsFrom slots₀ 0 n₀) (replicate 768 0)) order₀ .fronts) (allPicked (slotsFrom slots₀ 0 n₀) rows₀ blocks₀ (filledFrom 0 (slotsFrom slots₀ 0 n₀) (entriesOf m₀ clients₀ clocks₀) (replicate 128 0)) (openedFrom 0 (slotsFrom slots₀ 0 n₀) (replicate 768 0)) order₀ .reach)))) (sorter·sorted! 𝓤 H A mem run (𝓣 .C) known-sorter·sorted (allPicked (slotsFrom slots₀ 0 n₀) rows₀ blocks₀ (filledFrom 0 (slotsFrom slots₀ 0 n₀) (entriesOf m₀ clients₀ clocks₀) (replicate 128 0)) (openedFrom 0 (slotsFrom slots₀ 0 n₀) (replicate 768 0)) order₀ .at) (g₃ .0) (length (countsFrom 0 (slotsFrom slots₀ 0 n₀) (allPicked (slotsFrom slots₀ 0 n₀) rows₀ blocks₀ (filledFrom 0 (slotsFrom slots₀ 0 n₀) (entriesOf m₀ clients₀ clocks₀) (replicate 128 0)) (openedFrom 0 (slotsFrom slots₀ 0 n₀) (replicate 768 0)) order₀ .fronts))) (g₅ .0) (length (reachesFrom 0 (slotsFrom slots₀ 0 n₀) (allPicked (slotsFrom slots₀ 0 n₀) rows₀ blocks₀ (filledFrom 0 (slotsFrom slots₀ 0 n₀) (entriesOf m₀ clients₀ clocks₀) (replicate 128 0)) (openedFrom 0 (slotsFrom slots₀ 0 n₀) (replicate 768 0)) order₀ .reach))) (g₆ .0) (length (pendingFrom 0 (slotsFrom slots₀ 0 n₀) (allPicked (slotsFrom slots₀ 0 n₀) rows₀ blocks₀ (filledFrom 0 (slotsFrom slots₀ 0 n₀) (entriesOf m₀ clients₀ clocks₀) (replicate 128 0)) (openedFrom 0 (slotsFrom slots₀ 0 n₀) (replicate 768 0)) order₀ .fronts) (allPicked (slotsFrom slots₀ 0 n₀) rows₀ blocks₀ (filledFrom 0 (slotsFrom slots₀ 0 n₀) (entriesOf m₀ clients₀ clocks₀) (replicate 128 0)) (openedFrom 0 (slotsFrom slots₀ 0 n₀) (replicate 768 0)) order₀ .reach))) (g₇ .0)) refl (λ P. and-then ! (load ! (from ! (stop !)) (look ! 65 refl)) (and-then ! (load ! (from ! (stop !)) (look ! 63 refl)) (and-then ! (load ! (from ! (stop !)) (look ! 61 refl)) (and-then ! (load ! (from ! (stop !)) (look ! 59 refl)) (no-more !))))) (λ g₈.
-        land ! (from ! (stop !)) (init ! 97 refl (g₈ .1 .0)) $
-        move ! (0 ∷ 69 ∷ []) $ own-back ! tt word 768 768 (omega (arith)) 0 (allPicked (slotsFrom slots₀ 0 n₀) rows₀ blocks₀ (filledFrom 0 (slotsFrom slots₀ 0 n₀) (entriesOf m₀ clients₀ clocks₀) (replicate 128 0)) (openedFrom 0 (slotsFrom slots₀ 0 n₀) (replicate 768 0)) order₀ .fronts) l₁₄ ν₁₄ δ₁₄ (tab word (own-seat l₁₂ 128 ν₁₂ δ₁₂) (allPicked (slotsFrom slots₀ 0 n₀) rows₀ blocks₀ (filledFrom 0 (slotsFrom slots₀ 0 n₀) (entriesOf m₀ clients₀ clocks₀) (replicate 128 0)) (openedFrom 0 (slotsFrom slots₀ 0 n₀) (replicate 768 0)) order₀ .reach) ∷ hs (take ((allPicked (slotsFrom slots₀ 0 n₀) rows₀ blocks₀ (filledFrom 0 (slotsFrom slots₀ 0 n₀) (entriesOf m₀ clients₀ clocks₀) (replicate 128 0)) (openedFrom 0 (slotsFrom slots₀ 0 n₀) (replicate 768 0)) order₀ .at) .steps) (allPicked (slotsFrom slots₀ 0 n₀) rows₀ blocks₀ (filledFrom 0 (slotsFrom slots₀ 0 n₀) (entriesOf m₀ clients₀ clocks₀) (replicate 128 0)) (openedFrom 0 (slotsFrom slots₀ 0 n₀) (replicate 768 0)) order₀ .order) ++ replicate (length (allPicked (slotsFrom slots₀ 0 n₀) rows₀ blocks₀ (filledFrom 0 (slotsFrom slots₀ 0 n₀) (entriesOf m₀ clients₀ clocks₀) (replicate 128 0)) (openedFrom 0 (slotsFrom slots₀ 0 n₀) (replicate 768 0)) order₀ .order) - ((allPicked (slotsFrom slots₀ 0 n₀) rows₀ blocks₀ (filledFrom 0 (slotsFrom slots₀ 0 n₀) (entriesOf m₀ clients₀ clocks₀) (replicate 128 0)) (openedFrom 0 (slotsFrom slots₀ 0 n₀) (replicate 768 0)) order₀ .at) .steps)) 0) (fitted (length counts₀) (countsFrom 0 (slotsFrom slots₀ 0 n₀) (allPicked (slotsFrom slots₀ 0 n₀) rows₀ blocks₀ (filledFrom 0 (slotsFrom slots₀ 0 n₀) (entriesOf m₀ clients₀ clocks₀) (replicate 128 0)) (openedFrom 0 (slotsFrom slots₀ 0 n₀) (replicate 768 0)) order₀ .fronts))) (fitted (length reaches₀) (reachesFrom 0 (slotsFrom slots₀ 0 n₀) (allPicked (slotsFrom slots₀ 0 n₀) rows₀ blocks₀ (filledFrom 0 (slotsFrom slots₀ 0 n₀) (entriesOf m₀ clients₀ clocks₀) (replicate 128 0)) (openedFrom 0 (slotsFrom slots₀ 0 n₀) (replicate 768 0)) order₀ .reach))) (fitted (length pending₀) (pendingFrom 0 (slotsFrom slots₀ 0 n₀) (allPicked (slotsFrom slots₀ 0 n₀) rows₀ blocks₀ (filledFrom 0 (slotsFrom slots₀ 0 n₀) (entriesOf m₀ clients₀ clocks₀) (replicate 128 0)) (openedFrom 0 (slotsFrom slots₀ 0 n₀) (replicate 768 0)) order₀ .fronts) (allPicked (slotsFrom slots₀ 0 n₀) rows₀ blocks₀ (filledFrom 0 (slotsFrom slots₀ 0 n₀) (entriesOf m₀ clients₀ clocks₀) (replicate 128 0)) (openedFrom 0 (slotsFrom slots₀ 0 n₀) (replicate 768 0)) order₀ .reach)))) $ move ! (0 ∷ 2 ∷ 3 ∷ 4 ∷ 5 ∷ 6 ∷ 7 ∷ 8 ∷ 9 ∷ 10 ∷ 11 ∷ 12 ∷ 13 ∷ 14 ∷ 15 ∷ 16 ∷ 17 ∷ 18 ∷ 19 ∷ 20 ∷ 21 ∷ 22 ∷ 23 ∷ 24 ∷ 25 ∷ 26 ∷ 27 ∷ 28 ∷ 29 ∷ 30 ∷ 31 ∷ 32 ∷ 33 ∷ 34 ∷ 35 ∷ 36 ∷ 37 ∷ 38 ∷ 39 ∷ 40 ∷ 41 ∷ 42 ∷ 43 ∷ 44 ∷ 45 ∷ 46 ∷ 47 ∷ 48 ∷ 49 ∷ 50 ∷ 51 ∷ 52 ∷ 53 ∷ 54 ∷ 55 ∷ 56 ∷ 57 ∷ 58 ∷ 59 ∷ 60 ∷ 61 ∷ 62 ∷ 63 ∷ 64 ∷ 65 ∷ 66 ∷ 67 ∷ 68 ∷ 69 ∷ 1 ∷ []) $
-        move ! (0 ∷ 73 ∷ []) $ own-back ! tt word 128 128 (omega (arith)) 0 (allPicked (slotsFrom slots₀ 0 n₀) rows₀ blocks₀ (filledFrom 0 (slotsFrom slots₀ 0 n₀) (entriesOf m₀ clients₀ clocks₀) (replicate 128 0)) (openedFrom 0 (slotsFrom slots₀ 0 n₀) (replicate 768 0)) order₀ .reach) l₁₂ ν₁₂ δ₁₂ (hs (take ((allPicked (slotsFrom slots₀ 0 n₀) rows₀ blocks₀ (filledFrom 0 (slotsFrom slots₀ 0 n₀) (entriesOf m₀ clients₀ clocks₀) (replicate 128 0)) (openedFrom 0 (slotsFrom slots₀ 0 n₀) (replicate 768 0)) order₀ .at) .steps) (allPicked (slotsFrom slots₀ 0 n₀) rows₀ blocks₀ (filledFrom 0 (slotsFrom slots₀ 0 n₀) (entriesOf m₀ clients₀ clocks₀) (replicate 128 0)) (openedFrom 0 (slotsFrom slots₀ 0 n₀) (replicate 768 0)) order₀ .order) ++ replicate (length (allPicked (slotsFrom slots₀ 0 n₀) rows₀ blocks₀ (filledFrom 0 (slotsFrom slots₀ 0 n₀) (entriesOf m₀ clients₀ clocks₀) (replicate 128 0)) (openedFrom 0 (slotsFrom slots₀ 0 n₀) (replicate 768 0)) order₀ .order) - ((allPicked (slotsFrom slots₀ 0 n₀) rows₀ blocks₀ (filledFrom 0 (slotsFrom slots₀ 0 n₀) (entriesOf m₀ clients₀ clocks₀) (replicate 128 0)) (openedFrom 0 (slotsFrom slots₀ 0 n₀) (replicate 768 0)) order₀ .at) .steps)) 0) (fitted (length counts₀) (countsFrom 0 (slotsFrom slots₀ 0 n₀) (allPicked (slotsFrom slots₀ 0 n₀) rows₀ blocks₀ (filledFrom 0 (slotsFrom slots₀ 0 n₀) (entriesOf m₀ clients₀ clocks₀) (replicate 128 0)) (openedFrom 0 (slotsFrom slots₀ 0 n₀) (replicate 768 0)) order₀ .fronts))) (fitted (length reaches₀) (reachesFrom 0 (slotsFrom slots₀ 0 n₀) (allPicked (slotsFrom slots₀ 0 n₀) rows₀ blocks₀ (filledFrom 0 (slotsFrom slots₀ 0 n₀) (entriesOf m₀ clients₀ clocks₀) (replicate 128 0)) (openedFrom 0 (slotsFrom slots₀ 0 n₀) (replicate 768 0)) order₀ .reach))) (fitted (length pending₀) (pendingFrom 0 (slotsFrom slots₀ 0 n₀) (allPicked (slotsFrom slots₀ 0 n₀) rows₀ blocks₀ (filledFrom 0 (slotsFrom slots₀ 0 n₀) (entriesOf m₀ clients₀ clocks₀) (replicate 128 0)) (openedFrom 0 (slotsFrom slots₀ 0 n₀) (replicate 768 0)) order₀ .fronts) (allPicked (slotsFrom slots₀ 0 n₀) rows₀ blocks₀ (filledFrom 0 (slotsFrom slots₀ 0 n₀) (entriesOf m₀ clients₀ clocks₀) (replicate 128 0)) (openedFrom 0 (slotsFrom slots₀ 0 n₀) (replicate 768 0)) order₀ .reach)))) $ move ! (0 ∷ 2 ∷ 3 ∷ 4 ∷ 5 ∷ 6 ∷ 7 ∷ 8 ∷ 9 ∷ 10 ∷ 11 ∷ 12 ∷ 13 ∷ 14 ∷ 15 ∷ 16 ∷ 17 ∷ 18 ∷ 19 ∷ 20 ∷ 21 ∷ 22 ∷ 23 ∷ 24 ∷ 25 ∷ 26 ∷ 27 ∷ 28 ∷ 29 ∷ 30 ∷ 31 ∷ 32 ∷ 33 ∷ 34 ∷ 35 ∷ 36 ∷ 37 ∷ 38 ∷ 39 ∷ 40 ∷ 41 ∷ 42 ∷ 43 ∷ 44 ∷ 45 ∷ 46 ∷ 47 ∷ 48 ∷ 49 ∷ 50 ∷ 51 ∷ 52 ∷ 53 ∷ 54 ∷ 55 ∷ 56 ∷ 57 ∷ 58 ∷ 59 ∷ 60 ∷ 61 ∷ 62 ∷ 63 ∷ 64 ∷ 65 ∷ 66 ∷ 67 ∷ 68 ∷ 69 ∷ 70 ∷ 71 ∷ 72 ∷ 73 ∷ 1 ∷ []) $
-        returns-within ! Post refl (look ! 97 refl) $
-        free-all ! (_ ∷ []) En (has _ ∷ has _ ∷ has _ ∷ has _ ∷ has _ ∷ has _ ∷ has _ ∷ has _ ∷ has _ ∷ has _ ∷ has _ ∷ has _ ∷ has _ ∷ has _ ∷ has _ ∷ has _ ∷ has _ ∷ has _ ∷ has _ ∷ has _ ∷ has _ ∷ has _ ∷ has _ ∷ has _ ∷ has _ ∷ has _ ∷ has _ ∷ has _ ∷ has _ ∷ has _ ∷ has _ ∷ has _ ∷ has _ ∷ has _ ∷ has _ ∷ has _ ∷ has _ ∷ has _ ∷ has _ ∷ has _ ∷ has _ ∷ has _ ∷ has _ ∷ has _ ∷ has _ ∷ has _ ∷ has _ ∷ has _ ∷ has _ ∷ []) [] $ by ! (exits (sortingOf (allPicked (slotsFrom slots₀ 0 n₀) rows₀ blocks₀ (filledFrom 0 (slotsFrom slots₀ 0 n₀) (entriesOf m₀ clients₀ clocks₀) (replicate 128 0)) (openedFrom 0 (slotsFrom slots₀ 0 n₀) (replicate 768 0)) order₀ .at) (length (countsFrom 0 (slotsFrom slots₀ 0 n₀) (allPicked (slotsFrom slots₀ 0 n₀) rows₀ blocks₀ (filledFrom 0 (slotsFrom slots₀ 0 n₀) (entriesOf m₀ clients₀ clocks₀) (replicate 128 0)) (openedFrom 0 (slotsFrom slots₀ 0 n₀) (replicate 768 0)) order₀ .fronts))) (length (reachesFrom 0 (slotsFrom slots₀ 0 n₀) (allPicked (slotsFrom slots₀ 0 n₀) rows₀ blocks₀ (filledFrom 0 (slotsFrom slots₀ 0 n₀) (entriesOf m₀ clients₀ clocks₀) (replicate 128 0)) (openedFrom 0 (slotsFrom slots₀ 0 n₀) (replicate 768 0)) order₀ .reach))) (length (pendingFrom 0 (slotsFrom slots₀ 0 n₀) (allPicked (slotsFrom slots₀ 0 n₀) rows₀ blocks₀ (filledFrom 0 (slotsFrom slots₀ 0 n₀) (entriesOf m₀ clients₀ clocks₀) (replicate 128 0)) (openedFrom 0 (slotsFrom slots₀ 0 n₀) (replicate 768 0)) order₀ .fronts) (allPicked (slotsFrom slots₀ 0 n₀) rows₀ blocks₀ (filledFrom 0 (slotsFrom slots₀ 0 n₀) (entriesOf m₀ clients₀ clocks₀) (replicate 128 0)) (openedFrom 0 (slotsFrom slots₀ 0 n₀) (replicate 768 0)) order₀ .reach)))) (take ((allPicked (slotsFrom slots₀ 0 n₀) rows₀ blocks₀ (filledFrom 0 (slotsFrom slots₀ 0 n₀) (entriesOf m₀ clients₀ clocks₀) (replicate 128 0)) (openedFrom 0 (slotsFrom slots₀ 0 n₀) (replicate 768 0)) order₀ .at) .steps) (allPicked (slotsFrom slots₀ 0 n₀) rows₀ blocks₀ (filledFrom 0 (slotsFrom slots₀ 0 n₀) (entriesOf m₀ clients₀ clocks₀) (replicate 128 0)) (openedFrom 0 (slotsFrom slots₀ 0 n₀) (replicate 768 0)) order₀ .order) ++ replicate (length (allPicked (slotsFrom slots₀ 0 n₀) rows₀ blocks₀ (filledFrom 0 (slotsFrom slots₀ 0 n₀) (entriesOf m₀ clients₀ clocks₀) (replicate 128 0)) (openedFrom 0 (slotsFrom slots₀ 0 n₀) (replicate 768 0)) order₀ .order) - ((allPicked (slotsFrom slots₀ 0 n₀) rows₀ blocks₀ (filledFrom 0 (slotsFrom slots₀ 0 n₀) (entriesOf m₀ clients₀ clocks₀) (replicate 128 0)) (openedFrom 0 (slotsFrom slots₀ 0 n₀) (replicate 768 0)) order₀ .at) .steps)) 0) (fitted (length counts₀) (countsFrom 0 (slotsFrom slots₀ 0 n₀) (allPicked (slotsFrom slots₀ 0 n₀) rows₀ blocks₀ (filledFrom 0 (slotsFrom slots₀ 0 n₀) (entriesOf m₀ clients₀ clocks₀) (replicate 128 0)) (openedFrom 0 (slotsFrom slots₀ 0 n₀) (replicate 768 0)) order₀ .fronts))) (fitted (length reaches₀) (reachesFrom 0 (slotsFrom slots₀ 0 n₀) (allPicked (slotsFrom slots₀ 0 n₀) rows₀ blocks₀ (filledFrom 0 (slotsFrom slots₀ 0 n₀) (entriesOf m₀ clients₀ clocks₀) (replicate 128 0)) (openedFrom 0 (slotsFrom slots₀ 0 n₀) (replicate 768 0)) order₀ .reach))) (fitted (length pending₀) (pendingFrom 0 (slotsFrom slots₀ 0 n₀) (allPicked (slotsFrom slots₀ 0 n₀) rows₀ blocks₀ (filledFrom 0 (slotsFrom slots₀ 0 n₀) (entriesOf m₀ clients₀ clocks₀) (replicate 128 0)) (openedFrom 0 (slotsFrom slots₀ 0 n₀) (replicate 768 0)) order₀ .fronts) (allPicked (slotsFrom slots₀ 0 n₀) rows₀ blocks₀ (filledFrom 0 (slotsFrom slots₀ 0 n₀) (entriesOf m₀ clients₀ clocks₀) (replicate 128 0)) (openedFrom 0 (slotsFrom slots₀ 0 n₀) (replicate 768 0)) order₀ .reach))) (g₈ .0) (exit-slots (slotsFrom slots₀ 0 n₀) rows₀ blocks₀ (entriesOf m₀ clients₀ clocks₀) order₀ counts₀ reaches₀ pending₀)))))))))))))))
+        calls-by ! (fmOf 𝓤 H (W .laws) 𝓣) ([]) (tab word (own-seat l₁₅ 768 ν₁₅ δ₁₅) (allPicked rule₀ (slotsFrom slots₀ 0 n₀) rows₀ blocks₀ (filledFrom 0 (slotsFrom slots₀ 0 n₀) (entriesOf m₀ clients₀ clocks₀) (replicate 128 0)) (openedFrom 0 (slotsFrom slots₀ 0 n₀) (replicate 768 0)) order₀ .fronts) ∷ tab word (own-seat l₁₃ 128 ν₁₃ δ₁₃) (allPicked rule₀ (slotsFrom slots₀ 0 n₀) rows₀ blocks₀ (filledFrom 0 (slotsFrom slots₀ 0 n₀) (entriesOf m₀ clients₀ clocks₀) (replicate 128 0)) (openedFrom 0 (slotsFrom slots₀ 0 n₀) (replicate 768 0)) order₀ .reach) ∷ hs (take ((allPicked rule₀ (slotsFrom slots₀ 0 n₀) rows₀ blocks₀ (filledFrom 0 (slotsFrom slots₀ 0 n₀) (entriesOf m₀ clients₀ clocks₀) (replicate 128 0)) (openedFrom 0 (slotsFrom slots₀ 0 n₀) (replicate 768 0)) order₀ .at) .steps) (allPicked rule₀ (slotsFrom slots₀ 0 n₀) rows₀ blocks₀ (filledFrom 0 (slotsFrom slots₀ 0 n₀) (entriesOf m₀ clients₀ clocks₀) (replicate 128 0)) (openedFrom 0 (slotsFrom slots₀ 0 n₀) (replicate 768 0)) order₀ .order) ++ replicate (length (allPicked rule₀ (slotsFrom slots₀ 0 n₀) rows₀ blocks₀ (filledFrom 0 (slotsFrom slots₀ 0 n₀) (entriesOf m₀ clients₀ clocks₀) (replicate 128 0)) (openedFrom 0 (slotsFrom slots₀ 0 n₀) (replicate 768 0)) order₀ .order) - ((allPicked rule₀ (slotsFrom slots₀ 0 n₀) rows₀ blocks₀ (filledFrom 0 (slotsFrom slots₀ 0 n₀) (entriesOf m₀ clients₀ clocks₀) (replicate 128 0)) (openedFrom 0 (slotsFrom slots₀ 0 n₀) (replicate 768 0)) order₀ .at) .steps)) 0) (fitted (length counts₀) (countsFrom 0 (slotsFrom slots₀ 0 n₀) (allPicked rule₀ (slotsFrom slots₀ 0 n₀) rows₀ blocks₀ (filledFrom 0 (slotsFrom slots₀ 0 n₀) (entriesOf m₀ clients₀ clocks₀) (replicate 128 0)) (openedFrom 0 (slotsFrom slots₀ 0 n₀) (replicate 768 0)) order₀ .fronts))) (fitted (length reaches₀) (reachesFrom 0 (slotsFrom slots₀ 0 n₀) (allPicked rule₀ (slotsFrom slots₀ 0 n₀) rows₀ blocks₀ (filledFrom 0 (slotsFrom slots₀ 0 n₀) (entriesOf m₀ clients₀ clocks₀) (replicate 128 0)) (openedFrom 0 (slotsFrom slots₀ 0 n₀) (replicate 768 0)) order₀ .reach))) (fitted (length pending₀) (pendingFrom 0 (slotsFrom slots₀ 0 n₀) (allPicked rule₀ (slotsFrom slots₀ 0 n₀) rows₀ blocks₀ (filledFrom 0 (slotsFrom slots₀ 0 n₀) (entriesOf m₀ clients₀ clocks₀) (replicate 128 0)) (openedFrom 0 (slotsFrom slots₀ 0 n₀) (replicate 768 0)) order₀ .fronts) (allPicked rule₀ (slotsFrom slots₀ 0 n₀) rows₀ blocks₀ (filledFrom 0 (slotsFrom slots₀ 0 n₀) (entriesOf m₀ clients₀ clocks₀) (replicate 128 0)) (openedFrom 0 (slotsFrom slots₀ 0 n₀) (replicate 768 0)) order₀ .reach)))) (sorter·sorted! 𝓤 H A mem run (𝓣 .C) known-sorter·sorted (allPicked rule₀ (slotsFrom slots₀ 0 n₀) rows₀ blocks₀ (filledFrom 0 (slotsFrom slots₀ 0 n₀) (entriesOf m₀ clients₀ clocks₀) (replicate 128 0)) (openedFrom 0 (slotsFrom slots₀ 0 n₀) (replicate 768 0)) order₀ .at) (g₃ .0) (length (countsFrom 0 (slotsFrom slots₀ 0 n₀) (allPicked rule₀ (slotsFrom slots₀ 0 n₀) rows₀ blocks₀ (filledFrom 0 (slotsFrom slots₀ 0 n₀) (entriesOf m₀ clients₀ clocks₀) (replicate 128 0)) (openedFrom 0 (slotsFrom slots₀ 0 n₀) (replicate 768 0)) order₀ .fronts))) (g₅ .0) (length (reachesFrom 0 (slotsFrom slots₀ 0 n₀) (allPicked rule₀ (slotsFrom slots₀ 0 n₀) rows₀ blocks₀ (filledFrom 0 (slotsFrom slots₀ 0 n₀) (entriesOf m₀ clients₀ clocks₀) (replicate 128 0)) (openedFrom 0 (slotsFrom slots₀ 0 n₀) (replicate 768 0)) order₀ .reach))) (g₆ .0) (length (pendingFrom 0 (slotsFrom slots₀ 0 n₀) (allPicked rule₀ (slotsFrom slots₀ 0 n₀) rows₀ blocks₀ (filledFrom 0 (slotsFrom slots₀ 0 n₀) (entriesOf m₀ clients₀ clocks₀) (replicate 128 0)) (openedFrom 0 (slotsFrom slots₀ 0 n₀) (replicate 768 0)) order₀ .fronts) (allPicked rule₀ (slotsFrom slots₀ 0 n₀) rows₀ blocks₀ (filledFrom 0 (slotsFrom slots₀ 0 n₀) (entriesOf m₀ clients₀ clocks₀) (replicate 128 0)) (openedFrom 0 (slotsFrom slots₀ 0 n₀) (replicate 768 0)) order₀ .reach))) (g₇ .0)) refl (λ P. and-then ! (load ! (from ! (stop !)) (look ! 65 refl)) (and-then ! (load ! (from ! (stop !)) (look ! 63 refl)) (and-then ! (load ! (from ! (stop !)) (look ! 61 refl)) (and-then ! (load ! (from ! (stop !)) (look ! 59 refl)) (no-more !))))) (λ g₈.
+        land ! (from ! (stop !)) (init ! 99 refl (g₈ .1 .0)) $
+        move ! (0 ∷ 69 ∷ []) $ own-back ! tt word 768 768 (omega (arith)) 0 (allPicked rule₀ (slotsFrom slots₀ 0 n₀) rows₀ blocks₀ (filledFrom 0 (slotsFrom slots₀ 0 n₀) (entriesOf m₀ clients₀ clocks₀) (replicate 128 0)) (openedFrom 0 (slotsFrom slots₀ 0 n₀) (replicate 768 0)) order₀ .fronts) l₁₅ ν₁₅ δ₁₅ (tab word (own-seat l₁₃ 128 ν₁₃ δ₁₃) (allPicked rule₀ (slotsFrom slots₀ 0 n₀) rows₀ blocks₀ (filledFrom 0 (slotsFrom slots₀ 0 n₀) (entriesOf m₀ clients₀ clocks₀) (replicate 128 0)) (openedFrom 0 (slotsFrom slots₀ 0 n₀) (replicate 768 0)) order₀ .reach) ∷ hs (take ((allPicked rule₀ (slotsFrom slots₀ 0 n₀) rows₀ blocks₀ (filledFrom 0 (slotsFrom slots₀ 0 n₀) (entriesOf m₀ clients₀ clocks₀) (replicate 128 0)) (openedFrom 0 (slotsFrom slots₀ 0 n₀) (replicate 768 0)) order₀ .at) .steps) (allPicked rule₀ (slotsFrom slots₀ 0 n₀) rows₀ blocks₀ (filledFrom 0 (slotsFrom slots₀ 0 n₀) (entriesOf m₀ clients₀ clocks₀) (replicate 128 0)) (openedFrom 0 (slotsFrom slots₀ 0 n₀) (replicate 768 0)) order₀ .order) ++ replicate (length (allPicked rule₀ (slotsFrom slots₀ 0 n₀) rows₀ blocks₀ (filledFrom 0 (slotsFrom slots₀ 0 n₀) (entriesOf m₀ clients₀ clocks₀) (replicate 128 0)) (openedFrom 0 (slotsFrom slots₀ 0 n₀) (replicate 768 0)) order₀ .order) - ((allPicked rule₀ (slotsFrom slots₀ 0 n₀) rows₀ blocks₀ (filledFrom 0 (slotsFrom slots₀ 0 n₀) (entriesOf m₀ clients₀ clocks₀) (replicate 128 0)) (openedFrom 0 (slotsFrom slots₀ 0 n₀) (replicate 768 0)) order₀ .at) .steps)) 0) (fitted (length counts₀) (countsFrom 0 (slotsFrom slots₀ 0 n₀) (allPicked rule₀ (slotsFrom slots₀ 0 n₀) rows₀ blocks₀ (filledFrom 0 (slotsFrom slots₀ 0 n₀) (entriesOf m₀ clients₀ clocks₀) (replicate 128 0)) (openedFrom 0 (slotsFrom slots₀ 0 n₀) (replicate 768 0)) order₀ .fronts))) (fitted (length reaches₀) (reachesFrom 0 (slotsFrom slots₀ 0 n₀) (allPicked rule₀ (slotsFrom slots₀ 0 n₀) rows₀ blocks₀ (filledFrom 0 (slotsFrom slots₀ 0 n₀) (entriesOf m₀ clients₀ clocks₀) (replicate 128 0)) (openedFrom 0 (slotsFrom slots₀ 0 n₀) (replicate 768 0)) order₀ .reach))) (fitted (length pending₀) (pendingFrom 0 (slotsFrom slots₀ 0 n₀) (allPicked rule₀ (slotsFrom slots₀ 0 n₀) rows₀ blocks₀ (filledFrom 0 (slotsFrom slots₀ 0 n₀) (entriesOf m₀ clients₀ clocks₀) (replicate 128 0)) (openedFrom 0 (slotsFrom slots₀ 0 n₀) (replicate 768 0)) order₀ .fronts) (allPicked rule₀ (slotsFrom slots₀ 0 n₀) rows₀ blocks₀ (filledFrom 0 (slotsFrom slots₀ 0 n₀) (entriesOf m₀ clients₀ clocks₀) (replicate 128 0)) (openedFrom 0 (slotsFrom slots₀ 0 n₀) (replicate 768 0)) order₀ .reach)))) $ move ! (0 ∷ 2 ∷ 3 ∷ 4 ∷ 5 ∷ 6 ∷ 7 ∷ 8 ∷ 9 ∷ 10 ∷ 11 ∷ 12 ∷ 13 ∷ 14 ∷ 15 ∷ 16 ∷ 17 ∷ 18 ∷ 19 ∷ 20 ∷ 21 ∷ 22 ∷ 23 ∷ 24 ∷ 25 ∷ 26 ∷ 27 ∷ 28 ∷ 29 ∷ 30 ∷ 31 ∷ 32 ∷ 33 ∷ 34 ∷ 35 ∷ 36 ∷ 37 ∷ 38 ∷ 39 ∷ 40 ∷ 41 ∷ 42 ∷ 43 ∷ 44 ∷ 45 ∷ 46 ∷ 47 ∷ 48 ∷ 49 ∷ 50 ∷ 51 ∷ 52 ∷ 53 ∷ 54 ∷ 55 ∷ 56 ∷ 57 ∷ 58 ∷ 59 ∷ 60 ∷ 61 ∷ 62 ∷ 63 ∷ 64 ∷ 65 ∷ 66 ∷ 67 ∷ 68 ∷ 69 ∷ 1 ∷ []) $
+        move ! (0 ∷ 73 ∷ []) $ own-back ! tt word 128 128 (omega (arith)) 0 (allPicked rule₀ (slotsFrom slots₀ 0 n₀) rows₀ blocks₀ (filledFrom 0 (slotsFrom slots₀ 0 n₀) (entriesOf m₀ clients₀ clocks₀) (replicate 128 0)) (openedFrom 0 (slotsFrom slots₀ 0 n₀) (replicate 768 0)) order₀ .reach) l₁₃ ν₁₃ δ₁₃ (hs (take ((allPicked rule₀ (slotsFrom slots₀ 0 n₀) rows₀ blocks₀ (filledFrom 0 (slotsFrom slots₀ 0 n₀) (entriesOf m₀ clients₀ clocks₀) (replicate 128 0)) (openedFrom 0 (slotsFrom slots₀ 0 n₀) (replicate 768 0)) order₀ .at) .steps) (allPicked rule₀ (slotsFrom slots₀ 0 n₀) rows₀ blocks₀ (filledFrom 0 (slotsFrom slots₀ 0 n₀) (entriesOf m₀ clients₀ clocks₀) (replicate 128 0)) (openedFrom 0 (slotsFrom slots₀ 0 n₀) (replicate 768 0)) order₀ .order) ++ replicate (length (allPicked rule₀ (slotsFrom slots₀ 0 n₀) rows₀ blocks₀ (filledFrom 0 (slotsFrom slots₀ 0 n₀) (entriesOf m₀ clients₀ clocks₀) (replicate 128 0)) (openedFrom 0 (slotsFrom slots₀ 0 n₀) (replicate 768 0)) order₀ .order) - ((allPicked rule₀ (slotsFrom slots₀ 0 n₀) rows₀ blocks₀ (filledFrom 0 (slotsFrom slots₀ 0 n₀) (entriesOf m₀ clients₀ clocks₀) (replicate 128 0)) (openedFrom 0 (slotsFrom slots₀ 0 n₀) (replicate 768 0)) order₀ .at) .steps)) 0) (fitted (length counts₀) (countsFrom 0 (slotsFrom slots₀ 0 n₀) (allPicked rule₀ (slotsFrom slots₀ 0 n₀) rows₀ blocks₀ (filledFrom 0 (slotsFrom slots₀ 0 n₀) (entriesOf m₀ clients₀ clocks₀) (replicate 128 0)) (openedFrom 0 (slotsFrom slots₀ 0 n₀) (replicate 768 0)) order₀ .fronts))) (fitted (length reaches₀) (reachesFrom 0 (slotsFrom slots₀ 0 n₀) (allPicked rule₀ (slotsFrom slots₀ 0 n₀) rows₀ blocks₀ (filledFrom 0 (slotsFrom slots₀ 0 n₀) (entriesOf m₀ clients₀ clocks₀) (replicate 128 0)) (openedFrom 0 (slotsFrom slots₀ 0 n₀) (replicate 768 0)) order₀ .reach))) (fitted (length pending₀) (pendingFrom 0 (slotsFrom slots₀ 0 n₀) (allPicked rule₀ (slotsFrom slots₀ 0 n₀) rows₀ blocks₀ (filledFrom 0 (slotsFrom slots₀ 0 n₀) (entriesOf m₀ clients₀ clocks₀) (replicate 128 0)) (openedFrom 0 (slotsFrom slots₀ 0 n₀) (replicate 768 0)) order₀ .fronts) (allPicked rule₀ (slotsFrom slots₀ 0 n₀) rows₀ blocks₀ (filledFrom 0 (slotsFrom slots₀ 0 n₀) (entriesOf m₀ clients₀ clocks₀) (replicate 128 0)) (openedFrom 0 (slotsFrom slots₀ 0 n₀) (replicate 768 0)) order₀ .reach)))) $ move ! (0 ∷ 2 ∷ 3 ∷ 4 ∷ 5 ∷ 6 ∷ 7 ∷ 8 ∷ 9 ∷ 10 ∷ 11 ∷ 12 ∷ 13 ∷ 14 ∷ 15 ∷ 16 ∷ 17 ∷ 18 ∷ 19 ∷ 20 ∷ 21 ∷ 22 ∷ 23 ∷ 24 ∷ 25 ∷ 26 ∷ 27 ∷ 28 ∷ 29 ∷ 30 ∷ 31 ∷ 32 ∷ 33 ∷ 34 ∷ 35 ∷ 36 ∷ 37 ∷ 38 ∷ 39 ∷ 40 ∷ 41 ∷ 42 ∷ 43 ∷ 44 ∷ 45 ∷ 46 ∷ 47 ∷ 48 ∷ 49 ∷ 50 ∷ 51 ∷ 52 ∷ 53 ∷ 54 ∷ 55 ∷ 56 ∷ 57 ∷ 58 ∷ 59 ∷ 60 ∷ 61 ∷ 62 ∷ 63 ∷ 64 ∷ 65 ∷ 66 ∷ 67 ∷ 68 ∷ 69 ∷ 70 ∷ 71 ∷ 72 ∷ 73 ∷ 1 ∷ []) $
+        returns-within ! Post refl (look ! 99 refl) $
+        free-all ! (_ ∷ []) En (has _ ∷ has _ ∷ has _ ∷ has _ ∷ has _ ∷ has _ ∷ has _ ∷ has _ ∷ has _ ∷ has _ ∷ has _ ∷ has _ ∷ has _ ∷ has _ ∷ has _ ∷ has _ ∷ has _ ∷ has _ ∷ has _ ∷ has _ ∷ has _ ∷ has _ ∷ has _ ∷ has _ ∷ has _ ∷ has _ ∷ has _ ∷ has _ ∷ has _ ∷ has _ ∷ has _ ∷ has _ ∷ has _ ∷ has _ ∷ has _ ∷ has _ ∷ has _ ∷ has _ ∷ has _ ∷ has _ ∷ has _ ∷ has _ ∷ has _ ∷ has _ ∷ has _ ∷ has _ ∷ has _ ∷ has _ ∷ has _ ∷ has _ ∷ []) [] $ by ! (exits (sortingOf (allPicked rule₀ (slotsFrom slots₀ 0 n₀) rows₀ blocks₀ (filledFrom 0 (slotsFrom slots₀ 0 n₀) (entriesOf m₀ clients₀ clocks₀) (replicate 128 0)) (openedFrom 0 (slotsFrom slots₀ 0 n₀) (replicate 768 0)) order₀ .at) (length (countsFrom 0 (slotsFrom slots₀ 0 n₀) (allPicked rule₀ (slotsFrom slots₀ 0 n₀) rows₀ blocks₀ (filledFrom 0 (slotsFrom slots₀ 0 n₀) (entriesOf m₀ clients₀ clocks₀) (replicate 128 0)) (openedFrom 0 (slotsFrom slots₀ 0 n₀) (replicate 768 0)) order₀ .fronts))) (length (reachesFrom 0 (slotsFrom slots₀ 0 n₀) (allPicked rule₀ (slotsFrom slots₀ 0 n₀) rows₀ blocks₀ (filledFrom 0 (slotsFrom slots₀ 0 n₀) (entriesOf m₀ clients₀ clocks₀) (replicate 128 0)) (openedFrom 0 (slotsFrom slots₀ 0 n₀) (replicate 768 0)) order₀ .reach))) (length (pendingFrom 0 (slotsFrom slots₀ 0 n₀) (allPicked rule₀ (slotsFrom slots₀ 0 n₀) rows₀ blocks₀ (filledFrom 0 (slotsFrom slots₀ 0 n₀) (entriesOf m₀ clients₀ clocks₀) (replicate 128 0)) (openedFrom 0 (slotsFrom slots₀ 0 n₀) (replicate 768 0)) order₀ .fronts) (allPicked rule₀ (slotsFrom slots₀ 0 n₀) rows₀ blocks₀ (filledFrom 0 (slotsFrom slots₀ 0 n₀) (entriesOf m₀ clients₀ clocks₀) (replicate 128 0)) (openedFrom 0 (slotsFrom slots₀ 0 n₀) (replicate 768 0)) order₀ .reach)))) (take ((allPicked rule₀ (slotsFrom slots₀ 0 n₀) rows₀ blocks₀ (filledFrom 0 (slotsFrom slots₀ 0 n₀) (entriesOf m₀ clients₀ clocks₀) (replicate 128 0)) (openedFrom 0 (slotsFrom slots₀ 0 n₀) (replicate 768 0)) order₀ .at) .steps) (allPicked rule₀ (slotsFrom slots₀ 0 n₀) rows₀ blocks₀ (filledFrom 0 (slotsFrom slots₀ 0 n₀) (entriesOf m₀ clients₀ clocks₀) (replicate 128 0)) (openedFrom 0 (slotsFrom slots₀ 0 n₀) (replicate 768 0)) order₀ .order) ++ replicate (length (allPicked rule₀ (slotsFrom slots₀ 0 n₀) rows₀ blocks₀ (filledFrom 0 (slotsFrom slots₀ 0 n₀) (entriesOf m₀ clients₀ clocks₀) (replicate 128 0)) (openedFrom 0 (slotsFrom slots₀ 0 n₀) (replicate 768 0)) order₀ .order) - ((allPicked rule₀ (slotsFrom slots₀ 0 n₀) rows₀ blocks₀ (filledFrom 0 (slotsFrom slots₀ 0 n₀) (entriesOf m₀ clients₀ clocks₀) (replicate 128 0)) (openedFrom 0 (slotsFrom slots₀ 0 n₀) (replicate 768 0)) order₀ .at) .steps)) 0) (fitted (length counts₀) (countsFrom 0 (slotsFrom slots₀ 0 n₀) (allPicked rule₀ (slotsFrom slots₀ 0 n₀) rows₀ blocks₀ (filledFrom 0 (slotsFrom slots₀ 0 n₀) (entriesOf m₀ clients₀ clocks₀) (replicate 128 0)) (openedFrom 0 (slotsFrom slots₀ 0 n₀) (replicate 768 0)) order₀ .fronts))) (fitted (length reaches₀) (reachesFrom 0 (slotsFrom slots₀ 0 n₀) (allPicked rule₀ (slotsFrom slots₀ 0 n₀) rows₀ blocks₀ (filledFrom 0 (slotsFrom slots₀ 0 n₀) (entriesOf m₀ clients₀ clocks₀) (replicate 128 0)) (openedFrom 0 (slotsFrom slots₀ 0 n₀) (replicate 768 0)) order₀ .reach))) (fitted (length pending₀) (pendingFrom 0 (slotsFrom slots₀ 0 n₀) (allPicked rule₀ (slotsFrom slots₀ 0 n₀) rows₀ blocks₀ (filledFrom 0 (slotsFrom slots₀ 0 n₀) (entriesOf m₀ clients₀ clocks₀) (replicate 128 0)) (openedFrom 0 (slotsFrom slots₀ 0 n₀) (replicate 768 0)) order₀ .fronts) (allPicked rule₀ (slotsFrom slots₀ 0 n₀) rows₀ blocks₀ (filledFrom 0 (slotsFrom slots₀ 0 n₀) (entriesOf m₀ clients₀ clocks₀) (replicate 128 0)) (openedFrom 0 (slotsFrom slots₀ 0 n₀) (replicate 768 0)) order₀ .reach))) (g₈ .0) (exit-slots rule₀ (slotsFrom slots₀ 0 n₀) rows₀ blocks₀ (entriesOf m₀ clients₀ clocks₀) order₀ counts₀ reaches₀ pending₀)))))))))))))))
 
 pub sort-slots-spec : {M : Type 1} → stated.statement M
 unfolding code.routine tablesOf
