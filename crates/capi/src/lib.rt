@@ -7,6 +7,8 @@ use contents::Where;
 use diffs::Diff;
 use numbers::Written;
 use sort_answers::Sorted;
+use summaries::Summarized;
+use summaries::SummaryRows;
 use text::Units;
 use updates::Update;
 use vector::Vector;
@@ -27,6 +29,7 @@ ghost use Rattle.contents.specs.Promises.{whereOf};
 ghost use Rattle.listed.specs.Listed.{Lists};
 ghost use Rattle.diffs.specs.Promises.{Diffs, emptyVector};
 ghost use Rattle.sorts.specs.Promises.{SortUpdate};
+ghost use Rattle.summaries.specs.Promises.{WriteSummary, ReadSummary};
 
 // ---- updates
 
@@ -132,6 +135,22 @@ pub extern "C" fn wairokabi_read_state_vector(vector: &[u8], out: &mut [u64]) ->
     ensures { λ r. ⌜ ReadStateVector (now (vector .entry)) (now (out .entry)) r (now (out .exit)) ⌝ }
 {
     wairokabi::read_state_vector(vector, out)
+}
+
+// ---- summaries
+
+#[no_mangle]
+pub extern "C" fn wairokabi_write_summary(form: u8, update: &[u8], out: &mut [u8]) -> Summarized
+    ensures { λ r. ⌜ WriteSummary form (now (update .entry)) (now (out .entry)) r (now (out .exit)) ⌝ }
+{
+    summaries::write_summary(form, update, out)
+}
+
+#[no_mangle]
+pub extern "C" fn wairokabi_read_summary(bytes: &[u8], rows: &mut [u64]) -> SummaryRows
+    ensures { λ r. ⌜ ReadSummary (now (bytes .entry)) (now (rows .entry)) r (now (rows .exit)) ⌝ }
+{
+    summaries::read_summary(bytes, rows)
 }
 
 // ---- numbers

@@ -24,6 +24,8 @@ fn case(
         16 => diff_cases::read(source, place, bytes, sink, used),
         17 => sort_cases::read(source, place, bytes, sink, used),
         18 => listings::read(source, place, bytes, sink, used),
+        19 => summary_cases::write(source, place, bytes, sink, used),
+        20 => summary_cases::read(source, place, bytes, sink, used),
         21 => strict_cases::read(source, place, bytes, sink, used),
         25 => sort_cases::read_rule(source, place, bytes, sink, used),
         _ => number_cases::case(operation, source, place, bytes, sink, used),

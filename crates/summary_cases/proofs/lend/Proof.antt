@@ -1,0 +1,11 @@
+-- `summary_cases::lend` is safe: the part lent is as long as asked.
+use lib.Seq.{length-take-le}
+use borrow.Author.Needs.{needs}
+use Rattle.summary_cases.proofs.lend.Statement.{statement}
+use Rattle.summary_cases.proofs.lend.Tie as tie
+
+slice-aggregate-ask : tie.Need-slice-aggregate-ask
+slice-aggregate-ask c = search (needs, length-take-le)
+
+pub lend-spec : {M : Type 1} → statement M
+lend-spec = tie.close (tie.spec (λ c. search needs) slice-aggregate-ask (λ c κs. search needs) (λ c. search needs) (λ c. search needs))
