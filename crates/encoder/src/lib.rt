@@ -21,8 +21,10 @@ pub fn plan_rows(
     plan: &mut [u64],
 ) -> Outcome
     requires { ⌜ n ≤ length (now rows) ⌝ }
-    ensures { λ r. ⌜ (r ≡ outcomeFor (now (update .entry)) (entriesOf m (now (clients .entry)) (now (clocks .entry))) (now (plan .entry)) (take n (now (rows .entry))))
-        × (now (plan .exit) ≡ wordsFor (now (update .entry)) (entriesOf m (now (clients .entry)) (now (clocks .entry))) (now (plan .entry)) (take n (now (rows .entry)))) ⌝ }
+    ensures { λ r. ⌜ (r ≡ outcomeFor (now (update .entry)) (entriesOf m (now (clients .entry)) (now (clocks .entry)))
+        (now (plan .entry)) (take n (now (rows .entry))))
+        × (now (plan .exit) ≡ wordsFor (now (update .entry)) (entriesOf m (now (clients .entry)) (now (clocks .entry)))
+        (now (plan .entry)) (take n (now (rows .entry)))) ⌝ }
 {
     let mut s = kept::plan::begin();
     let mut i = 0;

@@ -50,9 +50,11 @@ pub fn write(
     form: u8,
 ) -> usize
     requires { ⌜ (length (now sizes) ≡ 8) × (3 * n ≤ length (now ranges)) × (5 * sections ≤ length (now plan)) ⌝ }
-    ensures { λ r. ⌜ (r ≡ endFor form (now (sizes .entry)) (var sections ∷ plannedTokens (now (update .entry)) (now (rows .entry)) (now (plan .entry)) sections)
+    ensures { λ r. ⌜ (r ≡ endFor form (now (sizes .entry))
+        (var sections ∷ plannedTokens (now (update .entry)) (now (rows .entry)) (now (plan .entry)) sections)
         (deleteTokens form (rowsFrom (now (ranges .entry)) 0 n)))
-        × (now (out .exit) ≡ outFor form (now (sizes .entry)) (var sections ∷ plannedTokens (now (update .entry)) (now (rows .entry)) (now (plan .entry)) sections)
+        × (now (out .exit) ≡ outFor form (now (sizes .entry))
+        (var sections ∷ plannedTokens (now (update .entry)) (now (rows .entry)) (now (plan .entry)) sections)
         (deleteTokens form (rowsFrom (now (ranges .entry)) 0 n)) (now (out .entry))) ⌝ }
 {
     let mut table = [0u64; 40];

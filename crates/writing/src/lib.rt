@@ -22,8 +22,10 @@ fn encode_planned(
     out: &mut [u8],
 ) -> Written
     requires { ⌜ (3 * n ≤ length (now ranges)) × (5 * sections ≤ length (now plan)) ⌝ }
-    ensures { λ r. ⌜ (r ≡ plannedAnswer (job (now (update .entry)) (now (rows .entry)) (now (plan .entry)) sections (rowsFrom (now (ranges .entry)) 0 n)) form (length (now (out .entry))))
-        × (now (out .exit) ≡ plannedOut (job (now (update .entry)) (now (rows .entry)) (now (plan .entry)) sections (rowsFrom (now (ranges .entry)) 0 n)) form (now (out .entry))) ⌝ }
+    ensures { λ r. ⌜ (r ≡ plannedAnswer (job (now (update .entry)) (now (rows .entry)) (now (plan .entry)) sections (rowsFrom (now (ranges .entry)) 0 n))
+        form (length (now (out .entry))))
+        × (now (out .exit) ≡ plannedOut (job (now (update .entry)) (now (rows .entry)) (now (plan .entry)) sections (rowsFrom (now (ranges .entry)) 0 n))
+        form (now (out .entry))) ⌝ }
 {
     let mut table = [0u64; 8];
     let sizes = &mut table[..];
@@ -52,8 +54,10 @@ fn encode_kept(
     out: &mut [u8],
 ) -> Written
     requires { ⌜ (blocks ≤ length (now rows)) × (3 * n ≤ length (now ranges)) ⌝ }
-    ensures { λ r. ⌜ (r ≡ keptAnswer (now (update .entry)) (entriesOf m (now (clients .entry)) (now (clocks .entry))) form (now (rows .entry)) blocks (rowsFrom (now (ranges .entry)) 0 n) (length (now (out .entry))))
-        × (now (out .exit) ≡ keptOut (now (update .entry)) (entriesOf m (now (clients .entry)) (now (clocks .entry))) form (now (rows .entry)) blocks (rowsFrom (now (ranges .entry)) 0 n) (now (out .entry))) ⌝ }
+    ensures { λ r. ⌜ (r ≡ keptAnswer (now (update .entry)) (entriesOf m (now (clients .entry)) (now (clocks .entry)))
+        form (now (rows .entry)) blocks (rowsFrom (now (ranges .entry)) 0 n) (length (now (out .entry))))
+        × (now (out .exit) ≡ keptOut (now (update .entry)) (entriesOf m (now (clients .entry)) (now (clocks .entry)))
+        form (now (rows .entry)) blocks (rowsFrom (now (ranges .entry)) 0 n) (now (out .entry))) ⌝ }
 {
     let mut words = [0u64; 320];
     let plan = &mut words[..];
@@ -76,8 +80,10 @@ pub fn encode_read(
     out: &mut [u8],
 ) -> Written
     requires { ⌜ (blocks ≤ length (now rows)) × (3 * n ≤ length (now ranges)) ⌝ }
-    ensures { λ r. ⌜ (r ≡ readAnswer (now (update .entry)) (vectorOf (now (vector .entry))) form (now (rows .entry)) blocks (rowsFrom (now (ranges .entry)) 0 n) (length (now (out .entry))))
-        × (now (out .exit) ≡ readOut (now (update .entry)) (vectorOf (now (vector .entry))) form (now (rows .entry)) blocks (rowsFrom (now (ranges .entry)) 0 n) (now (out .entry))) ⌝ }
+    ensures { λ r. ⌜ (r ≡ readAnswer (now (update .entry)) (vectorOf (now (vector .entry)))
+        form (now (rows .entry)) blocks (rowsFrom (now (ranges .entry)) 0 n) (length (now (out .entry))))
+        × (now (out .exit) ≡ readOut (now (update .entry)) (vectorOf (now (vector .entry)))
+        form (now (rows .entry)) blocks (rowsFrom (now (ranges .entry)) 0 n) (now (out .entry))) ⌝ }
 {
     let mut first = [0u64; 64];
     let clients = &mut first[..];
