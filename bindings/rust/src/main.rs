@@ -51,6 +51,7 @@ struct Words {
     plain: Vec<String>,
     help: bool,
     long: bool,
+    read: bool,
     to: Option<String>,
     out: Option<String>,
 }
@@ -64,6 +65,7 @@ impl Words {
             match word.as_str() {
                 "-h" | "--help" => words.help = true,
                 "--long" => words.long = true,
+                "--read" => words.read = true,
                 "--to" => words.to = Some(next()?.ok_or_else(|| not_run("--to needs a form"))?),
                 "--out" => words.out = Some(next()?.ok_or_else(|| not_run("--out needs a file"))?),
                 option if option.starts_with("--") => return Err(not_run(format!("{option}: no such option; see --help"))),
@@ -156,7 +158,7 @@ fn run(words: Words) -> Result<Vec<u8>, Stop> {
     }
     let plain: Vec<&str> = words.plain.iter().map(String::as_str).collect();
     let command = plain[0];
-    let misplaced = [("--long", words.long, "list"), ("--to", words.to.is_some(), "diff"), ("--out", words.out.is_some(), "diff content")];
+    let misplaced = [("--long", words.long, "list"), ("--read", words.read, "summary"), ("--to", words.to.is_some(), "diff"), ("--out", words.out.is_some(), "diff content summary")];
     if let Some((option, ..)) = misplaced.iter().find(|(_, given, of)| *given && !of.split(' ').any(|c| c == command)) {
         return Err(not_run(format!("{command} takes no {option}; see --help")));
     }
@@ -172,6 +174,8 @@ fn run(words: Words) -> Result<Vec<u8>, Stop> {
         ["diff", form, update, vector] => diff(&Asked::of(form, update, Some(vector))?, &words),
         ["sort", form, update] => sorted(&Asked::of(form, update, None)?),
         ["sort", form, update, vector] => sorted(&Asked::of(form, update, Some(vector))?),
+        ["summary", summary] if words.read => summary_rows(&Input::of("summary", summary)?),
+        ["summary", form, update] if !words.read => summary(&Asked::of(form, update, None)?, words.out.as_deref()),
         _ => Err(not_run(match HELP.lines().find(|line| line.starts_with(&format!("  ./wairokabi {command} FORM "))) {
             Some(usage) => format!("use {}; see --help", usage.trim()),
             None => format!("{command}: no such command; see --help"),
@@ -332,6 +336,25 @@ fn sorted(asked: &Asked) -> Result<Vec<u8>, Stop> {
 // ---- bytes and words
 
 /// Puts bytes into a file, or hands them on for standard output.
+fn summary(asked: &Asked, out: Option<&str>) -> Result<Vec<u8>, Stop> {
+    let mut bytes = [0; MAX_SUMMARY];
+    let summary = write_summary(asked.form, &asked.update.bytes, &mut bytes).map_err(|refused| asked.refused(refused))?;
+    match out {
+        Some(out) => put(out, summary),
+        None => Ok(format!("{}\n", hex(summary)).into()),
+    }
+}
+
+fn summary_rows(given: &Input) -> Result<Vec<u8>, Stop> {
+    let mut rows = [SummaryRow::default(); MAX_CLIENTS];
+    let rows = read_summary(&given.bytes, &mut rows).map_err(|refused| Stop { status: REFUSED, words: format!("{}: {refused}", given.name) })?;
+    let mut text = format!("summary of {}\n", many(rows.len(), "client"));
+    for row in rows {
+        let _ = writeln!(text, "  client {}: clocks {} to {} in {}", row.client, row.first, row.end, many(row.blocks as usize, "block"));
+    }
+    Ok(text.into())
+}
+
 fn put(out: &str, bytes: &[u8]) -> Result<Vec<u8>, Stop> {
     if out == "-" {
         return Ok(bytes.to_vec());

@@ -22,7 +22,7 @@ pub struct Refused {
 }
 
 impl Refused {
-    /// The number: 1 to 13.
+    /// The number: 1 to 13, 16 or 17.
     pub fn number(self) -> u8 {
         self.number
     }
@@ -37,7 +37,7 @@ impl Refused {
     /// - 6, 7: the first byte of the text, not of its length.
     ///
     /// In form 2 a section's client and an info byte are drawn from runs too. `None` where no byte is blamed: 9 to 13, 8 for the order, an update over
-    /// [`MAX_UPDATE`](crate::MAX_UPDATE), a state vector, a text that is counted or cut, and what is to be written.
+    /// [`MAX_UPDATE`](crate::MAX_UPDATE), a state vector, a summary that is read, a text that is counted or cut, and what is to be written.
     pub fn at(self) -> Option<usize> {
         self.at
     }
@@ -58,6 +58,8 @@ impl Refused {
             11 => "no block n, or it has no binary or text",
             12 => "form not 1 or 2",
             13 => "form 2, or a difference column, needs a difference outside -2^30 to 2^30-1",
+            16 => "a summary's version is unknown",
+            17 => "a summary's rows out of order, a row of no blocks, a first clock above its last end, filling that is not zero, or bytes left over",
             _ => "a number that this binding does not know",
         }
     }
