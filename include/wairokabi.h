@@ -30,6 +30,8 @@
 // 13  form 2, or a difference column, needs a difference outside -2^30 to 2^30-1
 // 14  strict reading: the flag of form 2 is not 0
 // 15  strict reading: a byte stays unread
+// 16  a summary's version is unknown
+// 17  a summary's rows out of order, a row of no blocks, a first clock above its last end, filling that is not zero, or bytes left over
 //
 // Places: the byte that is blamed, counted from 0 in the update, or in the bytes that a number or a column is read from:
 //
@@ -42,7 +44,7 @@
 // - 14: the flag, which is byte 0. 15: the lowest byte that stays unread.
 //
 // In form 2 a section's client and an info byte are drawn from runs too. Where no byte is blamed the place is 0: 9 to 13, 8 for order steps, an update
-// over WAIROKABI_MAX_UPDATE, whatever a state vector is refused by. Place 0 may be blamed too: form 1 has its count of sections there, and an update of no
+// over WAIROKABI_MAX_UPDATE, whatever a state vector or a summary that is read is refused by. Place 0 may be blamed too: form 1 has its count of sections there, and an update of no
 // bytes its end.
 #ifndef WAIROKABI_H
 #define WAIROKABI_H
@@ -240,6 +242,33 @@ typedef struct wairokabi_vector {
 wairokabi_vector wairokabi_read_state_vector(
     const uint8_t *vector, size_t vector_count,
     uint64_t *out, size_t out_count);
+
+// ---- summaries
+
+// How many bytes were written.
+typedef struct wairokabi_summarized {
+    wairokabi_refusal refusal;
+    size_t bytes;
+} wairokabi_summarized;
+
+// Writes the summary of an update: for each client with kept blocks, highest first, the clock of the first of them, the end of the last, and how many they
+// are, in bits, the most significant first (docs/FORMAT.md). It has 2 bytes where there is none, and (18 + 131 n) / 8 for n clients: 1,050 at most. 12, 3,
+// what reading refuses, at its place, but never 8; then 10.
+wairokabi_summarized wairokabi_write_summary(
+    uint8_t form,
+    const uint8_t *update, size_t update_count,
+    uint8_t *out, size_t out_count);
+
+// How many rows were read. A refusal's place is 0.
+typedef struct wairokabi_summary_rows {
+    wairokabi_refusal refusal;
+    size_t count;
+} wairokabi_summary_rows;
+
+// Reads a summary: its rows, highest client first, four words each: client, first clock, last end, blocks. 1, 16, 3, 8, then 17.
+wairokabi_summary_rows wairokabi_read_summary(
+    const uint8_t *bytes, size_t bytes_count,
+    uint64_t *rows, size_t rows_count);
 
 // ---- numbers
 

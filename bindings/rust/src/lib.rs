@@ -33,6 +33,7 @@ mod lent;
 mod numbers;
 mod raw;
 mod refused;
+mod summaries;
 mod text;
 mod updates;
 
@@ -41,5 +42,6 @@ pub use columns::*;
 pub use numbers::{read_signed, read_unsigned, write_signed, write_unsigned, Signed, MAX_CLOCK, MAX_SIGNED, MAX_UNSIGNED, MAX_VALUE};
 pub use raw::{Block, BytePlace, Bytes, DifferencePlace, Id, NumberPlace, Part, StringPlace, Units};
 pub use refused::Refused;
+pub use summaries::*;
 pub use text::*;
 pub use updates::*;

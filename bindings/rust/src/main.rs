@@ -52,6 +52,7 @@ struct Words {
     help: bool,
     long: bool,
     strict: bool,
+    read: bool,
     to: Option<String>,
     rule: Option<String>,
     out: Option<String>,
@@ -67,6 +68,7 @@ impl Words {
                 "-h" | "--help" => words.help = true,
                 "--long" => words.long = true,
                 "--strict" => words.strict = true,
+                "--read" => words.read = true,
                 "--to" => words.to = Some(next()?.ok_or_else(|| not_run("--to needs a form"))?),
                 "--rule" => words.rule = Some(next()?.ok_or_else(|| not_run("--rule needs a rule"))?),
                 "--out" => words.out = Some(next()?.ok_or_else(|| not_run("--out needs a file"))?),
@@ -169,9 +171,10 @@ fn run(words: Words) -> Result<Vec<u8>, Stop> {
     let misplaced = [
         ("--long", words.long, "list"),
         ("--strict", words.strict, "check"),
+        ("--read", words.read, "summary"),
         ("--to", words.to.is_some(), "diff"),
         ("--rule", words.rule.is_some(), "sort"),
-        ("--out", words.out.is_some(), "diff content"),
+        ("--out", words.out.is_some(), "diff content summary"),
     ];
     if let Some((option, ..)) = misplaced.iter().find(|(_, given, of)| *given && !of.split(' ').any(|c| c == command)) {
         return Err(not_run(format!("{command} takes no {option}; see --help")));
@@ -188,6 +191,8 @@ fn run(words: Words) -> Result<Vec<u8>, Stop> {
         ["diff", form, update, vector] => diff(&Asked::of(form, update, Some(vector))?, &words),
         ["sort", form, update] => sorted(&Asked::of(form, update, None)?, &words),
         ["sort", form, update, vector] => sorted(&Asked::of(form, update, Some(vector))?, &words),
+        ["summary", summary] if words.read => summary_rows(&Input::of("summary", summary)?),
+        ["summary", form, update] if !words.read => summary(&Asked::of(form, update, None)?, words.out.as_deref()),
         _ => Err(not_run(match HELP.lines().find(|line| line.starts_with(&format!("  ./wairokabi {command} FORM "))) {
             Some(usage) => format!("use {}; see --help", usage.trim()),
             None => format!("{command}: no such command; see --help"),
@@ -355,6 +360,25 @@ fn sorted(asked: &Asked, words: &Words) -> Result<Vec<u8>, Stop> {
 // ---- bytes and words
 
 /// Puts bytes into a file, or hands them on for standard output.
+fn summary(asked: &Asked, out: Option<&str>) -> Result<Vec<u8>, Stop> {
+    let mut bytes = [0; MAX_SUMMARY];
+    let summary = write_summary(asked.form, &asked.update.bytes, &mut bytes).map_err(|refused| asked.refused(refused))?;
+    match out {
+        Some(out) => put(out, summary),
+        None => Ok(format!("{}\n", hex(summary)).into()),
+    }
+}
+
+fn summary_rows(given: &Input) -> Result<Vec<u8>, Stop> {
+    let mut rows = [SummaryRow::default(); MAX_CLIENTS];
+    let rows = read_summary(&given.bytes, &mut rows).map_err(|refused| Stop { status: REFUSED, words: format!("{}: {refused}", given.name) })?;
+    let mut text = format!("summary of {}\n", many(rows.len(), "client"));
+    for row in rows {
+        let _ = writeln!(text, "  client {}: clocks {} to {} in {}", row.client, row.first, row.end, many(row.blocks as usize, "block"));
+    }
+    Ok(text.into())
+}
+
 fn put(out: &str, bytes: &[u8]) -> Result<Vec<u8>, Stop> {
     if out == "-" {
         return Ok(bytes.to_vec());

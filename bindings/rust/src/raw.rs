@@ -103,6 +103,18 @@ pub struct Vector {
 }
 
 #[repr(C)]
+pub struct Summarized {
+    pub refusal: Refusal,
+    pub bytes: usize,
+}
+
+#[repr(C)]
+pub struct SummaryRows {
+    pub refusal: Refusal,
+    pub count: usize,
+}
+
+#[repr(C)]
 pub struct Unsigned {
     pub refusal: Refusal,
     pub value: u64,
@@ -279,6 +291,10 @@ extern "C" {
     pub fn wairokabi_list(input: *const u8, input_count: usize, out: *mut u8, out_count: usize) -> Written;
 
     pub fn wairokabi_read_state_vector(vector: *const u8, vector_count: usize, out: *mut u64, out_count: usize) -> Vector;
+
+    pub fn wairokabi_write_summary(form: u8, update: *const u8, update_count: usize, out: *mut u8, out_count: usize) -> Summarized;
+
+    pub fn wairokabi_read_summary(bytes: *const u8, bytes_count: usize, rows: *mut u64, rows_count: usize) -> SummaryRows;
 
     pub fn wairokabi_read_unsigned(s: *const u8, s_count: usize, at: usize) -> Unsigned;
 

@@ -22,7 +22,7 @@ pub struct Refused {
 }
 
 impl Refused {
-    /// The number: 1 to 15.
+    /// The number: 1 to 17.
     pub fn number(self) -> u8 {
         self.number
     }
@@ -38,7 +38,7 @@ impl Refused {
     /// - 14: the flag, which is byte 0. 15: the lowest byte that stays unread.
     ///
     /// In form 2 a section's client and an info byte are drawn from runs too. `None` where no byte is blamed: 9 to 13, 8 for the order, an update over
-    /// [`MAX_UPDATE`](crate::MAX_UPDATE), a state vector, a text that is counted or cut, and what is to be written.
+    /// [`MAX_UPDATE`](crate::MAX_UPDATE), a state vector, a summary that is read, a text that is counted or cut, and what is to be written.
     pub fn at(self) -> Option<usize> {
         self.at
     }
@@ -61,6 +61,8 @@ impl Refused {
             13 => "form 2, or a difference column, needs a difference outside -2^30 to 2^30-1",
             14 => "strict reading: the flag of form 2 is not 0",
             15 => "strict reading: a byte stays unread",
+            16 => "a summary's version is unknown",
+            17 => "a summary's rows out of order, a row of no blocks, a first clock above its last end, filling that is not zero, or bytes left over",
             _ => "a number that this binding does not know",
         }
     }

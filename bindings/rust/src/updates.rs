@@ -72,7 +72,7 @@ pub fn ranges_for(update: &[u8]) -> Vec<Range> {
 
 /// The refusal that the answer of a call on an update begins with. Place 0 blames the first byte where reading the update is refused there, and no byte
 /// otherwise: where its length is refused, or its vector, and by what follows reading.
-fn done_reading(refusal: raw::Refusal, form: u8, update: &[u8]) -> Result<(), Refused> {
+pub(crate) fn done_reading(refusal: raw::Refusal, form: u8, update: &[u8]) -> Result<(), Refused> {
     if refusal.number == 0 || refusal.place > 0 {
         return done_at(refusal);
     }
