@@ -55,4 +55,4 @@ pub write-row-spec : {M : Type 1} → statement M
 write-row-spec =
     tie.close
     (tie.spec
-    (λ c κs. search needs) returns write-head-requires cut-requires (λ c κs. search needs) (λ c. search needs) (λ c. search needs) returns-2)
+    (λ c κs. search needs) (λ c κs. search needs) returns write-head-requires cut-requires (λ c κs. search needs) (λ c. search needs) (λ c. search needs) returns-2)
