@@ -1,7 +1,7 @@
 -- The tokens of a diff are legal: every value is one of its column's.
 use Prim.Native.Nat.{ℕ, _+_, _-_, _≤_}
 use mathlib.Core.Path.{_≡_, refl}
-use mathlib.Core.Bool.{Bool, true, false}
+use mathlib.Core.Bool.{Bool, true, false, cond}
 use mathlib.Core.List.{List, [], _∷_}
 use native.Mathlib.Omega.{arith}
 use lib.Dec.{eqb}
@@ -116,7 +116,7 @@ content-number : (kind : ℕ) → contentNumber kind ≤ 4
 unfolding contentNumber
 content-number kind = go (isDeleted kind) (isBinary kind) (isText kind)
   where
-    go : (x y z : Bool) → pick x 1 (pick y 3 (pick z 4 0)) ≤ 4
+    go : (x y z : Bool) → cond x 1 (cond y 3 (cond z 4 0)) ≤ 4
     go true y z = omega arith
     go false true z = omega arith
     go false false true = omega arith
