@@ -5,5 +5,8 @@ pub mod Fines
 pub mod Rows
 pub mod Heaps
 pub mod Orders
+pub mod Inserts
+pub mod Splits
+pub mod Sides
 pub mod Joins
 pub mod Levels
