@@ -285,6 +285,31 @@ static void others(void) {
     EXPECT(done(v.refusal) && v.count == 1 && words[0] == 5 && words[1] == 2 && zero_words(2));
 }
 
+// The summary of case C, written and read; a byte of room too few, a place of the update, a version and a filling that are none.
+static void summaries(void) {
+    static const uint8_t of_c[] = {0x10, 0x20, 0, 0, 0, 0, 0, 0x05, 0, 0, 0, 0, 0, 0, 0, 0x08, 0, 0x04}, version[] = {0x20}, filling[] = {0x10, 0x01};
+    fill();
+    wairokabi_summarized s = wairokabi_write_summary(1, C, sizeof C, out, ROOM);
+    EXPECT(done(s.refusal) && wrote(s.bytes, of_c, sizeof of_c));
+    fill();
+    s = wairokabi_write_summary(1, C, sizeof C, out, sizeof of_c - 1);
+    EXPECT(refused(s.refusal, 10, 0) && s.bytes == 0 && out[0] == 0 && out[sizeof of_c - 2] == 0);
+    fill();
+    s = wairokabi_write_summary(1, C, sizeof C - 1, out, ROOM);
+    EXPECT(refused(s.refusal, 1, sizeof C - 1) && wrote(s.bytes, of_c, 0));
+    fill();
+    wairokabi_summary_rows r = wairokabi_read_summary(of_c, sizeof of_c, words, WORDS);
+    EXPECT(done(r.refusal) && r.count == 1 && words[0] == 5 && words[1] == 0 && words[2] == 2 && words[3] == 1 && zero_words(4));
+    fill();
+    r = wairokabi_read_summary(of_c, sizeof of_c, words, 3);
+    EXPECT(refused(r.refusal, 8, 0) && r.count == 0 && words[0] == 0 && words[2] == 0);
+    r = wairokabi_read_summary(version, sizeof version, words, WORDS);
+    EXPECT(refused(r.refusal, 16, 0) && r.count == 0 && zero_words(0));
+    fill();
+    r = wairokabi_read_summary(filling, sizeof filling, words, WORDS);
+    EXPECT(refused(r.refusal, 17, 0) && r.count == 0 && zero_words(0));
+}
+
 static void numbers(void) {
     static const uint8_t number[] = {0x80, 0x01, 0x40}, nine[] = {0x05, 0x80, 0x80, 0x80, 0x80, 0x80, 0x80, 0x80, 0x80, 0x80};
     wairokabi_unsigned n = wairokabi_read_unsigned(number, sizeof number, 0);
@@ -409,6 +434,7 @@ int main(void) {
     reads();
     diffs();
     sorts();
+    summaries();
     refusals();
     places();
     others();

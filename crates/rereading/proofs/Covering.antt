@@ -10,7 +10,6 @@ use lib.ListN.{length}
 use borrow.Author.Tests.{eqb-true}
 use Rattle.numbers.specs.Number.{pick}
 use Rattle.numbers.specs.Limits.{maxUpdate}
-use Rattle.text.specs.declared.Units.{Units}
 use Rattle.block.specs.declared.Block.{Block}
 use Rattle.grammar.specs.Course.{items}
 use Rattle.decoder.specs.Update.{blocksOf}
@@ -51,7 +50,12 @@ same-covers b e s c k i =
 
 alike-same : (d : List ℕ) (b : Block) (u : List ℕ) (e : Block) → Alike d b u e → Same b e
 alike-same d b u e a =
-    record { client = a .client; kind = a .kind; clock = a .clock; length = ap (λ (n : Units). n .0) (a .length) }
+    record {
+      client = ap (λ (x : Block). x .client) (a .same);
+      kind = ap (λ (x : Block). x .kind) (a .same);
+      clock = ap (λ (x : Block). x .clock) (a .same);
+      length = ap (λ (x : Block). x .length .0) (a .same);
+    }
 
 alike-to : (d : List ℕ) (bs : List Block) (u : List ℕ) (es : List Block) → AllAlike d bs u es → (c k : ℕ) → Covered bs c k → Covered es c k
 unfolding AllAlike
