@@ -1,14 +1,14 @@
 -- What a look finds: a dependency that holds the block or none, one after the other; and what it leaves of the desk.
-use mathlib.Core.Path.{_≡_, refl, sym, _∙_}
+use mathlib.Core.Path.{_≡_, refl, sym, ap, _∙_}
 use mathlib.Core.Logic.{_≢_}
 use mathlib.Core.Bool.{Bool, true, false}
 use mathlib.Core.List.{List, [], _∷_}
-use Prim.Native.Nat.{ℕ, suc, _-_, _≤_}
+use Prim.Native.Nat.{ℕ, suc, _-_, _≤_, _<_}
 use native.Mathlib.Omega.{arith}
-use lib.Dec.{ltb, eqb}
+use lib.Dec.{ltb, leb, eqb}
 use lib.ListN.{length, getD, drop, drop-of-length-le, List·getD-eq-default}
 use lib.Seq.{drop-cons}
-use borrow.Author.Tests.{ltb-true, ltb-false, eq-eqb, ne-eqb}
+use borrow.Author.Tests.{ltb-true, ltb-false, lt-ltb, le-ltb, leb-true, leb-false, eq-eqb, ne-eqb}
 use Rattle.numbers.specs.Number.{pick}
 use Rattle.block.specs.declared.Block.{Block}
 use Rattle.block.specs.declared.Id.{Id}
@@ -24,15 +24,26 @@ use Rattle.picker.specs.Picker.{considered, lookedFrom, looked, oneMore,
 use Rattle.slots.proofs.Words.{slots-length}
 use Rattle.picker.proofs.StageLaws.{stages-most}
 
--- ---- one dependency
+-- ---- one dependency, looked at unless it was before
 
 module _ (ss : List Slot) (reach : List ℕ) (f : Front) (k : ℕ) (a : Dependency) where
-  pub not-there : a .there ≡ false → considered ss reach f k a ≡ ready f
+  abbrev pub lookAt : Front
+  lookAt = pick (ltb (f .stage) k) (considered ss reach f k a) (ready f)
+
+  pub not-there : a .there ≡ false → lookAt ≡ ready f
   unfolding considered holds
-  not-there e = rw e refl
+  not-there e = rw e (go (ltb (f .stage) k))
+    where
+      go : (x : Bool) → pick x (ready f) (ready f) ≡ ready f
+      go true = refl
+      go false = refl
+
+  pub not-again : k ≤ f .stage → lookAt ≡ ready f
+  not-again h = rw (le-ltb (f .stage) k h) refl
 
   -- its client has slot p, if it is named
-  module _ (p : ℕ) (named : Bool) (at : p ≡ rank (a .id .client) ss) (is : named ≡ isNamed (a .id .client) ss) (there : a .there ≡ true) where
+  module _ (p : ℕ) (named : Bool) (at : p ≡ rank (a .id .client) ss) (is : named ≡ isNamed (a .id .client) ss) (there : a .there ≡ true)
+      (new : f .stage < k) where
     met-here : metAt reach p named (a .id) ≡ isMet ss reach (a .id)
     unfolding isMet
     met-here = λ i. metAt reach (at i) (is i) (a .id)
@@ -41,13 +52,13 @@ module _ (ss : List Slot) (reach : List ℕ) (f : Front) (k : ℕ) (a : Dependen
     unfolding awaiting
     awaits-here = λ i. awaitingAt f k (at i) (is i) (a .id)
 
-    pub is-met : metAt reach p named (a .id) ≡ true → considered ss reach f k a ≡ ready f
+    pub is-met : metAt reach p named (a .id) ≡ true → lookAt ≡ ready f
     unfolding considered holds
-    is-met e = rw (there, sym met-here ∙ e) refl
+    is-met e = rw (lt-ltb (f .stage) k new, there, sym met-here ∙ e) refl
 
-    pub not-met : metAt reach p named (a .id) ≡ false → considered ss reach f k a ≡ awaitingAt f k p named (a .id)
+    pub not-met : metAt reach p named (a .id) ≡ false → lookAt ≡ awaitingAt f k p named (a .id)
     unfolding considered holds
-    not-met e = rw (there, sym met-here ∙ e) (sym awaits-here)
+    not-met e = rw (lt-ltb (f .stage) k new, there, sym met-here ∙ e) (sym awaits-here)
 
 -- ---- one dependency after the other
 
@@ -88,6 +99,10 @@ module _ (ss : List Slot) (reach : List ℕ) (f : Front) where
       go false e = omega arith
 
 module _ (rule : ℕ) (ss : List Slot) (reach : List ℕ) (f : Front) (b : Block) where
+  look-ended : (k : ℕ) → stageCount rule ≤ k → ready f ≡ lookedFrom ss reach f k (drop k (stages rule b))
+  unfolding lookedFrom
+  look-ended k h = rw (drop-of-length-le (stages rule b) {i = k} (omega (arith, stages-most rule b))) refl
+
   module _ (k : ℕ) where
     -- the block waits for number k, or the next is looked at
     look-by : (x : Bool) → holds ss reach (stageAt rule b k) ≡ x
@@ -102,19 +117,62 @@ module _ (rule : ℕ) (ss : List Slot) (reach : List ℕ) (f : Front) (b : Block
         rw (look-turn ss reach f (stages rule b) k, e, w) refl
     look-by false e = rw (look-turn ss reach f (stages rule b) k, e) refl
 
-    module _ (j : ℕ) (a : Dependency) (g : Front) (next : j ≡ suc k) (is : a ≡ stageAt rule b k) (found : g ≡ considered ss reach f j a) where
-      found-here : g ≡ considered ss reach f (suc k) (stageAt rule b k)
-      found-here = found ∙ (λ i. considered ss reach f (next i) (is i))
+    last-turn : stageCount rule ≤ suc k → considered ss reach f (suc k) (stageAt rule b k) ≡ lookedFrom ss reach f k (drop k (stages rule b))
+    unfolding considered stageAt
+    last-turn h = rw (look-turn ss reach f (stages rule b) k, ← look-ended (suc k) h) refl
 
-      pub look-waits : g .need ≢ 0 → g ≡ lookedFrom ss reach f k (drop k (stages rule b))
-      look-waits h = rw (← found-here, ne-eqb (g .need) 0 h) at (look-by (holds ss reach (stageAt rule b k)) refl)
+  -- what is found from stage k on is what is found, if no more stages were looked at before
+  abbrev pub Reached : ℕ → Type 0
+  Reached k = f .stage ≤ k → lookedFrom ss reach f k (drop k (stages rule b)) ≡ looked rule ss reach f b
 
-      pub look-on : g .need ≡ 0 → lookedFrom ss reach f j (drop j (stages rule b)) ≡ lookedFrom ss reach f k (drop k (stages rule b))
-      look-on h = rw next (rw (← found-here, eq-eqb (g .need) 0 h) at (look-by (holds ss reach (stageAt rule b k)) refl))
+  from-here : (k : ℕ) → f .stage ≡ k → lookedFrom ss reach f k (drop k (stages rule b)) ≡ looked rule ss reach f b
+  unfolding looked
+  from-here k e = ap (λ (i : ℕ). lookedFrom ss reach f i (drop i (stages rule b))) (sym e)
 
-  pub look-ended : (k : ℕ) → stageCount rule ≤ k → ready f ≡ lookedFrom ss reach f k (drop k (stages rule b))
-  unfolding lookedFrom
-  look-ended k h = rw (drop-of-length-le (stages rule b) {i = k} (omega (arith, stages-most rule b))) refl
+  pub reached-none : Reached 0
+  reached-none h = from-here 0 (omega arith)
+
+  -- stage k is looked at, unless it was before
+  module _ (k : ℕ) (a : Dependency) (g : Front) (is : a ≡ stageAt rule b k)
+      (found : g ≡ lookAt ss reach f (suc k) a) where
+    seen : f .stage ≤ k → g ≡ considered ss reach f (suc k) (stageAt rule b k)
+    seen h = found ∙ rw (lt-ltb (f .stage) (suc k) (omega arith)) (ap (considered ss reach f (suc k)) is)
+
+    unseen : suc k ≤ f .stage → g ≡ ready f
+    unseen h = found ∙ not-again ss reach f (suc k) a h
+
+    early : ltb (f .stage) (suc k) ≡ true → f .stage ≤ k
+    early e = omega (arith, ltb-true (f .stage) (suc k) e)
+
+    asked : g .need ≢ 0 → f .stage ≤ k
+    unfolding ready
+    asked h = go (ltb (f .stage) (suc k)) refl
+      where
+        go : (x : Bool) → ltb (f .stage) (suc k) ≡ x → f .stage ≤ k
+        go true e = early e
+        go false e = absurd (h (ap (λ (g : Front). g .need) (unseen (ltb-false (f .stage) (suc k) e))))
+
+    pub look-waits : g .need ≢ 0 → Reached k → g ≡ looked rule ss reach f b
+    look-waits h on = (rw (← seen (asked h), ne-eqb (g .need) 0 h) at (look-by k (holds ss reach (stageAt rule b k)) refl)) ∙ on (asked h)
+
+    pub look-on : g .need ≡ 0 → Reached k → Reached (suc k)
+    look-on h on late = go (leb (f .stage) k) refl
+      where
+        go : (x : Bool) → leb (f .stage) k ≡ x → lookedFrom ss reach f (suc k) (drop (suc k) (stages rule b)) ≡ looked rule ss reach f b
+        go true e =
+            let s = leb-true (f .stage) k e in
+            (rw (← seen s, eq-eqb (g .need) 0 h) at (look-by k (holds ss reach (stageAt rule b k)) refl)) ∙ on s
+        go false e = from-here (suc k) (omega (arith, leb-false (f .stage) k e))
+
+    -- the last
+    pub look-last : stageCount rule ≤ suc k → Reached k → g ≡ looked rule ss reach f b
+    look-last h on = go (ltb (f .stage) (suc k)) refl
+      where
+        go : (x : Bool) → ltb (f .stage) (suc k) ≡ x → g ≡ looked rule ss reach f b
+        go true e = seen (early e) ∙ last-turn k h ∙ on (early e)
+        go false e =
+            let s = ltb-false (f .stage) (suc k) e in
+            unseen s ∙ look-ended (f .stage) (omega arith) ∙ from-here (f .stage) refl
 
 -- ---- the desk after a look
 

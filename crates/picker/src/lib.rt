@@ -10,7 +10,9 @@ use fronts::Front;
 use stages::Dependency;
 ghost use mathlib.Core.Path.{_≡_};
 ghost use Prim.Native.Nat.{_*_, _≤_};
+ghost use lib.Dec.{ltb};
 ghost use lib.ListN.{length};
+ghost use Rattle.numbers.specs.Number.{pick};
 ghost use Rattle.slots.specs.Slots.{slotsFrom, Falling};
 ghost use Rattle.picker.specs.Picker.{metAt, awaitingAt, considered, ready, looked};
 ghost use Rattle.picker.specs.Picker.{moved, lift, oneMore, pointed, looks, desk, offered};
@@ -66,16 +68,27 @@ fn set_ready(f: Front) -> Front
     next
 }
 
-// A front, so many stages having been looked at, this one last: it is ready, or it waits.
-fn consider(slots: &[u64], n: usize, reach: &[u64], f: Front, k: usize, a: Dependency) -> Front
+// A front, so many stages having been looked at, this one last, unless they were before: it is ready, or it waits. Slot `near` may be the id's client's.
+fn consider(
+    slots: &[u64],
+    n: usize,
+    reach: &[u64],
+    f: Front,
+    near: usize,
+    k: usize,
+    a: Dependency,
+) -> Front
     requires { ⌜ (3 * n ≤ length (now slots)) × Falling (slotsFrom (now slots) 0 n) ⌝ }
-    ensures { λ r. ⌜ r ≡ considered (slotsFrom (now (slots .entry)) 0 n) (now (reach .entry)) f k a ⌝ }
+    ensures { λ r. ⌜ r ≡ pick (ltb (f .stage) k) (considered (slotsFrom (now (slots .entry)) 0 n) (now (reach .entry)) f k a) (ready f) ⌝ }
 {
     let id = a.id;
     if !a.there {
         return set_ready(f);
     }
-    let p = slots::rank_of(slots, n, id.client);
+    if k <= f.stage {
+        return set_ready(f);
+    }
+    let p = slots::rank_near(slots, n, near, id.client);
     let named = slots::is_at(slots, n, p, id.client);
     if is_met(reach, p, named, id) {
         return set_ready(f);
@@ -83,22 +96,37 @@ fn consider(slots: &[u64], n: usize, reach: &[u64], f: Front, k: usize, a: Depen
     wait_for(f, k, p, named, id)
 }
 
-// A front whose block is looked at: it is ready (its need is 0), or it waits. What was met once is not asked for again.
-fn examine(rule: u8, slots: &[u64], n: usize, reach: &[u64], f: Front, b: Block) -> Front
+// A front whose block is looked at: it is ready (its need is 0), or it waits. What was met once is not asked for again. The front has slot `own`. The stages
+// are written out, the last of any rule last: in a loop over them the block is copied at each turn.
+fn examine(
+    rule: u8,
+    slots: &[u64],
+    n: usize,
+    reach: &[u64],
+    f: Front,
+    own: usize,
+    b: Block,
+) -> Front
     requires { ⌜ (3 * n ≤ length (now slots)) × Falling (slotsFrom (now slots) 0 n) ⌝ }
     ensures { λ r. ⌜ r ≡ looked rule (slotsFrom (now (slots .entry)) 0 n) (now (reach .entry)) f b ⌝ }
 {
-    let last = stages::count(rule);
-    let mut k = f.stage;
-    while k < last {
-        let a = stages::at(rule, b, k);
-        k += 1;
-        let g = consider(slots, n, reach, f, k, a);
-        if g.need != 0 {
-            return g;
-        }
+    let first = stages::at(rule, b, 0);
+    let left = consider(slots, n, reach, f, own, 1, first);
+    if left.need != 0 {
+        return left;
     }
-    set_ready(f)
+    let second = stages::at(rule, b, 1);
+    let right = consider(slots, n, reach, f, own, 2, second);
+    if right.need != 0 {
+        return right;
+    }
+    let third = stages::at(rule, b, 2);
+    let parent = consider(slots, n, reach, f, own, 3, third);
+    if parent.need != 0 {
+        return parent;
+    }
+    let fourth = stages::at(rule, b, 3);
+    consider(slots, n, reach, f, own, 4, fourth)
 }
 
 // ---- a block that is taken
@@ -206,7 +234,7 @@ pub fn offer(
 {
     let f = fronts::front_at(fronts, p.slot);
     let left = numbers::words::less(p.left as u64, 1) as usize;
-    let g = examine(rule, slots, n, reach, f, b);
+    let g = examine(rule, slots, n, reach, f, p.slot, b);
     if g.need != 0 {
         fronts::put_front(fronts, p.slot, g);
         return point(fronts, reach, n, p.steps, left);

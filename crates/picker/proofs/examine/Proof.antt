@@ -1,58 +1,72 @@
--- `picker::examine` meets its contract: what is found from dependency `k` on is what is found.
-use mathlib.Core.Path.{_≡_, refl, _∙_}
-use Prim.Native.Nat.{_+_, _-_}
-use native.Mathlib.Numerals.{add-one}
-use lib.ListN.{drop}
+-- `picker::examine` meets its contract: what is found from each stage on is what is found, until one holds the block or none is left.
 use Rattle.slots.specs.Slots.{slotsFrom}
-use Rattle.picker.specs.Stages.{stages}
-use Rattle.picker.specs.Picker.{lookedFrom, looked}
-use Rattle.picker.proofs.Looks.{look-waits, look-on, look-ended}
+use Rattle.picker.proofs.StageLaws.{count-most}
+use Rattle.picker.proofs.Looks.{Reached, reached-none, look-waits, look-on, look-last}
 use borrow.Author.Needs.{needs}
 use Rattle.picker.proofs.examine.Statement.{statement}
 use Rattle.picker.proofs.examine.Tie as tie
 
-abbrev Inv-loop : tie.InvT-loop
-Inv-loop rule slots n reach f b last k₀ k = lookedFrom (slotsFrom slots 0 n) reach f k (drop k (stages rule b)) ≡ looked rule (slotsFrom slots 0 n) reach f b
-
-abbrev μ-loop : tie.MeasureT-loop
-μ-loop rule slots n reach f b last k₀ k = last - k
-
-loop-holds : tie.Need-loop-holds Inv-loop μ-loop
-unfolding looked
-loop-holds c = refl
-
-consider-requires : tie.Need-consider-requires Inv-loop μ-loop
-consider-requires c κs = c .before .before .before .before .before .before .pre
-
-returns : tie.Need-returns Inv-loop μ-loop
+returns : tie.Need-returns
 returns c =
-    let a = c .before .before .before .before .before .before .before .before .before .args in
-    let l = c .before .before .before .before .before .loop in
-    let d = c .before .before .before .at in
-    let g = c .before .before .consider in
-    look-waits (a .rule) (slotsFrom (a .slots .now) 0 (a .n)) (a .reach .now) (a .f) (a .b) (l .k) (l .k + 1) (d .result) (g .result) (add-one (l .k)) (d .ensures)
-    (g .ensures) (c .if1 .taken)
-    ∙ l .inv
-
-loop-again : tie.Need-loop-again Inv-loop μ-loop
-loop-again c =
-    let a = c .before .before .before .before .before .before .before .before .before .args in
-    let l = c .before .before .before .before .before .loop in
-    let d = c .before .before .before .at in
-    let g = c .before .before .consider in
-    look-on (a .rule) (slotsFrom (a .slots .now) 0 (a .n)) (a .reach .now) (a .f) (a .b) (l .k) (l .k + 1) (d .result) (g .result) (add-one (l .k)) (d .ensures)
-    (g .ensures) (c .if1 .left)
-    ∙ l .inv
-
-returns-2 : tie.Need-returns-2 Inv-loop μ-loop
-returns-2 c =
     let a = c .before .before .before .before .before .before .args in
-    let l = c .before .before .loop in
-    c .set-ready .ensures ∙ look-ended (a .rule) (slotsFrom (a .slots .now) 0 (a .n)) (a .reach .now) (a .f) (a .b) (l .k) (rw (c .before .before .before .count .ensures .0) at (c .before .loop-test .left)) ∙ l .inv
+    let d = c .before .before .before .at in
+    let g = c .before .before .consider in
+    look-waits (a .rule) (slotsFrom (a .slots .now) 0 (a .n)) (a .reach .now) (a .f) (a .b) 0 (d .result) (g .result) (d .ensures) (g .ensures) (c .if1 .taken) (reached-none (a .rule) (slotsFrom (a .slots .now) 0 (a .n)) (a .reach .now) (a .f) (a .b))
+
+past-1 : (c : tie.Else1)
+    → let a = c .before .before .before .before .before .before .args in
+    Reached (a .rule) (slotsFrom (a .slots .now) 0 (a .n)) (a .reach .now) (a .f) (a .b) 1
+past-1 c =
+    let a = c .before .before .before .before .before .before .args in
+    let d = c .before .before .before .at in
+    let g = c .before .before .consider in
+    look-on (a .rule) (slotsFrom (a .slots .now) 0 (a .n)) (a .reach .now) (a .f) (a .b) 0 (d .result) (g .result) (d .ensures) (g .ensures) (c .if1 .left) (reached-none (a .rule) (slotsFrom (a .slots .now) 0 (a .n)) (a .reach .now) (a .f) (a .b))
+
+returns-2 : tie.Need-returns-2
+returns-2 c =
+    let a = c .before .before .before .before .before .before .before .before .before .before .args in
+    let d = c .before .before .before .at2 in
+    let g = c .before .before .consider2 in
+    look-waits (a .rule) (slotsFrom (a .slots .now) 0 (a .n)) (a .reach .now) (a .f) (a .b) 1 (d .result) (g .result) (d .ensures) (g .ensures) (c .if2 .taken) (past-1 (c .before .before .before .before))
+
+past-2 : (c : tie.Else2)
+    → let a = c .before .before .before .before .before .before .before .before .before .before .args in
+    Reached (a .rule) (slotsFrom (a .slots .now) 0 (a .n)) (a .reach .now) (a .f) (a .b) 2
+past-2 c =
+    let a = c .before .before .before .before .before .before .before .before .before .before .args in
+    let d = c .before .before .before .at2 in
+    let g = c .before .before .consider2 in
+    look-on (a .rule) (slotsFrom (a .slots .now) 0 (a .n)) (a .reach .now) (a .f) (a .b) 1 (d .result) (g .result) (d .ensures) (g .ensures) (c .if2 .left) (past-1 (c .before .before .before .before))
+
+returns-3 : tie.Need-returns-3
+returns-3 c =
+    let a = c .before .before .before .before .before .before .before .before .before .before .before .before .before .before .args in
+    let d = c .before .before .before .at3 in
+    let g = c .before .before .consider3 in
+    look-waits (a .rule) (slotsFrom (a .slots .now) 0 (a .n)) (a .reach .now) (a .f) (a .b) 2 (d .result) (g .result) (d .ensures) (g .ensures) (c .if3 .taken) (past-2 (c .before .before .before .before))
+
+past-3 : (c : tie.Else3)
+    → let a = c .before .before .before .before .before .before .before .before .before .before .before .before .before .before .args in
+    Reached (a .rule) (slotsFrom (a .slots .now) 0 (a .n)) (a .reach .now) (a .f) (a .b) 3
+past-3 c =
+    let a = c .before .before .before .before .before .before .before .before .before .before .before .before .before .before .args in
+    let d = c .before .before .before .at3 in
+    let g = c .before .before .consider3 in
+    look-on (a .rule) (slotsFrom (a .slots .now) 0 (a .n)) (a .reach .now) (a .f) (a .b) 2 (d .result) (g .result) (d .ensures) (g .ensures) (c .if3 .left) (past-2 (c .before .before .before .before))
+
+consider-requires-4 : tie.Need-consider-requires-4
+consider-requires-4 c κs = c .before .before .before .before .before .before .before .before .before .before .before .before .before .before .before .pre
+
+returns-4 : tie.Need-returns-4
+returns-4 c =
+    let a = c .before .before .before .before .before .before .before .before .before .before .before .before .before .before .before .before .args in
+    let d = c .before .at4 in
+    let g = c .consider4 in
+    look-last (a .rule) (slotsFrom (a .slots .now) 0 (a .n)) (a .reach .now) (a .f) (a .b) 3 (d .result) (g .result) (d .ensures) (g .ensures) (count-most (a .rule)) (past-3 (c .before .before))
 
 pub examine-spec : {M : Type 1} → statement M
 examine-spec =
     tie.close
     (tie.spec
-    Inv-loop μ-loop (λ c κs. search needs) loop-holds (λ c κs. search needs) (λ c. search needs) consider-requires returns (λ c. search needs) loop-again
-    (λ c κs. search needs) returns-2)
+    (λ c κs. search needs) (λ c κs. search needs) returns (λ c κs. search needs) (λ c κs. search needs) returns-2 (λ c κs. search needs)
+    (λ c κs. search needs) returns-3 (λ c κs. search needs) consider-requires-4 returns-4)
