@@ -152,14 +152,35 @@ module _ (s : List ℕ) (o : ℕ) (b : List Bool) (e : length b ≡ o) (h : Star
           let whole : number 8 x ≡ number (suc r) x * 2 ^ (8 - suc r) = ap (λ (j : ℕ). number j x) eight ∙ number-add (suc r) (8 - suc r) x ∙ ap (λ (j : ℕ). number (suc r) x * 2 ^ (8 - suc r) + j) none ∙ add-zero (number (suc r) x * 2 ^ (8 - suc r)) in
           rw (ne-eqb (suc r) 0 (λ n. omega (arith, n))) (ap (λ (j : ℕ). j / 2 ^ (8 - suc r)) (byte ∙ whole) ∙ mul-div-cancel (number (suc r) x) (pow-pos (8 - suc r)))
 
+-- the bytes of the bits begun and of those put behind them, stored
+module _ (s : List ℕ) (o n : ℕ) (c : List Bool) (lc : length c ≡ n) (room : o + n ≤ 8 * length s) where
+  pub stores : (vs : List ℕ) → ((b : List Bool) → length b ≡ o → Starts b s → vs ≡ bytes ((o % 8 + n + 7) / 8) (drop (8 * (o / 8)) b ++ c)) → Adds o c s (sets s (o / 8) vs)
+  unfolding Starts packed
+  stores vs are = record { size = length-sets s (o / 8) vs; bits = λ b e h. stands b e h }
+    where
+      stands : (b : List Bool) → length b ≡ o → Starts b s → Starts (b ++ c) (sets s (o / 8) vs)
+      stands b e h =
+          let q = o / 8 in
+          let m = (o % 8 + n + 7) / 8 in
+          let x = drop (8 * q) b in
+          let tops : vs ≡ bytes m (x ++ c) = are b e h in
+          let lt : length vs ≡ m = ap length tops ∙ length-bytes m (x ++ c) in
+          let lb : length (b ++ c) ≡ o + n = length-append b c ∙ omega (arith, e, lc) in
+          let count : (length (b ++ c) + 7) / 8 ≡ q + m = omega (arith, lb) in
+          let bytes-are : bytes ((length (b ++ c) + 7) / 8) (b ++ c) ≡ bytes q b ++ bytes m (x ++ c) =
+          ap (λ (n : ℕ). bytes n (b ++ c)) count ∙ bytes-add q m (b ++ c)
+          ∙ ap₂ (λ (f g : List ℕ). f ++ g) (bytes-front q b c (omega (arith, e))) (ap (bytes m) (drop-append-le (8 * q) b c (omega (arith, e)))) in
+          let size : length (bytes ((length (b ++ c) + 7) / 8) (b ++ c)) ≡ q + length vs = length-bytes ((length (b ++ c) + 7) / 8) (b ++ c) ∙ omega (arith, count, lt) in
+          ap (λ (n : ℕ). take n (sets s q vs)) size ∙ take-sets s vs q (omega (arith, lt, room))
+          ∙ ap₂ (λ (f g : List ℕ). f ++ g) (whole-bytes s o b e h) tops ∙ sym bytes-are
+
 module _ (s : List ℕ) (o k v : ℕ) (k57 : k ≤ 57) (room : o + k ≤ 8 * length s) where
   pub puts : (w : ℕ) → w ≡ highest s (o / 8) (o % 8) * 2 ^ (k + (64 - (o % 8 + k))) + v % 2 ^ k * 2 ^ (64 - (o % 8 + k))
       → Adds o (inBits k v) s (sets s (o / 8) (top ((o % 8 + k + 7) / 8) w))
-  unfolding Starts packed
-  puts w we = record { size = length-sets s (o / 8) (top ((o % 8 + k + 7) / 8) w); bits = λ b e h. stands b e h }
+  puts w we = stores s o k (inBits k v) (length-in-bits k v) room (top ((o % 8 + k + 7) / 8) w) (λ b e h. tops b e h)
     where
-      stands : (b : List Bool) → length b ≡ o → Starts b s → Starts (b ++ inBits k v) (sets s (o / 8) (top ((o % 8 + k + 7) / 8) w))
-      stands b e h =
+      tops : (b : List Bool) → length b ≡ o → Starts b s → top ((o % 8 + k + 7) / 8) w ≡ bytes ((o % 8 + k + 7) / 8) (drop (8 * (o / 8)) b ++ inBits k v)
+      tops b e h =
           let q = o / 8 in
           let r = o % 8 in
           let m = (r + k + 7) / 8 in
@@ -168,16 +189,7 @@ module _ (s : List ℕ) (o k v : ℕ) (k57 : k ≤ 57) (room : o + k ≤ 8 * len
           let lx : length x ≡ r = length-drop (8 * q) b ∙ omega (arith, e) in
           let lc : length (x ++ c) ≡ r + k = length-append x c ∙ omega (arith, lx, length-in-bits k v) in
           let word : w ≡ number 64 (x ++ c) = we ∙ ap (λ (j : ℕ). j * 2 ^ (k + (64 - (r + k))) + v % 2 ^ k * 2 ^ (64 - (r + k))) (highest-is s o b e h) ∙ word-is r k (mod-lt o {m = 8} (omega arith)) k57 v x lx in
-          let tops : top m w ≡ bytes m (x ++ c) = ap (top m) word ∙ top-bytes m (x ++ c) (omega (arith, lc, mod-lt o {m = 8} (omega arith))) in
-          let lt : length (top m w) ≡ m = ap length tops ∙ length-bytes m (x ++ c) in
-          let lb : length (b ++ c) ≡ o + k = length-append b c ∙ omega (arith, e, length-in-bits k v) in
-          let count : (length (b ++ c) + 7) / 8 ≡ q + m = omega (arith, lb) in
-          let bytes-are : bytes ((length (b ++ c) + 7) / 8) (b ++ c) ≡ bytes q b ++ bytes m (x ++ c) =
-          ap (λ (n : ℕ). bytes n (b ++ c)) count ∙ bytes-add q m (b ++ c)
-          ∙ ap₂ (λ (f g : List ℕ). f ++ g) (bytes-front q b c (omega (arith, e))) (ap (bytes m) (drop-append-le (8 * q) b c (omega (arith, e)))) in
-          let size : length (bytes ((length (b ++ c) + 7) / 8) (b ++ c)) ≡ q + length (top m w) = length-bytes ((length (b ++ c) + 7) / 8) (b ++ c) ∙ omega (arith, count, lt) in
-          ap (λ (n : ℕ). take n (sets s q (top m w))) size ∙ take-sets s (top m w) q (omega (arith, lt, room))
-          ∙ ap₂ (λ (f g : List ℕ). f ++ g) (whole-bytes s o b e h) tops ∙ sym bytes-are
+          ap (top m) word ∙ top-bytes m (x ++ c) (omega (arith, lc, mod-lt o {m = 8} (omega arith)))
 
 -- ---- bits behind bits
 

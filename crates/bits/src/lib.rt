@@ -1,6 +1,7 @@
 // Numbers of so many bits, most significant bit first, put into bytes and taken from them at any bit, by shifts of whole words.
 ghost use mathlib.Core.Path.{_≡_};
-ghost use Prim.Native.Nat.{_+_, _*_, _^_, _≤_, _<_};
+ghost use mathlib.Core.List.{_++_};
+ghost use Prim.Native.Nat.{_+_, _-_, _*_, _/_, _%_, _^_, _≤_, _<_};
 ghost use lib.ListN.{length, drop};
 ghost use lib.Seq.{sets};
 ghost use Rattle.bits.specs.Bits.{inBits, number, ofBytes};
@@ -100,4 +101,47 @@ pub fn put(out: &mut [u8], o: usize, k: usize, v: u64)
     let w = head + tail;
     let n = (r + k + 7) / 8;
     store(out, at, w, n);
+}
+
+// All bytes of a word, from `at` on: a count that is known is no loop for the machine.
+fn store_word(out: &mut [u8], at: usize, w: u64)
+    requires { ⌜ at + 8 ≤ length (now out) ⌝ }
+    ensures { λ _. ⌜ now (out .exit) ≡ sets (now (out .entry)) at (top 8 w) ⌝ }
+{
+    let mut i = at;
+    let mut left: usize = 8;
+    let mut rest = w;
+    while 0 < left {
+        out[i] = (rest >> 56) as u8;
+        rest = rest << 8;
+        i += 1;
+        left -= 1;
+    }
+}
+
+// The r lowest bits of one word, and then the highest of another.
+fn behind(high: u64, r: usize, w: u64) -> u64
+    requires { ⌜ r < 8 ⌝ }
+    ensures { λ x. ⌜ x ≡ high % 2 ^ r * 2 ^ (64 - r) + w / 2 ^ r ⌝ }
+{
+    let head = (high << 56) << (8 - r);
+    let tail = w >> r;
+    head + tail
+}
+
+// 131 bits behind the bits that end at bit o: two words, and three bits of c. The byte under way is read once.
+pub fn put_wide(out: &mut [u8], o: usize, a: u64, b: u64, c: u64)
+    requires { ⌜ (o + 131 ≤ 8 * length (now out)) × (o ≤ 65536) ⌝ }
+    ensures { λ _. ⌜ Adds o (inBits 64 a ++ (inBits 64 b ++ inBits 3 c)) (now (out .entry)) (now (out .exit)) ⌝ }
+{
+    let at = o / 8;
+    let r = o % 8;
+    let high = begun(out, at, r);
+    let first = behind(high, r, a);
+    let second = behind(a, r, b);
+    let third = behind(b, r, c << 61);
+    let n = (r + 10) / 8;
+    store_word(out, at, first);
+    store_word(out, at + 8, second);
+    store(out, at + 16, third, n);
 }

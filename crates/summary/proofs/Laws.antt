@@ -1,14 +1,18 @@
 -- Laws of a summary's rows: as bits, as words, and as they are taken.
-use Prim.Native.Nat.{ℕ, zero, suc, _+_, _-_, _*_, _≤_, _<_}
-use mathlib.Core.Path.{_≡_, refl, sym, ap, ap₂, _∙_}
-use mathlib.Core.List.{List, [], _∷_, _++_}
-use native.Mathlib.Nat.{add-zero}
+use Prim.Native.Nat.{ℕ, zero, suc, _+_, _-_, _*_, _/_, _%_, _^_, _≤_, _<_}
+use mathlib.Core.Path.{_≡_, refl, sym, ap, ap₂, _∙_, subst}
+use mathlib.Core.Bool.{Bool}
+use mathlib.Core.List.{List, [], _∷_, _++_, append-assoc}
+use native.Mathlib.Nat.{add-zero, mod-lt, mul-assoc, mul-div-cancel}
 use native.Mathlib.Omega.{arith}
 use lib.ListN.{length, take, drop, getD, set, length-append, take-append-drop}
 use lib.Seq.{sets, drop-drop, getD-drop}
+use lib.Arith.{digits-lt}
+use lib.Pow.{pow-pos}
 use Rattle.bits.specs.Bits.{inBits}
 use Rattle.bits.specs.Places.{Adds, Starts}
 use Rattle.bits.proofs.Laws.{length-in-bits}
+use Rattle.bits.proofs.Passing.{cut, slot, pack, in-bits-add, lowest-bits}
 use Rattle.bits.proofs.Places.{adds-none, adds-adds, starts-none}
 use Rattle.summary.specs.Rows.{Row}
 use Rattle.summary.specs.Summary.{one, rowBits, rowsBits, summaryBits}
@@ -20,15 +24,45 @@ pub length-row-bits : (r : Row) → length (rowBits r) ≡ 131
 unfolding rowBits
 length-row-bits r = simp (length-append, length-in-bits)
 
--- a row in its four parts
-pub row-adds : (o k : ℕ) (w s t u v x : List ℕ) → Adds o (inBits 53 (getD w k 0)) s t → Adds (o + 53) (inBits 31 (getD w (k + 1) 0)) t u
-    → Adds (o + 53 + 31) (inBits 31 (getD w (k + 2) 0)) u v → Adds (o + 53 + 31 + 31) (inBits 16 (getD w (k + 3) 0)) v x → Adds o (rowBits (rowIn (drop k w))) s x
+-- its first 64 bits, the next 64, and three more
+-- the words are these numbers
+pub upper-is : (c f : ℕ) → c * 2 ^ 11 % 2 ^ 64 + f * 2 ^ 33 % 2 ^ 64 / 2 ^ 53 ≡ c % 2 ^ 53 * 2 ^ 11 + f / 2 ^ 20 % 2 ^ 11
+upper-is c f = ap₂ (λ (x y : ℕ). x + y) (cut 53 c (omega arith)) (slot 11 20 f (omega arith))
+
+pub middle-is : (e : ℕ) → e * 2 ^ 33 % 2 ^ 64 / 2 ^ 20 ≡ e % 2 ^ 31 * 2 ^ 13
+middle-is e = ap (λ (x : ℕ). x / 2 ^ 20) (cut 31 e (omega arith) ∙ sym (mul-assoc (e % 2 ^ 31) (2 ^ 13) (2 ^ 20))) ∙ mul-div-cancel (e % 2 ^ 31 * 2 ^ 13) (pow-pos 20)
+
+pub lower-is : (f e n : ℕ) → f * 2 ^ 44 % 2 ^ 64 + (e * 2 ^ 33 % 2 ^ 64 / 2 ^ 20 + n * 2 ^ 48 % 2 ^ 64 / 2 ^ 51) ≡ f % 2 ^ 20 * 2 ^ 44 + (e % 2 ^ 31 * 2 ^ 13 + n / 2 ^ 3 % 2 ^ 13)
+lower-is f e n = ap₂ (λ (x y : ℕ). x + y) (cut 20 f (omega arith)) (ap₂ (λ (x y : ℕ). x + y) (middle-is e) (slot 13 3 n (omega arith)))
+
+pub upper-bits : (c f : ℕ) → inBits 64 (c * 2 ^ 11 % 2 ^ 64 + f * 2 ^ 33 % 2 ^ 64 / 2 ^ 53) ≡ inBits 53 c ++ inBits 11 (f / 2 ^ 20)
+upper-bits c f =
+    ap (inBits 64) (upper-is c f) ∙ pack 53 11 c (f / 2 ^ 20 % 2 ^ 11) (mod-lt (f / 2 ^ 20) (pow-pos 11)) ∙ ap (λ (y : List Bool). inBits 53 c ++ y) (lowest-bits 11 (f / 2 ^ 20))
+
+pub lower-bits : (f e n : ℕ) → inBits 64 (f * 2 ^ 44 % 2 ^ 64 + (e * 2 ^ 33 % 2 ^ 64 / 2 ^ 20 + n * 2 ^ 48 % 2 ^ 64 / 2 ^ 51)) ≡ inBits 20 f ++ (inBits 31 e ++ inBits 13 (n / 2 ^ 3))
+lower-bits f e n =
+    let few = mod-lt (n / 2 ^ 3) (pow-pos 13) in
+    ap (inBits 64) (lower-is f e n) ∙ pack 20 44 f (e % 2 ^ 31 * 2 ^ 13 + n / 2 ^ 3 % 2 ^ 13) (digits-lt (mod-lt e (pow-pos 31)) few)
+    ∙ ap (λ (y : List Bool). inBits 20 f ++ y) (pack 31 13 e (n / 2 ^ 3 % 2 ^ 13) few ∙ ap (λ (y : List Bool). inBits 31 e ++ y) (lowest-bits 13 (n / 2 ^ 3)))
+
+pub row-adds : (o k : ℕ) (w s t : List ℕ) (a b : ℕ) → inBits 64 a ≡ inBits 53 (getD w k 0) ++ inBits 11 (getD w (k + 1) 0 / 2 ^ 20)
+    → inBits 64 b ≡ inBits 20 (getD w (k + 1) 0) ++ (inBits 31 (getD w (k + 2) 0) ++ inBits 13 (getD w (k + 3) 0 / 2 ^ 3))
+    → Adds o (inBits 64 a ++ (inBits 64 b ++ inBits 3 (getD w (k + 3) 0))) s t → Adds o (rowBits (rowIn (drop k w))) s t
 unfolding rowBits
-row-adds o k w s t u v x a b c d =
-    rw (getD-drop k w 0 0, add-zero, getD-drop k w 1 0, getD-drop k w 2 0, getD-drop k w 3 0)
-    (adds-adds o (o + 53) (inBits 53 (getD w k 0)) _ s t x (rw length-in-bits refl) a
-    (adds-adds (o + 53) (o + 53 + 31) (inBits 31 (getD w (k + 1) 0)) _ t u x (rw length-in-bits refl) b
-    (adds-adds (o + 53 + 31) (o + 53 + 31 + 31) (inBits 31 (getD w (k + 2) 0)) _ u v x (rw length-in-bits refl) c d)))
+row-adds o k w s t a b ea eb h =
+    let c = inBits 53 (getD w k 0) in
+    let f = getD w (k + 1) 0 in
+    let e = inBits 31 (getD w (k + 2) 0) in
+    let n = getD w (k + 3) 0 in
+    let f₁ = inBits 11 (f / 2 ^ 20) in
+    let f₂ = inBits 20 f in
+    let n₁ = inBits 13 (n / 2 ^ 3) in
+    let n₂ = inBits 3 n in
+    let are : inBits 64 a ++ (inBits 64 b ++ n₂) ≡ c ++ (inBits 31 f ++ (e ++ inBits 16 n)) =
+    ap₂ (λ (x y : List Bool). x ++ (y ++ n₂)) ea eb ∙ append-assoc c f₁ ((f₂ ++ (e ++ n₁)) ++ n₂)
+    ∙ ap (λ (x : List Bool). c ++ (f₁ ++ x)) (append-assoc f₂ (e ++ n₁) n₂ ∙ ap (λ (x : List Bool). f₂ ++ x) (append-assoc e n₁ n₂ ∙ ap (λ (x : List Bool). e ++ x) (sym (in-bits-add 13 3 n))))
+    ∙ ap (λ (x : List Bool). c ++ x) (sym (append-assoc f₁ f₂ (e ++ inBits 16 n)) ∙ ap (λ (x : List Bool). x ++ (e ++ inBits 16 n)) (sym (in-bits-add 11 20 f))) in
+    rw (getD-drop k w 0 0, add-zero, getD-drop k w 1 0, getD-drop k w 2 0, getD-drop k w 3 0) (subst (λ (x : List Bool). Adds o x s t) are h)
 
 -- ---- words
 

@@ -3,3 +3,4 @@ pub mod Laws
 pub mod Taking
 pub mod Answers
 pub mod RoundTrip
+pub mod Examples

@@ -3,12 +3,12 @@
 use numbers::words;
 ghost use mathlib.Core.Path.{_≡_};
 ghost use mathlib.Core.Bool.{_&&_};
-ghost use mathlib.Core.List.{[], _∷_};
-ghost use Prim.Native.Nat.{_+_, _*_, _/_, _≤_};
+ghost use mathlib.Core.List.{[], _∷_, _++_};
+ghost use Prim.Native.Nat.{_+_, _*_, _/_, _^_, _≤_};
 ghost use lib.ListN.{length, drop};
 ghost use lib.Seq.{sets};
 ghost use Rattle.numbers.specs.Output.{padded};
-ghost use Rattle.bits.specs.Bits.{ofBytes};
+ghost use Rattle.bits.specs.Bits.{inBits, ofBytes};
 ghost use Rattle.bits.specs.Places.{Adds, Starts};
 ghost use Rattle.summary.specs.Summary.{one, rowBits, rowsBits, summaryBits, refused, filled, rowsAfter, readOf};
 ghost use Rattle.summary.specs.Words.{row, rowIn, rowsIn, wordsIn, fine, Took, answerOf, wordsOf, Answers};
@@ -45,18 +45,34 @@ pub fn size(n: usize) -> usize
     (HEAD_BITS + ROW_BITS * n + 7) / 8
 }
 
+// A row's first 64 bits: its client, and the highest 11 bits of its first clock.
+fn upper(client: u64, first: u64) -> u64
+    ensures { λ r. ⌜ inBits 64 r ≡ inBits 53 client ++ inBits 11 (first / 2 ^ 20) ⌝ }
+{
+    (client << 11) + ((first << 33) >> 53)
+}
+
+// The next 64: the lowest 20 bits of its first clock, its last end, and the highest 13 bits of its blocks.
+fn lower(first: u64, end: u64, blocks: u64) -> u64
+    ensures { λ r. ⌜ inBits 64 r ≡ inBits 20 first ++ (inBits 31 end ++ inBits 13 (blocks / 2 ^ 3)) ⌝ }
+{
+    let middle = (end << 33) >> 20;
+    let low = (blocks << 48) >> 51;
+    (first << 44) + (middle + low)
+}
+
 // The row that begins at word k, behind the bits that end at bit o.
 fn put_row(out: &mut [u8], o: usize, rows: &[u64], k: usize)
     requires { ⌜ (o + 131 ≤ 8 * length (now out)) × (k + 4 ≤ length (now rows)) × (o ≤ 65536) ⌝ }
     ensures { λ _. ⌜ Adds o (rowBits (rowIn (drop k (now (rows .entry))))) (now (out .entry)) (now (out .exit)) ⌝ }
 {
-    let first = o + CLIENT_BITS;
-    let end = first + CLOCK_BITS;
-    let blocks = end + CLOCK_BITS;
-    bits::put(out, o, CLIENT_BITS, rows[k]);
-    bits::put(out, first, CLOCK_BITS, rows[k + 1]);
-    bits::put(out, end, CLOCK_BITS, rows[k + 2]);
-    bits::put(out, blocks, BLOCKS_BITS, rows[k + 3]);
+    let client = rows[k];
+    let first = rows[k + 1];
+    let end = rows[k + 2];
+    let blocks = rows[k + 3];
+    let a = upper(client, first);
+    let b = lower(first, end, blocks);
+    bits::put_wide(out, o, a, b, blocks);
 }
 
 fn put_rows(out: &mut [u8], rows: &[u64], n: usize)

@@ -1,4 +1,4 @@
--- `summary::put_row` meets its contract: its four numbers, one behind the other.
+-- `summary::put_row` meets its contract: two words of bits, and three bits more.
 use Rattle.summary.proofs.Laws.{row-adds}
 use borrow.Author.Needs.{needs}
 use Rattle.summary.proofs.put_row.Statement.{statement}
@@ -6,17 +6,16 @@ use Rattle.summary.proofs.put_row.Tie as tie
 
 returns : tie.Need-returns
 returns c =
-    let a = c .before .before .before .before .before .before .before .before .before .before .before .before .before .before .before .before .before .before .before .before .before .before .args in
-    let p = c .before .before .before .before .before .before .before .before .before .before .before .before .before .before .before .before .before .put in
-    let q = c .before .before .before .before .before .before .before .before .before .before .before .before .put2 in
-    let r = c .before .before .before .before .before .before .before .put3 in
-    let s = c .before .before .put4 in
-    row-adds (a .o) (a .k) (a .rows .now) (a .out .now) (p .last .0) (q .last .0) (r .last .0) (s .last .0) (p .ensures) (q .ensures) (r .ensures) (s .ensures)
+    let a = c .before .before .before .before .before .before .before .before .before .before .before .before .args in
+    let x = c .before .before .before .before .before .upper in
+    let y = c .before .before .before .before .lower in
+    let p = c .before .before .put-wide in
+    row-adds (a .o) (a .k) (a .rows .now) (a .out .now) (p .last .0) (x .result) (y .result) (x .ensures) (y .ensures) (p .ensures)
 
 pub put-row-spec : {M : Type 1} → statement M
 put-row-spec =
     tie.close
     (tie.spec
-    (λ c. search needs) (λ c. search needs) (λ c. search needs) (λ c. search needs) (λ c. search needs) (λ c κs. search needs) (λ c. search needs)
-    (λ c. search needs) (λ c. search needs) (λ c κs. search needs) (λ c. search needs) (λ c. search needs) (λ c. search needs) (λ c κs. search needs)
-    (λ c. search needs) (λ c. search needs) (λ c. search needs) (λ c κs. search needs) (λ c. search needs) returns)
+    (λ c. search needs) (λ c. search needs) (λ c. search needs) (λ c. search needs) (λ c. search needs) (λ c. search needs) (λ c. search needs)
+    (λ c. search needs) (λ c. search needs) (λ c. search needs) (λ c. search needs) (λ c κs. search needs) (λ c κs. search needs) (λ c κs. search needs)
+    (λ c. search needs) returns)
