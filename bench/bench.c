@@ -323,7 +323,8 @@ static void check_diff(const char *input, const char *work, size_t bytes) {
         check(x->client == y->client && x->clock == y->clock && x->length.count == y->length.count && x->kind == y->kind &&
                   x->left.client == y->left.client && x->left.clock == y->left.clock && x->right.client == y->right.client &&
                   x->right.clock == y->right.clock && x->part.bytes.count == y->part.bytes.count &&
-                  memcmp(on.out + x->part.place, on.copy + y->part.place, x->part.bytes.count) == 0,
+                  memcmp(on.out + x->part.place, on.copy + y->part.place, x->part.bytes.count) == 0 && x->type_number == y->type_number &&
+                  x->mark.bytes.count == y->mark.bytes.count && memcmp(on.out + x->mark.place, on.copy + y->mark.place, x->mark.bytes.count) == 0,
               input, work, "blocks part");
     }
 }

@@ -7,6 +7,7 @@ const Y = require('/usr/share/nodejs/yjs/dist/yjs.cjs')
 const lib0 = require('/usr/share/nodejs/lib0/dist/encoding.cjs')
 const { begin, many } = require('../tools/cases/random.cjs')
 const spelling = require('../tools/cases/spelling.cjs')
+const { numbered } = require('../tools/cases/yjs-diffs.cjs')
 
 const [, , dir] = process.argv
 fs.mkdirSync(dir, { recursive: true })
@@ -31,13 +32,14 @@ const half = doc => {
 }
 const structs = doc => [...doc.store.clients.values()].reduce((n, s) => n + s.length, 0)
 const rangesOf = update => [...Y.decodeUpdate(update).ds.clients.values()].reduce((n, r) => n + r.length, 0)
-const document = (name, doc, ...more) => {
+const documentFor = (works, name, doc) => {
   const update = Y.encodeStateAsUpdate(doc)
   put(`${name}.1`, update)
-  put(`${name}.2`, Y.encodeStateAsUpdateV2(doc))
+  put(`${name}.2`, numbered(() => Y.encodeStateAsUpdateV2(doc)))
   put(`${name}.vector`, half(doc))
-  entry(name, Y.decodeUpdate(update).structs.length, rangesOf(update), ...BOTH, ...more)
+  entry(name, Y.decodeUpdate(update).structs.length, rangesOf(update), ...works)
 }
+const document = (name, doc, ...more) => documentFor([...BOTH, ...more], name, doc)
 
 // ---- documents of so many blocks: eight clients edit one text at random places and set binaries under sixteen keys of a map
 
@@ -59,6 +61,29 @@ const edited = blocks => {
 }
 const SIZES = [100, 316, 1000, 3162, 10000, 31623, 65535]
 for (const n of SIZES) document(`size-${n}`, edited(n), ...(n === 100 || n === 10000 ? ['lent1'] : []))
+
+// ---- documents with marks, maps, arrays and XML: eight clients colour words of one text, set plain values under sixteen keys of a map, put some into an array,
+// and add elements. Keys of form 2 keep their numbers: as Yjs itself writes them there would be more than 256. A mark does not change its form, so there are no
+// diffs into the other one.
+
+const coloured = blocks => {
+  const { random, pick } = begin(blocks + 1)
+  const doc = new Y.Doc()
+  const [text, map, array, xml] = [doc.getText('t'), doc.getMap('m'), doc.getArray('a'), doc.getXmlFragment('x')]
+  const clients = many(8, k => 1000003 * (k + 1) + random(1000))
+  const value = () => pick([random(1000), -random(100000), 'plain value', pick(words), true, null, 0.5, { unit: 'mg' }, [1, 2, 3], [[pick(words)], { of: random(9) }]])
+  while (structs(doc) < blocks) {
+    doc.clientID = pick(clients)
+    const kind = random(20)
+    if (blocks - structs(doc) < 8 || kind < 5) map.set(`key ${random(16)}`, value())
+    else if (kind < 8) array.insert(random(array.length + 1), many(1 + random(4), value))
+    else if (kind < 10) xml.insert(random(xml.length + 1), [new Y.XmlElement(pick(['p', 'h1', 'li', 'table']))])
+    else if (kind < 15 && text.length > 20) text.format(random(text.length - 12), 2 + random(10), { [pick(['bold', 'italic', 'color', 'link'])]: pick([true, null, '#c2410c', 7]) })
+    else text.insert(random(text.length + 1), many(1 + random(3), () => pick(words)).join(' '))
+  }
+  return doc
+}
+for (const n of [1000, 10000]) documentFor(['read1', 'read2', 'diff11', 'diff22', 'sort1', 'sort2'], `rich-${n}`, coloured(n))
 
 // ---- an editing session: three people type words letter by letter, go elsewhere, take back letters, delete and paste sentences, and hear from each other
 // every few hundred keys; `messages` has the update of each key

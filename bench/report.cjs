@@ -52,7 +52,7 @@ const at = (input, work) => all.get(`${input} ${work}`)
 const compared = (rows, unit) => table(['', `ours, per ${unit}`, 'ours, whole', 'Rust, whole', 'Yjs, whole', 'ours / Rust', 'ours / Yjs', 'ours / memcpy'],
   rows.map(([name, r, n]) => [name, time(r.ours.time / n), time(r.ours.time), r.rust ? time(r.rust.time) : '', r.yjs ? time(r.yjs.time) : '',
     ratio(r.ours, r.rust), ratio(r.ours, r.yjs), ratio(r.ours, r.memcpy)]))
-const works = input => Object.entries(WORKS).map(([work, name]) => [name, at(input, work), list.get(input).blocks])
+const works = input => Object.entries(WORKS).filter(([work]) => at(input, work) !== undefined).map(([work, name]) => [name, at(input, work), list.get(input).blocks])
 
 const grown = table(['ns per block', '', ...SIZES.map(thousands)], Object.entries(WORKS).flatMap(([work, name]) =>
   [['ours', 'ours'], ['Rust', 'rust'], ['Yjs', 'yjs']].map(([side, key], k) =>
@@ -120,6 +120,10 @@ ${beyond}
 ${thousands(session.blocks)} blocks, ${thousands(session.ranges)} delete ranges; ${thousands(fs.statSync(path.join(out, 'inputs/session.1')).size)} bytes in form 1, ${thousands(fs.statSync(path.join(out, 'inputs/session.2')).size)} in form 2. The last line reads the session's ${thousands(messages)} messages, one key each, by themselves (64 rows and 64 ranges lent): its unit is a message.
 
 ${compared([...works('session'), ['read, each message', at('messages', 'each1'), messages]], 'block')}
+
+### Marks, maps, arrays and XML
+
+${['rich-1000', 'rich-10000'].map(input => `${thousands(list.get(input).blocks)} blocks: ${thousands(fs.statSync(path.join(out, `inputs/${input}.1`)).size)} bytes in form 1, ${thousands(fs.statSync(path.join(out, `inputs/${input}.2`)).size)} in form 2. The Rust's values and JSON are stand-ins.\n\n${compared(works(input), 'block')}`).join('\n\n')}
 
 ### As the size grows
 

@@ -85,6 +85,8 @@ for (const line of fs.readFileSync(path.join(dir, 'list'), 'utf8').trim().split(
     if (work.startsWith('read')) {
       const update = load(input, form)
       measure(input, work, () => read(form, update))
+    } else if (input.startsWith('rich') && work === 'diff22') {
+      // keys are written anew there, so that it has other bytes
     } else if (work.startsWith('diff')) {
       const [update, vector] = [load(input, form), load(input, 'vector')]
       measure(input, work, () => [diffs[work.slice(4)](update, vector).length])

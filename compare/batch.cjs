@@ -58,7 +58,7 @@ const compared = batch => {
   const all = updates.map(({ update, ...x }) => {
     const r = j.readUpdate(x.form, update)
     const twice = r.number === 0 && new Set(r.deleteClients).size !== r.deleteClients.length
-    return { r, x: { ...x, bytes: update, number: r.number, place: r.place, what: r.what, value: r.value, column: r.column, masked: r.masked, twice } }
+    return { r, x: { ...x, bytes: update, number: r.number, place: r.place, what: r.what, value: r.value, column: r.column, masked: r.masked, longType: r.longType, twice } }
   })
   const reads = all.map(({ x }) => [1, x.form, 0, x.bytes])
   const ours = askOurs(reads)
@@ -79,13 +79,15 @@ const compared = batch => {
   const diffs = asked.map(x => [2, x.form, x.to, x.bytes, x.vector])
   const ourDiffs = askOurs(diffs)
   const yrsDiffs = builds.map(([, name]) => askYrs(name, diffs))
+  const manyKeys = []
   const diffNumbers = asked.map((x, k) => {
     const r = j.diff(x.form, x.to, x.bytes, x.vector)
+    manyKeys.push(r.what === 'keys written')
     judge.ours('diff', x, ourDiffs[k], j.diffLine(r), r)
     const number = j.numberOf(ourDiffs[k].split('|')[0])
     if (x.number === 0) {
       count('diffs', `${x.form} to ${x.to}`, number)
-      judge.diffYjs(x, ourDiffs[k])
+      judge.diffYjs(x, ourDiffs[k], r)
     }
     return number
   })
@@ -93,7 +95,7 @@ const compared = batch => {
     const both = asked.map((x, k) => k).filter(k => diffNumbers[k] === 0 && yrsDiffs[n][k].startsWith('0|'))
     const again = askYrs(name, both.flatMap(k => [ourDiffs, yrsDiffs[n]].map(all => [1, asked[k].to, 0, j.bytesOf(all[k].split('|')[1])])))
     asked.forEach((x, k) => {
-      if (![0, 9, 13].includes(diffNumbers[k])) return
+      if (![0, 9, 13, 19].includes(diffNumbers[k]) && !(x.number === 0 && manyKeys[k])) return
       const of = both.indexOf(k)
       judge.diffYrs(x, checked, ourDiffs[k], yrsDiffs[n][k], of < 0 ? null : again.slice(2 * of, 2 * of + 2))
     })

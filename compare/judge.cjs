@@ -1,7 +1,7 @@
 // The comparisons themselves. Each takes what was asked and the answers, and says with `same`, `known` or `unknown` what came of it.
 'use strict'
 const { first } = require('../tools/cases/stream.cjs')
-const { ourRecord, theirRecord, theirIds, kept, compareVector } = require('../tools/cases/yjs.cjs')
+const { ourRecord, meant, theirRecord, theirIds, kept, compareVector } = require('../tools/cases/yjs.cjs')
 const model = require('../tools/cases/update-model.cjs')
 const columnModel = require('../tools/cases/model.cjs')
 const diffModel = require('../tools/cases/diff-model.cjs')
@@ -78,10 +78,13 @@ const begin = () => {
     const outcome = what => count('read', 'Yjs', x.form, x.made, what)
     if (x.number !== 0 && y.got === 'error') return outcome('refused by both')
     outcome(x.number === 0 && y.got === 'read' ? 'read by both' : x.number === 0 ? 'read by ours only' : y.got === 'read' ? 'read by Yjs only' : 'not finished by Yjs')
-    if (x.number === 0 && y.got === 'read' && !(x.form === 2 && x.bytes[0] > 127)) {
+    // Values by what they mean; some of them JavaScript does not have.
+    const ours = x.number === 0 ? list(records).map(meant(x.form)) : []
+    y.beyond = ours.includes(null)
+    if (x.number === 0 && y.got === 'read' && !y.beyond && !(x.form === 2 && x.bytes[0] > 127)) {
       const structs = seen.got.structs.filter(kept)
       y.emptyRange = [...seen.got.ds.clients.values()].some(all => all.some(d => d.len === 0))
-      const same = records === structs.map(theirRecord).join(',') && ranges === theirIds(seen.got.ds).join(',')
+      const same = ours.join(',') === structs.map(theirRecord).join(',') && ranges === theirIds(seen.got.ds).join(',')
       y.dropped = same && structs.length !== seen.got.structs.length
       if (same) count('same', 'Yjs', 'read')
       if (same && !y.dropped) return y
@@ -110,12 +113,13 @@ const begin = () => {
 
   // ---- diffs
 
-  const diffYjs = (x, line) => {
+  // Of the model's answer, `r`, only what is refused is used.
+  const diffYjs = (x, line, r) => {
     const [refusal, bytes] = line.split('|')
     const number = numberOf(refusal)
-    if (![0, 9, 13].includes(number)) return count('diff', 'Yjs', 'refused by ours')
+    if (![0, 9, 13, 19].includes(number) && r.what !== 'keys written') return count('diff', 'Yjs', 'refused by ours')
     try {
-      yjsDiffs.compare(x.form, x.to, x.bytes, x.vector, { number, bytes: bytesOf(bytes) })
+      yjsDiffs.compare(x.form, x.to, x.bytes, x.vector, { number, what: r.what, bytes: bytesOf(bytes) })
       count('diff', 'Yjs', 'compared')
     } catch (e) {
       unknown.push({ side: 'Yjs', work: 'diff', why: e.message, ...x })

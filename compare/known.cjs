@@ -1,5 +1,6 @@
 // The known disagreements: for each a name, the words that its row of docs/DIFFERENCES.md begins with, and when it holds. What is compared is `x`:
-//   number, what, value, column, masked: ours: its refusal (0: none), and of what, by the model of document 01, which has answered the same
+//   number, what, value, column, masked, longType: ours: its refusal (0: none), and of what, by the model of documents 01 and 02, which has answered the same
+//   beyond: a value that JavaScript does not have was read
 //   got: what the other side did: 'read', 'error', 'panic' (Rust), 'stopped' (Yjs, after 200,000 draws), 'died' (Rust, without memory)
 // Ours refuses first, so a class says for what; what the other side makes of the bytes behind is not looked at, but each class names what it may have done.
 'use strict'
@@ -19,13 +20,15 @@ const ten = x => {
     return n === 9
   })
 }
-const contents = (...numbers) => x => refused(5)(x) && numbers.includes(x.value & 31)
+const contents = (...numbers) => x => refused(5, 'content')(x) && numbers.includes(x.value & 31)
 
 // ---- reading an update: Yjs (decodeUpdate, decodeUpdateV2)
 
 const clocks = refused(3, 'clock', 'length', 'end')
 const deletes = refused(3, 'delete clock', 'delete length', 'delete end')
-const limits = [ // the limits of document 01, which neither Yjs nor yrs has
+const limits = [ // the limits of documents 01 and 02, which neither Yjs nor yrs has
+  ['more than 256 keys', 'more than 256 keys in form 2', both(form(2), refused(3, 'key list'))],
+  ['values inside 17 arrays and objects', 'values inside 17 arrays and objects', refused(3, 'depth')],
   ['65 sections', '65 sections', refused(3, 'sections')],
   ['65,536 blocks', '65,536 blocks', refused(3, 'blocks')],
   ["a Skip's length over 2^31-1", "a Skip's length over 2^31-1", refused(3, 'Skip length')],
@@ -41,8 +44,9 @@ const yjs = [
   ['item of length 0', 'item of length 0', both(refused(0), did('read'), x => x.dropped)],
   ['low bits 0 with other bits', 'low bits 0 with other bits', both(x => x.masked, x => x.number !== 0)],
   ['content 2 (JSON)', 'content number 2', both(contents(2), on)],
-  ['content 8 (any)', 'map values', both(contents(8), on)],
-  ['contents 5, 6, 7, 9', 'embeds, formats, types and documents', both(contents(5, 6, 7, 9), on)],
+  ['contents 5, 9', 'embeds and documents', both(contents(5, 9), on)],
+  ['an integer that says more, JSON that is none', 'integer past 2^53-1 that says more', both(refused(0), did('error'), x => x.beyond)],
+  ['an integer of 2^53 and more, the key __proto__', 'integer of 2^53 and more otherwise', both(refused(0), on, x => x.beyond)],
   ['blocks without end', 'blocks without end', both(form(2), refused(3, 'blocks'), did('stopped'))],
   ...limits.map(([name, row, test]) => [name, row, both(test, on)]),
   ['client over 2^53-1', 'client 2^53', both(either(refused(3, 'client'), refused(3, 'column value')), on)],
@@ -66,7 +70,10 @@ const yjs = [
 const went = did('read', 'panic')
 const yrs = [
   ['delete-set client twice', 'delete-set client twice', both(refused(0), did('read'), x => x.twice)],
-  ['content 17, 19, 20: four bits', 'content number 20, 17, 19', both(contents(17, 19, 20), went)],
+  ['content 17, 19, 20, 22 to 24: four bits', 'content number 20, 17, 19', both(contents(17, 19, 20, 22, 23, 24), went)],
+  // Any outcome: the bytes behind a type number's first one are read as something else there.
+  ['type number in more than a byte', 'type number in more than a byte', both(form(1), x => x.longType)],
+  ['type number from 256 on', 'type number 258, 2^53', both(form(2), refused(5, 'type number'), over(256n), went)],
   ...limits.map(([name, row, test]) => [name, row, both(test, went)]),
   ['client over 2^53-1', 'client 2^53', both(refused(3, 'client'), x => x.checked ? x.got === 'panic' : went(x))],
   ['delete-set client over 2^53-1', 'delete-set client 2^53', both(refused(3, 'delete client'), x => x.checked ? x.got === 'panic' : went(x))],
@@ -120,6 +127,9 @@ const yrsColumns = [
 const yrsDiffs = [
   ['cut in a pair', 'cut in a pair', both(refused(9), went)],
   ['difference outside -2^30 to 2^30-1', 'difference 2^30', both(refused(13), went)],
+  ['a mark into the other form', 'a mark into the other form', both(refused(19), went)],
+  ['more than 256 keys', 'more than 256 keys in form 2', both(refused(3), went)],
+  ['type number in more than a byte', 'type number in more than a byte', both(form(1), x => x.longType)],
   ['delete-set client twice', 'delete-set client twice', both(refused(0), x => x.twice)],
   ['delete range of length 0', 'range of length 0', both(refused(0), x => x.emptyRange)]
 ]
@@ -128,6 +138,10 @@ const counted = {
   'Yjs diffs': {
     pair: ['ours refuses 9', 'cut in a pair'],
     far: ['ours refuses 13', 'difference 2^30'],
+    format: ['ours refuses 19', 'a mark into the other form'],
+    keys: ['ours refuses 3 for keys', 'more than 256 keys in form 2'],
+    respelt: ['values that Yjs spells in another way: records compared', 'values in a longer spelling, whole floats'],
+    beyond: ['a value that JavaScript does not have: not compared', 'integer of 2^53 and more otherwise'],
     empty: ['item of length 0: compared without it only', 'item of length 0 above the remote clock'],
     falling: ['ranges that fall or are empty: compared in order only', 'ranges fall, form 2 written'],
     flag: ['flag over 127: not compared', 'flag is a number']
@@ -136,11 +150,13 @@ const counted = {
     circle: ['ring with blocks behind: not compared', 'ring, with a block behind it'],
     empty: ['block of length 0, where Yjs throws: not compared', 'item of length 0'],
     own: ['dependency on the own client, not there: Yjs throws', "dependency on the block's own client, not there"],
+    beyond: ['a value that JavaScript does not have: not compared', 'integer of 2^53 and more otherwise'],
     flag: ['flag over 127: not compared', 'flag is a number']
   }
 }
 const yrsSorts = [
-  ['dependency on the own client, not there', "dependency on the block's own client, not there", both(refused(0), x => x.hung)]
+  ['dependency on the own client, not there', "dependency on the block's own client, not there", both(refused(0), x => x.hung)],
+  ['type number in more than a byte', 'type number in more than a byte', both(form(1), x => x.longType)]
 ]
 
 const tables = { Yjs: yjs, yrs, lib0: lib0Columns, 'yrs columns': yrsColumns, 'yrs diffs': yrsDiffs, 'yrs sorts': yrsSorts }

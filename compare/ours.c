@@ -1,6 +1,6 @@
 // ours REQUESTS: answers the requests of a file with the library, a line each on standard output, for compare/batch.cjs. A request is four bytes (what is
 // asked, form or column, form to write or rule to sort by, 0), then two parts, each led by its length in four bytes, lowest first: the update or column, and the vector.
-//   1 read    refusal|blocks|ranges        a block: client clock length kind left right name parent key content, `none` for what is not there
+//   1 read    refusal|blocks|ranges        a block: client clock length kind left right name parent key content mark type, `none` for what is not there
 //   2 diff    refusal|bytes
 //   3 sort    refusal|order|counts|reaches|pending
 //   4 column  values|refusal               0 numbers, 1 differences, 2 bytes, 3 texts; at most 64 values, then `more`
@@ -57,14 +57,19 @@ static void id(bool there, wairokabi_id i) {
         fputs(" none", stdout);
 }
 static void block(const uint8_t *update, wairokabi_block b) {
-    static const char *kinds[] = {"", "gc", "skip", "deleted", "binary", "text"};
+    static const char *kinds[] = {"", "gc", "skip", "deleted", "binary", "text", "format", "type", "any"};
     printf("%" PRIu64 " %" PRIu32 " %" PRIu64 " %s", b.client, b.clock, b.length.count, kinds[b.kind]);
     id(b.has_left, b.left);
     id(b.has_right, b.right);
     part(b.has_name, update, b.name);
     id(b.has_parent, b.parent);
     part(b.has_key, update, b.key);
-    part(b.kind == WAIROKABI_BINARY || b.kind == WAIROKABI_TEXT, update, b.part);
+    part(b.kind == WAIROKABI_BINARY || b.kind == WAIROKABI_TEXT || b.kind == WAIROKABI_FORMAT || b.kind == WAIROKABI_ANY, update, b.part);
+    part(b.kind == WAIROKABI_FORMAT || (b.kind == WAIROKABI_TYPE && (b.type_number == 3 || b.type_number == 5)), update, b.mark);
+    if (b.kind == WAIROKABI_TYPE)
+        printf(" %d", b.type_number);
+    else
+        fputs(" none", stdout);
 }
 // `count` groups of so many words.
 static void words(const uint64_t *w, size_t count, size_t of) {

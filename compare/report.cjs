@@ -49,7 +49,7 @@ const reading = table(['', '', 'read by both', 'refused by both', 'ours only', '
 }))), 2)
 const equal = table(['', 'Yjs (columns: lib0)', 'yrs checked', 'yrs release'], [
   ['records and deleted ids of a reading', ...SIDES.map(s => sum('same', s, 'read'))],
-  ['diffs, read again', sum('Yjs diffs', 'ordered'), ...SIDES.slice(1).map(s => sum('same', s, 'diff'))],
+  ['diffs, read again', sum('Yjs diffs', 'ordered') + sum('Yjs diffs', 'respelt'), ...SIDES.slice(1).map(s => sum('same', s, 'diff'))],
   ['sorts: division and reaches', ['equal', 'across', 'edited', 'edited across'].reduce((n, what) => n + sum('Yjs sorts', what), 0), ...SIDES.slice(1).map(s => sum('same', s, 'sort'))],
   ['columns, to their end', sum('same', 'lib0', 'column'), ...SIDES.slice(1).map(s => sum('same', s, 'column'))],
   ['state vectors', sum('vector', 'Yjs', 'compared'), '', '']

@@ -36,6 +36,8 @@ const make = batch => {
   const loose = begin((batch + 1) * 0x9e3779b1 | 1)
   const { random, pick } = loose
   const documents = require('../tools/cases/documents.cjs').begin(loose)
+  const rich = require('../tools/cases/rich-documents.cjs').begin(loose)
+  const marked = shape.begin(loose, [1, 3, 4, 6, 6, 7, 7, 8, 8])
   const { some, someClient, damaged, shuffled, tangled } = shape.begin(loose)
   const between = (low, high) => high > low ? low + BigInt(random(Number(high - low))) : low
   const vectorOf = entries => {
@@ -63,13 +65,17 @@ const make = batch => {
   const out = []
   const put = (how, form, update, more = {}) => out.push({ made: 'by Yjs', how, form, update: [...update], ...more })
   const { made, vectors } = documents.histories(14)
-  shuffled(made).slice(0, 300).forEach(({ form, update }, k) => put('edited', form, update, k % 6 === 0 ? { vector: pick(vectors) } : {}))
+  shuffled(made).slice(0, 200).forEach(({ form, update }, k) => put('edited', form, update, k % 6 === 0 ? { vector: pick(vectors) } : {}))
+  // Coloured text, maps and arrays of plain values, XML, types inside types.
+  const coloured = documents.histories(7, rich.edit)
+  shuffled(coloured.made).slice(0, 160).forEach(({ form, update }, k) => put('edited with marks, values and types', form, update, k % 6 === 0 ? { vector: pick(coloured.vectors) } : {}))
   // Conversations: merged, partly, with gaps; what a document holds, without what a vector knows; what it keeps back. Against a document in any state.
   many(7, k => {
     const clients = groups[(batch + k) % groups.length]
     const turns = k === 6 ? (batch % 5 === 0 ? 120 : 40) : 6 + random(7)
     const sent = documents.conversation({
-      clients, gc: random(4) > 0, turns, who: () => random(clients.length), hears: () => random(4) > 0, say: doc => documents.edit(doc, k % 3 === 0)
+      clients, gc: random(4) > 0, turns, who: () => random(clients.length), hears: () => random(4) > 0,
+      say: doc => k % 2 === 0 && k < 6 ? rich.edit(doc) : documents.edit(doc, k % 3 === 0)
     })
     const readable = sent.filter(x => readUpdate(1, x.one).number === 0)
     if (readable.length === 0) return
@@ -101,22 +107,33 @@ const make = batch => {
     })
   })
   const together = { made: 'put together' }
-  many(60, k => put('shape', forms[k % 2], s.update(forms[k % 2], some(forms[k % 2]), k % 4 < 2 ? null : loose), together))
+  many(60, k => put('shape', forms[k % 2], s.update(forms[k % 2], (k % 3 === 0 ? some : marked.some)(forms[k % 2]), k % 4 < 2 ? null : loose), together))
   many(90, k => {
     const pool = pools[k % 3]
     const vector = vectorOf(shuffled([...pool, 6, 77].filter(() => random(3) === 0)).map(client => [client, random(5)]))
     put('tangled', forms[k % 2], s.update(forms[k % 2], { sections: tangled(pool), deletes: random(6) === 0 ? [[5, [[random(3), 2]]]] : [] }, k % 8 < 6 ? null : loose), { ...together, vector })
   })
 
-  // Contents that are not read yet, as editors write them.
-  many(6, k => {
+  // Contents that are not read, as editors write them; and more marks than form 2 has keys for.
+  many(4, k => {
     const doc = documents.document(pick(groups[(batch + k) % groups.length]), true)
     const text = doc.getText('t')
     text.insert(0, 'wairo 😀')
-    pick([() => text.format(1, 3, { bold: true }), () => text.insertEmbed(2, { image: 'k' }), () => doc.getMap('m').set('k', pick(['v', 7, null, [1, 'é'], true])),
-      () => doc.getMap('m').set('k', new Y.Doc({ guid: 'g' })), () => doc.getXmlFragment('x').insert(0, [new Y.XmlElement('p')])])()
+    pick([() => text.insertEmbed(2, { image: 'k' }), () => doc.getMap('m').set('k', new Y.Doc({ guid: 'g' }))])()
     put('other contents', 1 + k % 2, k % 2 === 0 ? Y.encodeStateAsUpdate(doc) : Y.encodeStateAsUpdateV2(doc))
   })
+  if (batch % 10 === 5) {
+    const n = pick([127, 128, 129, 140])
+    const doc = documents.document(5, true)
+    doc.transact(() => many(n, k => {
+      doc.getText('t').insert(doc.getText('t').length, 'word', { color: 'red' })
+      doc.getText('t').insert(doc.getText('t').length, ' ', {})
+    }))
+    put('about a limit', 1, Y.encodeStateAsUpdate(doc))
+    put('about a limit', 2, Y.encodeStateAsUpdateV2(doc))
+    const elements = pick([255, 256, 257])
+    put('about a limit', 1, s.update(1, { sections: [{ client: 5, clock: 0, blocks: many(elements, j => ({ info: 7, name: 't', type: 3, mark: `n${j}` })) }] }), together)
+  }
   // About the limits on counts and sizes.
   const block = () => pick([{ info: 0, length: 1 }, { info: 1, name: 't', length: 2 }, { info: 4, name: 't', text: 'a' }])
   many(8, k => {
@@ -192,7 +209,7 @@ const make = batch => {
     'a column': ({ form, update }) => {
       const of = form === 2 ? cut(update) : null
       if (of === null) return damaged(update)
-      const k = pick([1, 1, 2, 3, 4, 4, 5, 5, 6, 8, 8, random(9)])
+      const k = pick([0, 0, 1, 1, 2, 3, 4, 4, 5, 5, 6, 7, 8, 8, random(9)])
       return joined({ ...of, parts: replaced(of.parts, k, pick(inColumn)(of.parts[k])) })
     },
     'a part of another': ({ form, update }, all) => {
@@ -224,7 +241,7 @@ const make = batch => {
   const columns = out.filter(x => x.form === 2 && x.update.length > 12 && x.update.length < 400).flatMap(({ update }) => {
     const of = cut(update)
     if (of === null) return []
-    const k = pick([1, 2, 3, 4, 5, 6, 8].filter(k => of.parts[k][1].length > 0 || random(20) === 0))
+    const k = pick([0, 1, 2, 3, 4, 5, 6, 7, 8].filter(k => of.parts[k][1].length > 0 || random(20) === 0))
     if (k === undefined) return []
     const column = of.parts[k][1]
     return [[kinds[k], column], [kinds[k], column.length > 0 ? damaged(column) : pick(runs)]]

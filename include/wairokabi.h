@@ -20,9 +20,9 @@
 //  0  done
 //  1  bytes or a column end early
 //  2  the ninth byte of a number says more
-//  3  over a limit, or a clock out of range
+//  3  over a limit, or a clock out of range; plain values with more than 16 arrays and objects open at once; more than 256 keys of form 2, read or written
 //  4  a client in two sections, or twice in a vector
-//  5  content number not 1, 3, 4
+//  5  content number not 1, 3, 4, 6, 7, 8; a plain value with an unknown tag; a type number over 6
 //  6  not UTF-8
 //  7  units run past the text, or end in a pair
 //  8  kept blocks, non-empty delete ranges or order steps exceed the rows lent
@@ -35,20 +35,22 @@
 // 15  strict reading: a byte stays unread
 // 16  a summary's version is unknown
 // 17  a summary's rows out of order, a row of no blocks, a first clock above its last end, filling that is not zero, or bytes left over
+// 19  a diff would keep a format whose form is not the one written
 //
 // Places: the byte that is blamed, counted from 0 in the update, or in the bytes that a number or a column is read from:
 //
 // - 1: the end of the column that ends early, which is the place after its last byte; else the end of the update, or of the bytes.
-// - 2, 3: the first byte of the number, a run's count too. A number that is drawn from a run blames the run's first byte, and so does the clock that a
-//   difference leads to.
+// - 2, 3: the first byte of the number, a run's count too. A number that is drawn from a run blames the run's first byte, and so do the clock that a
+//   difference leads to and the 257th key of form 2. 3 for the seventeenth array or object inside each other: its tag.
 // - 4: the section's client.
-// - 5, 8 for a block's row, 3 for a block's end: the block's info byte. 8 for a range's row, 3 for a range's end: the first byte of the range's clock.
+// - 5 for whatever of a block, 8 for its row, 3 for its end: the block's info byte. 8 for a range's row, 3 for a range's end: the first byte of the range's
+//   clock.
 // - 6, 7: the first byte of the text, not of its length.
 // - 14: the flag, which is byte 0. 15: the lowest byte that stays unread.
 //
-// In form 2 a section's client and an info byte are drawn from runs too. Where no byte is blamed the place is 0: 9 to 13, 8 for order steps, an update
-// over WAIROKABI_MAX_UPDATE, whatever a state vector or a summary that is read is refused by. Place 0 may be blamed too: form 1 has its count of sections there, and an update of no
-// bytes its end.
+// In form 2 a section's client and an info byte are drawn from runs too. Where no byte is blamed the place is 0: 9 to 13, 19, 8 for order steps, 3 for keys
+// that are written, an update over WAIROKABI_MAX_UPDATE, whatever a state vector or a summary that is read is refused by. Place 0 may be blamed too: form 1 has
+// its count of sections there, and an update of no bytes its end.
 #ifndef WAIROKABI_H
 #define WAIROKABI_H
 
@@ -101,7 +103,10 @@ typedef struct wairokabi_id {
 } wairokabi_id;
 
 // A row of the block table: one block. `has_left` says whether `left` is there, and so on; what is not there is zero. `part` is the stored part of a
-// binary or a text, zero for the others. A row that has no block is zero. A row takes 128 bytes.
+// binary or a text, the value of a format (in form 1 its JSON text, in form 2 an any-value's bytes) or the bytes of all values of an any-list, whose length
+// is how many they are; zero for the others. `mark` is the key of a format, or the node name of a type that has one (3 and 5); `type_number` is a type's: 0
+// array, 1 map, 2 text, 3 XML element, 4 XML fragment, 5 XML hook, 6 XML text. In form 2 a key that was read before lies where it lay then. A row that has no
+// block is zero. A row takes 144 bytes.
 typedef struct wairokabi_block {
     uint64_t client;
     wairokabi_units length;
@@ -111,6 +116,7 @@ typedef struct wairokabi_block {
     wairokabi_part name;
     wairokabi_part key;
     wairokabi_part part;
+    wairokabi_part mark;
     uint32_t clock;
     uint8_t kind;
     bool has_left;
@@ -118,6 +124,7 @@ typedef struct wairokabi_block {
     bool has_parent;
     bool has_name;
     bool has_key;
+    uint8_t type_number;
 } wairokabi_block;
 
 // What a block's `kind` says.
@@ -126,6 +133,9 @@ typedef struct wairokabi_block {
 #define WAIROKABI_DELETED 3
 #define WAIROKABI_BINARY 4
 #define WAIROKABI_TEXT 5
+#define WAIROKABI_FORMAT 6
+#define WAIROKABI_TYPE 7
+#define WAIROKABI_ANY 8
 
 // How many bytes were written.
 typedef struct wairokabi_written {
@@ -143,7 +153,9 @@ typedef struct wairokabi_update {
 } wairokabi_update;
 
 // Reads an update of form 1 or 2. The blocks kept stand in `rows` in reading order, one a row; the delete ranges in normal form (highest client first,
-// clocks rising, none empty, none touching) in `ranges`, three words each: client, clock, length. 12, 3, then the first refusal of reading: 1 to 8.
+// clocks rising, none empty, none touching) in `ranges`, three words each: client, clock, length. 12, 3, then the first refusal of reading: 1 to 8. 3 is also
+// for values inside more than 16 arrays and objects, and in form 2 for a 257th key: Yjs writes each mark and node name of form 2 under a new number, so that
+// a text with 129 coloured words has too many of them there, and is read in form 1.
 wairokabi_update wairokabi_read_update(
     uint8_t form,
     const uint8_t *update, size_t update_count,
@@ -165,7 +177,8 @@ typedef struct wairokabi_where {
     wairokabi_part part;
 } wairokabi_where;
 
-// Where the text or binary of block n, from 0 in reading order, lies in the update: always inside it. 12, 3, reading's, then 11.
+// Where the text or binary of block n, from 0 in reading order, lies in the update: always inside it. 12, 3, reading's, then 11, for a format, a type and an
+// any-list too.
 wairokabi_where wairokabi_content(
     uint8_t form,
     const uint8_t *update, size_t update_count,
@@ -179,8 +192,10 @@ typedef struct wairokabi_diff {
     size_t ranges;
 } wairokabi_diff;
 
-// Writes into `out`, in the form `to`, what an update has beyond a state vector, with its whole delete set. Both tables are filled as `read_update`
-// fills them. 12 (either form), reading's, the vector's, then 9, 13, 10.
+// Writes into `out`, in the form `to`, what an update has beyond a state vector, with its whole delete set. A text is cut by units, an any-list by entries;
+// values are copied byte for byte. In form 2 equal keys have one number. Both tables are filled as `read_update` fills them. 12 (either form), reading's, the
+// vector's, then 3 for more than 256 different marks and node names in form 2, 9, 19 for a format that is kept where the forms differ (form 1 has JSON text
+// there, form 2 an any-value), 13, 10.
 wairokabi_diff wairokabi_encode_diff(
     uint8_t form,
     const uint8_t *update, size_t update_count,

@@ -144,6 +144,53 @@ pub enum TypePtr {
 #[derive(PartialEq, Clone)]
 pub struct Branch {
     item: Option<BranchItem>,
+    type_ref: TypeRef,
+}
+impl Branch {
+    fn new(type_ref: TypeRef) -> Box<Self> {
+        Box::new(Branch { item: None, type_ref })
+    }
+}
+#[derive(PartialEq, Clone)]
+pub enum TypeRef {
+    Array,
+    Map,
+    Text,
+    XmlElement(Arc<str>),
+    XmlFragment,
+    XmlHook(Arc<str>),
+    XmlText,
+}
+impl TypeRef {
+    fn decode<D: Decoder>(d: &mut D) -> Result<Self, Error> {
+        Ok(match d.read_type_ref()? {
+            0 => TypeRef::Array,
+            1 => TypeRef::Map,
+            2 => TypeRef::Text,
+            3 => TypeRef::XmlElement(d.read_key()?),
+            4 => TypeRef::XmlFragment,
+            5 => TypeRef::XmlHook(d.read_key()?),
+            6 => TypeRef::XmlText,
+            _ => return Err(Error::UnexpectedValue),
+        })
+    }
+    fn number(&self) -> u8 {
+        match self {
+            TypeRef::Array => 0,
+            TypeRef::Map => 1,
+            TypeRef::Text => 2,
+            TypeRef::XmlElement(_) => 3,
+            TypeRef::XmlFragment => 4,
+            TypeRef::XmlHook(_) => 5,
+            TypeRef::XmlText => 6,
+        }
+    }
+    fn encode<E: Encoder>(&self, e: &mut E) {
+        e.write_type_ref(self.number());
+        if let TypeRef::XmlElement(name) | TypeRef::XmlHook(name) = self {
+            e.write_key(name)
+        }
+    }
 }
 #[derive(PartialEq, Clone)]
 pub struct BranchItem(ID);
@@ -157,6 +204,9 @@ pub enum ItemContent {
     Deleted(u32),
     Binary(Vec<u8>),
     String(SplittableString),
+    Format(Arc<str>, Box<Any>),
+    Type(Box<Branch>),
+    Any(Vec<Any>),
 }
 #[derive(PartialEq)]
 pub struct Item {
@@ -195,7 +245,8 @@ impl Item {
         let len = match &content {
             ItemContent::Deleted(n) => *n,
             ItemContent::String(s) => s.len(OffsetKind::Utf16) as u32,
-            ItemContent::Binary(_) => 1,
+            ItemContent::Any(v) => v.len() as u32,
+            _ => 1,
         };
         if len == 0 {
             return None;
@@ -245,6 +296,9 @@ impl<'a> ItemSlice<'a> {
             ItemContent::Deleted(_) => 1,
             ItemContent::Binary(_) => 3,
             ItemContent::String(_) => 4,
+            ItemContent::Format(..) => 6,
+            ItemContent::Type(_) => 7,
+            ItemContent::Any(_) => 8,
         };
         let sub = if i.parent_sub.is_some() { HAS_PARENT_SUB } else { 0 };
         e.write_info(number | if origin.is_some() { HAS_ORIGIN } else { 0 } | if i.right_origin.is_some() { HAS_RIGHT_ORIGIN } else { 0 } | sub);
@@ -354,6 +408,10 @@ pub trait Encoder {
     fn write_len(&mut self, n: u32);
     fn write_buf(&mut self, b: &[u8]);
     fn write_string(&mut self, s: &str);
+    fn write_key(&mut self, s: &str);
+    fn write_type_ref(&mut self, n: u8);
+    fn write_json(&mut self, v: &Any);
+    fn write_any(&mut self, v: &Any);
     fn write_left_id(&mut self, id: &ID);
     fn write_right_id(&mut self, id: &ID);
     fn reset_ds_cur_val(&mut self);
@@ -387,6 +445,20 @@ impl Encoder for EncoderV1 {
     }
     fn write_string(&mut self, s: &str) {
         buffer(&mut self.0, s.as_bytes())
+    }
+    fn write_key(&mut self, s: &str) {
+        buffer(&mut self.0, s.as_bytes())
+    }
+    fn write_type_ref(&mut self, n: u8) {
+        self.0.push(n)
+    }
+    fn write_json(&mut self, v: &Any) {
+        let mut text = Vec::new();
+        v.to_json(&mut text);
+        buffer(&mut self.0, &text)
+    }
+    fn write_any(&mut self, v: &Any) {
+        v.encode(&mut self.0)
     }
     fn write_left_id(&mut self, id: &ID) {
         unsigned(&mut self.0, id.client.get());
@@ -511,6 +583,9 @@ impl StringEncoder {
 #[derive(Default)]
 pub struct EncoderV2 {
     rest: Vec<u8>,
+    key: IntDiffOptRleEncoder,
+    keys: HashMap<String, u32>,
+    types: UIntOptRleEncoder,
     client: UIntOptRleEncoder,
     left: IntDiffOptRleEncoder,
     right: IntDiffOptRleEncoder,
@@ -542,6 +617,25 @@ impl Encoder for EncoderV2 {
     fn write_string(&mut self, s: &str) {
         self.text.write(s)
     }
+    // distinct keys are numbered from 0
+    fn write_key(&mut self, s: &str) {
+        let next = self.keys.len() as u32;
+        if let Some(n) = self.keys.get(s) {
+            return self.key.write(*n);
+        }
+        self.keys.insert(s.to_owned(), next);
+        self.key.write(next);
+        self.text.write(s)
+    }
+    fn write_type_ref(&mut self, n: u8) {
+        self.types.write(n as u64)
+    }
+    fn write_json(&mut self, v: &Any) {
+        v.encode(&mut self.rest)
+    }
+    fn write_any(&mut self, v: &Any) {
+        v.encode(&mut self.rest)
+    }
     fn write_left_id(&mut self, id: &ID) {
         self.client.write(id.client.get());
         self.left.write(id.clock)
@@ -562,8 +656,8 @@ impl Encoder for EncoderV2 {
         self.end += n
     }
     fn to_vec(self) -> Vec<u8> {
-        let columns = [Vec::new(), self.client.done(), self.left.done(), self.right.done(), self.info.done(), self.text.done(), self.parent.done(),
-            Vec::new(), self.len.done()];
+        let columns = [self.key.done(), self.client.done(), self.left.done(), self.right.done(), self.info.done(), self.text.done(), self.parent.done(),
+            self.types.done(), self.len.done()];
         let mut out = Vec::with_capacity(64 + columns.iter().map(|c| c.len()).sum::<usize>() + self.rest.len());
         out.push(0);
         for c in &columns {
@@ -571,6 +665,274 @@ impl Encoder for EncoderV2 {
         }
         out.extend_from_slice(&self.rest);
         out
+    }
+}
+
+// ---- any.rs, serde_json: lib0's any-values and JSON, made into values and written as Yjs writes them; a whole number up to 2^31-1 is an integer
+
+#[derive(PartialEq, Clone)]
+pub enum Any {
+    Null,
+    Undefined,
+    Bool(bool),
+    Number(f64),
+    BigInt(i64),
+    String(Arc<str>),
+    Buffer(Arc<[u8]>),
+    Array(Arc<[Any]>),
+    Map(Arc<HashMap<String, Any>>),
+}
+impl Any {
+    fn decode<R: Read>(r: &mut R) -> Result<Any, Error> {
+        Ok(match r.read_u8()? {
+            127 => Any::Undefined,
+            126 => Any::Null,
+            125 => {
+                let (minus, n) = signed(r)?;
+                Any::Number(if minus && n == 0 { -0.0 } else { n as f64 })
+            }
+            124 => Any::Number(f32::from_be_bytes(r.read_exact(4)?.try_into().unwrap()) as f64),
+            123 => Any::Number(f64::from_be_bytes(r.read_exact(8)?.try_into().unwrap())),
+            122 => Any::BigInt(i64::from_be_bytes(r.read_exact(8)?.try_into().unwrap())),
+            121 => Any::Bool(false),
+            120 => Any::Bool(true),
+            119 => Any::String(r.read_string()?.into()),
+            118 => {
+                let n: u32 = r.read_var()?;
+                let mut map = HashMap::new();
+                for _ in 0..n {
+                    let key = r.read_string()?.to_owned();
+                    map.insert(key, Any::decode(r)?);
+                }
+                Any::Map(Arc::new(map))
+            }
+            117 => {
+                let n: u32 = r.read_var()?;
+                let mut all = Vec::new();
+                for _ in 0..n {
+                    all.push(Any::decode(r)?)
+                }
+                Any::Array(all.into())
+            }
+            116 => Any::Buffer(r.read_buf()?.into()),
+            _ => return Err(Error::UnexpectedValue),
+        })
+    }
+    fn encode(&self, out: &mut Vec<u8>) {
+        match self {
+            Any::Undefined => out.push(127),
+            Any::Null => out.push(126),
+            Any::Number(v) if v.fract() == 0.0 && v.abs() <= 2147483647.0 => {
+                out.push(125);
+                signed_to(out, v.is_sign_negative(), v.abs() as u64)
+            }
+            Any::Number(v) if *v as f32 as f64 == *v => {
+                out.push(124);
+                out.extend_from_slice(&(*v as f32).to_be_bytes())
+            }
+            Any::Number(v) => {
+                out.push(123);
+                out.extend_from_slice(&v.to_be_bytes())
+            }
+            Any::BigInt(v) => {
+                out.push(122);
+                out.extend_from_slice(&v.to_be_bytes())
+            }
+            Any::Bool(v) => out.push(if *v { 120 } else { 121 }),
+            Any::String(v) => {
+                out.push(119);
+                buffer(out, v.as_bytes())
+            }
+            Any::Map(v) => {
+                out.push(118);
+                unsigned(out, v.len() as u64);
+                for (key, v) in v.iter() {
+                    buffer(out, key.as_bytes());
+                    v.encode(out)
+                }
+            }
+            Any::Array(v) => {
+                out.push(117);
+                unsigned(out, v.len() as u64);
+                v.iter().for_each(|v| v.encode(out))
+            }
+            Any::Buffer(v) => {
+                out.push(116);
+                buffer(out, v)
+            }
+        }
+    }
+    fn from_json(s: &str) -> Result<Any, Error> {
+        let mut json = Json { s: s.as_bytes(), at: 0 };
+        let value = json.value()?;
+        json.blank();
+        if json.at == s.len() { Ok(value) } else { Err(Error::UnexpectedValue) }
+    }
+    fn to_json(&self, out: &mut Vec<u8>) {
+        match self {
+            Any::Undefined | Any::Null | Any::BigInt(_) | Any::Buffer(_) => out.extend_from_slice(b"null"),
+            Any::Bool(v) => out.extend_from_slice(if *v { b"true" } else { b"false" }),
+            Any::Number(v) => out.extend_from_slice(v.to_string().as_bytes()),
+            Any::String(v) => json_string(v, out),
+            Any::Array(all) => {
+                out.push(b'[');
+                for (k, v) in all.iter().enumerate() {
+                    if k > 0 {
+                        out.push(b',')
+                    }
+                    v.to_json(out)
+                }
+                out.push(b']')
+            }
+            Any::Map(all) => {
+                out.push(b'{');
+                for (k, (key, v)) in all.iter().enumerate() {
+                    if k > 0 {
+                        out.push(b',')
+                    }
+                    json_string(key, out);
+                    out.push(b':');
+                    v.to_json(out)
+                }
+                out.push(b'}')
+            }
+        }
+    }
+}
+fn json_string(s: &str, out: &mut Vec<u8>) {
+    out.push(b'"');
+    for b in s.bytes() {
+        match b {
+            b'"' | b'\\' => out.extend_from_slice(&[b'\\', b]),
+            0..=31 => out.extend_from_slice(format!("\\u{b:04x}").as_bytes()),
+            b => out.push(b),
+        }
+    }
+    out.push(b'"')
+}
+struct Json<'a> {
+    s: &'a [u8],
+    at: usize,
+}
+impl<'a> Json<'a> {
+    fn blank(&mut self) {
+        while let Some(b' ' | b'\t' | b'\n' | b'\r') = self.s.get(self.at) {
+            self.at += 1
+        }
+    }
+    fn next(&mut self) -> Result<u8, Error> {
+        let b = *self.s.get(self.at).ok_or(Error::UnexpectedValue)?;
+        self.at += 1;
+        Ok(b)
+    }
+    fn word(&mut self, word: &str, value: Any) -> Result<Any, Error> {
+        if !self.s[self.at..].starts_with(word.as_bytes()) {
+            return Err(Error::UnexpectedValue);
+        }
+        self.at += word.len();
+        Ok(value)
+    }
+    fn string(&mut self) -> Result<String, Error> {
+        let mut out = Vec::new();
+        let mut half = None;
+        loop {
+            let b = self.next()?;
+            if b == b'"' {
+                break;
+            }
+            if b != b'\\' {
+                out.push(b);
+                continue;
+            }
+            let c = match self.next()? {
+                b'n' => '\n',
+                b't' => '\t',
+                b'r' => '\r',
+                b'b' => '\u{8}',
+                b'f' => '\u{c}',
+                b'u' => {
+                    let digits = self.s.get(self.at..self.at + 4).ok_or(Error::UnexpectedValue)?;
+                    self.at += 4;
+                    let n = u32::from_str_radix(std::str::from_utf8(digits).unwrap_or("x"), 16).map_err(|_| Error::UnexpectedValue)?;
+                    match (half.take(), n) {
+                        (None, 0xd800..=0xdbff) => {
+                            half = Some(n);
+                            continue;
+                        }
+                        (Some(high), 0xdc00..=0xdfff) => char::from_u32(0x10000 + ((high - 0xd800) << 10) + (n - 0xdc00)).unwrap_or('\u{fffd}'),
+                        _ => char::from_u32(n).unwrap_or('\u{fffd}'),
+                    }
+                }
+                b => b as char,
+            };
+            out.extend_from_slice(c.encode_utf8(&mut [0; 4]).as_bytes())
+        }
+        String::from_utf8(out).map_err(|_| Error::UnexpectedValue)
+    }
+    fn value(&mut self) -> Result<Any, Error> {
+        self.blank();
+        match self.s.get(self.at) {
+            Some(b'n') => self.word("null", Any::Null),
+            Some(b't') => self.word("true", Any::Bool(true)),
+            Some(b'f') => self.word("false", Any::Bool(false)),
+            Some(b'"') => {
+                self.at += 1;
+                Ok(Any::String(self.string()?.into()))
+            }
+            Some(b'[') => {
+                self.at += 1;
+                let mut all = Vec::new();
+                self.blank();
+                if self.s.get(self.at) == Some(&b']') {
+                    self.at += 1;
+                    return Ok(Any::Array(all.into()));
+                }
+                loop {
+                    all.push(self.value()?);
+                    self.blank();
+                    match self.next()? {
+                        b',' => {}
+                        b']' => return Ok(Any::Array(all.into())),
+                        _ => return Err(Error::UnexpectedValue),
+                    }
+                }
+            }
+            Some(b'{') => {
+                self.at += 1;
+                let mut all = HashMap::new();
+                self.blank();
+                if self.s.get(self.at) == Some(&b'}') {
+                    self.at += 1;
+                    return Ok(Any::Map(Arc::new(all)));
+                }
+                loop {
+                    self.blank();
+                    if self.next()? != b'"' {
+                        return Err(Error::UnexpectedValue);
+                    }
+                    let key = self.string()?;
+                    self.blank();
+                    if self.next()? != b':' {
+                        return Err(Error::UnexpectedValue);
+                    }
+                    all.insert(key, self.value()?);
+                    self.blank();
+                    match self.next()? {
+                        b',' => {}
+                        b'}' => return Ok(Any::Map(Arc::new(all))),
+                        _ => return Err(Error::UnexpectedValue),
+                    }
+                }
+            }
+            _ => {
+                let from = self.at;
+                while let Some(b'0'..=b'9' | b'-' | b'+' | b'.' | b'e' | b'E') = self.s.get(self.at) {
+                    self.at += 1
+                }
+                let digits = std::str::from_utf8(&self.s[from..self.at]).unwrap_or("");
+                digits.parse().map(Any::Number).map_err(|_| Error::UnexpectedValue)
+            }
+        }
     }
 }
 

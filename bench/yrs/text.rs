@@ -1,5 +1,5 @@
-// Text of yrs 0.28.0 (MIT, see LICENSE), word for word from the files and lines that the marks name, compiled by bench/run. Contents other than 1, 3 and 4
-// are left out; SmallVec is Vec. What it leans on and is not in the text stands in stand_ins.rs.
+// Text of yrs 0.28.0 (MIT, see LICENSE), word for word from the files and lines that the marks name, compiled by bench/run. Contents other than 1, 3, 4, 6, 7
+// and 8 are left out; SmallVec is Vec. What it leans on and is not in the text stands in stand_ins.rs.
 // ---- utils/client_hasher.rs 4-30
 // An minimalistic hasher for client-ids!
 // Client-ids are already random only have a size of maximum 64 bit. No reason to spin up
@@ -364,7 +364,7 @@ impl Deref for SplittableString {
     }
 }
 
-// ---- block.rs 1668-1687, 1959-1961, 1973-1974, 2002-2004, 1886-1905
+// ---- block.rs 1668-1687, 1959-1961, 1973-1974, 1976-1996, 2002-2004, 1886-1905, 1913-1925
 pub(crate) fn split_str(str: &str, offset: usize, kind: OffsetKind) -> (&str, &str) {
     fn map_utf16_offset(str: &str, offset: u32) -> u32 {
         let mut off = 0;
@@ -391,6 +391,27 @@ impl ItemContent {
             BLOCK_ITEM_DELETED_REF_NUMBER => Ok(ItemContent::Deleted(decoder.read_len()?)),
             BLOCK_ITEM_BINARY_REF_NUMBER => Ok(ItemContent::Binary(decoder.read_buf()?.to_owned())),
             BLOCK_ITEM_STRING_REF_NUMBER => Ok(ItemContent::String(decoder.read_string()?.into())),
+            BLOCK_ITEM_FORMAT_REF_NUMBER => Ok(ItemContent::Format(
+                decoder.read_key()?,
+                decoder.read_json()?.into(),
+            )),
+            BLOCK_ITEM_TYPE_REF_NUMBER => {
+                let type_ref = TypeRef::decode(decoder)?;
+                let inner = Branch::new(type_ref);
+                Ok(ItemContent::Type(inner))
+            }
+            BLOCK_ITEM_ANY_REF_NUMBER => {
+                let len = decoder.read_len()? as usize;
+                let mut values = Vec::new();
+                values.try_reserve(len)?;
+
+                let mut i = 0;
+                while i < len {
+                    values.push(decoder.read_any()?);
+                    i += 1;
+                }
+                Ok(ItemContent::Any(values))
+            }
             _ => Err(Error::UnexpectedValue),
         }
     }
@@ -414,9 +435,22 @@ impl ItemContent {
                 };
                 encoder.write_string(slice)
             }
+            ItemContent::Format(k, v) => {
+                encoder.write_key(k.as_ref());
+                encoder.write_json(v.as_ref());
+            }
+            ItemContent::Type(inner) => {
+                inner.type_ref.encode(encoder);
+            }
+            ItemContent::Any(any) => {
+                encoder.write_len(end - start + 1);
+                for i in start..=end {
+                    encoder.write_any(&any[i as usize]);
+                }
+            }
 }}
 }
-// ---- updates/decoder.rs 6-21, 29-59, 75-174, 198-351, 378-511
+// ---- updates/decoder.rs 6-21, 29-69, 75-190, 198-370, 378-511
 /// A trait that can be implemented by any other type in order to support lib0 decoding capability.
 pub trait Decode: Sized {
     fn decode<D: Decoder>(decoder: &mut D) -> Result<Self, Error>;
@@ -464,6 +498,16 @@ pub trait Decoder: Read {
     /// Read length parameter.
     fn read_len(&mut self) -> Result<u32, Error>;
 
+    /// Decode a JSON-like data type. It's a complex type which is an extension of native JavaScript
+    /// Object Notation.
+    fn read_any(&mut self) -> Result<Any, Error>;
+
+    /// Decode an embedded JSON string into [Any] struct. It's a complex type which is an extension
+    /// of native JavaScript Object Notation.
+    fn read_json(&mut self) -> Result<Any, Error>;
+
+    /// Read key string.
+    fn read_key(&mut self) -> Result<Arc<str>, Error>;
 }
 /// Version 1 of lib0 decoder.
 pub struct DecoderV1<'a> {
@@ -562,6 +606,22 @@ impl<'a> Decoder for DecoderV1<'a> {
     #[inline]
     fn read_len(&mut self) -> Result<u32, Error> {
         self.read_var()
+    }
+
+    #[inline]
+    fn read_any(&mut self) -> Result<Any, Error> {
+        Any::decode(self)
+    }
+
+    fn read_json(&mut self) -> Result<Any, Error> {
+        let src = self.read_string()?;
+        Any::from_json(src)
+    }
+
+    #[inline]
+    fn read_key(&mut self) -> Result<Arc<str>, Error> {
+        let str: Arc<str> = self.read_string()?.into();
+        Ok(str)
     }
 }
 /// Version 2 of lib0 decoder.
@@ -717,6 +777,25 @@ impl<'a> Decoder for DecoderV2<'a> {
 
     fn read_len(&mut self) -> Result<u32, Error> {
         Ok(self.len_decoder.read_u64()? as u32)
+    }
+
+    fn read_any(&mut self) -> Result<Any, Error> {
+        Any::decode(&mut self.cursor)
+    }
+
+    fn read_json(&mut self) -> Result<Any, Error> {
+        Any::decode(&mut self.cursor)
+    }
+
+    fn read_key(&mut self) -> Result<Arc<str>, Error> {
+        let key_clock = self.key_clock_decoder.read_u32()?;
+        if let Some(key) = self.keys.get(key_clock as usize) {
+            Ok(key.clone())
+        } else {
+            let key: Arc<str> = self.string_decoder.read_str()?.into();
+            self.keys.push(key.clone());
+            Ok(key)
+        }
     }
 }
 struct IntDiffOptRleDecoder<'a> {

@@ -54,14 +54,77 @@ use encoding::varint::{Signed, SignedVarInt, VarInt};
 pub use updates::decoder::{Decode, Decoder, DecoderV1, DecoderV2};
 type UpdateError = Error;
 
-// Stand-in for any.rs: contents that have such values are left out.
-pub struct Any;
-impl Any {
-    fn decode<R: Read>(_: &mut R) -> Result<Any, Error> {
-        Err(Error::UnexpectedValue)
+// Stand-in for any.rs: a value is its bytes, gone through by lib0's tags and kept as they stand, 1,000 deep at most; JSON text is not looked into.
+#[derive(PartialEq, Clone)]
+pub struct Any(Vec<u8>);
+struct Kept<'r, R>(&'r mut R, Vec<u8>);
+impl<'r, R: Read> Kept<'r, R> {
+    fn byte(&mut self) -> Result<u8, Error> {
+        let b = self.0.read_u8()?;
+        self.1.push(b);
+        Ok(b)
     }
-    fn from_json(_: &str) -> Result<Any, Error> {
-        Err(Error::UnexpectedValue)
+    fn bytes(&mut self, n: u64) -> Result<usize, Error> {
+        let n = usize::try_from(n).map_err(|_| Error::InvalidVarInt)?;
+        self.1.extend_from_slice(self.0.read_exact(n)?);
+        Ok(n)
+    }
+    fn number(&mut self, low: u32) -> Result<u64, Error> {
+        let first = self.byte()?;
+        let (mut n, mut b, mut shift) = (first as u64 & ((1 << low) - 1), first, low);
+        while b >= 128 {
+            if shift >= low + 8 * 7 {
+                return Err(Error::InvalidVarInt);
+            }
+            b = self.byte()?;
+            n |= ((b & 127) as u64) << shift;
+            shift += 7
+        }
+        Ok(n)
+    }
+    fn text(&mut self) -> Result<(), Error> {
+        let n = self.number(7)?;
+        let n = self.bytes(n)?;
+        std::str::from_utf8(&self.1[self.1.len() - n..]).map(|_| ()).map_err(|_| Error::UnexpectedValue)
+    }
+    fn value(&mut self, deep: u32) -> Result<(), Error> {
+        match self.byte()? {
+            127 | 126 | 121 | 120 => Ok(()),
+            125 => self.number(6).map(|_| ()),
+            124 => self.bytes(4).map(|_| ()),
+            123 | 122 => self.bytes(8).map(|_| ()),
+            119 => self.text(),
+            116 => {
+                let n = self.number(7)?;
+                self.bytes(n).map(|_| ())
+            }
+            tag @ (117 | 118) if deep < 1000 => {
+                for _ in 0..self.number(7)? {
+                    if tag == 118 {
+                        self.text()?
+                    }
+                    self.value(deep + 1)?
+                }
+                Ok(())
+            }
+            _ => Err(Error::UnexpectedValue),
+        }
+    }
+}
+impl Any {
+    fn decode<R: Read>(r: &mut R) -> Result<Any, Error> {
+        let mut kept = Kept(r, Vec::new());
+        kept.value(0)?;
+        Ok(Any(kept.1))
+    }
+    fn from_json(s: &str) -> Result<Any, Error> {
+        Ok(Any(s.as_bytes().to_vec()))
+    }
+    fn encode(&self, out: &mut Vec<u8>) {
+        out.extend_from_slice(&self.0)
+    }
+    fn to_json(&self, out: &mut Vec<u8>) {
+        out.extend_from_slice(&self.0)
     }
 }
 include!(env!("YRS_REST"));
@@ -80,8 +143,8 @@ fn shown(id: Option<&ID>) -> String {
 fn record(b: &Block) -> String {
     let place = |id: ID, len: u32| format!("{} {} {}", id.client.get(), id.clock, len);
     match b {
-        Block::GC(r) => place(r.id(), r.len) + " gc none none none none none none",
-        Block::Skip(r) => place(r.id(), r.len) + " skip none none none none none none",
+        Block::GC(r) => place(r.id(), r.len) + " gc none none none none none none none none",
+        Block::Skip(r) => place(r.id(), r.len) + " skip none none none none none none none none",
         Block::Item(i) => {
             let none = || "none".to_string();
             let (name, parent) = match &i.parent {
@@ -90,12 +153,22 @@ fn record(b: &Block) -> String {
                 _ => (none(), none()),
             };
             let key = i.parent_sub.as_ref().map_or(none(), |s| hex(s.as_bytes()));
-            let (kind, part) = match &i.content {
-                ItemContent::Deleted(_) => ("deleted", none()),
-                ItemContent::Binary(b) => ("binary", hex(b)),
-                ItemContent::String(s) => ("text", hex(s.as_bytes())),
+            let (kind, part, mark, number) = match &i.content {
+                ItemContent::Deleted(_) => ("deleted", none(), none(), none()),
+                ItemContent::Binary(b) => ("binary", hex(b), none(), none()),
+                ItemContent::String(s) => ("text", hex(s.as_bytes()), none(), none()),
+                ItemContent::Format(key, value) => ("format", hex(&value.0), hex(key.as_bytes()), none()),
+                ItemContent::Type(of) => {
+                    let name = match &of.type_ref {
+                        TypeRef::XmlElement(name) | TypeRef::XmlHook(name) => hex(name.as_bytes()),
+                        _ => none(),
+                    };
+                    ("type", none(), name, of.type_ref.number().to_string())
+                }
+                ItemContent::Any(all) => ("any", hex(&all.iter().flat_map(|v| v.0.iter().copied()).collect::<Vec<_>>()), none(), none()),
             };
-            format!("{} {} {} {} {} {} {} {}", place(i.id, i.len), kind, shown(i.origin.as_ref()), shown(i.right_origin.as_ref()), name, parent, key, part)
+            let ids = format!("{} {}", shown(i.origin.as_ref()), shown(i.right_origin.as_ref()));
+            format!("{} {kind} {ids} {name} {parent} {key} {part} {mark} {number}", place(i.id, i.len))
         }
     }
 }

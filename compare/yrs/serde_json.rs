@@ -1,4 +1,4 @@
-// Stand-in for the crate serde_json: the one name that encoding/read.rs has of it. No JSON is read: contents 2 and 5 to 9 are left out.
+// Stand-in for the crate serde_json: the one name that encoding/read.rs has of it. No JSON is looked into: the stand-in for any-values keeps its text, and contents 2, 5 and 9 are left out.
 #[derive(Debug)]
 pub struct Error;
 impl std::fmt::Display for Error {

@@ -1,5 +1,5 @@
-// Links the proved library by its header and holds it to document 01's cases C, D, E and M, to refusals and the places that they blame, and each other
-// call to one worked case.
+// Links the proved library by its header and holds it to document 01's cases C, D, E and M, to a mark, a type and an any-list in both forms, to refusals and
+// the places that they blame, and each other call to one worked case.
 // What it shows is that C and the library agree on names, parameters and layouts; what the calls answer is proved.
 #include "wairokabi.h"
 
@@ -17,6 +17,15 @@ static const uint8_t E[] = {0x01, 0x01, 0x05, 0x01, 0x84, 0x05, 0x00, 0x01, 0x69
 static const uint8_t EMPTY[] = {0x00, 0x00};
 static const uint8_t HAS_ONE[] = {0x01, 0x05, 0x01};
 static const uint8_t HAS_ALL[] = {0x01, 0x05, 0x02};
+// a format, "bold" with value true, in both forms; an XML element "p" and a hook "p", in both forms; an any-list: 1 (spelt longer), 1
+static const uint8_t BOLD_1[] = {0x01, 0x01, 0x05, 0x00, 0x06, 0x01, 0x01, 0x74, 0x04, 0x62, 0x6f, 0x6c, 0x64, 0x04, 0x74, 0x72, 0x75, 0x65, 0x00};
+static const uint8_t BOLD_2[] = {0x00, 0x01, 0x00, 0x01, 0x05, 0x00, 0x00, 0x01, 0x06, 0x08, 0x05, 0x74, 0x62, 0x6f,
+                                 0x6c, 0x64, 0x01, 0x04, 0x01, 0x01, 0x00, 0x00, 0x01, 0x01, 0x00, 0x78, 0x00};
+static const uint8_t NODES_1[] = {0x01, 0x02, 0x05, 0x00, 0x07, 0x01, 0x01, 0x74, 0x03, 0x01, 0x70, 0x87, 0x05, 0x00, 0x05, 0x01, 0x70, 0x00};
+static const uint8_t NODES_2[] = {0x00, 0x02, 0x01, 0x00, 0x02, 0x45, 0x00, 0x01, 0x00, 0x00, 0x03, 0x07, 0x00, 0x87, 0x05,
+                                  0x02, 0x74, 0x70, 0x41, 0x00, 0x01, 0x01, 0x02, 0x03, 0x05, 0x00, 0x01, 0x02, 0x00, 0x00};
+static const uint8_t ONES[] = {0x01, 0x01, 0x05, 0x00, 0x08, 0x01, 0x01, 0x74, 0x02, 0x7d, 0x81, 0x00, 0x7d, 0x01, 0x00};
+static const uint8_t ONES_CUT[] = {0x01, 0x01, 0x05, 0x01, 0x88, 0x05, 0x00, 0x01, 0x7d, 0x01, 0x00};
 // a GC of client 5, and client 7's ids 3 and 4 deleted
 static const uint8_t GONE[] = {0x01, 0x01, 0x05, 0x02, 0x00, 0x03, 0x01, 0x07, 0x01, 0x03, 0x02};
 
@@ -41,7 +50,7 @@ static void fill(void) {
     const wairokabi_part part = {3, {4}};
     const wairokabi_id id = {5, 6};
     for (size_t i = 0; i < ROWS; i++)
-        rows[i] = (wairokabi_block){1, {7}, id, id, id, part, part, part, 2, WAIROKABI_TEXT, true, true, true, true, true};
+        rows[i] = (wairokabi_block){1, {7}, id, id, id, part, part, part, part, 2, WAIROKABI_TEXT, true, true, true, true, true, 6};
     memset(words, 0xa5, sizeof words);
     memset(out, 0xa5, sizeof out);
 }
@@ -80,7 +89,8 @@ static bool alone(const wairokabi_block *b, uint32_t clock, uint64_t length, uin
 
 // Client 5, clock 0, parent "t", text "hi", at these places.
 static bool is_hi(const wairokabi_block *b, size_t name, size_t text) {
-    return alone(b, 0, 2, WAIROKABI_TEXT) && b->has_name && same_part(b->name, name, 1) && same_part(b->part, text, 2);
+    return alone(b, 0, 2, WAIROKABI_TEXT) && b->has_name && same_part(b->name, name, 1) && same_part(b->part, text, 2) && same_part(b->mark, 0, 0) &&
+           b->type_number == 0;
 }
 
 static bool zero_rows(size_t from) {
@@ -88,7 +98,7 @@ static bool zero_rows(size_t from) {
         const wairokabi_block *b = &rows[from];
         if (b->client != 0 || b->clock != 0 || b->length.count != 0 || b->kind != 0 || b->has_left || !same_id(b->left, 0, 0) || b->has_right ||
             !same_id(b->right, 0, 0) || b->has_parent || !same_id(b->parent, 0, 0) || b->has_name || !same_part(b->name, 0, 0) || b->has_key ||
-            !same_part(b->key, 0, 0) || !same_part(b->part, 0, 0))
+            !same_part(b->key, 0, 0) || !same_part(b->part, 0, 0) || !same_part(b->mark, 0, 0) || b->type_number != 0)
             return false;
     }
     return true;
@@ -119,7 +129,7 @@ static bool wrote(size_t bytes, const uint8_t *expected, size_t count) {
 
 static void reads(void) {
     wairokabi_update u = read_update(1, C, sizeof C, ROWS);
-    EXPECT(sizeof(wairokabi_block) == 128);
+    EXPECT(sizeof(wairokabi_block) == 144);
     EXPECT(done(u.refusal) && u.blocks == 1 && u.ranges == 0);
     EXPECT(is_hi(&rows[0], 7, 9) && zero_rows(1) && zero_words(0));
     u = read_update(2, D, sizeof D, ROWS);
@@ -150,6 +160,46 @@ static void diffs(void) {
     fill();
     d = wairokabi_encode_update(2, D, sizeof D, 1, rows, ROWS, words, WORDS, out, ROOM);
     EXPECT(done(d.refusal) && d.blocks == 1 && d.ranges == 0 && wrote(d.bytes, C, sizeof C));
+}
+
+// A mark, types with a node name and an any-list come back through the row's end, in either form; what is written of them, and what is refused.
+static void marks(void) {
+    wairokabi_update u = read_update(1, BOLD_1, sizeof BOLD_1, ROWS);
+    EXPECT(done(u.refusal) && u.blocks == 1 && alone(&rows[0], 0, 1, WAIROKABI_FORMAT) && same_part(rows[0].name, 7, 1));
+    EXPECT(same_part(rows[0].mark, 9, 4) && same_part(rows[0].part, 14, 4) && rows[0].type_number == 0 && zero_rows(1));
+    u = read_update(2, BOLD_2, sizeof BOLD_2, ROWS);
+    EXPECT(done(u.refusal) && u.blocks == 1 && alone(&rows[0], 0, 1, WAIROKABI_FORMAT) && same_part(rows[0].name, 11, 1));
+    EXPECT(same_part(rows[0].mark, 12, 4) && same_part(rows[0].part, 25, 1) && rows[0].type_number == 0 && zero_rows(1));
+    u = read_update(1, NODES_1, sizeof NODES_1, ROWS);
+    EXPECT(done(u.refusal) && u.blocks == 2 && alone(&rows[0], 0, 1, WAIROKABI_TYPE) && rows[0].type_number == 3 && same_part(rows[0].mark, 10, 1));
+    EXPECT(rows[1].kind == WAIROKABI_TYPE && rows[1].type_number == 5 && same_part(rows[1].mark, 16, 1) && same_part(rows[1].part, 0, 0) && zero_rows(2));
+    // in form 2 the second "p" is the first one's number
+    u = read_update(2, NODES_2, sizeof NODES_2, ROWS);
+    EXPECT(done(u.refusal) && u.blocks == 2 && rows[0].type_number == 3 && same_part(rows[0].mark, 17, 1));
+    EXPECT(rows[1].type_number == 5 && same_part(rows[1].mark, 17, 1) && same_id(rows[1].left, 5, 0) && zero_rows(2));
+    u = read_update(1, ONES, sizeof ONES, ROWS);
+    EXPECT(done(u.refusal) && u.blocks == 1 && alone(&rows[0], 0, 2, WAIROKABI_ANY) && same_part(rows[0].part, 9, 5) && same_part(rows[0].mark, 0, 0) && zero_rows(1));
+    EXPECT(refused(wairokabi_content(1, BOLD_1, sizeof BOLD_1, 0).refusal, 11, 0) && refused(wairokabi_content(1, ONES, sizeof ONES, 0).refusal, 11, 0));
+    fill();
+    wairokabi_diff d = wairokabi_encode_update(1, NODES_1, sizeof NODES_1, 2, rows, ROWS, words, WORDS, out, ROOM);
+    EXPECT(done(d.refusal) && wrote(d.bytes, NODES_2, sizeof NODES_2));
+    fill();
+    d = wairokabi_encode_update(2, NODES_2, sizeof NODES_2, 1, rows, ROWS, words, WORDS, out, ROOM);
+    EXPECT(done(d.refusal) && wrote(d.bytes, NODES_1, sizeof NODES_1));
+    // an any-list is cut by entries; a format stays in its form
+    d = encode_diff(1, ONES, sizeof ONES, HAS_ONE, sizeof HAS_ONE, 1, ROOM);
+    EXPECT(done(d.refusal) && wrote(d.bytes, ONES_CUT, sizeof ONES_CUT));
+    fill();
+    d = wairokabi_encode_update(1, ONES, sizeof ONES, 1, rows, ROWS, words, WORDS, out, ROOM);
+    EXPECT(done(d.refusal) && wrote(d.bytes, ONES, sizeof ONES));
+    fill();
+    d = wairokabi_encode_update(1, BOLD_1, sizeof BOLD_1, 1, rows, ROWS, words, WORDS, out, ROOM);
+    EXPECT(done(d.refusal) && wrote(d.bytes, BOLD_1, sizeof BOLD_1));
+    fill();
+    d = wairokabi_encode_update(1, BOLD_1, sizeof BOLD_1, 2, rows, ROWS, words, WORDS, out, ROOM);
+    EXPECT(refused(d.refusal, 19, 0) && d.bytes == 0 && zero_rows(0) && zero_bytes(out, 0, ROOM));
+    d = encode_diff(2, BOLD_2, sizeof BOLD_2, HAS_ONE, sizeof HAS_ONE, 1, ROOM);
+    EXPECT(done(d.refusal) && wrote(d.bytes, EMPTY, sizeof EMPTY));
 }
 
 static void refusals(void) {
@@ -222,6 +272,16 @@ static void places(void) {
     REFUSED(4, 7, 1, 0x02, 0x01, 0x05, 0x00, 0x00, 0x01, 0x01, 0x05);
     REFUSED(5, 4, 1, 0x01, 0x01, 0x05, 0x00, 0x82, 0x09, 0x00);
     REFUSED(6, 7, 1, 0x01, 0x01, 0x05, 0x00, 0x04, 0x01, 0x01, 0xff);
+    // type 7; tag 5; a value that is not UTF-8, and one that ends early; in form 2 a key number below zero
+    REFUSED(5, 4, 1, 0x01, 0x01, 0x05, 0x00, 0x07, 0x01, 0x01, 0x74, 0x07);
+    REFUSED(5, 4, 1, 0x01, 0x01, 0x05, 0x00, 0x08, 0x01, 0x01, 0x74, 0x01, 0x05);
+    REFUSED(6, 11, 1, 0x01, 0x01, 0x05, 0x00, 0x08, 0x01, 0x01, 0x74, 0x01, 0x77, 0x01, 0xff);
+    REFUSED(1, 10, 1, 0x01, 0x01, 0x05, 0x00, 0x08, 0x01, 0x01, 0x74, 0x01, 0x7c);
+    REFUSED(3, 2, 2, 0x00, 0x01, 0x42, 0x01, 0x05, 0x00, 0x00, 0x01, 0x06, 0x08, 0x05, 0x74, 0x62, 0x6f, 0x6c, 0x64, 0x01, 0x04, 0x01, 0x01, 0x00, 0x00, 0x01,
+            0x01, 0x00, 0x78, 0x00);
+    // the seventeenth array
+    REFUSED(3, 41, 1, 0x01, 0x01, 0x05, 0x00, 0x08, 0x01, 0x01, 0x74, 0x01, 0x75, 0x01, 0x75, 0x01, 0x75, 0x01, 0x75, 0x01, 0x75, 0x01, 0x75, 0x01, 0x75, 0x01,
+            0x75, 0x01, 0x75, 0x01, 0x75, 0x01, 0x75, 0x01, 0x75, 0x01, 0x75, 0x01, 0x75, 0x01, 0x75, 0x01, 0x75, 0x01, 0x75, 0x00, 0x00);
     // an end over the limit: of a block its info byte, of a range its clock
     REFUSED(3, 8, 1, 0x01, 0x01, 0x05, 0xff, 0xff, 0xff, 0xff, 0x07, 0x00, 0x01);
     REFUSED(3, 4, 1, 0x00, 0x01, 0x05, 0x01, 0xff, 0xff, 0xff, 0xff, 0x07, 0x01);
@@ -433,6 +493,7 @@ static void column_places(void) {
 int main(void) {
     reads();
     diffs();
+    marks();
     sorts();
     summaries();
     refusals();

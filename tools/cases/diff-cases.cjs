@@ -32,8 +32,19 @@ const diff = (form, written, update, vector, { blockRows = 512, rangeRows = 1024
   return add(16, parts, [first(r), ...(r.number === 0 ? [hex(r.bytes), ';', ...tables(r.read)] : []), 'zero'])
 }
 
+// Rows and room just enough, or plenty; now and then one too few of one of them.
+const fitted = (random, form, written, update, vector, k) => {
+  const r = answer(form, written, update, vector)
+  if (r.number !== 0) return diff(form, written, update, vector, k % 2 === 0 ? {} : { blockRows: whole(form, update).blocks?.length, room: random(60) })
+  const lent = { blockRows: r.read.blocks.length, rangeRows: r.read.rangesRead, room: r.bytes.length }
+  diff(form, written, update, vector, k % 3 === 0 ? {} : lent)
+  if (k % 6 === 0) diff(form, written, update, vector, { ...lent, room: lent.room - 1 })
+  if (k % 16 === 1 && lent.blockRows > 0) diff(form, written, update, vector, { ...lent, blockRows: lent.blockRows - 1 })
+  if (k % 16 === 3 && lent.rangeRows > 0) diff(form, written, update, vector, { ...lent, rangeRows: lent.rangeRows - 1 })
+}
+
 module.exports = {
-  diff, answer, stream, output, counts, refused,
+  diff, fitted, answer, stream, output, counts, refused,
   told: () => [
     `cases of an operation: ${told(counts)}`,
     `the number of a line: ${told(refused)}; at another place than 0: ${told(placed)}`,

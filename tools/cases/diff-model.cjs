@@ -1,16 +1,18 @@
-// What document 01 and docs/DECISIONS.md say of a diff, in plain JavaScript: the update and the vector as update-model.cjs reads them, what is kept of
+// What documents 01 and 02 (W-202) and docs/DECISIONS.md say of a diff, in plain JavaScript: the update and the vector as update-model.cjs reads them, what is kept of
 // it, and the bytes of that in either form. Made without our Rattle code and without Yjs.
 'use strict'
 const { readUpdate, readVector } = require('./update-model.cjs')
 const { nowhere, writeDifferences } = require('./model.cjs')
+const { dropped } = require('./any-model.cjs')
 const spelling = require('./spelling.cjs')
 
-const CONTENT = { deleted: 1, binary: 3, text: 4 }
+const CONTENT = { deleted: 1, binary: 3, text: 4, format: 6, type: 7, any: 8 }
+const KEYS = 256 // distinct keys that form 2 is written with
 const some = x => x === null ? undefined : x
 const pair = id => id === null ? undefined : [id.client, id.clock]
 const inPair = (text, k) => text.charCodeAt(k) >= 0xdc00 && text.charCodeAt(k) <= 0xdfff
 
-// A record without its first `cut` units, as spelling.cjs writes it; null where that cuts in a pair.
+// A record without its first `cut` units or entries, as spelling.cjs writes it; null where that cuts in a pair.
 const spelt = (update, b, cut) => {
   if (b.kind === 'skip') return { info: 10, length: b.length - cut }
   if (b.kind === 'gc') return { info: 0, length: b.length - cut }
@@ -28,6 +30,10 @@ const spelt = (update, b, cut) => {
   }
   if (b.kind === 'deleted') return { ...item, length: b.length - cut }
   if (b.kind === 'binary') return { ...item, binary: bytesOf(b.part) }
+  // Values are copied as they stand.
+  if (b.kind === 'format') return { ...item, mark: textOf(b.mark), value: bytesOf(b.part) }
+  if (b.kind === 'type') return { ...item, type: b.type, mark: textOf(b.mark) }
+  if (b.kind === 'any') return { ...item, values: { count: b.length - cut, bytes: dropped(bytesOf(b.part), cut) } }
   const text = textOf(b.part)
   return inPair(text, Number(cut)) ? null : { ...item, text: text.slice(Number(cut)) }
 }
@@ -66,7 +72,10 @@ const diff = (form, written, update, vector, { blockRows, rangeRows, room = Infi
   if (remote.number !== 0) return remote
   const sections = kept(update, read.blocks, remote.entries)
   const blocks = sections.flatMap(s => s.blocks)
+  const marks = new Set(blocks.flatMap(b => b === null || b.mark === undefined ? [] : [b.mark]))
+  if (written === 2 && marks.size > KEYS) return { ...nowhere(3), what: 'keys written' }
   if (blocks.includes(null)) return nowhere(9)
+  if (written !== form && blocks.some(b => b.value !== undefined)) return nowhere(19)
   if (written === 2 && far(blocks)) return nowhere(13)
   const bytes = spelling.update(written, { sections, deletes: grouped(read.ranges) })
   return bytes.length > room ? nowhere(10) : { number: 0, bytes, read, sections }

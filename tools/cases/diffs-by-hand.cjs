@@ -24,7 +24,7 @@ const A = '00 00'
 const B = '00 00 00 00 00 00 01 00 00 00 00 00 00'
 const C = '01 01 05 00 04 01 01 74 02 68 69 00'
 const D = '00 00 01 05 00 00 01 04 06 03 74 68 69 01 02 01 01 00 00 01 01 00 00'
-const [tableC, tableD] = ['blocks 1 5.0.2.text.-.-.7+1.-.-.9+2 ranges 0', 'blocks 1 5.0.2.text.-.-.10+1.-.-.11+2 ranges 0']
+const [tableC, tableD] = ['blocks 1 5.0.2.text.-.-.7+1.-.-.9+2.-.- ranges 0', 'blocks 1 5.0.2.text.-.-.10+1.-.-.11+2.-.- ranges 0']
 
 const kept = () => {
   // Nothing is nothing, whatever the vector. Bytes behind an update and a flag are not written again.
@@ -50,61 +50,61 @@ const kept = () => {
     w(diff(form, 1, update, '01 05 01', { blockRows: 1, rangeRows: 0, room: 10 }), `0 ${hex(bytes(E[0]))} ; ${table} zero`)
   }
   // A first clock in nine bytes is written in one.
-  gives(1, '01 01 05 80 80 80 80 80 80 80 80 00 04 01 01 74 02 68 69 00', '00', 'blocks 1 5.0.2.text.-.-.15+1.-.-.17+2 ranges 0', C, D)
+  gives(1, '01 01 05 80 80 80 80 80 80 80 80 00 04 01 01 74 02 68 69 00', '00', 'blocks 1 5.0.2.text.-.-.15+1.-.-.17+2.-.- ranges 0', C, D)
   // Characters of one, two and one units: cut before, behind and after the pair. In it: 9.
   const wide = '01 01 05 00 84 09 00 07 c3 a9 f0 9f 98 80 78 00'
-  const wideTable = 'blocks 1 5.0.4.text.9:0.-.-.-.-.8+7 ranges 0'
+  const wideTable = 'blocks 1 5.0.4.text.9:0.-.-.-.-.8+7.-.- ranges 0'
   gives(1, wide, '01 05 01', wideTable, '01 01 05 01 84 05 00 05 f0 9f 98 80 78 00')
   for (const written of forms) refused('9@0', 1, written, wide, '01 05 02')
   gives(1, wide, '01 05 03', wideTable, '01 01 05 03 84 05 02 01 78 00')
   gives(1, wide, '01 05 04', wideTable, A, B)
   // GC and deleted shorten. Form 2: no left id for the GC, its length in the length column.
-  gives(1, '01 01 05 00 00 05 00', '01 05 03', 'blocks 1 5.0.5.gc.-.-.-.-.-.- ranges 0', '01 01 05 03 00 02 00',
+  gives(1, '01 01 05 00 00 05 00', '01 05 03', 'blocks 1 5.0.5.gc.-.-.-.-.-.-.-.- ranges 0', '01 01 05 03 00 02 00',
     '00 00 01 05 00 00 01 00 01 00 00 00 01 02 01 01 03 00')
-  gives(1, '01 01 05 00 01 01 01 74 05 00', '01 05 03', 'blocks 1 5.0.5.deleted.-.-.7+1.-.-.- ranges 0', '01 01 05 03 81 05 02 02 00',
+  gives(1, '01 01 05 00 01 01 01 74 05 00', '01 05 03', 'blocks 1 5.0.5.deleted.-.-.7+1.-.-.-.-.- ranges 0', '01 01 05 03 81 05 02 02 00',
     '00 00 02 45 00 01 04 00 01 81 01 00 00 00 01 02 01 01 03 00')
   // Only the first kept block is cut: "hi", then "yo".
-  gives(1, '01 02 05 00 84 09 00 02 68 69 84 05 01 02 79 6f 00', '01 05 01', 'blocks 2 5.0.2.text.9:0.-.-.-.-.8+2 5.2.2.text.5:1.-.-.-.-.14+2 ranges 0',
+  gives(1, '01 02 05 00 84 09 00 02 68 69 84 05 01 02 79 6f 00', '01 05 01', 'blocks 2 5.0.2.text.9:0.-.-.-.-.8+2.-.- 5.2.2.text.5:1.-.-.-.-.14+2.-.- ranges 0',
     '01 02 05 01 84 05 00 01 69 84 05 01 02 79 6f 00')
   // GC of length 0 at 3: it ends above 2 and is first; it ends at 3 and falls away.
   const empty = '01 02 05 03 00 00 84 05 02 01 62 00'
-  const emptyTable = 'blocks 2 5.3.0.gc.-.-.-.-.-.- 5.3.1.text.5:2.-.-.-.-.10+1 ranges 0'
+  const emptyTable = 'blocks 2 5.3.0.gc.-.-.-.-.-.-.-.- 5.3.1.text.5:2.-.-.-.-.10+1.-.- ranges 0'
   gives(1, empty, '01 05 02', emptyTable, empty)
   gives(1, empty, '01 05 03', emptyTable, '01 01 05 03 84 05 02 01 62 00')
   // Skip of 3, then "b" at 3: the Skip leads, whether the vector ends before, in or behind it.
   for (const vector of ['00', '01 05 02', '01 05 03']) {
-    gives(1, '01 02 05 00 0a 03 84 05 02 01 62 00', vector, 'blocks 2 5.0.3.skip.-.-.-.-.-.- 5.3.1.text.5:2.-.-.-.-.10+1 ranges 0', '01 01 05 03 84 05 02 01 62 00')
+    gives(1, '01 02 05 00 0a 03 84 05 02 01 62 00', vector, 'blocks 2 5.0.3.skip.-.-.-.-.-.-.-.- 5.3.1.text.5:2.-.-.-.-.10+1.-.- ranges 0', '01 01 05 03 84 05 02 01 62 00')
   }
   // GC, Skip, GC, Skip: behind a kept block a Skip stays, at the end too; when the second GC falls away, the last one leads.
   const skips = '01 04 05 00 00 01 0a 02 00 01 0a 04 00'
-  const skipsTable = 'blocks 4 5.0.1.gc.-.-.-.-.-.- 5.1.2.skip.-.-.-.-.-.- 5.3.1.gc.-.-.-.-.-.- 5.4.4.skip.-.-.-.-.-.- ranges 0'
+  const skipsTable = 'blocks 4 5.0.1.gc.-.-.-.-.-.-.-.- 5.1.2.skip.-.-.-.-.-.-.-.- 5.3.1.gc.-.-.-.-.-.-.-.- 5.4.4.skip.-.-.-.-.-.-.-.- ranges 0'
   gives(1, skips, '00', skipsTable, skips, '00 00 01 05 00 00 07 00 00 0a 00 00 00 0a 01 00 00 00 02 41 00 01 04 00 02 04 00')
   gives(1, skips, '01 05 01', skipsTable, '01 02 05 03 00 01 0a 04 00')
   gives(1, skips, '01 05 04', skipsTable, A, B)
   // Text "hi" in map "t" under "k": the cut one keeps bit 32 (a4) without a key. Read again it has none, so a diff of this diff has no bit 32.
   const keyed = '01 01 05 00 24 01 01 74 01 6b 02 68 69 00'
-  const keyedTable = 'blocks 1 5.0.2.text.-.-.7+1.-.9+1.11+2 ranges 0'
+  const keyedTable = 'blocks 1 5.0.2.text.-.-.7+1.-.9+1.11+2.-.- ranges 0'
   gives(1, keyed, '00', keyedTable, keyed)
   gives(1, keyed, '01 05 01', keyedTable, '01 01 05 01 a4 05 00 01 69 00', '00 00 02 45 00 01 00 00 01 a4 03 01 69 01 00 00 00 01 01 01 00')
-  gives(1, '01 01 05 01 a4 05 00 01 69 00', '00', 'blocks 1 5.1.1.text.5:0.-.-.-.-.8+1 ranges 0', '01 01 05 01 84 05 00 01 69 00')
-  gives(2, '00 00 02 45 00 01 00 00 01 a4 03 01 69 01 00 00 00 01 01 01 00', '00', 'blocks 1 5.1.1.text.5:0.-.-.-.-.12+1 ranges 0', ...E)
+  gives(1, '01 01 05 01 a4 05 00 01 69 00', '00', 'blocks 1 5.1.1.text.5:0.-.-.-.-.8+1.-.- ranges 0', '01 01 05 01 84 05 00 01 69 00')
+  gives(2, '00 00 02 45 00 01 00 00 01 a4 03 01 69 01 00 00 00 01 01 01 00', '00', 'blocks 1 5.1.1.text.5:0.-.-.-.-.12+1.-.- ranges 0', ...E)
   // An empty key is a key.
-  gives(1, '01 01 05 00 21 01 01 74 00 02 00', '01 05 01', 'blocks 1 5.0.2.deleted.-.-.7+1.-.9+0.- ranges 0', '01 01 05 01 a1 05 00 01 00')
+  gives(1, '01 01 05 00 21 01 01 74 00 02 00', '01 05 01', 'blocks 1 5.0.2.deleted.-.-.7+1.-.9+0.-.-.- ranges 0', '01 01 05 01 a1 05 00 01 00')
   // A right id stays with a cut; its bit 32 had no key. A left id is another one.
-  gives(1, '01 01 05 00 64 09 03 02 68 69 00', '00', 'blocks 1 5.0.2.text.-.9:3.-.-.-.8+2 ranges 0', '01 01 05 00 44 09 03 02 68 69 00')
-  gives(1, '01 01 05 00 64 09 03 02 68 69 00', '01 05 01', 'blocks 1 5.0.2.text.-.9:3.-.-.-.8+2 ranges 0', '01 01 05 01 c4 05 00 09 03 01 69 00')
-  gives(1, '01 01 05 00 84 09 03 02 68 69 00', '01 05 01', 'blocks 1 5.0.2.text.9:3.-.-.-.-.8+2 ranges 0', E[0], E[1])
+  gives(1, '01 01 05 00 64 09 03 02 68 69 00', '00', 'blocks 1 5.0.2.text.-.9:3.-.-.-.8+2.-.- ranges 0', '01 01 05 00 44 09 03 02 68 69 00')
+  gives(1, '01 01 05 00 64 09 03 02 68 69 00', '01 05 01', 'blocks 1 5.0.2.text.-.9:3.-.-.-.8+2.-.- ranges 0', '01 01 05 01 c4 05 00 09 03 01 69 00')
+  gives(1, '01 01 05 00 84 09 03 02 68 69 00', '01 05 01', 'blocks 1 5.0.2.text.9:3.-.-.-.-.8+2.-.- ranges 0', E[0], E[1])
   // Parent info 7 is an id, and is written 0. In form 2 its clock 4 is a left clock.
-  gives(1, '01 01 05 00 01 07 09 04 02 00', '00', 'blocks 1 5.0.2.deleted.-.-.-.9:4.-.- ranges 0', '01 01 05 00 01 00 09 04 02 00',
+  gives(1, '01 01 05 00 01 07 09 04 02 00', '00', 'blocks 1 5.0.2.deleted.-.-.-.9:4.-.-.-.- ranges 0', '01 01 05 00 01 00 09 04 02 00',
     '00 00 02 05 09 01 08 00 01 01 01 00 01 00 00 01 02 01 01 00 00')
   // Highest client first; 7 has nothing left.
-  gives(1, '03 01 05 00 00 01 01 07 00 00 02 01 09 00 00 03 00', '01 07 02', 'blocks 3 5.0.1.gc.-.-.-.-.-.- 7.0.2.gc.-.-.-.-.-.- 9.0.3.gc.-.-.-.-.-.- ranges 0',
+  gives(1, '03 01 05 00 00 01 01 07 00 00 02 01 09 00 00 03 00', '01 07 02', 'blocks 3 5.0.1.gc.-.-.-.-.-.-.-.- 7.0.2.gc.-.-.-.-.-.-.-.- 9.0.3.gc.-.-.-.-.-.-.-.- ranges 0',
     '02 01 09 00 00 03 01 05 00 00 01 00', '00 00 02 09 05 00 00 01 00 01 00 00 00 02 03 01 02 01 00 01 00 00')
   // 64 sections of a GC of 2, all known to clock 1, in rising order.
   const sixty = (order, blocks) => order.map(k => blocks(k.toString(16).padStart(2, '0'))).join('')
   const [rising, falling] = [many(64, k => k), many(64, k => 63 - k)]
   gives(1, '40' + sixty(rising, k => `01 ${k} 00 00 02`) + '00', '40' + sixty(rising, k => `${k} 01`),
-    ['blocks 64', ...rising.map(k => `${k}.0.2.gc.-.-.-.-.-.-`), 'ranges 0'].join(' '), '40' + sixty(falling, k => `01 ${k} 01 00 01`) + '00')
+    ['blocks 64', ...rising.map(k => `${k}.0.2.gc.-.-.-.-.-.-.-.-`), 'ranges 0'].join(' '), '40' + sixty(falling, k => `01 ${k} 01 00 01`) + '00')
   refused('3@0', 1, 1, '41' + sixty(rising, k => `01 ${k} 00 00 02`) + '01 40 00 00 02 00', '00')
   refused('3@0', 1, 1, C, '41' + sixty(rising, k => `${k} 01`) + '40 01')
   // The whole delete set, whatever the vector: 9's ranges before 5's. Form 2: 1 from 0, 2 - 1, 5 - 3, 1 - 1; 3 from 0, 1 - 1.
@@ -116,7 +116,7 @@ const kept = () => {
 
 const differences = () => {
   // Left clock 2^30 - 1 is e = 2^31 - 2. One more is 13 in form 2, as left, right and parent clock.
-  gives(1, '01 01 05 00 81 09 ff ff ff ff 03 01 00', '00', 'blocks 1 5.0.1.deleted.9:1073741823.-.-.-.-.- ranges 0', '01 01 05 00 81 09 ff ff ff ff 03 01 00',
+  gives(1, '01 01 05 00 81 09 ff ff ff ff 03 01 00', '00', 'blocks 1 5.0.1.deleted.9:1073741823.-.-.-.-.-.-.- ranges 0', '01 01 05 00 81 09 ff ff ff ff 03 01 00',
     '00 00 02 05 09 05 be ff ff ff 0f 00 01 81 01 00 00 00 01 01 01 01 00 00')
   for (const block of ['81 09 80 80 80 80 04 01', '41 09 80 80 80 80 04 01', '01 00 09 80 80 80 80 04 01']) {
     refused('13@0', 1, 2, `01 01 05 00 ${block} 00`, '00')
@@ -124,17 +124,17 @@ const differences = () => {
   }
   // 2^30 - 1 twice, then -2^30; one less is 13.
   const steps = last => `01 03 05 00 81 09 ff ff ff ff 03 01 81 09 fe ff ff ff 07 01 81 09 ${last} ff ff ff 03 01 00`
-  const table = 'blocks 3 5.0.1.deleted.9:1073741823.-.-.-.-.- 5.1.1.deleted.9:2147483646.-.-.-.-.- 5.2.1.deleted.9:1073741822.-.-.-.-.- ranges 0'
+  const table = 'blocks 3 5.0.1.deleted.9:1073741823.-.-.-.-.-.-.- 5.1.1.deleted.9:2147483646.-.-.-.-.-.-.- 5.2.1.deleted.9:1073741822.-.-.-.-.-.-.- ranges 0'
   gives(1, steps('fe'), '00', table, steps('fe'), '00 00 03 05 49 01 0b bf ff ff ff 0f 00 c0 80 80 80 10 00 01 81 01 00 00 00 02 41 01 01 03 00 00')
   refused('13@0', 1, 2, steps('fd'), '00')
   // Just ids that are written count: the first block falls away, or is cut and has left id (5, 0).
-  gives(1, '01 02 05 00 81 09 80 80 80 80 04 01 81 09 00 01 00', '01 05 01', 'blocks 2 5.0.1.deleted.9:1073741824.-.-.-.-.- 5.1.1.deleted.9:0.-.-.-.-.- ranges 0',
+  gives(1, '01 02 05 00 81 09 80 80 80 80 04 01 81 09 00 01 00', '01 05 01', 'blocks 2 5.0.1.deleted.9:1073741824.-.-.-.-.-.-.- 5.1.1.deleted.9:0.-.-.-.-.-.-.- ranges 0',
     '01 01 05 01 81 09 00 01 00', '00 00 02 05 09 01 00 00 01 81 01 00 00 00 01 01 01 01 01 00')
-  gives(1, '01 01 05 00 81 09 80 80 80 80 04 02 00', '01 05 01', 'blocks 1 5.0.2.deleted.9:1073741824.-.-.-.-.- ranges 0',
+  gives(1, '01 01 05 00 81 09 80 80 80 80 04 02 00', '01 05 01', 'blocks 1 5.0.2.deleted.9:1073741824.-.-.-.-.-.-.- ranges 0',
     '01 01 05 01 81 05 00 01 00', '00 00 02 45 00 01 00 00 01 81 01 00 00 00 01 01 01 01 01 00')
   // Form 2 reads 2^30 - 1 and 2^31 - 2 by two steps. Without the first block, or with the second one's client first, it is one.
   const two = '00 00 03 05 49 00 06 bf ff ff ff 0f 00 00 01 81 01 00 00 00 02 41 00 01 02 00 00'
-  const twoTable = 'blocks 2 5.0.1.deleted.9:1073741823.-.-.-.-.- 5.1.1.deleted.9:2147483646.-.-.-.-.- ranges 0'
+  const twoTable = 'blocks 2 5.0.1.deleted.9:1073741823.-.-.-.-.-.-.- 5.1.1.deleted.9:2147483646.-.-.-.-.-.-.- ranges 0'
   gives(2, two, '00', twoTable, '01 02 05 00 81 09 ff ff ff ff 03 01 81 09 fe ff ff ff 07 01 00', two)
   refused('13@0', 2, 2, two, '01 05 01')
   gives(2, two, '01 05 01', twoTable, '01 01 05 01 81 09 fe ff ff ff 07 01 00')
@@ -190,9 +190,9 @@ const parts = (what, written, update, vector, line, theirs) => {
   if ((out === null ? null : hex(out)) !== theirs) throw new Error(`${what}: Yjs writes ${out && hex(out)}`)
 }
 const partings = () => {
-  parts('section order', 1, '020105000001010900000100', '00', '0 020109000001010500000100 ; blocks 2 5.0.1.gc.-.-.-.-.-.- 9.0.1.gc.-.-.-.-.-.- ranges 0', '020105000001010900000100')
+  parts('section order', 1, '020105000001010900000100', '00', '0 020109000001010500000100 ; blocks 2 5.0.1.gc.-.-.-.-.-.-.-.- 9.0.1.gc.-.-.-.-.-.-.-.- ranges 0', '020105000001010900000100')
   parts('section order, form 2', 2, '020105000001010900000100', '00',
-    '0 00000209050000010001000000024100020100010000 ; blocks 2 5.0.1.gc.-.-.-.-.-.- 9.0.1.gc.-.-.-.-.-.- ranges 0', '00000205090000010001000000024100020100010000')
+    '0 00000209050000010001000000024100020100010000 ; blocks 2 5.0.1.gc.-.-.-.-.-.-.-.- 9.0.1.gc.-.-.-.-.-.-.-.- ranges 0', '00000205090000010001000000024100020100010000')
   parts('cut in a pair', 1, '0101050084090004f09f988000', '010501', '9@0', '0101050184050003efbfbd00')
   parts('cut in a pair, form 2', 2, '0101050084090004f09f988000', '010501', '9@0', '000002450001000001840503efbfbd0100000001010100')
   parts('cut in a pair, more behind it', 1, '0101050084090005f09f98806200', '010501', '9@0', '0101050184050004efbfbd6200')
@@ -212,7 +212,7 @@ const partings = () => {
   parts('range of length 0', 1, '000105010300', '00', '0 0000 ; blocks 0 ranges 0', '000105010300')
   parts('range of length 0, form 2', 2, '000105010300', '00', '0 00000000000001000000000000 ; blocks 0 ranges 0', null)
   parts('item of length 0', 1, '010105018109000000', '00', '0 0000 ; blocks 0 ranges 0', '010105018109000000')
-  parts('Skip behind an item of length 0', 1, '01020501810900000a0200', '00', '0 0000 ; blocks 1 5.1.2.skip.-.-.-.-.-.- ranges 0', '01020501810900000a0200')
+  parts('Skip behind an item of length 0', 1, '01020501810900000a0200', '00', '0 0000 ; blocks 1 5.1.2.skip.-.-.-.-.-.-.-.- ranges 0', '01020501810900000a0200')
   parts('vector names a client twice', 1, C, '0205000501', '4@0', '01010501840500016900')
   parts('client in two sections', 1, '02010500040101740161010501840500016200', '00', '4@11', '01020500040101740161840500016200')
   parts('difference 2^30', 2, '01010500810980808080040100', '00', '13@0', '000002050905808080801000018101000000010101010000')

@@ -13,51 +13,13 @@ const folder = process.argv[2]
 const loose = begin(0x2545f491)
 const { random, pick } = loose
 const documents = require('./documents.cjs').begin(loose)
-const { some, someClient, damaged } = shape.begin(loose)
+const { some, damaged, shuffled } = shape.begin(loose)
+const { vectorOf, between, someVector } = require('./vectors.cjs').begin(loose)
+const fitted = (...of) => c.fitted(random, ...of)
 const forms = [1, 2]
 const pairs = forms.flatMap(form => forms.map(written => [form, written]))
 const least = (what, n, wanted) => {
   if (n < wanted) throw new Error(`just ${n} ${what}`)
-}
-
-// ---- vectors
-
-const vectorOf = (entries, spelt = null) => [...s.u(entries.length, spelt), ...entries.flatMap(([client, clock]) => [...s.u(client, spelt), ...s.u(clock, spelt)])]
-const between = (low, high) => high > low ? low + BigInt(random(Number(high - low))) : low
-const shuffled = all => all.map(x => [random(2 ** 30), x]).sort(([a], [b]) => a - b).map(([, x]) => x)
-// What a vector may say of a client: nothing, at a border of its blocks, inside one of them (of any kind, or a text), beyond the end.
-const remote = blocks => {
-  const end = blocks[blocks.length - 1].clock + blocks[blocks.length - 1].length
-  const wide = blocks.filter(b => b.kind === 'text' && b.length > 1n)
-  const inside = b => between(b.clock + 1n, b.clock + b.length)
-  switch (random(10)) {
-    case 0: return 0n
-    case 1: return pick(blocks).clock
-    case 2: return end
-    case 3: return end + BigInt(1 + random(100)) > 2n ** 31n - 1n ? end : end + BigInt(1 + random(100))
-    case 4: return between(0n, end)
-    case 5: return inside(pick(blocks))
-    default: return inside(pick(wide.length > 0 ? wide : blocks))
-  }
-}
-const someVector = ({ blocks }) => {
-  const clients = [...new Set(blocks.map(b => b.client))]
-  const named = clients.filter(() => random(5) > 0).map(client => [client, remote(blocks.filter(b => b.client === client))])
-  const others = many(random(3), someClient).filter(client => !clients.includes(client)).map(client => [client, BigInt(random(50))])
-  const entries = shuffled([...named, ...new Map(others)])
-  return [...vectorOf(entries, random(4) === 0 ? loose : null), ...(random(9) === 0 ? [255] : [])]
-}
-
-// ---- rows and room: just enough, or plenty; now and then one too few of one of them
-
-const fitted = (form, written, update, vector, k) => {
-  const r = c.answer(form, written, update, vector)
-  if (r.number !== 0) return c.diff(form, written, update, vector, k % 2 === 0 ? {} : { blockRows: whole(form, update).blocks?.length, room: random(60) })
-  const lent = { blockRows: r.read.blocks.length, rangeRows: r.read.rangesRead, room: r.bytes.length }
-  c.diff(form, written, update, vector, k % 3 === 0 ? {} : lent)
-  if (k % 6 === 0) c.diff(form, written, update, vector, { ...lent, room: lent.room - 1 })
-  if (k % 16 === 1 && lent.blockRows > 0) c.diff(form, written, update, vector, { ...lent, blockRows: lent.blockRows - 1 })
-  if (k % 16 === 3 && lent.rangeRows > 0) c.diff(form, written, update, vector, { ...lent, rangeRows: lent.rangeRows - 1 })
 }
 
 require('./diffs-by-hand.cjs').all()

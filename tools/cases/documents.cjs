@@ -36,6 +36,7 @@ const begin = ({ random, pick }) => {
   const inside = type => type instanceof Y.Text ? inText(type) : type instanceof Y.Array ? inArray(type) : inMap(type)
 
   // One edit whose contents are deleted, binary or text. With `nested` also in types inside a map, and these are made and deleted: content 7, and then GC.
+  // Marks, any-values and XML are in rich-documents.cjs.
   const edit = (doc, nested) => {
     const boxes = doc.getMap('boxes')
     switch (random(nested ? 14 : 10)) {
@@ -64,8 +65,8 @@ const begin = ({ random, pick }) => {
     return Y.encodeStateVector(new Map(all.filter(() => random(3) > 0).map(([client, clock]) => [client, random(clock + 1)])))
   }
 
-  // What `steps` edits by these clients send and hold: a list of { how, form, update }.
-  const history = ({ clients, gc, nested, steps, edits }) => {
+  // What `steps` edits by these clients send and hold: a list of { how, form, update }. `say` makes an edit.
+  const history = ({ clients, gc, say, steps, edits }) => {
     const out = []
     const both = (how, one, two) => out.push({ how, form: 1, update: [...one] }, { how, form: 2, update: [...two] })
     const docs = clients.map(client => document(client, gc))
@@ -87,7 +88,7 @@ const begin = ({ random, pick }) => {
     for (let step = 0; step < steps; step++) {
       const k = random(docs.length)
       docs[k].transact(() => {
-        for (let n = 1 + random(edits); n > 0; n--) edit(docs[k], nested)
+        for (let n = 1 + random(edits); n > 0; n--) say(docs[k])
       })
       const j = random(docs.length)
       // In order, or the newest first, so that earlier ones are missing for a while.
@@ -117,12 +118,12 @@ const begin = ({ random, pick }) => {
   }
 
   // As many histories, by all ways in turn: each update once, and all vectors.
-  const histories = n => {
+  const histories = (n, say = null) => {
     const seen = new Set()
     const made = []
     const vectors = []
     for (let k = 0; k < n; k++) {
-      const h = history({ ...ways[k % ways.length], gc: k % 5 !== 4, nested: k % 2 === 1 })
+      const h = history({ ...ways[k % ways.length], gc: k % 5 !== 4, say: say ?? (doc => edit(doc, k % 2 === 1)) })
       vectors.push(...h.vectors)
       for (const { form, update } of h.updates) {
         const key = form + hex(update)
@@ -159,6 +160,19 @@ const begin = ({ random, pick }) => {
   // Some of what was sent, with all that it rests on, in order.
   const closed = (sent, some) => [...new Set(some.flatMap(n => [...sent[n].rests, n]))].sort((a, b) => a - b)
 
+  // What a document holds once the embeds of its text are deleted, in form 1.
+  const withoutEmbeds = doc => {
+    const text = doc.getText('text')
+    let at = 0
+    const places = text.toDelta().flatMap(({ insert }) => {
+      const from = at
+      at += typeof insert === 'string' ? insert.length : 1
+      return typeof insert === 'string' ? [] : [from]
+    })
+    doc.transact(() => places.reverse().forEach(place => text.delete(place, 1)))
+    return [...Y.encodeStateAsUpdate(doc)]
+  }
+
   // A document from an update, with all its content deleted: in both forms, whole and without one client.
   const emptied = (update, type) => {
     const doc = document(77, true)
@@ -175,7 +189,7 @@ const begin = ({ random, pick }) => {
     ]
   }
 
-  return { names, document, edit, histories, conversation, closed, emptied }
+  return { names, document, edit, histories, conversation, closed, withoutEmbeds, emptied }
 }
 
 module.exports = { begin }

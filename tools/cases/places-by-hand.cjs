@@ -302,4 +302,4 @@ const nowhere = () => {
   w(first(model.readUpdate(1, long.subarray(0, 2 ** 24 - 1))), '3@1')
 }
 
-module.exports = { MORE, COUNT, LONG, FAR, all: () => [form1, form2, alone, nowhere].forEach(part => part()) }
+module.exports = { MORE, COUNT, LONG, FAR, refused, all: () => [form1, form2, alone, nowhere].forEach(part => part()) }

@@ -24,13 +24,15 @@ const { MORE, COUNT, LONG, FAR } = byHand
 const size = parts => parts.reduce((sum, part) => sum + part.length, 0)
 const sum = numbers => numbers.reduce((a, b) => a + b, 0n)
 const read = (form, why, update, ...rows) => w(updates.read(form, update, ...rows), `${why} zero`)
-const whole = (form, update) => w(updates.read(form, update, 6, 3).split(' ').slice(0, 3).join(' '), '0 blocks 6')
+const whole = (form, update) => w(updates.read(form, update, 9, 3).split(' ').slice(0, 3).join(' '), '0 blocks 9')
 
-// What is in line: numbers with the least that is over their limit (`null`: they have none), info bytes, texts, other bytes.
+// What is in line: numbers with the least that is over their limit (`null`: they have none), info bytes, texts, tags of values, other bytes. A tag and a type
+// number have their block's number: what is refused of them lies at its info byte.
 const number = (x, over = null, what = null) => ({ kind: 'number', value: BigInt(x), over, what })
 const info = x => ({ kind: 'info', bytes: [x] })
 const text = x => ({ kind: 'text', bytes: s.utf8(x) })
 const plain = x => ({ kind: 'plain', bytes: x })
+const tag = (x, block) => ({ kind: 'tag', bytes: [x], block })
 const [CLIENTS, CLIENT, CLOCK] = [65, p(53), p(31)]
 // Spoils one piece after the other. `make` gives an update with this in line, and where it begins there; `spell` has the numbers' bytes. Gives back the
 // pieces' bytes, and `spoilt`, which puts something else in the place of the k-th.
@@ -58,12 +60,14 @@ const spoilInLine = (form, pieces, spell, make) => {
   return { spelt, spoilt }
 }
 const which = (pieces, test) => pieces.flatMap((x, k) => test(x) ? [k] : [])
-const LENGTHS = [[2n, 2n, 3n], [1n, 1n, 3n]] // of the blocks of both sections
+const LENGTHS = [[2n, 2n, 3n], [1n, 1n, 3n], [1n, 1n, 3n]] // of the blocks of the sections
+// An any-list's values: an integer, a string, an object that holds an array.
+const VALUES = [tag(125, 8), number(5), tag(119, 8), number(2), text('é'), tag(118, 8), number(1), number(1), text('k'), tag(117, 8), number(1), tag(126, 8)]
 
 // ---- form 1
 
 const inLine1 = [
-  number(2, CLIENTS), number(3, 65536), number(5, CLIENT), number(7, CLOCK, 'first'),
+  number(3, CLIENTS), number(3, 65536), number(5, CLIENT), number(7, CLOCK, 'first'),
   info(0xc4), number(9, CLIENT), number(300, CLOCK), number(8, CLIENT), number(1, CLOCK), number(2), text('hi'),
   info(0), number(2, CLOCK),
   info(10), number(3, CLOCK),
@@ -71,6 +75,10 @@ const inLine1 = [
   info(0x24), number(1, CLOCK), number(1), text('t'), number(1), text('k'), number(2), text('é'),
   info(3), number(0, CLOCK), number(9, CLIENT), number(4, CLOCK), number(2), plain([1, 2]),
   info(0x81), number(9, CLIENT), number(5, CLOCK), number(3, CLOCK),
+  number(3, 65530), number(400, CLIENT), number(6, CLOCK, 'first'),
+  info(0x86), number(9, CLIENT), number(6, CLOCK), number(1), text('b'), number(4), text('true'),
+  info(0x87), number(9, CLIENT), number(7, CLOCK), number(3, null, 'type'), number(1), text('p'),
+  info(0x88), number(9, CLIENT), number(8, CLOCK), number(3, CLOCK), ...VALUES,
   number(2, CLIENTS), number(9, CLIENT), number(2), number(3, CLOCK, 'range'), number(1, CLOCK, 'length'),
   number(9, CLOCK, 'range'), number(2, CLOCK, 'length'),
   number(300, CLIENT), number(1), number(1, CLOCK, 'range'), number(5, CLOCK, 'length')
@@ -84,7 +92,10 @@ const pieces1 = spell => {
   const infos = which(inLine1, x => x.kind === 'info')
   const ranges = which(inLine1, x => x.what === 'range')
   infos.forEach((k, rows) => read(1, `8@${at(k)}`, update, rows, 9))
-  ranges.forEach((k, rows) => read(1, `8@${at(k)}`, update, 6, rows))
+  ranges.forEach((k, rows) => read(1, `8@${at(k)}`, update, 9, rows))
+  // A tag that is none, and a type number over 6, at once and in nine bytes.
+  which(inLine1, x => x.kind === 'tag').forEach(k => read(1, `5@${at(infos[inLine1[k].block])}`, spoilt(k, 5).update))
+  which(inLine1, x => x.what === 'type').forEach(k => [7, p(63) - 1n].forEach(n => read(1, `5@${at(infos[7])}`, spoilt(k, ...s.u(n)).update)))
   // The end of each block over the limit, by its section's first clock; and of each range, by its length.
   which(inLine1, x => x.what === 'first').forEach((k, section) => LENGTHS[section].forEach((_, j) => {
     const clock = s.u(p(31) - 1n - sum(LENGTHS[section].slice(0, j)))
@@ -92,7 +103,7 @@ const pieces1 = spell => {
     const block = 3 * section + j
     for (const rows of [[], [block, 0]]) read(1, `3@${at(infos[block]) - spelt[k].length + clock.length}`, over, ...rows)
   }))
-  ranges.forEach((k, rows) => read(1, `3@${at(k)}`, spoilt(k + 1, ...s.u(p(31) - 1n)).update, 6, rows))
+  ranges.forEach((k, rows) => read(1, `3@${at(k)}`, spoilt(k + 1, ...s.u(p(31) - 1n)).update, 9, rows))
   // The first section's client again, and the lengths of texts and of the binary over all that there is.
   const [client] = which(inLine1, x => x.value === 70000n)
   read(1, `4@${at(client)}`, spoilt(client, ...spell(5n)).update)
@@ -105,20 +116,21 @@ const pieces1 = spell => {
 // ---- form 2: the columns as runs, each drawn from
 
 const columns2 = {
-  key: [],
-  client: [[5], [9], [8], [0xb0, 0xc5, 8], [0x49, 0]], // 5, 9, 8, 70000, 9 twice
-  left: [[0x98, 9], [0xd0, 9], [2]], // 300, 4, 5
+  key: [[0], [2]], // 0, 1
+  client: [[5], [9], [8], [0xb0, 0xc5, 8], [0x49, 0], [0x90, 6], [0x49, 1]], // 5, 9, 8, 70000, 9 twice, 400, 9 three times
+  left: [[0x98, 9], [0xd0, 9], [2], [3, 1]], // 300, 4, 5, 6, 7, 8
   right: [[2]],
-  info: [[0xc4, 0], [0, 0], [10, 0], [0x24, 0], [3, 0], [0x81]],
-  text: [[2], [0x41, 1]], // unit lengths, behind the text: "hi", "t", "k" and "é"
+  info: [[0xc4, 0], [0, 0], [10, 0], [0x24, 0], [3, 0], [0x81, 0], [0x86, 0], [0x87, 0], [0x88]],
+  text: [[2], [0x41, 3]], // unit lengths, behind the text: "hi", "t", "k", "é", "b" and "p"
   parent: [[1, 0], [0]],
-  type: [],
-  length: [[2], [3]]
+  type: [[3]],
+  length: [[2], [0x43, 0]] // 2, 3 twice
 }
-const TEXT = s.sized(s.utf8('hitké'))
+const TEXT = s.sized(s.utf8('hitkébp'))
 const inLine2 = [
-  number(2, CLIENTS), number(3, 65536), number(7, CLOCK, 'first'), number(3, CLOCK),
+  number(3, CLIENTS), number(3, 65536), number(7, CLOCK, 'first'), number(3, CLOCK),
   number(3, 65533), number(0, CLOCK, 'first'), number(2), plain([1, 2]),
+  number(3, 65530), number(6, CLOCK, 'first'), tag(119, 6), number(1), text('r'), ...VALUES,
   number(2, CLIENTS), number(9, CLIENT), number(2), number(3, CLOCK, 'range'), number(0, CLOCK - 1n, 'length'),
   number(5, CLOCK - 4n, 'range'), number(1, CLOCK - 1n, 'length'),
   number(300, CLIENT), number(1), number(1, CLOCK, 'range'), number(4, CLOCK - 1n, 'length')
@@ -142,7 +154,7 @@ const RUNS = {
   differences: [[2, '', MORE], [3, '', FAR], [3, '', 'c0 80 80 80 10'], [2, '03', MORE], [3, '03', COUNT], [1, '80'], [1, '03'], [1, '03 80'], [1, '']],
   bytes: [[2, '07', MORE], [3, '07', COUNT], [1, '07 80'], [1, '']]
 }
-const KINDS = { client: 'numbers', left: 'differences', right: 'differences', info: 'bytes', text: 'numbers', parent: 'bytes', length: 'numbers' }
+const KINDS = { key: 'differences', client: 'numbers', left: 'differences', right: 'differences', info: 'bytes', text: 'numbers', parent: 'bytes', type: 'numbers', length: 'numbers' }
 const pieces2 = (spell, sized) => {
   const make = rest => laid(columns2, rest, sized)
   const { spelt, spoilt } = spoilInLine(2, inLine2, spell, make)
@@ -161,13 +173,18 @@ const pieces2 = (spell, sized) => {
       }
     })
   }
-  // Rows, content number 2 and ends: at the info byte's run.
+  // Rows, content number 2, a tag that is none, a type number over 6 and ends: at the info byte's run.
   const changed = columns => laid({ ...columns2, ...columns }, rest, sized)
   const infoAt = k => good.columns.info + size(columns2.info.slice(0, k))
   columns2.info.forEach(([x, ...count], k) => {
     read(2, `8@${infoAt(k)}`, good.update, k, 9)
     if (x !== 0 && x !== 10) read(2, `5@${infoAt(k)}`, changed({ info: replaced(columns2.info, k, [(x & 0xe0) | 2, ...count]) }).update)
   })
+  which(inLine2, x => x.kind === 'tag').forEach(k => read(2, `5@${infoAt(inLine2[k].block)}`, spoilt(k, 5).update))
+  for (const run of [[7], [0x47, 0], [0xbf, 0xff, 0xff, 0xff, 0xff, 0xff, 0xff, 0x1f]]) {
+    const over = changed({ type: [run] })
+    read(2, `5@${over.columns.info + size(columns2.info.slice(0, 7))}`, over.update)
+  }
   which(inLine2, x => x.what === 'first').forEach((k, section) => LENGTHS[section].forEach((_, j) => {
     const over = spoilt(k, ...s.u(p(31) - 1n - sum(LENGTHS[section].slice(0, j)))).update
     const block = 3 * section + j
@@ -175,8 +192,8 @@ const pieces2 = (spell, sized) => {
   }))
   const ranges = which(inLine2, x => x.what === 'range')
   ranges.forEach((k, rows) => {
-    read(2, `8@${at(k)}`, good.update, 6, rows)
-    read(2, `3@${at(k)}`, spoilt(k + 1, ...s.u(p(31) - 2n)).update, 6, rows)
+    read(2, `8@${at(k)}`, good.update, 9, rows)
+    read(2, `3@${at(k)}`, spoilt(k + 1, ...s.u(p(31) - 2n)).update, 9, rows)
   })
   // 70000 is 5 again; the text is not UTF-8; units run past it from the third text on, which begins at its fourth byte; none is left for the fourth.
   read(2, `4@${good.columns.client + 3}`, changed({ client: replaced(columns2.client, 3, [5]) }).update)
@@ -185,7 +202,7 @@ const pieces2 = (spell, sized) => {
   read(2, `6@${good.columns.text + 1}`, wrong)
   const past = changed({ text: [[2], [1], [9], [1]] })
   read(2, `7@${past.columns.text + 1 + 3}`, past.update)
-  const none = changed({ text: [[2], [1], [2], [1]] })
+  const none = changed({ text: [[2], [1], [4], [1]] })
   read(2, `7@${none.columns.text + TEXT.length}`, none.update)
   // A column's length in ten bytes, and one over all that there is.
   for (const [k, name] of COLUMNS.entries()) {

@@ -64,8 +64,24 @@ const sort = (form, update, vector, lent) => {
   return add(17, asked(form, update, vector, lent), line(model.sort(form, update, vector, rows(lent))))
 }
 
+// Rows just enough, or plenty; now and then one too few of one of them.
+const fitted = (random, form, update, vector, k) => {
+  const r = answer(form, update, vector)
+  if (r.number !== 0) return sort(form, update, vector, k % 2 === 0 ? {} : { blockRows: whole(form, update).blocks?.length, orderRows: random(4) })
+  const lent = { blockRows: r.read.blocks.length, rangeRows: r.read.rangesRead, orderRows: r.order.length }
+  sort(form, update, vector, k % 3 === 0 ? {} : lent)
+  if (k % 6 === 0 && lent.orderRows > 0) sort(form, update, vector, { ...lent, orderRows: lent.orderRows - 1 })
+  // By rule 13 the rows are just enough, or one too few; by rule 28 operation 25 is operation 17.
+  const steps = answer13(form, update, vector).order.length
+  if (k % 4 === 1) ruled(13, form, update, vector, { ...lent, orderRows: steps })
+  if (k % 6 === 2 && steps > 0) ruled(13, form, update, vector, { ...lent, orderRows: steps - 1 })
+  if (k % 5 === 0) ruled(28, form, update, vector, lent)
+  if (k % 16 === 1 && lent.blockRows > 0) sort(form, update, vector, { ...lent, blockRows: lent.blockRows - 1 })
+  if (k % 16 === 3 && lent.rangeRows > 0) sort(form, update, vector, { ...lent, rangeRows: lent.rangeRows - 1 })
+}
+
 module.exports = {
-  sort, ruled, answer, answer13, stream, output, counts, refused,
+  sort, ruled, fitted, answer, answer13, stream, output, counts, refused,
   told: () => [
     `cases of an operation: ${told(counts)}`,
     `the number of a line: ${told(refused)}; at another place than 0: ${told(placed)}`,

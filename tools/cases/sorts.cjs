@@ -17,28 +17,12 @@ const loose = begin(0x3c6ef372)
 const { random, pick } = loose
 const documents = require('./documents.cjs').begin(loose)
 const { some, someClient, damaged, shuffled, tangled } = shape.begin(loose)
+const fitted = (...of) => c.fitted(random, ...of)
 const forms = [1, 2]
 const least = (what, n, wanted) => {
   if (n < wanted) throw new Error(`just ${n} ${what}`)
 }
 const vectorOf = (entries, spelt = null) => [...s.u(entries.length, spelt), ...entries.flatMap(([client, clock]) => [...s.u(client, spelt), ...s.u(clock, spelt)])]
-
-// ---- rows: just enough, or plenty; now and then one too few of one of them
-
-const fitted = (form, update, vector, k) => {
-  const r = c.answer(form, update, vector)
-  if (r.number !== 0) return c.sort(form, update, vector, k % 2 === 0 ? {} : { blockRows: whole(form, update).blocks?.length, orderRows: random(4) })
-  const lent = { blockRows: r.read.blocks.length, rangeRows: r.read.rangesRead, orderRows: r.order.length }
-  c.sort(form, update, vector, k % 3 === 0 ? {} : lent)
-  if (k % 6 === 0 && lent.orderRows > 0) c.sort(form, update, vector, { ...lent, orderRows: lent.orderRows - 1 })
-  // By rule 13 the rows are just enough, or one too few; by rule 28 operation 25 is operation 17.
-  const steps = c.answer13(form, update, vector).order.length
-  if (k % 4 === 1) c.ruled(13, form, update, vector, { ...lent, orderRows: steps })
-  if (k % 6 === 2 && steps > 0) c.ruled(13, form, update, vector, { ...lent, orderRows: steps - 1 })
-  if (k % 5 === 0) c.ruled(28, form, update, vector, lent)
-  if (k % 16 === 1 && lent.blockRows > 0) c.sort(form, update, vector, { ...lent, blockRows: lent.blockRows - 1 })
-  if (k % 16 === 3 && lent.rangeRows > 0) c.sort(form, update, vector, { ...lent, rangeRows: lent.rangeRows - 1 })
-}
 
 require('./sorts-by-hand.cjs').all()
 
@@ -66,7 +50,7 @@ const real = (kind, form, update, vector, doc, compare = yjsSorts.compareDocumen
 }
 
 const merged = (form, sent) => [...(form === 1 ? Y.mergeUpdates(sent.map(x => x.one)) : Y.mergeUpdatesV2(sent.map(x => x.two)))]
-// What was sent, without what cannot be read yet: contents that are types.
+// What was sent, and can be read.
 const readable = sent => sent.filter(x => whole(1, [...x.one]).number === 0)
 const held = (sent, numbers) => {
   const doc = yjsSorts.empty()

@@ -54,14 +54,25 @@ const two = (columns, loose = null) =>
   [columns.flag ?? 0, ...COLUMNS.flatMap(name => sized(columns[name] ?? (name === 'text' ? [0] : []), loose)), ...(columns.rest ?? [0, 0])]
 
 // ---- an update from its records
-// A section is { client, clock, blocks }. A block is { info } and, as its info says, left, right, parentInfo, name, parent, key, length, text, binary.
+// A section is { client, clock, blocks }. A block is { info } and, as its info says, left, right, parentInfo, name, parent, key, length, text, binary; a
+// format has mark and value (its bytes: JSON text, or in form 2 an any-value), a type its number `type` and perhaps a mark, an any-list `values`, which is
+// { count, bytes }. In form 2 a mark that was written before keeps its number, as the first one does; loosely it may come anew, under any number.
 // A delete-set client is [client, [[clock, length], ..]]. `sections` and `clients` may announce other counts.
 const fields = (form, loose) => {
   const rest = []
-  const c = { client: [], left: [], right: [], info: [], text: [], parent: [], length: [] }
+  const c = { key: [], client: [], left: [], right: [], info: [], text: [], parent: [], type: [], length: [] }
   const inline = x => rest.push(...x)
   const one = form === 1
   const client = n => one ? inline(u(n, loose)) : c.client.push(n)
+  const text = t => one ? inline(sized(utf8(t), loose)) : c.text.push(t)
+  const keys = []
+  const numbered = t => {
+    const known = keys.indexOf(t)
+    if (known >= 0 && (loose === null || loose.random(3) > 0)) return c.key.push(known)
+    c.key.push(keys.length + (loose === null ? 0 : loose.random(3) * loose.random(70)))
+    keys.push(t)
+    text(t)
+  }
   let end = 0n
   return {
     number: n => inline(u(n, loose)),
@@ -76,9 +87,13 @@ const fields = (form, loose) => {
     },
     info: n => one ? rest.push(n) : c.info.push(n),
     parentInfo: n => one ? inline(u(n, loose)) : c.parent.push(n),
-    text: t => one ? inline(sized(utf8(t), loose)) : c.text.push(t),
+    text,
     length: n => one ? inline(u(n, loose)) : c.length.push(n),
     binary: b => inline(sized(b, loose)),
+    mark: t => one ? text(t) : numbered(t),
+    value: b => inline(one ? sized(b, loose) : b),
+    values: inline,
+    type: n => one ? inline(u(n, loose)) : c.type.push(n),
     newDeleteClient: () => {
       end = 0n
     },
@@ -88,12 +103,14 @@ const fields = (form, loose) => {
       end = from + size
     },
     done: () => one ? rest : two({
+      key: differences(c.key, loose),
       client: numbers(c.client, loose),
       left: differences(c.left, loose),
       right: differences(c.right, loose),
       info: bytes(c.info, loose),
       text: texts(c.text, loose),
       parent: bytes(c.parent, loose),
+      type: numbers(c.type, loose),
       length: numbers(c.length, loose),
       rest
     }, loose)
@@ -112,9 +129,14 @@ const writeBlock = (f, b) => {
     else f.left(b.parent)
     if (b.info & 32) f.text(b.key)
   }
-  if (b.text !== undefined) f.text(b.text)
-  else if (b.binary !== undefined) f.binary(b.binary)
-  else f.length(b.length)
+  if (b.text !== undefined) return f.text(b.text)
+  if (b.binary !== undefined) return f.binary(b.binary)
+  if (b.type !== undefined) f.type(b.type)
+  if (b.mark !== undefined) f.mark(b.mark)
+  if (b.type !== undefined) return
+  if (b.value !== undefined) return f.value(b.value)
+  f.length(b.values === undefined ? b.length : b.values.count)
+  if (b.values !== undefined) f.values(b.values.bytes)
 }
 
 const update = (form, { sections = [], deletes = [], sectionCount = sections.length, deleteCount = deletes.length }, loose = null) => {

@@ -23,8 +23,8 @@ const D = '00 00 01 05 00 00 01 04 06 03 74 68 69 01 02 01 01 00 00 01 01 00 00'
 const NOTHING = '00 00 00 00 00 00 01 00 00 00 00 00 00'
 w(strict(1, '00 00', 0, 0), '0 blocks 0 ranges 0 zero')
 w(strict(2, NOTHING, 0, 0), '0 blocks 0 ranges 0 zero')
-w(strict(1, C), '0 blocks 1 5.0.2.text.-.-.7+1.-.-.9+2 ranges 0 zero')
-w(strict(2, D), '0 blocks 1 5.0.2.text.-.-.10+1.-.-.11+2 ranges 0 zero')
+w(strict(1, C), '0 blocks 1 5.0.2.text.-.-.7+1.-.-.9+2.-.- ranges 0 zero')
+w(strict(2, D), '0 blocks 1 5.0.2.text.-.-.10+1.-.-.11+2.-.- ranges 0 zero')
 // The form goes first, and no byte is 1, not 14; then the flag, before the columns are cut (T1). Form 1 has no flag.
 w(strict(3, '01'), '12@0 zero')
 w(strict(2, ''), '1@0 zero')
@@ -41,13 +41,13 @@ w(strict(2, '00 01 00 00 00 00 00 01 00 00 00 00 00 01 05'), '1@15 zero')
 w(strict(2, '00 01 00 00 00 00 00 01 00 00 00 00 00 01 05 01 00 00', 0, 0), '8@16 zero')
 w(strict(2, '00 01 00 00 00 00 00 01 00 00 00 00 00 01 05 01 00 00', 0, 1), '15@2 zero')
 // A run is read with its first value: its count is read, and what it could still give is no byte (T3). A second run is.
-w(strict(2, '00 00 01 05 00 00 02 00 07 01 00 00 00 01 01 01 01 00 00'), '0 blocks 1 5.0.1.gc.-.-.-.-.-.- ranges 0 zero')
+w(strict(2, '00 00 01 05 00 00 02 00 07 01 00 00 00 01 01 01 01 00 00'), '0 blocks 1 5.0.1.gc.-.-.-.-.-.-.-.- ranges 0 zero')
 w(strict(2, '00 00 01 05 00 00 03 00 00 00 01 00 00 00 01 01 01 01 00 00'), '15@9 zero')
-w(strict(2, '00 00 02 45 7f 00 00 01 00 01 00 00 00 01 01 01 01 00 00'), '0 blocks 1 5.0.1.gc.-.-.-.-.-.- ranges 0 zero')
+w(strict(2, '00 00 02 45 7f 00 00 01 00 01 00 00 00 01 01 01 01 00 00'), '0 blocks 1 5.0.1.gc.-.-.-.-.-.-.-.- ranges 0 zero')
 // Texts that no text takes, and a unit length that is not drawn (T4).
 w(strict(2, '00 00 00 00 00 00 03 01 61 01 00 00 00 00 00'), '15@8 zero')
 w(strict(2, '00 00 00 00 00 00 02 00 01 00 00 00 00 00'), '15@8 zero')
-// Key and type columns, which nothing draws from (T5).
+// Key and type columns, from which nothing is drawn here (T5).
 w(strict(2, '00 01 00 00 00 00 00 01 00 00 00 00 00 00'), '15@2 zero')
 w(strict(2, '00 00 00 00 00 00 01 00 00 02 00 00 00 00 00'), '15@10 zero')
 // Form 1: any byte behind the delete set (T6).

@@ -9,16 +9,19 @@ const { add, stream, output, counts, refused, placed, told } = begin()
 
 const id = x => x === null ? '-' : `${x.client}:${x.clock}`
 const part = x => x === null ? '-' : `${x.place}+${x.bytes}`
-const row = b => [b.client, b.clock, b.length, b.kind, id(b.left), id(b.right), part(b.name), id(b.parent), part(b.key), part(b.part)].join('.')
+const row = b => [b.client, b.clock, b.length, b.kind, id(b.left), id(b.right), part(b.name), id(b.parent), part(b.key), part(b.part), part(b.mark),
+  b.type ?? '-'].join('.')
 const range = d => [d.client, d.clock, d.length].join('.')
 const tables = r => ['blocks', r.blocks.length, ...r.blocks.map(row), 'ranges', r.ranges.length, ...r.ranges.map(range)]
 
-// What holds of every refusal is looked at, and that 5 lies at an info byte with such a content number.
+// What holds of every refusal is looked at, and that 5 lies at an info byte: with such a content number, or with one whose content it is inside of.
 const reading = (form, update, ...rows) => {
   const r = model.readUpdate(form, update, ...rows)
   if (form === 1 || form === 2) held(update, r, other => model.readUpdate(form, other, ...rows))
   const info = update[r.place]
-  if (r.number === 5 && (info === 0 || info === 10 || [1, 3, 4].includes(info & 31))) throw new Error(`no info byte at ${r.place} of ${hex(update)}`)
+  const inside = { tag: form === 2 ? [6, 8] : [8], 'type number': [7] }[r.what]
+  const fits = inside === undefined ? info !== 0 && info !== 10 && ![1, 3, 4, 6, 7, 8].includes(info & 31) : inside.includes(info & 31)
+  if (r.number === 5 && !fits) throw new Error(`no info byte at ${r.place} of ${hex(update)}`)
   return r
 }
 

@@ -1,7 +1,9 @@
-// What document 01 and docs/DECISIONS.md say of updates, state vectors, contents and the listing, in plain JavaScript over the columns of model.cjs:
+// What documents 01 and 02 (W-202) and docs/DECISIONS.md say of updates, state vectors, contents and the listing, in plain JavaScript over the columns of model.cjs:
 // the expectation, made without our Rattle code and without Yjs.
 'use strict'
 const model = require('./model.cjs')
+const { refuse, answer, within, cursor } = require('./cursor.cjs')
+const { passed } = require('./any-model.cjs')
 const { nowhere } = model
 
 const CLIENT = 2n ** 53n - 1n
@@ -9,78 +11,14 @@ const CLOCK = 2n ** 31n - 1n // a clock, a clock length, form 1 parent info, an 
 const UPDATE = 16777215
 const CLIENTS = 64n // sections, delete-set clients, state-vector entries
 const ANNOUNCED = 65535n
-
-// Reading is one sequence of draws, and the first refused one decides: it is thrown, with its number and its place in the update (W-201). Then, for whoever
-// compares: `column` says that a column could not answer, or was not whole; `what` names what was drawn, and `value` what it was.
-class Refusal extends Error {
-  constructor (number, place, more) {
-    super(`refused ${number} at ${place}`)
-    this.refusal = { number, place, column: false, what: null, value: null, ...more }
-  }
-}
-const refuse = (number, place, more) => {
-  throw new Refusal(number, place, more)
-}
-// What a reading gives, with number 0, or just its refusal.
-const answer = read => {
-  try {
-    return { number: 0, ...read() }
-  } catch (e) {
-    if (!(e instanceof Refusal)) throw e
-    return e.refusal
-  }
-}
-// `place` is where the value comes from: a number's first byte, or its run's.
-const within = (value, most, place, what) => value > most ? refuse(3, place, { what, value }) : value
-
-// ---- bytes with a place in them
-
-// What is read is marked: `mark` gets where it begins and where it ends.
-const cursor = (s, at, mark = () => {}) => {
-  const to = next => {
-    mark(at, next)
-    at = next
-  }
-  const unsigned = what => {
-    const r = model.readUnsigned(s, BigInt(at))
-    if (r.number !== 0) refuse(r.number, r.place, { what })
-    to(Number(r.next))
-    return r.value
-  }
-  return {
-    // Where the next thing that is read has its first byte.
-    place: () => at,
-    byte: () => {
-      if (at >= s.length) refuse(1, s.length)
-      to(at + 1)
-      return s[at - 1]
-    },
-    unsigned,
-    limited: (most, what) => {
-      const place = at
-      return within(unsigned(), most, place, what)
-    },
-    // That many bytes of any number, as { place, bytes }.
-    part: size => {
-      if (BigInt(at) + size > BigInt(s.length)) refuse(1, s.length)
-      const part = { place: at, bytes: Number(size) }
-      to(at + part.bytes)
-      return part
-    },
-    // A column is passed, and its own draws mark what they read.
-    column: size => {
-      if (BigInt(at) + size > BigInt(s.length)) refuse(1, s.length)
-      const part = { place: at, bytes: Number(size) }
-      at += part.bytes
-      return part
-    }
-  }
-}
+const KEYS = 256 // entries of form 2's list of keys
+const TYPES = 6n // the highest type number
+const NAMED = [3n, 5n] // types with a node name: an XML element and an XML hook
 
 // ---- the two forms' fields, under the same names in the same order. A section's client and an info byte come with their place, a range with its clock's:
 // what is refused later, 4, 5, 8 and an end, lies there.
 
-const form1 = (update, mark) => {
+const form1 = (update, mark, noted) => {
   const rest = cursor(update, 0, mark)
   const client = () => {
     const place = rest.place()
@@ -99,14 +37,18 @@ const form1 = (update, mark) => {
       const place = rest.place()
       return { value: rest.byte(), place }
     },
-    text: () => {
-      const part = rest.part(rest.unsigned())
-      const characters = model.characters(update.slice(part.place, part.place + part.bytes))
-      if (characters === null) refuse(6, part.place)
-      return { part, units: characters.reduce((sum, [, , units]) => sum + units, 0n) }
-    },
+    text: rest.text,
     parentInfo: () => rest.limited(CLOCK, 'parent info'),
     length: () => rest.limited(CLOCK, 'length'),
+    key: () => rest.text().part,
+    // JSON text, which is not looked into.
+    value: () => rest.text().part,
+    typeNumber: () => {
+      const place = rest.place()
+      const number = rest.unsigned('type number')
+      if (rest.place() - place > 1) noted.longType = true
+      return number
+    },
     newDeleteClient: () => {},
     range: () => {
       const place = rest.place()
@@ -154,6 +96,9 @@ const form2 = (update, mark, strict) => {
   const info = values('info', model.bytes)
   const parent = values('parent', model.bytes)
   const length = values('length', model.numbers)
+  const keyNumber = values('key', model.differences)
+  const typeNumber = values('type', model.numbers)
+  const keys = []
   let end = 0n
   return {
     rest,
@@ -181,6 +126,16 @@ const form2 = (update, mark, strict) => {
       const { value, place } = length()
       return within(value, CLOCK, place, 'length')
     },
+    // A number below the list's length is an earlier key; any other one takes the next text, which joins the list.
+    key () {
+      const { value, place } = keyNumber()
+      if (value < BigInt(keys.length)) return keys[Number(value)]
+      if (keys.length === KEYS) refuse(3, place, { what: 'key list' })
+      keys.push(this.text().part)
+      return keys[keys.length - 1]
+    },
+    value: blame => passed(rest, 1n, blame),
+    typeNumber: () => typeNumber().value,
     newDeleteClient: () => {
       end = 0n
     },
@@ -197,9 +152,10 @@ const form2 = (update, mark, strict) => {
 
 // ---- blocks
 
-const absent = { left: null, right: null, name: null, parent: null, key: null, part: null }
+const absent = { left: null, right: null, name: null, parent: null, key: null, part: null, mark: null, type: null }
 
-// The rest of a block after its info byte: what the record keeps, without client and clock.
+// The rest of a block after its info byte: what the record keeps, without client and clock. What is wrong inside its content, a tag or a type number, lies
+// at the info byte, as every 5.
 const body = (f, info, place) => {
   if (info === 10) return { ...absent, kind: 'skip', length: f.rest.limited(CLOCK, 'Skip length') }
   if (info === 0) return { ...absent, kind: 'gc', length: f.length() }
@@ -217,6 +173,19 @@ const body = (f, info, place) => {
     case 4: {
       const { part, units } = f.text()
       return { ...item, kind: 'text', part, length: units }
+    }
+    case 6: {
+      const mark = f.key()
+      return { ...item, kind: 'format', mark, part: f.value(place), length: 1n }
+    }
+    case 7: {
+      const type = f.typeNumber()
+      if (type > TYPES) refuse(5, place, { what: 'type number', value: type })
+      return { ...item, kind: 'type', type, mark: NAMED.includes(type) ? f.key() : null, length: 1n }
+    }
+    case 8: {
+      const length = f.length()
+      return { ...item, kind: 'any', part: passed(f.rest, length, place), length }
     }
     default: return refuse(5, place, { what: 'content', value: info })
   }
@@ -237,10 +206,10 @@ const joined = ranges => {
 // ---- the update
 
 const NO_LIMIT = Infinity
-// The information beside the answer is for whoever compares: `masked` says that an info byte had content number 0 and other bits; `deleteClients` has the
-// delete-set clients as they were named. Strictly (W-205) the flag is 0, and every byte is marked as read in the end.
+// The information beside the answer is for whoever compares: `masked` says that an info byte had content number 0 and other bits, `longType` that form 1 spelt
+// a type number in more than a byte; `deleteClients` has the delete-set clients as they were named. Strictly (W-205) the flag is 0, and every byte is marked as read in the end.
 const readUpdate = (form, update, blockRows = NO_LIMIT, rangeRows = NO_LIMIT, strict = false) => {
-  let masked = false
+  const noted = { masked: false, longType: false }
   const unread = strict ? new Set(update.keys()) : null
   const mark = (from, to) => {
     if (strict) for (let k = from; k < to; k++) unread.delete(k)
@@ -248,7 +217,7 @@ const readUpdate = (form, update, blockRows = NO_LIMIT, rangeRows = NO_LIMIT, st
   const r = answer(() => {
     if (form !== 1 && form !== 2) refuse(12, 0)
     if (update.length > UPDATE) refuse(3, 0)
-    const f = form === 1 ? form1(update, mark) : form2(update, mark, strict)
+    const f = form === 1 ? form1(update, mark, noted) : form2(update, mark, strict)
     const { rest } = f
     const blocks = []
     const clients = new Set()
@@ -262,7 +231,7 @@ const readUpdate = (form, update, blockRows = NO_LIMIT, rangeRows = NO_LIMIT, st
       let clock = rest.limited(CLOCK, 'clock')
       for (let k = 0n; k < count; k++) {
         const { value: info, place } = f.info()
-        if (info !== 0 && (info & 31) === 0) masked = true
+        if (info !== 0 && (info & 31) === 0) noted.masked = true
         const block = { client, clock, ...body(f, info, place) }
         clock = within(clock + block.length, CLOCK, place, 'end')
         const dropped = block.length === 0n && block.kind !== 'gc' && block.kind !== 'skip'
@@ -289,7 +258,7 @@ const readUpdate = (form, update, blockRows = NO_LIMIT, rangeRows = NO_LIMIT, st
     if (strict && unread.size > 0) refuse(15, Math.min(...unread))
     return { blocks, ranges: joined(ranges), rangesRead: ranges.length, deleteClients }
   })
-  return { ...r, masked }
+  return { ...r, ...noted }
 }
 
 // ---- content: the part of block n, after the whole update was read; it has no tables, so no 8
@@ -297,7 +266,7 @@ const content = (form, n, update) => {
   const r = readUpdate(form, update)
   if (r.number !== 0) return r
   const block = n < BigInt(r.blocks.length) ? r.blocks[Number(n)] : undefined
-  if (block === undefined || block.part === null) return nowhere(11)
+  if (block === undefined || !['binary', 'text'].includes(block.kind)) return nowhere(11)
   return { number: 0, part: update.slice(block.part.place, block.part.place + block.part.bytes) }
 }
 

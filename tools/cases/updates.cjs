@@ -38,11 +38,11 @@ w(read(1, '00 00', 0, 0), '0 blocks 0 ranges 0 zero')
 w(read(2, '00 00 00 00 00 00 01 00 00 00 00 00 00', 0, 0), '0 blocks 0 ranges 0 zero')
 // C: the name's byte stands at 7, after parent info and length; the text's two at 9.
 const C = '01 01 05 00 04 01 01 74 02 68 69 00'
-w(read(1, C), '0 blocks 1 5.0.2.text.-.-.7+1.-.-.9+2 ranges 0 zero')
-w(read(1, C, 1, 0), '0 blocks 1 5.0.2.text.-.-.7+1.-.-.9+2 ranges 0 zero')
+w(read(1, C), '0 blocks 1 5.0.2.text.-.-.7+1.-.-.9+2.-.- ranges 0 zero')
+w(read(1, C, 1, 0), '0 blocks 1 5.0.2.text.-.-.7+1.-.-.9+2.-.- ranges 0 zero')
 // D: the text column's text stands at 10 to 12, behind the column's length and its own.
 const D = '00 00 01 05 00 00 01 04 06 03 74 68 69 01 02 01 01 00 00 01 01 00 00'
-w(read(2, D, 1, 0), '0 blocks 1 5.0.2.text.-.-.10+1.-.-.11+2 ranges 0 zero')
+w(read(2, D, 1, 0), '0 blocks 1 5.0.2.text.-.-.10+1.-.-.11+2.-.- ranges 0 zero')
 // Content is the text itself. There is no block 1, and no form 3.
 w(content(1, 0, C), '0 6869')
 w(content(2, 0, D), '0 6869')
@@ -64,37 +64,37 @@ w(read(1, '00'), '1@1 zero')
 w(read(1, '01 01 05 00 82'), '1@5 zero')
 w(read(1, '01 01 05 00 82 09 00'), '5@4 zero')
 // So with parent and key: the name is not UTF-8, and that comes first.
-w(read(1, '01 01 05 00 28 01 01 ff'), '6@7 zero')
-w(read(1, '01 01 05 00 28 01 01 74 01 6b'), '5@4 zero')
+w(read(1, '01 01 05 00 22 01 01 ff'), '6@7 zero')
+w(read(1, '01 01 05 00 22 01 01 74 01 6b'), '5@4 zero')
 // A row is asked for when its block is complete: no row is 8 though the delete set is missing; with a row, that is 1.
 w(read(1, '01 01 05 00 04 01 01 74 02 68 69', 0, 0), '8@4 zero')
 w(read(1, '01 01 05 00 04 01 01 74 02 68 69', 1, 0), '1@11 zero')
 w(read(1, '01 01 05 00 04 01 01 74 02 68', 0, 0), '1@10 zero')
 // A block's end beats its row: a GC of length 1 at 2^31 - 1. One of length 0 is kept and takes a row.
 w(read(1, '01 01 05 ff ff ff ff 07 00 01 00', 0, 0), '3@8 zero')
-w(read(1, '01 01 05 ff ff ff ff 07 00 00 00', 1, 0), '0 blocks 1 5.2147483647.0.gc.-.-.-.-.-.- ranges 0 zero')
+w(read(1, '01 01 05 ff ff ff ff 07 00 00 00', 1, 0), '0 blocks 1 5.2147483647.0.gc.-.-.-.-.-.-.-.- ranges 0 zero')
 w(read(1, '01 01 05 ff ff ff ff 07 00 00 00', 0, 0), '8@8 zero')
-w(read(1, '01 01 05 03 0a 00 00', 1, 0), '0 blocks 1 5.3.0.skip.-.-.-.-.-.- ranges 0 zero')
+w(read(1, '01 01 05 03 0a 00 00', 1, 0), '0 blocks 1 5.3.0.skip.-.-.-.-.-.-.-.- ranges 0 zero')
 // An item of length 0 is dropped and takes no row; the block behind it is number 0.
-w(read(1, '01 02 05 00 01 01 01 74 00 04 01 01 74 01 61 00', 1, 0), '0 blocks 1 5.0.1.text.-.-.12+1.-.-.14+1 ranges 0 zero')
+w(read(1, '01 02 05 00 01 01 01 74 00 04 01 01 74 01 61 00', 1, 0), '0 blocks 1 5.0.1.text.-.-.12+1.-.-.14+1.-.- ranges 0 zero')
 w(content(1, 0, '01 02 05 00 01 01 01 74 00 04 01 01 74 01 61 00'), '0 61')
 w(content(1, 1, '01 02 05 00 01 01 01 74 00 04 01 01 74 01 61 00'), '11@0')
 // Skip of 3, then a text with left id (5, 2): each block starts where the one before ended. The Skip has no content.
-w(read(1, '01 02 05 00 0a 03 84 05 02 01 62 00'), '0 blocks 2 5.0.3.skip.-.-.-.-.-.- 5.3.1.text.5:2.-.-.-.-.10+1 ranges 0 zero')
+w(read(1, '01 02 05 00 0a 03 84 05 02 01 62 00'), '0 blocks 2 5.0.3.skip.-.-.-.-.-.-.-.- 5.3.1.text.5:2.-.-.-.-.10+1.-.- ranges 0 zero')
 w(content(1, 0, '01 02 05 00 0a 03 84 05 02 01 62 00'), '11@0')
 w(content(1, 1, '01 02 05 00 0a 03 84 05 02 01 62 00'), '0 62')
 // e4 is left id, right id, bit 32 and text: with an id there is no parent and no key, whatever bit 32 says.
-w(read(1, '01 01 05 00 e4 09 01 07 02 01 78 00'), '0 blocks 1 5.0.1.text.9:1.7:2.-.-.-.10+1 ranges 0 zero')
+w(read(1, '01 01 05 00 e4 09 01 07 02 01 78 00'), '0 blocks 1 5.0.1.text.9:1.7:2.-.-.-.10+1.-.- ranges 0 zero')
 // 23 is bit 32 and binary: parent info 0 (or 2: all but 1) and an id, then the key, then two bytes.
-w(read(1, '01 01 05 00 23 00 09 04 01 6b 02 ff 00 00'), '0 blocks 1 5.0.1.binary.-.-.-.9:4.9+1.11+2 ranges 0 zero')
-w(read(1, '01 01 05 00 23 02 09 04 01 6b 02 ff 00 00'), '0 blocks 1 5.0.1.binary.-.-.-.9:4.9+1.11+2 ranges 0 zero')
+w(read(1, '01 01 05 00 23 00 09 04 01 6b 02 ff 00 00'), '0 blocks 1 5.0.1.binary.-.-.-.9:4.9+1.11+2.-.- ranges 0 zero')
+w(read(1, '01 01 05 00 23 02 09 04 01 6b 02 ff 00 00'), '0 blocks 1 5.0.1.binary.-.-.-.9:4.9+1.11+2.-.- ranges 0 zero')
 w(content(1, 0, '01 01 05 00 23 00 09 04 01 6b 02 ff 00 00'), '0 ff00')
 // An empty binary has clock length 1 and is a part of no bytes.
-w(read(1, '01 01 05 00 83 05 00 00 00'), '0 blocks 1 5.0.1.binary.5:0.-.-.-.-.8+0 ranges 0 zero')
+w(read(1, '01 01 05 00 83 05 00 00 00'), '0 blocks 1 5.0.1.binary.5:0.-.-.-.-.8+0.-.- ranges 0 zero')
 w(content(1, 0, '01 01 05 00 83 05 00 00 00'), '0 -')
 // A text of two bytes and one unit, and one of four bytes and two: the next block starts at 3.
 w(read(1, '01 03 05 00 84 05 00 02 c3 a9 84 05 00 04 f0 9f 98 80 81 05 00 01 00'),
-  '0 blocks 3 5.0.1.text.5:0.-.-.-.-.8+2 5.1.2.text.5:0.-.-.-.-.14+4 5.3.1.deleted.5:0.-.-.-.-.- ranges 0 zero')
+  '0 blocks 3 5.0.1.text.5:0.-.-.-.-.8+2.-.- 5.1.2.text.5:0.-.-.-.-.14+4.-.- 5.3.1.deleted.5:0.-.-.-.-.-.-.- ranges 0 zero')
 // A text's bytes are there before they are looked at: two are announced and one, which is not UTF-8, is there.
 w(read(1, '01 01 05 00 04 01 02 ff'), '1@8 zero')
 w(read(1, '01 01 05 00 04 01 01 ff'), '6@7 zero')
@@ -128,18 +128,18 @@ w(read(1, '00 01 05 ff ff ff ff ff ff ff ff 7f 00 01'), '1@14 zero')
 w(read(1, '80 80 80 80 80 80 80 80 80'), '2@0 zero')
 w(read(1, '80 80 80 80 80 80 80 80'), '1@8 zero')
 // A nine-byte zero is a number: C's first clock in nine bytes.
-w(read(1, '01 01 05 80 80 80 80 80 80 80 80 00 04 01 01 74 02 68 69 00'), '0 blocks 1 5.0.2.text.-.-.15+1.-.-.17+2 ranges 0 zero')
+w(read(1, '01 01 05 80 80 80 80 80 80 80 80 00 04 01 01 74 02 68 69 00'), '0 blocks 1 5.0.2.text.-.-.15+1.-.-.17+2.-.- ranges 0 zero')
 // Form 2: the text column has no bytes, so no length. It is one byte that says one byte. It is not UTF-8, though no text is drawn, and though 65 sections follow.
 w(read(2, '00 00 00 00 00 00 00 00 00 00 00 00'), '1@7 zero')
 w(read(2, '00 00 00 00 00 00 01 01 00 00 00 00 00'), '1@8 zero')
 w(read(2, '00 00 00 00 00 00 02 01 ff 00 00 00 41'), '6@8 zero')
 // All nine columns are cut before the text is opened: the ninth is missing.
 w(read(2, '00 00 00 00 00 00 02 01 ff 00 00'), '1@11 zero')
-// Key and type column are not read: ff is no number. The flag is any byte.
-w(read(2, 'ff 01 ff 01 05 00 00 01 04 06 03 74 68 69 01 02 01 01 01 ff 00 01 01 00 00'), '0 blocks 1 5.0.2.text.-.-.11+1.-.-.12+2 ranges 0 zero')
+// Nothing is drawn from key and type column: ff is no number. The flag is any byte.
+w(read(2, 'ff 01 ff 01 05 00 00 01 04 06 03 74 68 69 01 02 01 01 01 ff 00 01 01 00 00'), '0 blocks 1 5.0.2.text.-.-.11+1.-.-.12+2.-.- ranges 0 zero')
 // Left and parent ids share the left clock column (4, then 6 by a difference of 2), right ids have their own. Clients: 5, then 9 twice, then 8.
 const ids = '00 00 04 05 49 00 08 02 08 04 01 0e 05 81 00 41 00 01 01 00 01 00 00 02 41 01 01 03 00 00'
-w(read(2, ids, 3, 0), '0 blocks 3 5.0.1.deleted.9:4.-.-.-.-.- 5.1.1.deleted.-.9:7.-.-.-.- 5.2.1.deleted.-.-.-.8:6.-.- ranges 0 zero')
+w(read(2, ids, 3, 0), '0 blocks 3 5.0.1.deleted.9:4.-.-.-.-.-.-.- 5.1.1.deleted.-.9:7.-.-.-.-.-.- 5.2.1.deleted.-.-.-.8:6.-.-.-.- ranges 0 zero')
 w(content(2, 2, ids), '11@0')
 // Form 2 deletes: (3, 1), then 0 after its end and length 1 + 1: they touch. From 0 again for the second client.
 w(read(2, '00 00 00 00 00 00 01 00 00 00 00 00 02 05 02 03 00 00 01 09 01 02 00', 0, 3), '0 blocks 0 ranges 2 9.2.1 5.3.3 zero')
@@ -153,7 +153,7 @@ w(read(2, '00 00 00 00 00 00 01 00 00 00 00 00 01 05 02 fe ff ff ff 07 00 00 00'
 w(read(2, '00 00 00 00 00 00 01 00 00 00 00 00 01 05 01 00 fe ff ff ff 07'), '0 blocks 0 ranges 1 5.0.2147483647 zero')
 w(read(2, '00 00 00 00 00 00 01 00 00 00 00 00 01 05 01 00 ff ff ff ff 07'), '3@16 zero')
 // A Skip's length is in the rest, a GC's in the length column: 0a 00 00 is Skip, then GC without end; rest 07, length column 03.
-w(read(2, '00 00 01 05 00 00 03 0a 00 00 01 00 00 00 01 03 01 02 00 07 00'), '0 blocks 2 5.0.7.skip.-.-.-.-.-.- 5.7.3.gc.-.-.-.-.-.- ranges 0 zero')
+w(read(2, '00 00 01 05 00 00 03 0a 00 00 01 00 00 00 01 03 01 02 00 07 00'), '0 blocks 2 5.0.7.skip.-.-.-.-.-.-.-.- 5.7.3.gc.-.-.-.-.-.-.-.- ranges 0 zero')
 // An id is its client, then its clock: the client column ends (1) where the clock column would say 3, and the other way round. For left, right and parent ids.
 // The client column lies at 3 and has an end at 4, or a second value; the left clocks then begin at 6, the right clocks at 7 if there is no left one.
 for (const [clocks, block] of [[6, { info: [0x81], left: [0x44] }], [7, { info: [0x41], right: [0x44] }], [6, { info: [1], parent: [0], left: [0x44] }]]) {
@@ -228,38 +228,39 @@ const differs = (what, form, text, line, theirs) => {
   const found = r === null ? null : [...r.structs.map(yjs.theirRecord), ...ranges()].join(', ')
   if (found !== theirs) throw new Error(`${what}: Yjs reads ${found}`)
 }
-const none = 'none none none none none none'
+const none = 'none none none none none none none none'
 differs('low bits 0 with other bits', 1, '010105008005000300', '5@4 zero', `5 0 5 gc ${none}`)
 differs('low bits 10 with other bits', 1, '010105008a09000300', '5@4 zero', null)
-differs('flag is a number', 2, '80' + D.slice(2), '0 blocks 1 5.0.2.text.-.-.10+1.-.-.11+2 ranges 0 zero', '')
-differs('item of length 0', 1, '01020500010101740004010174016100', '0 blocks 1 5.0.1.text.-.-.12+1.-.-.14+1 ranges 0 zero',
-  '5 0 0 deleted none none <74> none none none, 5 0 1 text none none <74> none none <61>')
+differs('flag is a number', 2, '80' + D.slice(2), '0 blocks 1 5.0.2.text.-.-.10+1.-.-.11+2.-.- ranges 0 zero', '')
+differs('item of length 0', 1, '01020500010101740004010174016100', '0 blocks 1 5.0.1.text.-.-.12+1.-.-.14+1.-.- ranges 0 zero',
+  '5 0 0 deleted none none <74> none none none none none, 5 0 1 text none none <74> none none <61> none none')
 differs('client in two sections', 1, '02010500040101740161010501840500016200', '4@11 zero',
-  '5 0 1 text none none <74> none none <61>, 5 1 1 text 5:0 none none none none <62>')
+  '5 0 1 text none none <74> none none <61> none none, 5 1 1 text 5:0 none none none none <62> none none')
 differs('delete ranges unsorted, touching', 1, '000105030a0200020203', '0 blocks 0 ranges 2 5.0.5 5.10.2 zero', '5 10 2, 5 0 2, 5 2 3')
 differs('delete range of length 0', 1, '000105010300', '0 blocks 0 ranges 0 zero', '5 3 0')
 differs('delete client twice, falling', 2, '000000000000010000000000020501010005010000', '0 blocks 0 ranges 1 5.0.2 zero', '5 1 1, 5 0 1')
 differs('column read past its end', 2, '0000010500000100010000000001010000', '1@13 zero', `5 0 0 gc ${none}`)
 differs('text past its column', 2, '00000000000001010000000000', '1@8 zero', '')
-differs('units past the text', 2, '0000010500000104060374686901030101000001010000', '7@11 zero', '5 0 2 text none none <74> none none <6869>')
-differs('units end in a pair', 2, '0000010500000104080574f09f988041000101000001010000', '7@11 zero', '5 0 1 text none none <74> none none <efbfbd>')
-differs('clock below zero', 2, '0000020509014400018101000000010201010000', '3@6 zero', '5 0 2 deleted 9:-2 none none none none none')
-differs('difference of 2^30', 2, '000002050905808080801000018101000000010201010000', '3@6 zero', '5 0 2 deleted 9:1073741824 none none none none none')
+differs('units past the text', 2, '0000010500000104060374686901030101000001010000', '7@11 zero', '5 0 2 text none none <74> none none <6869> none none')
+differs('units end in a pair', 2, '0000010500000104080574f09f988041000101000001010000', '7@11 zero', '5 0 1 text none none <74> none none <efbfbd> none none')
+differs('clock below zero', 2, '0000020509014400018101000000010201010000', '3@6 zero', '5 0 2 deleted 9:-2 none none none none none none none')
+differs('difference of 2^30', 2, '000002050905808080801000018101000000010201010000', '3@6 zero', '5 0 2 deleted 9:1073741824 none none none none none none none')
 differs('clock 2^31', 1, '0101058080808008000100', '3@3 zero', `5 2147483648 1 gc ${none}`)
 differs('length 2^31', 1, '0101050000808080800800', '3@5 zero', `5 0 2147483648 gc ${none}`)
 differs('end 2^31', 1, '010105ffffffff07000100', '3@8 zero', `5 2147483647 1 gc ${none}`)
 differs('client 2^53', 1, '0101808080808080801000000100', '3@2 zero', `9007199254740992 0 1 gc ${none}`)
-differs('parent info 2^31', 1, '0101050001808080800809000200', '3@5 zero', '5 0 2 deleted none none none 9:0 none none')
+differs('parent info 2^31', 1, '0101050001808080800809000200', '3@5 zero', '5 0 2 deleted none none none 9:0 none none none none')
 differs('stored run count 2147483646', 2, '0000010500000100010000000642feffffff0701010000', '3@14 zero', `5 0 2 gc ${none}`)
 differs('number of ten bytes', 1, '8080808080808080800000', '2@0 zero', '')
 differs('content 20', 1, '0101050014010174016100', '5@4 zero', null)
 differs('content 17', 1, '01010500110101740100', '5@4 zero', null)
 differs('content 19', 1, '0101050013010174016100', '5@4 zero', null)
-differs('content 2', 1, '0101050082090001013100', '5@4 zero', '5 0 1 ContentJSON 9:0 none none none none none')
-differs('content 5', 1, '0101050005010174027b7d00', '5@4 zero', '5 0 1 ContentEmbed none none <74> none none none')
-differs('content 6', 1, '01010500060101740162047472756500', '5@4 zero', '5 0 1 ContentFormat none none <74> none none none')
-differs('content 7', 1, '010105002701016d016b0100', '5@4 zero', '5 0 1 ContentType none none <6d> none <6b> none')
-differs('content 9', 1, '010105002901016d016b0167760000', '5@4 zero', '5 0 1 ContentDoc none none <6d> none <6b> none')
+differs('content 22', 1, '01010500160101740162013100', '5@4 zero', null)
+differs('content 23', 1, '01010500170101740100', '5@4 zero', null)
+differs('content 24', 1, '0101050018010174017e00', '5@4 zero', null)
+differs('content 2', 1, '0101050082090001013100', '5@4 zero', '5 0 1 ContentJSON 9:0 none none none none none none none')
+differs('content 5', 1, '0101050005010174027b7d00', '5@4 zero', '5 0 1 ContentEmbed none none <74> none none none none none')
+differs('content 9', 1, '010105002901016d016b0167760000', '5@4 zero', '5 0 1 ContentDoc none none <6d> none <6b> none none none')
 differs('sections announced', 1, '80808008', '3@0 zero', null)
 differs('blocks announced', 1, '01ffffffff0f0500', '3@1 zero', null)
 differs('end over 2^32 - 1', 1, '010205ffffffff0f0001000100', '3@3 zero', `5 4294967295 1 gc ${none}, 5 4294967296 1 gc ${none}`)
@@ -269,7 +270,7 @@ differs('column length in ten bytes', 2, '00808080808080808080000000000001000000
 differs('column length in eleven bytes', 2, '008080808080808080808001', '2@1 zero', null)
 differs('column length 2^64 - 1', 2, '00ffffffffffffffffff01', '2@1 zero', null)
 differs('client column read past its end', 2, '0000000000010001000000010101010000', '1@3 zero', `0 0 1 gc ${none}`)
-differs('unit lengths read past their end', 2, '0000010500000104030274740101000001010000', '1@12 zero', '5 0 0 text none none <> none none <>')
+differs('unit lengths read past their end', 2, '0000010500000104030274740101000001010000', '1@12 zero', '5 0 0 text none none <> none none <> none none')
 differs('length 2^32 + 1', 2, '00000105000001000100000005818080802001010000', '3@13 zero', `5 0 4294967297 gc ${none}`)
 differs('delete clock over 2^32 - 1', 2, '0000000000000100000000000105020100ffffffff0f00', '3@17 zero', '5 1 1, 5 4294967297 1')
 differs('delete client without ranges', 1, '00010500', '0 blocks 0 ranges 0 zero', '')
@@ -285,16 +286,16 @@ w(read(2, '00 00 00 00 00 01 00 01 00 00 00 00 01 80 80 80 80 08 00 00'), '3@13 
 for (const text of ['0201050004010174016101090004010174016200', '010105000401017404f09f988000', '0101050304010174016100']) read(1, text)
 w(vector('0205000501'), '4@0 zero')
 {
-  // A string in a map is content 8.
+  // A string in a map is content 8. In form 2 its count stands in the length column, its bytes in the rest.
   const doc = documents.document(5, true)
   doc.getMap('m').set('k', 'v')
-  w(c.read(1, [...Y.encodeStateAsUpdate(doc)]), '5@4 zero')
-  w(c.read(2, [...Y.encodeStateAsUpdateV2(doc)]), '5@7 zero')
+  w(c.read(1, [...Y.encodeStateAsUpdate(doc)]), '0 blocks 1 5.0.1.any.-.-.7+1.-.9+1.11+3.-.- ranges 0 zero')
+  w(c.read(2, [...Y.encodeStateAsUpdateV2(doc)]), '0 blocks 1 5.0.1.any.-.-.10+1.-.11+1.22+3.-.- ranges 0 zero')
   // Two halves of a pair, inserted apart: in form 2 Yjs joins its texts and writes one character, with unit lengths that end inside it.
   const halves = documents.document(5, true)
   halves.getText('a').insert(0, '\ud83d')
   halves.getText('a').insert(0, '\ude00')
-  w(c.read(1, [...Y.encodeStateAsUpdate(halves)]), '0 blocks 2 5.0.1.text.-.-.7+1.-.-.9+3 5.1.1.text.-.5:0.-.-.-.16+3 ranges 0 zero')
+  w(c.read(1, [...Y.encodeStateAsUpdate(halves)]), '0 blocks 2 5.0.1.text.-.-.7+1.-.-.9+3.-.- 5.1.1.text.-.5:0.-.-.-.16+3.-.- ranges 0 zero')
   w(c.read(2, [...Y.encodeStateAsUpdateV2(halves)]), '7@15 zero')
 }
 
@@ -315,7 +316,7 @@ const readable = made.filter(({ form, update }) => c.whole(form, update).number 
 if (readable.length < 1000) throw new Error(`just ${readable.length} updates by Yjs read`)
 // What they have in them: how many of each form.
 const features = {
-  ...Object.fromEntries(['gc', 'skip', 'deleted', 'binary', 'text'].map(kind => [kind, (r, update) => r.blocks.some(b => b.kind === kind)])),
+  ...Object.fromEntries(['gc', 'skip', 'deleted', 'binary', 'text', 'type'].map(kind => [kind, (r, update) => r.blocks.some(b => b.kind === kind)])),
   pairs: (r, update) => r.blocks.some(b => b.kind === 'text' && update.slice(b.part.place, b.part.place + b.part.bytes).some(x => x >= 0xf0)),
   'left id': r => r.blocks.some(b => b.left !== null),
   'right id': r => r.blocks.some(b => b.right !== null),
@@ -342,24 +343,43 @@ readable.forEach(({ form, update }, k) => {
 })
 for (const v of vectors) c.readVector(v)
 
-// Yjs's own fixtures hold other contents. With all content deleted they read; the map has 513 blocks, one more than are ever lent.
-for (const f of fixtures) {
+// Yjs's own fixtures, in both forms. The text has embeds, which are refused: with these deleted it reads. The map has more blocks than are ever lent: it reads
+// without one client after the other. Then with all content deleted.
+const inBoth = update => [{ form: 1, update: [...update] }, { form: 2, update: [...Y.convertUpdateFormatV1ToV2(Uint8Array.from(update))] }]
+const fixtureReads = ({ form, update }, what) => {
+  const r = c.whole(form, update)
+  if (r.number !== 0) throw new Error(`${what} is refused ${r.number} at ${r.place}`)
+  if (r.blocks.length > 512) w(stream.unplaced(c.read(form, update)), '8 zero')
+  else c.read(form, update, r.blocks.length, r.rangesRead)
+  c.list([form, ...update])
+  return r
+}
+const fixtureBlocks = fixtures.map(f => {
   const update = [...Buffer.from(f.base64, 'base64')]
-  w(stream.unplaced(c.read(1, update)), '5 zero')
-  w(stream.unplaced(c.read(2, [...Y.convertUpdateFormatV1ToV2(Uint8Array.from(update))])), '5 zero')
-  w(stream.unplaced(c.content(1, 0, update)), '5')
-  c.list([1, ...update])
   const type = /Array/.test(f.name) ? 'array' : /Map/.test(f.name) ? 'map' : 'text'
+  if (type === 'text') {
+    for (const e of inBoth(update)) {
+      w(stream.unplaced(c.read(e.form, e.update)), '5 zero')
+      w(stream.unplaced(c.content(e.form, 0, e.update)), '5')
+      c.list([e.form, ...e.update])
+    }
+  }
+  const doc = documents.document(77, true)
+  Y.applyUpdate(doc, Uint8Array.from(update))
+  const plain = type === 'text' ? documents.withoutEmbeds(doc) : update
+  const blocks = inBoth(plain).map(e => fixtureReads(e, f.name).blocks.length)
+  if (blocks[0] > 512) {
+    for (const [client, clock] of Y.decodeStateVector(Y.encodeStateVectorFromUpdate(Uint8Array.from(plain)))) {
+      inBoth(Y.diffUpdate(Uint8Array.from(plain), Y.encodeStateVector(new Map([[client, clock]])))).forEach(e => fixtureReads(e, f.name))
+    }
+  }
   for (const e of documents.emptied(update, type)) {
-    const r = c.whole(e.form, e.update)
-    if (r.number !== 0) throw new Error(`${f.name}, emptied, is refused ${r.number}`)
-    if (r.blocks.length > 512) w(stream.unplaced(c.read(e.form, e.update)), '8 zero')
-    else c.read(e.form, e.update, r.blocks.length, r.rangesRead)
+    const r = fixtureReads(e, `${f.name}, emptied`)
     w(c.content(e.form, 0, e.update), '11@0')
     w(c.content(e.form, r.blocks.length, e.update), '11@0')
-    c.list([e.form, ...e.update])
   }
-}
+  return `${type} ${blocks[0]}`
+})
 
 // ---- updates put together by hand: shapes and spellings that Yjs does not write
 
@@ -400,7 +420,11 @@ for (let k = 0; k < 120; k++) {
 for (const form of forms) {
   for (let info = 0; info < 256; info++) {
     const kind = info & 31
-    const value = info === 10 || info === 0 || kind === 1 ? { length: 2 } : kind === 3 ? { binary: [7, 8] } : kind === 4 ? { text: 'é😀' } : { length: 1 }
+    const contents = {
+      1: { length: 2 }, 3: { binary: [7, 8] }, 4: { text: 'é😀' }, 6: { mark: 'bold', value: form === 1 ? s.utf8('true') : [120] },
+      7: { type: info >> 5, ...([3, 5].includes(info >> 5) ? { mark: 'p' } : {}) }, 8: { values: { count: 2, bytes: [125, 1, 119, 1, 97] } }
+    }
+    const value = info === 10 || info === 0 ? { length: 2 } : contents[kind] ?? { length: 1 }
     const block = { info, left: [9, 4], right: [8, 6], ...(info % 2 === 0 ? { name: 't' } : { parent: [7, 5] }), key: 'k', ...value }
     const after = { info: 0, length: 1 }
     const update = s.update(form, { sections: [{ client: 5, clock: 3, blocks: [block, after] }], deletes: [[5, [[3, 1]]]] })
@@ -736,4 +760,4 @@ w(c.list([9, 0, 0, ...Array(65534).fill(255)]), prints('refused 3 at 0\n'))
 
 fs.writeFileSync(path.join(folder, 'updates.stdin'), c.stream())
 fs.writeFileSync(path.join(folder, 'updates.stdout'), c.output())
-console.log(`${c.told()}\nmade by Yjs: ${made.length}, of which read ${readable.length}, form 1 + form 2 with ${has.join(', ')}`)
+console.log(`${c.told()}\nYjs's fixtures, with blocks: ${fixtureBlocks.join(', ')}\nmade by Yjs: ${made.length}, of which read ${readable.length}, form 1 + form 2 with ${has.join(', ')}`)

@@ -2,7 +2,7 @@
 // is held to, or that of the library: compare/judge.cjs): a document that has the vector's state gets the update, and its state and its pending blocks are
 // looked at. Nothing of the answer is worked out here. `across` says that by rule 28 a block is taken across a gap: that is counted apart.
 'use strict'
-const { Y, own, attempt, read, theirRecord, ourRecord } = require('./yjs.cjs')
+const { Y, own, attempt, read, theirRecord, ourRecord, meant } = require('./yjs.cjs')
 const { ordered } = require('./yjs-diffs.cjs')
 const spelling = require('./spelling.cjs')
 const { section } = require('./shapes.cjs')
@@ -49,12 +49,12 @@ const reached = (r, doc) => {
 
 // The document after it got the update, against the answer by rule 13: reaches, pending blocks, and what they wait for. Blocks of length 0 are not
 // looked at. A document that had pending blocks `before` has put its Skips anew, and what it waits for may be of then.
-const hold = (check, update, r, doc, before = false) => {
+const hold = (check, form, update, r, doc, before = false) => {
   const { pendingStructs } = doc.store
   check('reaches', reached(r, doc))
   const records = all => all.filter(x => !isEmpty(x) && !(before && isSkip(x))).join('\n')
   const theirs = pendingStructs === null ? [] : Y.decodeUpdateV2(pendingStructs.update).structs
-  check('pending blocks', records(theirs.map(theirRecord)) === records(r.rest.map(ourRecord(update))))
+  check('pending blocks', records(theirs.map(theirRecord)) === records(r.rest.map(ourRecord(update)).map(meant(form))))
   if (before) return
   // Yjs notes its walls: a client that has no more blocks, with its reach; and, before it looks at ids, a client whose block is above its own reach, with the
   // clock below that block. The lower one is kept.
@@ -71,9 +71,10 @@ const hold = (check, update, r, doc, before = false) => {
 }
 
 // How many sorts: equal, and by rule 28 no block is taken across a gap; equal, and by rule 28 one is. Not held against each other: an update with a flag over 127;
+// one with a value that JavaScript does not have;
 // a circle with more blocks behind (Yjs loses some); a block of length 0, where Yjs throws; a block that names an id of its own client that is not there
 // (just then it throws, too). Then sorts by documents that had the vector's state by edits, and by such that had pending blocks before, some of which were late.
-const counts = { equal: 0, across: 0, flag: 0, circle: 0, empty: 0, own: 0, edited: 0, 'edited across': 0, again: 0, 'again across': 0, late: 0 }
+const counts = { equal: 0, across: 0, flag: 0, beyond: 0, circle: 0, empty: 0, own: 0, edited: 0, 'edited across': 0, again: 0, 'again across': 0, late: 0 }
 
 const checking = (form, update, vector) => (what, holds) => {
   if (!holds) throw new Error(`the model and Yjs part at ${what}: form ${form}, ${hex(update)} against ${hex(vector)}`)
@@ -94,18 +95,19 @@ const asGarbage = run => {
 // `r` is the answer by rule 13, rows without end, and not refused. Yjs gets the update in document 01's order, without items of length 0 and without deletes.
 const compare = (form, update, vector, r, across) => {
   if (form === 2 && update[0] > 127) return counts.flag++
+  if (r.read.blocks.map(ourRecord(update)).map(meant(form)).includes(null)) return counts.beyond++
   const check = checking(form, update, vector)
   const doc = holding(r.entries)
   const { structs } = read(form, update)
   const done = attempt(() => asGarbage(() => {
-    apply(doc, 1, ordered({ structs, ds: { clients: new Map() } }))
+    apply(doc, form, ordered(form, { structs, ds: { clients: new Map() } }))
     return true
   }))
   if (loses(r)) return counts.circle++
   if (r.read.blocks.some(b => b.length === 0n) && (r.hung || done === null)) return counts.empty++
   check('an error', r.hung === (done === null))
   if (r.hung) return counts.own++
-  hold(check, update, r, doc)
+  hold(check, form, update, r, doc)
   counts[across ? 'across' : 'equal']++
 }
 
@@ -114,7 +116,7 @@ const compareDocument = (form, update, vector, r, across, doc) => {
   const check = checking(form, update, vector)
   check('an id that is not there', !r.hung && !loses(r))
   apply(doc, form, update)
-  hold(check, update, r, doc)
+  hold(check, form, update, r, doc)
   counts[across ? 'edited across' : 'edited']++
 }
 
@@ -126,7 +128,7 @@ const compareAgain = (form, update, vector, r, across, doc) => {
     counts.late++
     askAgain(doc)
   }
-  hold(check, update, r, doc, true)
+  hold(check, form, update, r, doc, true)
   counts[across ? 'again across' : 'again']++
 }
 const askAgain = doc => {

@@ -1,4 +1,5 @@
 //! The command `wairokabi`: checks, lists, diffs and sorts updates; `help.txt` says how it is called. Its answers are the library's, put into words.
+mod anys;
 mod place;
 
 use std::fmt::{Display, Write as _};
@@ -15,6 +16,13 @@ const LISTED_RANGES: usize = 1024;
 
 const REFUSED: u8 = 1;
 const NOT_RUN: u8 = 2;
+
+/// What stands under a refusal whose words alone do not say what to do.
+const KEYS_READ: &str =
+    "  more than 256 keys: Yjs writes every key in form 2, of a mark and of an XML node, under a new number, so a text with 129 and more
+  coloured words is over the 256 keys in form 2; it reads in form 1";
+const KEYS_WRITTEN: &str = "  more than 256 different keys, of marks and XML nodes, are to be written in form 2; form 1 takes any number of them";
+const FORMS: &str = "  the value of a mark is JSON text in form 1 and an any-value in form 2, and is not converted: write the update's own form,";
 
 /// Why the command ends without an answer.
 struct Stop {
@@ -143,6 +151,13 @@ impl Asked {
         if let Some(at) = refused.at() {
             let _ = write!(words, "\n{}", place::lines(self.form, &self.update.bytes, refused.number(), at));
         }
+        match (refused.number(), refused.at()) {
+            (3, Some(at)) if self.form == 2 && place::ends_keys(update, at) => words = format!("{words}\n{KEYS_READ}"),
+            // neither the update's nor the vector's
+            (3, None) if whose.is_empty() => words = format!("{words}\n{KEYS_WRITTEN}"),
+            (19, _) => words = format!("{words}\n{FORMS} {}", self.form),
+            _ => {}
+        }
         Stop { status: REFUSED, words }
     }
 
@@ -268,7 +283,7 @@ fn lines(form: u8, update: &Update) -> String {
 fn long_lines(form: u8, bytes: &[u8], update: &Update) -> String {
     let mut text = format!("update form {form} blocks {} ranges {}\n", update.blocks.len(), update.ranges.len());
     for (n, b) in update.blocks.iter().enumerate() {
-        let _ = writeln!(text, "block {n}: {}", described(b, bytes));
+        let _ = writeln!(text, "block {n}: {}", described(form, b, bytes));
     }
     for r in update.ranges {
         let _ = writeln!(text, "deleted: client {} clock {} length {}", r.client, r.clock, r.length);
@@ -277,13 +292,11 @@ fn long_lines(form: u8, bytes: &[u8], update: &Update) -> String {
 }
 
 /// `client 5 clock 0 length 2 text "hi", parent "t"`
-fn described(block: &Block, update: &[u8]) -> String {
-    let bytes = |part: Part| part.of(update).unwrap_or_default();
-    let quoted = |part: Part| format!("{:?}", String::from_utf8_lossy(bytes(part)));
+fn described(form: u8, block: &Block, update: &[u8]) -> String {
     let id = |id: Id| format!("({},{})", id.client, id.clock);
+    let quoted = |part: Part| quoted(part, update);
     let mut text = format!("client {} clock {} length {} {}", block.client, block.clock, block.length.0, block.kind_name());
-    if let Some(part) = block.part() {
-        let shown = if block.kind == TEXT { quoted(part) } else { hex(bytes(part)) };
+    if let Some(shown) = held(form, block, update) {
         let _ = write!(text, " {shown}");
     }
     let ids = [("left", block.left().map(id)), ("right", block.right().map(id)), ("parent", block.parent().map(id))];
@@ -294,6 +307,30 @@ fn described(block: &Block, update: &[u8]) -> String {
         }
     }
     text
+}
+
+fn quoted(part: Part, update: &[u8]) -> String {
+    format!("{:?}", String::from_utf8_lossy(part.of(update).unwrap_or_default()))
+}
+
+/// What a block holds: a text quoted, a binary in hex, a mark as `"bold" = true`, a type as `xml element "p"`, the values of an any-list as JSON.
+fn held(form: u8, block: &Block, update: &[u8]) -> Option<String> {
+    let part = block.part().and_then(|part| part.of(update)).unwrap_or_default();
+    let mark = block.mark().map(|mark| quoted(mark, update));
+    match block.kind {
+        BINARY => Some(hex(part)),
+        TEXT => Some(quoted(block.part, update)),
+        // form 1 has JSON text, as it is, on one line
+        FORMAT if form == 1 => Some(format!("{} = {}", mark?, on_a_line(&String::from_utf8_lossy(part)))),
+        FORMAT => Some(format!("{} = {}", mark?, anys::values(part, 1))),
+        TYPE => Some([Some(block.type_name()?.to_string()), mark].into_iter().flatten().collect::<Vec<_>>().join(" ")),
+        ANY => Some(format!("[{}]", anys::values(part, block.length.0))),
+        _ => None,
+    }
+}
+
+fn on_a_line(text: &str) -> String {
+    text.chars().flat_map(|c| if c.is_control() { c.escape_default().collect() } else { vec![c] }).collect()
 }
 
 fn stored(asked: &Asked, n: usize, out: Option<&str>) -> Result<Vec<u8>, Stop> {
@@ -339,7 +376,7 @@ fn sorted(asked: &Asked, words: &Words) -> Result<Vec<u8>, Stop> {
     let blocks = sorted.update.blocks;
     let mut text = format!("taken, in order: {} of {}\n", sorted.order.len(), many(blocks.len(), "block"));
     for n in sorted.order {
-        let _ = writeln!(text, "  block {n}: {}", described(&blocks[*n as usize], bytes));
+        let _ = writeln!(text, "  block {n}: {}", described(form, &blocks[*n as usize], bytes));
     }
     text.push_str("of each client\n");
     for count in sorted.counts {
@@ -404,8 +441,10 @@ fn of_hex(digits: &str) -> Option<Vec<u8>> {
 /// Lines made here are the library's.
 #[test]
 fn lines_are_the_librarys() {
-    let updates: [&[u8]; 3] = [
+    let updates: [&[u8]; 4] = [
         &[0x01, 0x01, 0x05, 0x00, 0x04, 0x01, 0x01, 0x74, 0x02, 0x68, 0x69, 0x00],
+        // a mark, a map and an any-list of two
+        &[1, 3, 5, 0, 6, 1, 1, 0x74, 1, 0x62, 1, 0x31, 7, 1, 1, 0x74, 1, 8, 1, 1, 0x74, 2, 126, 126, 0],
         // a GC, a Skip, a binary and three deleted units of client 5; client 7's ids 3 and 4 deleted, and 9
         &[1, 4, 5, 2, 0, 3, 10, 2, 3, 1, 1, 0x74, 2, 8, 9, 1, 1, 1, 0x74, 3, 1, 7, 2, 3, 2, 9, 1],
         &[1, 0, 5, 0, 0],

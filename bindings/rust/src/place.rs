@@ -1,6 +1,7 @@
 //! Where in an update a refused byte lies, for the command: its place, the part of the update that has it, and the bytes around it. Form 2 is cut into its
 //! columns here once more, for these words alone; of a damaged update as many as its lengths lead to.
 use std::ops::Range;
+use wairokabi::{next_difference, open_differences, MAX_BLOCKS};
 
 /// The columns of form 2, in their order.
 const COLUMNS: [&str; 9] = ["key", "client", "left clock", "right clock", "info", "text", "parent info", "type", "length"];
@@ -58,6 +59,27 @@ fn lies(form: u8, update: &[u8], number: u8, place: usize) -> String {
         Some((Part::Rest, _)) => "in the rest, behind the columns".to_string(),
         None => "in the update".to_string(),
     }
+}
+
+/// Form 2 has a list of at most so many keys.
+const MAX_KEYS: u32 = 256;
+
+/// Whether a form 2 update is refused at this place for its list of keys: the number of the 257th key that would join it is drawn from the run there.
+pub fn ends_keys(update: &[u8], place: usize) -> bool {
+    let parts = parts(update);
+    let Some((_, of)) = parts.iter().find(|(part, _)| *part == Part::Column("key")) else { return false };
+    let (column, mut at, mut keys) = (&update[..of.end], open_differences(of.start), 0);
+    for _ in 0..MAX_BLOCKS {
+        let Ok((number, next)) = next_difference(column, at) else { return false };
+        at = next;
+        if number >= keys {
+            if keys == MAX_KEYS {
+                return at.from == place;
+            }
+            keys += 1;
+        }
+    }
+    false
 }
 
 /// The parts of a form 2 update in their order, each beginning where the one before ends: the flag, nine times a length and so many bytes, the rest. The
@@ -144,6 +166,16 @@ mod tests {
         assert_eq!(lies(1, &[1, 1, 5, 0, 0x82, 9, 0], 5, 4), "in the blocks");
         assert_eq!(lies(1, &[0x41], 3, 0), "in the update");
         assert_eq!(lies(1, &[1, 1], 1, 2), "the end of the file");
+    }
+
+    /// A key column of numbers 0 to 256, in two runs; of 0 to 255, and then 0 without end; of one below zero.
+    #[test]
+    fn keys_end_at_the_257th() {
+        let of = |column: &[u8]| [&[0, column.len() as u8], column, &[0, 0, 0, 0, 1, 0, 0, 0, 0, 0, 0]].concat();
+        assert!(ends_keys(&of(&[0, 3, 0xfe, 1]), 3) && !ends_keys(&of(&[0, 3, 0xfe, 1]), 2));
+        assert!(!ends_keys(&of(&[0, 3, 0xfd, 1]), 3));
+        assert!(!ends_keys(&of(&[0x42]), 2) && !ends_keys(&of(&[]), 2) && !ends_keys(&[0, 9, 0], 2));
+        assert!(!ends_keys(&of(&[1, 0xfd, 0xff, 0xff, 0xff, 0x07]), 2));
     }
 
     /// A length that does not end, one that says more at its ninth byte, and one past the file: what has them is the last part.

@@ -36,8 +36,9 @@ pub struct Id {
 
 /// A row of the block table: one block.
 ///
-/// `has_left` says whether `left` is there, and so on; what is not there is zero. `part` is the stored part of a binary or a text, zero for the others.
-/// A row that has no block is zero, which is also its default.
+/// `has_left` says whether `left` is there, and so on; what is not there is zero. `part` is the stored part of a binary or a text, the value of a format (in
+/// form 1 its JSON text, in form 2 an any-value's bytes) or the bytes of all values of an any-list, zero for the others. `mark` is the key of a format, or the
+/// node name of a type that has one; `type_number` is a type's. A row that has no block is zero, which is also its default.
 #[repr(C)]
 #[derive(Clone, Copy, Debug, Default, PartialEq, Eq, Hash)]
 pub struct Block {
@@ -49,6 +50,7 @@ pub struct Block {
     pub name: Part,
     pub key: Part,
     pub part: Part,
+    pub mark: Part,
     pub clock: u32,
     pub kind: u8,
     pub has_left: bool,
@@ -56,6 +58,7 @@ pub struct Block {
     pub has_parent: bool,
     pub has_name: bool,
     pub has_key: bool,
+    pub type_number: u8,
 }
 
 #[repr(C)]

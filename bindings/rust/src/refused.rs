@@ -22,7 +22,7 @@ pub struct Refused {
 }
 
 impl Refused {
-    /// The number: 1 to 17.
+    /// The number: 1 to 17, or 19.
     pub fn number(self) -> u8 {
         self.number
     }
@@ -30,15 +30,16 @@ impl Refused {
     /// The place of the byte that is blamed, counted from 0 in the update, or in the bytes that a number or a column is read from:
     ///
     /// - 1: the end of the column that ends early, which is the place after its last byte; else the end of the update, or of the bytes.
-    /// - 2, 3: the first byte of the number, a run's count too. A number that is drawn from a run blames the run's first byte, and so does the clock that
-    ///   a difference leads to.
+    /// - 2, 3: the first byte of the number, a run's count too. A number that is drawn from a run blames the run's first byte, and so do the clock that a
+    ///   difference leads to and the 257th key of form 2. 3 for the seventeenth array or object inside each other: its tag.
     /// - 4: the section's client.
-    /// - 5, 8 for a block's row, 3 for a block's end: the block's info byte. 8 for a range's row, 3 for a range's end: the first byte of the range's clock.
+    /// - 5 for whatever of a block, 8 for its row, 3 for its end: the block's info byte. 8 for a range's row, 3 for a range's end: the first byte of the range's
+    ///   clock.
     /// - 6, 7: the first byte of the text, not of its length.
     /// - 14: the flag, which is byte 0. 15: the lowest byte that stays unread.
     ///
-    /// In form 2 a section's client and an info byte are drawn from runs too. `None` where no byte is blamed: 9 to 13, 8 for the order, an update over
-    /// [`MAX_UPDATE`](crate::MAX_UPDATE), a state vector, a summary that is read, a text that is counted or cut, and what is to be written.
+    /// In form 2 a section's client and an info byte are drawn from runs too. `None` where no byte is blamed: 9 to 13, 19, 8 for the order, 3 for keys
+    /// that are written, an update over [`MAX_UPDATE`](crate::MAX_UPDATE), a state vector, a summary that is read, a text that is counted or cut, and what is to be written.
     pub fn at(self) -> Option<usize> {
         self.at
     }
@@ -48,9 +49,9 @@ impl Refused {
         match self.number {
             1 => "bytes or a column end early",
             2 => "the ninth byte of a number says more",
-            3 => "over a limit, or a clock out of range",
+            3 => "over a limit, or a clock out of range; plain values with more than 16 arrays and objects open at once; more than 256 keys of form 2, read or written",
             4 => "a client in two sections, or twice in a vector",
-            5 => "content number not 1, 3, 4",
+            5 => "content number not 1, 3, 4, 6, 7, 8; a plain value with an unknown tag; a type number over 6",
             6 => "not UTF-8",
             7 => "units run past the text, or end in a pair",
             8 => "kept blocks, non-empty delete ranges or order steps exceed the rows lent",
@@ -63,6 +64,7 @@ impl Refused {
             15 => "strict reading: a byte stays unread",
             16 => "a summary's version is unknown",
             17 => "a summary's rows out of order, a row of no blocks, a first clock above its last end, filling that is not zero, or bytes left over",
+            19 => "a diff would keep a format whose form is not the one written",
             _ => "a number that this binding does not know",
         }
     }

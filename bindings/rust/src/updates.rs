@@ -96,7 +96,9 @@ pub struct Update<'t> {
     pub ranges: &'t [Range],
 }
 
-/// Reads an update of form 1 or 2. Refused by 12, 3, then the first refusal of reading: 1 to 8.
+/// Reads an update of form 1 or 2. Refused by 12, 3, then the first refusal of reading: 1 to 8. 3 is also for values inside more than 16 arrays and objects, and in
+/// form 2 for a 257th key: Yjs writes each mark and node name of form 2 under a new number, so that a text with 129 coloured words has too many of them there,
+/// and is read in form 1.
 ///
 /// Cases C and D: client 5, clock 0, parent "t", text "hi", in either form.
 ///
@@ -156,7 +158,8 @@ pub fn read_update_strict<'t>(form: u8, update: &[u8], rows: &'t mut [Block], ra
     Ok(Update { blocks: &rows[..answer.blocks], ranges: &ranges[..answer.ranges] })
 }
 
-/// The text or binary of block n, from 0 in reading order: that part of the update itself, not a copy. Refused by 12, 3, reading's, then 11.
+/// The text or binary of block n, from 0 in reading order: that part of the update itself, not a copy. Refused by 12, 3, reading's, then 11, for a format, a type
+/// and an any-list too.
 ///
 /// ```
 /// let c = [0x01, 0x01, 0x05, 0x00, 0x04, 0x01, 0x01, 0x74, 0x02, 0x68, 0x69, 0x00];
@@ -180,8 +183,9 @@ pub struct Diff<'t> {
     pub update: Update<'t>,
 }
 
-/// Writes into `out`, in the form `to`, what an update has beyond a state vector, with its whole delete set. Refused by 12 (either form), reading's, the
-/// vector's, then 9, 13, 10.
+/// Writes into `out`, in the form `to`, what an update has beyond a state vector, with its whole delete set. A text is cut by units, an any-list by entries; values
+/// are copied byte for byte. Refused by 12 (either form), reading's, the vector's, then 3 for more than 256 different marks and node names in form 2, 9, 19 for a
+/// format that is kept where the forms differ, 13, 10.
 ///
 /// Case E, C against vectors that have one unit of client 5, and both:
 ///

@@ -44,6 +44,18 @@ fn updates_are_refused() {
     refuses(1, &[0x02, 0x01, 0x05, 0x00, 0x00, 0x01, 0x01, 0x05], 4, Some(7));
     refuses(1, &[0x01, 0x01, 0x05, 0x00, 0x82, 0x09, 0x00], 5, Some(4));
     refuses(1, &[0x01, 0x01, 0x05, 0x00, 0x04, 0x01, 0x01, 0xff], 6, Some(7));
+    // type 7; an any-list with tag 5, with a string that is not UTF-8, with seventeen arrays
+    const NAMED: [u8; 4] = [0x01, 0x01, 0x05, 0x00];
+    refuses(1, &[&NAMED[..], &[0x07, 0x01, 0x01, 0x74, 0x07]].concat(), 5, Some(4));
+    refuses(1, &[&NAMED[..], &[0x08, 0x01, 0x01, 0x74, 0x01, 0x05]].concat(), 5, Some(4));
+    refuses(1, &[&NAMED[..], &[0x08, 0x01, 0x01, 0x74, 0x01, 0x77, 0x01, 0xff]].concat(), 6, Some(11));
+    refuses(1, &[&NAMED[..], &[0x08, 0x01, 0x01, 0x74, 0x01], &[0x75, 0x01].repeat(16), &[0x75]].concat(), 3, Some(41));
+    for end in 0..BOLD_1.len() {
+        refuses(1, &BOLD_1[..end], 1, Some(end));
+    }
+    for end in 0..BOLD_2.len() {
+        refuses(2, &BOLD_2[..end], 1, Some(end));
+    }
     refuses(0, &C, 12, None);
     refuses(3, &[], 12, None);
 }

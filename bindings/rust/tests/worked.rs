@@ -1,4 +1,4 @@
-//! Document 01's worked cases through the binding: C, D, E and M, the columns F to K, and rows for any update.
+//! Worked cases through the binding: document 01's C, D, E and M, marks, types and any-lists, the columns F to K, and rows for any update.
 mod cases;
 use cases::*;
 use wairokabi::*;
@@ -55,6 +55,75 @@ fn c_and_d_are_each_other_in_the_other_form() {
         assert_eq!(encode_update(form, bytes, to, &mut l.rows, &mut l.ranges, &mut l.out).unwrap().bytes, expected);
         assert!(zero(&l.out[expected.len()..]));
     }
+}
+
+#[test]
+fn marks_types_and_values_are_read() {
+    let read = |form, bytes: &[u8]| {
+        let mut l = lent(ROWS, ROWS, 0);
+        let blocks = read_update(form, bytes, &mut l.rows, &mut l.ranges).unwrap().blocks.to_vec();
+        assert!(zero(&l.rows[blocks.len()..]) && zero(&l.ranges));
+        blocks
+    };
+    for (form, bytes, value) in [(1, &BOLD_1[..], &b"true"[..]), (2, &BOLD_2, &[0x78])] {
+        let [b] = read(form, bytes)[..] else { panic!("one block") };
+        assert_eq!((b.kind, b.kind_name(), b.length, b.type_number(), b.type_name()), (FORMAT, "format", Units(1), None, None));
+        assert_eq!((b.mark().unwrap().of(bytes), b.part().unwrap().of(bytes)), (Some(&b"bold"[..]), Some(value)));
+        assert_eq!(content(form, bytes, 0).unwrap_err().number(), 11);
+    }
+    for (form, bytes, places) in [(1, &NODES_1[..], [10, 16]), (2, &NODES_2, [17, 17])] {
+        let blocks = read(form, bytes);
+        assert_eq!(
+            blocks.iter().map(|b| (b.type_number(), b.type_name())).collect::<Vec<_>>(),
+            [(Some(3), Some("xml element")), (Some(5), Some("xml hook"))]
+        );
+        assert_eq!(blocks.iter().map(|b| b.mark().unwrap().place).collect::<Vec<_>>(), places);
+        assert!(blocks.iter().all(|b| b.kind_name() == "type" && b.part().is_none() && b.mark().unwrap().of(bytes) == Some(b"p")));
+    }
+    let [b] = read(1, &ONES)[..] else { panic!("one block") };
+    assert_eq!((b.kind_name(), b.length, b.mark(), b.part().unwrap().of(&ONES)), ("any", Units(2), None, Some(&ONES[9..14])));
+}
+
+#[test]
+fn marks_types_and_values_are_written() {
+    let written = |form, bytes: &[u8], vector: &[u8], to| {
+        let mut l = lent(ROWS, ROWS, 64);
+        let answer = encode_diff(form, bytes, vector, to, &mut l.rows, &mut l.ranges, &mut l.out).map(|diff| diff.bytes.to_vec());
+        assert!(answer.is_ok() || zero(&l.rows) && zero(&l.out));
+        answer.map_err(|refused| (refused.number(), refused.at()))
+    };
+    assert_eq!((written(1, &NODES_1, &EMPTY, 2), written(2, &NODES_2, &EMPTY, 1)), (Ok(NODES_2.to_vec()), Ok(NODES_1.to_vec())));
+    // byte for byte; cut by entries
+    assert_eq!(written(1, &ONES, &EMPTY, 1), Ok(ONES.to_vec()));
+    assert_eq!(written(1, &ONES, &HAS_ONE, 1), Ok(vec![0x01, 0x01, 0x05, 0x01, 0x88, 0x05, 0x00, 0x01, 0x7d, 0x01, 0x00]));
+    // a format stays in its form; one that falls away is no matter
+    assert_eq!((written(1, &BOLD_1, &EMPTY, 1), written(2, &BOLD_2, &EMPTY, 2)), (Ok(BOLD_1.to_vec()), Ok(BOLD_2.to_vec())));
+    assert_eq!((written(1, &BOLD_1, &EMPTY, 2), written(2, &BOLD_2, &EMPTY, 1)), (Err((19, None)), Err((19, None))));
+    assert_eq!(written(2, &BOLD_2, &HAS_ONE, 1), Ok(vec![0, 0]));
+}
+
+/// 257 XML elements of different names: too many keys for form 2, and for no other; the same in one list of form 2.
+#[test]
+fn keys_are_256() {
+    let elements = |n: u64| {
+        let mut bytes = vec![1];
+        bytes.extend(write_unsigned(&mut [0; 9], n).unwrap());
+        bytes.extend([5, 0]);
+        (0..n).for_each(|k| bytes.extend([7, 1, 1, 0x74, 3, 2, b'a' + (k / 26) as u8, b'a' + (k % 26) as u8]));
+        bytes.push(0);
+        bytes
+    };
+    for (n, why) in [(256, None), (257, Some((3, None)))] {
+        let bytes = elements(n);
+        let mut l = lent(257, 0, 8000);
+        assert_eq!(encode_update(1, &bytes, 1, &mut l.rows, &mut l.ranges, &mut l.out).unwrap().bytes, bytes);
+        let answer = encode_update(1, &bytes, 2, &mut l.rows, &mut l.ranges, &mut l.out);
+        assert_eq!(answer.err().map(|refused| (refused.number(), refused.at())), why);
+    }
+    let mut l = lent(256, 0, 8000);
+    let two = encode_update(1, &elements(256), 2, &mut l.rows, &mut l.ranges, &mut l.out).unwrap().bytes.to_vec();
+    let mut l = lent(256, 0, 0);
+    assert_eq!(read_update(2, &two, &mut l.rows, &mut l.ranges).unwrap().blocks.len(), 256);
 }
 
 #[test]

@@ -1,8 +1,11 @@
 -- Form 2: what is refused has a number from 1 to 8.
 use Prim.Native.Nat.{ℕ}
 use mathlib.Core.List.{List}
-use lib.ListN.{take}
+use lib.Dec.{ltb}
+use lib.ListN.{length, take}
 use Rattle.numbers.specs.Limits.{maxClock}
+use Rattle.text.specs.declared.Part.{Part}
+use Rattle.text.specs.declared.Units.{Units}
 use Rattle.columns.specs.declared.number.Answer as number-answer
 use Rattle.columns.specs.declared.number.Answer.the-variants as number
 use Rattle.columns.specs.declared.difference.Answer as difference-answer
@@ -22,10 +25,11 @@ use Rattle.grammar.specs.Grammar.{Number, Field}
 use Rattle.grammar.specs.Course.{Drawn, got, not}
 use Rattle.grammar.specs.Numbered.{Refuses}
 use Rattle.decoder.specs.Line.{line}
-use Rattle.decoder.specs.States.{Numbers, Differences, Bytes, State, withText}
-use Rattle.decoder.specs.Columned.{numberDrawn, fromNumbers, differenceDrawn, fromDifferences, byteDrawn, fromBytes, textDrawn, fromTexts, onto, numberIn, columned}
+use Rattle.decoder.specs.States.{maxKeys, Numbers, Differences, Bytes, State, withText}
+use Rattle.decoder.specs.Columned.{numberDrawn, fromNumbers, differenceDrawn, fromDifferences, byteDrawn, fromBytes, textDrawn, onto, numberIn, textIn, joining, numbered, keyIn, columned}
 use Rattle.decoder.specs.Opening.{withOpened, textOpened}
-use Rattle.agreement.proofs.NumberedColumns.{NumberedNumber, number-numbered, NumberedDifference, difference-numbered, NumberedByte, byte-numbered, NumberedTexts, texts-numbered, NumberedString, string-numbered}
+use Rattle.pieces.proofs.Forgets.{chosen}
+use Rattle.agreement.proofs.NumberedColumns.{low3, NumberedNumber, number-numbered, NumberedDifference, difference-numbered, NumberedByte, byte-numbered, NumberedTexts, texts-numbered, NumberedString, string-numbered}
 use Rattle.agreement.proofs.Lines.{Right, bounded-right, line-right}
 
 module _ (u : List ℕ) where
@@ -56,7 +60,7 @@ module _ (u : List ℕ) where
       go (byte.Bad why) l = l
 
   module _ (s : State) where
-    text-right : Right (fromTexts u (s .text) (λ c. withText c s))
+    text-right : Right (textIn u s)
     unfolding textDrawn Refuses
     text-right = go (nextText (take (s .text .to) u) (s .text .place)) (string-numbered (take (s .text .to) u) (s .text .place))
       where
@@ -87,12 +91,36 @@ module _ (u : List ℕ) where
     number-right grammar.any = in-line (grammar.number grammar.any)
     number-right (grammar.deleteClock end) = in-line (grammar.number (grammar.deleteClock end))
     number-right grammar.deleteLen = in-line (grammar.number grammar.deleteLen)
+    number-right grammar.typeNumber = numbers-right (s .types) _
+
+  -- ---- keys
+
+  joining-right : (d : Drawn State (Part × Units)) → Right d → Right (joining d)
+  unfolding joining Refuses
+  joining-right (got a s) h = tt
+  joining-right (not why) h = h
+
+  -- one key too many is 3
+  numbered-right : (d : Drawn State (ℕ × ℕ)) → Right d → Right (numbered u d)
+  unfolding numbered Refuses
+  numbered-right (got a s) h =
+      chosen Right (ltb (a .0) (length (s .keys))) tt
+      (chosen Right (ltb (length (s .keys)) maxKeys) (joining-right (textIn u s) (text-right s)) low3)
+  numbered-right (not why) h = h
+
+  module _ (s : State) where
+    key-right : Right (keyIn u s)
+    unfolding keyIn
+    key-right = numbered-right _ (differences-right (s .key) _)
 
     pub columned-right : (f : Field) → Right (columned u f s)
     unfolding columned
-    columned-right (grammar.number k) = number-right k
-    columned-right grammar.text = text-right
-    columned-right grammar.bytes = in-line grammar.bytes
+    columned-right (grammar.number k) = number-right s k
+    columned-right grammar.text = text-right s
+    columned-right grammar.bytes = in-line s grammar.bytes
+    columned-right grammar.key = key-right
+    columned-right (grammar.value blame) = in-line s (grammar.value blame)
+    columned-right (grammar.values blame n) = in-line s (grammar.values blame n)
 
     -- and the text opened
     pub opened-right : Right (textOpened u s)

@@ -1,6 +1,8 @@
 -- What stands in line: what is refused, for every grammar, has a number from 1 to 8.
 use Prim.Native.Nat.{ℕ, _+_, _-_}
+use mathlib.Core.Path.{_≡_, refl}
 use mathlib.Core.List.{List}
+use native.Mathlib.Omega.{arith}
 use lib.Dec.{ltb, leb, eqb}
 use lib.ListN.{length}
 use lib.Seq.{slice}
@@ -9,13 +11,18 @@ use Rattle.numbers.specs.declared.Read.the-variants as read
 use Rattle.numbers.specs.Number.{readUnsigned}
 use Rattle.numbers.specs.Limits.{maxValue, maxClock}
 use Rattle.text.specs.declared.Part.{Part}
+use Rattle.text.specs.declared.Units.{Units}
 use Rattle.text.specs.Utf8.{wellFormed}
+use Rattle.anys.specs.declared.Skipped.{Skipped}
+use Rattle.anys.specs.declared.Skipped.the-variants as skipped
+use Rattle.anys.specs.Any.{anys}
+use Rattle.anys.proofs.Laws.{anys-numbered}
 use Rattle.grammar.specs.Grammar as grammar
 use Rattle.grammar.specs.Grammar.{Number, Field, Grammar}
 use Rattle.grammar.specs.Course.{Drawn, got, not, run}
 use Rattle.grammar.specs.Numbered.{Refuses, Owns}
 use Rattle.grammar.proofs.Numbered.{stops}
-use Rattle.decoder.specs.Line.{numberAt, varAt, bounded, upTo, byteAt, restored, deleteAt, numberOf, soMany, bytesAt, checked, line}
+use Rattle.decoder.specs.Line.{numberAt, varAt, bounded, upTo, byteAt, restored, deleteAt, numberOf, soMany, bytesAt, checked, wordOf, spanned, valuesAt, line}
 use Rattle.pieces.proofs.Forgets.{chosen}
 use Rattle.agreement.specs.Numbered.{Low, Stops}
 use Rattle.agreement.proofs.NumberedColumns.{low1, low3, low6, NumberedRead, unsigned-numbered}
@@ -37,6 +44,11 @@ checked-right : (u : List ℕ) (d : Drawn ℕ Part) → Right d → Right (check
 unfolding checked Refuses
 checked-right u (got p e) h = chosen Right (wellFormed (slice (p .place) (p .place + p .bytes .0) u)) tt low6
 checked-right u (not why) h = h
+
+word-right : (d : Drawn ℕ (Part × Units)) → Right d → Right (wordOf d)
+unfolding wordOf Refuses
+word-right (got a e) h = tt
+word-right (not why) h = h
 
 module _ (form : ℕ) (u : List ℕ) (at : ℕ) where
   var-right : Right (varAt u at)
@@ -80,12 +92,27 @@ module _ (form : ℕ) (u : List ℕ) (at : ℕ) where
   number-right grammar.len = up-to-right maxClock
   number-right (grammar.deleteClock end) = delete-right end
   number-right grammar.deleteLen = delete-right 1
+  number-right grammar.typeNumber = var-right
+
+  key-right : Right (wordOf (checked u (bytesAt u at)))
+  key-right = word-right (checked u (bytesAt u at)) (checked-right u (bytesAt u at) bytes-right)
+
+  values-right : (blame n : ℕ) → Right (valuesAt u blame n at)
+  unfolding valuesAt spanned Refuses
+  values-right blame n = go (anys u blame n at) refl
+    where
+      go : (s : Skipped) → anys u blame n at ≡ s → Right (spanned at s)
+      go (skipped.At e) h = tt
+      go (skipped.Refused why) h = let l = anys-numbered u blame n at why h in (l .0, omega (arith, l .1))
 
   pub line-right : (f : Field) → Right (line form u f at)
   unfolding line
   line-right (grammar.number n) = number-right n
   line-right grammar.text = checked-right u (bytesAt u at) bytes-right
   line-right grammar.bytes = bytes-right
+  line-right grammar.key = key-right
+  line-right (grammar.value blame) = chosen Right (eqb form 1) key-right (values-right blame 1)
+  line-right (grammar.values blame n) = values-right blame n
 
 pub line-numbered : {E A : Type 0} (form : ℕ) (u : List ℕ) (x : Grammar E A) → Owns Low x → (at : ℕ) → Stops (run (line form u) x at)
 line-numbered form u x o at = stops Low (line form u) (λ f e. line-right form u e f) x o at

@@ -1,4 +1,4 @@
--- What stands in line ends inside the bytes, wherever it was read from; so a delete set does.
+-- What stands in line ends inside the bytes; and a number does wherever it was read from, so a delete set does.
 use Prim.Native.Nat.{ℕ, _+_, _-_, _≤_}
 use mathlib.Core.Path.{_≡_, refl}
 use mathlib.Core.Bool.{Bool, true, false}
@@ -15,12 +15,16 @@ use Rattle.numbers.specs.Limits.{maxValue, maxClock, maxClients}
 use Rattle.text.specs.declared.Part.{Part}
 use Rattle.text.specs.declared.Units.{Units}
 use Rattle.text.specs.Utf8.{wellFormed}
+use Rattle.anys.specs.declared.Skipped.{Skipped}
+use Rattle.anys.specs.declared.Skipped.the-variants as skipped
+use Rattle.anys.specs.Any.{anys}
+use Rattle.anys.proofs.Laws.{anys-bytes}
 use Rattle.grammar.specs.Grammar as grammar
 use Rattle.grammar.specs.Grammar.{Number, Field, Grammar, ask, emit, stop, done, _>>=_}
 use Rattle.grammar.specs.Course.{Drawn, got, not, Run, onDrawn, run}
 use Rattle.grammar.specs.Deletes.{clients, allRanges}
 use Rattle.grammar.specs.Whole.{Ends}
-use Rattle.decoder.specs.Line.{numberAt, varAt, bounded, upTo, byteAt, restored, deleteAt, numberOf, soMany, bytesAt, checked, line}
+use Rattle.decoder.specs.Line.{numberAt, varAt, bounded, upTo, byteAt, restored, deleteAt, numberOf, soMany, bytesAt, checked, wordOf, spanned, valuesAt, line}
 use Rattle.decoder.specs.Update.{deleteSet}
 use Rattle.pieces.proofs.Forgets.{chosen}
 use Rattle.places.proofs.BlamedReads.{Reads, unsigned-reads}
@@ -78,6 +82,7 @@ module _ (u : List ℕ) where
     number-in form grammar.len = up-to-in maxClock
     number-in form (grammar.deleteClock end) = delete-in form end
     number-in form grammar.deleteLen = delete-in form 1
+    number-in form grammar.typeNumber = var-in
 
     bytes-in : In (bytesAt u at)
     unfolding bytesAt soMany
@@ -97,11 +102,31 @@ module _ (u : List ℕ) where
     checked-in (got p e) h = chosen (λ (x : Drawn ℕ (Part × Units)). In x) (wellFormed (slice (p .place) (p .place + p .bytes .0) u)) h tt
     checked-in (not why) h = tt
 
-    line-in : (form : ℕ) (f : Field) → In (line form u f at)
+    word-in : (d : Drawn ℕ (Part × Units)) → In d → In (wordOf d)
+    unfolding wordOf
+    word-in (got a e) h = h
+    word-in (not why) h = tt
+
+    key-in : In (wordOf (checked u (bytesAt u at)))
+    key-in = word-in (checked u (bytesAt u at)) (checked-in (bytesAt u at) bytes-in)
+
+    -- zero values end where they begin, so it must be inside
+    values-in : (blame n : ℕ) → at ≤ length u → In (valuesAt u blame n at)
+    unfolding valuesAt spanned
+    values-in blame n l = go (anys u blame n at) refl
+      where
+        go : (s : Skipped) → anys u blame n at ≡ s → In (spanned at s)
+        go (skipped.At e) h = anys-bytes u blame n at e l h .1
+        go (skipped.Refused why) h = tt
+
+    line-in : (form : ℕ) → at ≤ length u → (f : Field) → In (line form u f at)
     unfolding line
-    line-in form (grammar.number n) = number-in form n
-    line-in form grammar.text = checked-in (bytesAt u at) bytes-in
-    line-in form grammar.bytes = bytes-in
+    line-in form l (grammar.number n) = number-in form n
+    line-in form l grammar.text = checked-in (bytesAt u at) bytes-in
+    line-in form l grammar.bytes = bytes-in
+    line-in form l grammar.key = key-in
+    line-in form l (grammar.value blame) = chosen (λ (x : Drawn ℕ Part). In x) (eqb form 1) key-in (values-in blame 1 l)
+    line-in form l (grammar.values blame n) = values-in blame n l
 
   -- ---- a grammar
 
@@ -114,14 +139,14 @@ module _ (u : List ℕ) where
 
   run-in : {E A : Type 0} (form : ℕ) (x : Grammar E A) (at s : ℕ) → at ≤ length u → Ends (run (line form u) x at) s → s ≤ length u
   unfolding run Ends
-  run-in form (ask f k) at s l h = drawn-in s (line form u f at) _ (line-in at form f) (λ a t l h. run-in form (k a) t s l h) h
+  run-in form (ask f k) at s l h = drawn-in s (line form u f at) _ (line-in at form l f) (λ a t l h. run-in form (k a) t s l h) h
   run-in form (emit e p x) at s l h = run-in form x at s l h
   run-in form (stop n p) at s l h = absurd h
   run-in form (done a) at s l h = omega (arith, h, l)
 
   -- its client count is a number, wherever it stands
   pub set-inside : (form at s : ℕ) → Ends (deleteSet form u at) s → s ≤ length u
-  unfolding deleteSet allRanges _>>=_ run
+  unfolding deleteSet allRanges _>>=_ run line
   set-inside form at s h =
-      let count : Field = grammar.number (grammar.upTo maxClients) in
-      drawn-in s (line form u count at) _ (line-in at form count) (λ a t l h. run-in form (clients (a .0)) t s l h) h
+      let count : Number = grammar.upTo maxClients in
+      drawn-in s (numberOf form u count at) _ (number-in at form count) (λ a t l h. run-in form (clients (a .0)) t s l h) h

@@ -5,7 +5,7 @@ use mathlib.Core.Logic.{_⊎_, inl, inr}
 use mathlib.Core.Bool.{Bool, true, false, _||_}
 use native.Mathlib.Omega.{arith}
 use borrow.Author.Tests.{eqb-true}
-use Rattle.block.specs.Kinds.{GC, SKIP, DELETED, BINARY, TEXT, isGc, isSkip, isDeleted, isBinary, isText, isBare, isItem, isBlock, hasPart, contentNumber}
+use Rattle.block.specs.Kinds.{GC, SKIP, DELETED, BINARY, TEXT, FORMAT, TYPE, ANY, isGc, isSkip, isDeleted, isBinary, isText, isFormat, isType, isAny, isBare, isItem, isBlock, hasPart, contentNumber, isMarked}
 
 clash : {A : Type 0} → false ≡ true → A
 clash e = absurd (let z : _≡_ {A = ℕ} 0 1 = cc in omega arith)
@@ -28,22 +28,33 @@ bare-kinds k = go (isGc k) refl
     go true e h = inl (eqb-true k GC e)
     go false e h = inr (eqb-true k SKIP h)
 
-pub part-kinds : (k : ℕ) → hasPart k ≡ true → (k ≡ BINARY) ⊎ (k ≡ TEXT)
+pub part-kinds : (k : ℕ) → hasPart k ≡ true → (k ≡ BINARY) ⊎ (k ≡ TEXT) ⊎ (k ≡ FORMAT) ⊎ (k ≡ ANY)
 unfolding hasPart
-part-kinds k = go (isBinary k) refl
+part-kinds k = go (isBinary k) refl (isText k) refl (isFormat k) refl
   where
-    go : (x : Bool) → isBinary k ≡ x → (x || isText k) ≡ true → (k ≡ BINARY) ⊎ (k ≡ TEXT)
-    go true e h = inl (eqb-true k BINARY e)
-    go false e h = inr (eqb-true k TEXT h)
+    go : (x : Bool) → isBinary k ≡ x → (y : Bool) → isText k ≡ y → (z : Bool) → isFormat k ≡ z → (x || y || z || isAny k) ≡ true
+        → (k ≡ BINARY) ⊎ (k ≡ TEXT) ⊎ (k ≡ FORMAT) ⊎ (k ≡ ANY)
+    go true e y f z g h = inl (eqb-true k BINARY e)
+    go false e true f z g h = inr (inl (eqb-true k TEXT f))
+    go false e false f true g h = inr (inr (inl (eqb-true k FORMAT g)))
+    go false e false f false g h = inr (inr (inr (eqb-true k ANY h)))
 
-pub item-kinds : (k : ℕ) → isItem k ≡ true → (k ≡ DELETED) ⊎ (k ≡ BINARY) ⊎ (k ≡ TEXT)
+-- the kinds of items
+abbrev pub AnItem : ℕ → Type 0
+AnItem k = (k ≡ DELETED) ⊎ (k ≡ BINARY) ⊎ (k ≡ TEXT) ⊎ (k ≡ FORMAT) ⊎ (k ≡ TYPE) ⊎ (k ≡ ANY)
+
+pub item-kinds : (k : ℕ) → isItem k ≡ true → AnItem k
 unfolding isItem
-item-kinds k = go (isDeleted k) refl (isBinary k) refl
+item-kinds k = go (isDeleted k) refl (isBinary k) refl (isText k) refl (isFormat k) refl (isType k) refl
   where
-    go : (x : Bool) → isDeleted k ≡ x → (y : Bool) → isBinary k ≡ y → (x || y || isText k) ≡ true → (k ≡ DELETED) ⊎ (k ≡ BINARY) ⊎ (k ≡ TEXT)
-    go true e y f h = inl (eqb-true k DELETED e)
-    go false e true f h = inr (inl (eqb-true k BINARY f))
-    go false e false f h = inr (inr (eqb-true k TEXT h))
+    go : (x : Bool) → isDeleted k ≡ x → (y : Bool) → isBinary k ≡ y → (z : Bool) → isText k ≡ z → (v : Bool) → isFormat k ≡ v
+        → (w : Bool) → isType k ≡ w → (x || y || z || v || w || isAny k) ≡ true → AnItem k
+    go true a y b z c v d w e h = inl (eqb-true k DELETED a)
+    go false a true b z c v d w e h = inr (inl (eqb-true k BINARY b))
+    go false a false b true c v d w e h = inr (inr (inl (eqb-true k TEXT c)))
+    go false a false b false c true d w e h = inr (inr (inr (inl (eqb-true k FORMAT d))))
+    go false a false b false c false d true e h = inr (inr (inr (inr (inl (eqb-true k TYPE e)))))
+    go false a false b false c false d false e h = inr (inr (inr (inr (inr (eqb-true k ANY h)))))
 
 -- ---- a block is bare or an item, and not both
 
@@ -68,10 +79,13 @@ pub item-bare : (k : ℕ) → isItem k ≡ true → isBare k ≡ false
 unfolding isBare
 item-bare k h = go (item-kinds k h)
   where
-    go : (k ≡ DELETED) ⊎ (k ≡ BINARY) ⊎ (k ≡ TEXT) → isBare k ≡ false
+    go : AnItem k → isBare k ≡ false
     go (inl e) = rw e
     go (inr (inl e)) = rw e
-    go (inr (inr e)) = rw e
+    go (inr (inr (inl e))) = rw e
+    go (inr (inr (inr (inl e)))) = rw e
+    go (inr (inr (inr (inr (inl e))))) = rw e
+    go (inr (inr (inr (inr (inr e))))) = rw e
 
 pub bare-gc : (k : ℕ) → isBare k ≡ false → isGc k ≡ false
 unfolding isBare
@@ -85,22 +99,35 @@ bare-skip k = second-not (isGc k) (isSkip k)
 
 pub item-part : (k : ℕ) → isItem k ≡ false → hasPart k ≡ false
 unfolding isItem hasPart
-item-part k = go (isDeleted k) (isBinary k) (isText k)
+item-part k = go (isDeleted k) (isBinary k) (isText k) (isFormat k) (isType k) (isAny k)
   where
-    go : (x y z : Bool) → (x || y || z) ≡ false → (y || z) ≡ false
-    go true y z h = clash (sym h)
-    go false y z h = h
+    go : (x y z v w a : Bool) → (x || y || z || v || w || a) ≡ false → (y || z || v || a) ≡ false
+    go true y z v w a h = clash (sym h)
+    go false true z v w a h = h
+    go false false true v w a h = h
+    go false false false true w a h = h
+    go false false false false true a h = clash (sym h)
+    go false false false false false a h = h
 
 pub part-text : (k : ℕ) → hasPart k ≡ false → isText k ≡ false
 unfolding hasPart
-part-text k = second-not (isBinary k) (isText k)
+part-text k h =
+    second-not (isBinary k) (isText k)
+    (first-not (isBinary k || isText k) (isFormat k) (first-not (isBinary k || isText k || isFormat k) (isAny k) h))
+
+pub part-any : (k : ℕ) → hasPart k ≡ false → isAny k ≡ false
+unfolding hasPart
+part-any k = second-not (isBinary k || isText k || isFormat k) (isAny k)
 
 -- an item has content
-pub item-number : (k : ℕ) → isItem k ≡ true → (1 ≤ contentNumber k) × (contentNumber k ≤ 4)
+pub item-number : (k : ℕ) → isItem k ≡ true → (1 ≤ contentNumber k) × (contentNumber k ≤ 8)
 unfolding contentNumber
 item-number k h = go (item-kinds k h)
   where
-    go : (k ≡ DELETED) ⊎ (k ≡ BINARY) ⊎ (k ≡ TEXT) → (1 ≤ contentNumber k) × (contentNumber k ≤ 4)
+    go : AnItem k → (1 ≤ contentNumber k) × (contentNumber k ≤ 8)
     go (inl e) = rw e (omega arith, omega arith)
     go (inr (inl e)) = rw e (omega arith, omega arith)
-    go (inr (inr e)) = rw e (omega arith, omega arith)
+    go (inr (inr (inl e))) = rw e (omega arith, omega arith)
+    go (inr (inr (inr (inl e)))) = rw e (omega arith, omega arith)
+    go (inr (inr (inr (inr (inl e))))) = rw e (omega arith, omega arith)
+    go (inr (inr (inr (inr (inr e))))) = rw e (omega arith, omega arith)

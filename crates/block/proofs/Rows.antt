@@ -4,13 +4,13 @@ use mathlib.Core.Bool.{Bool}
 use Rattle.text.specs.declared.Part.{Part}
 use Rattle.block.specs.declared.Block.{Block}
 use Rattle.block.specs.Row.{noBlock}
-use Rattle.block.specs.Rows.{headIs, idsAre, rootIs, keyIs, withPart}
+use Rattle.block.specs.Rows.{headIs, idsAre, rootIs, keyIs, withPart, markIs}
 
--- the four setters name every field: a row is what they make of the row that has no block
+-- the five setters name every field: a row is what they make of the row that has no block
 pub made : (b : Block)
     → headIs (b .client) (b .clock) (b .length) (b .kind)
     (idsAre (b .«has_left») (b .left) (b .«has_right») (b .right)
-    (rootIs (b .«has_parent») (b .parent) (b .«has_name») (b .name) (b .«has_key») (b .key) (withPart (b .part) noBlock)))
+    (rootIs (b .«has_parent») (b .parent) (b .«has_name») (b .name) (b .«has_key») (b .key) (withPart (b .part) (markIs (b .mark) (b .«type_number») noBlock))))
     ≡ b
 made b = refl
 

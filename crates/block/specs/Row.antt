@@ -28,4 +28,6 @@ noBlock =
       «has_key» = false;
       key = noPart;
       part = noPart;
+      mark = noPart;
+      «type_number» = 0;
     }

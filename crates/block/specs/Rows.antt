@@ -1,4 +1,4 @@
--- A row with something set. Four setters name every field: what stands first in a row, its ids, its root, its part. All others are made of them, and
+-- A row with something set. Five setters name every field: what stands first in a row, its ids, its root, its part, its mark. All others are made of them, and
 -- so is every record of a block, from the row that has no block or from another: a field more is said here.
 use Prim.Native.Nat.{ℕ}
 use mathlib.Core.Bool.{Bool, true, false}
@@ -29,6 +29,8 @@ headIs client clock n kind b =
       «has_key» = b .«has_key»;
       key = b .key;
       part = b .part;
+      mark = b .mark;
+      «type_number» = b .«type_number»;
     }
 
 -- a left and a right id, each if it is there
@@ -50,6 +52,8 @@ idsAre l i r j b =
       «has_key» = b .«has_key»;
       key = b .key;
       part = b .part;
+      mark = b .mark;
+      «type_number» = b .«type_number»;
     }
 
 -- a parent by its id, a parent by its name, and a key
@@ -71,6 +75,8 @@ rootIs h i n p k q b =
       «has_key» = k;
       key = q;
       part = b .part;
+      mark = b .mark;
+      «type_number» = b .«type_number»;
     }
 
 -- the stored part
@@ -92,6 +98,31 @@ withPart p b =
       «has_key» = b .«has_key»;
       key = b .key;
       part = p;
+      mark = b .mark;
+      «type_number» = b .«type_number»;
+    }
+
+-- the mark, and the type number
+abbrev pub markIs : Part → ℕ → Block → Block
+markIs p type b =
+    record {
+      client = b .client;
+      clock = b .clock;
+      length = b .length;
+      kind = b .kind;
+      «has_left» = b .«has_left»;
+      left = b .left;
+      «has_right» = b .«has_right»;
+      right = b .right;
+      «has_parent» = b .«has_parent»;
+      parent = b .parent;
+      «has_name» = b .«has_name»;
+      name = b .name;
+      «has_key» = b .«has_key»;
+      key = b .key;
+      part = b .part;
+      mark = p;
+      «type_number» = type;
     }
 
 -- ---- one of them
@@ -122,6 +153,12 @@ nameIs there p b = rootIs (b .«has_parent») (b .parent) there p (b .«has_key�
 
 abbrev pub keyIs : Bool → Part → Block → Block
 keyIs there p b = rootIs (b .«has_parent») (b .parent) (b .«has_name») (b .name) there p b
+
+abbrev pub withMark : Part → Block → Block
+withMark p b = markIs p (b .«type_number») b
+
+abbrev pub withType : ℕ → Block → Block
+withType type b = markIs (b .mark) type b
 
 -- ---- there, and not
 

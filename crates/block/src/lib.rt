@@ -2,7 +2,7 @@
 ghost use mathlib.Core.Path.{_≡_};
 ghost use Prim.Native.Nat.{_≤_};
 ghost use Rattle.block.specs.Row.{noBlock};
-ghost use Rattle.block.specs.Kinds.{isItem, hasPart, contentNumber};
+ghost use Rattle.block.specs.Kinds.{isItem, hasPart, contentNumber, isNamed, isMarked};
 use text::Bytes;
 use text::Part;
 use text::Units;
@@ -18,6 +18,15 @@ pub const BINARY: u8 = 4;
 
 pub const TEXT: u8 = 5;
 
+pub const FORMAT: u8 = 6;
+
+pub const TYPE: u8 = 7;
+
+pub const ANY: u8 = 8;
+
+// The highest type number.
+pub const MAX_TYPE: u64 = 6;
+
 // A block with content: it is not bare, as a GC and a Skip are.
 pub fn is_item(kind: u8) -> bool
     ensures { λ r. ⌜ r ≡ isItem kind ⌝ }
@@ -26,6 +35,9 @@ pub fn is_item(kind: u8) -> bool
         DELETED => true,
         BINARY => true,
         TEXT => true,
+        FORMAT => true,
+        TYPE => true,
+        ANY => true,
         _ => false,
     }
 }
@@ -37,19 +49,46 @@ pub fn has_part(kind: u8) -> bool
     match kind {
         BINARY => true,
         TEXT => true,
+        FORMAT => true,
+        ANY => true,
         _ => false,
     }
 }
 
 // The number of its content in an info byte; 0 is no content's.
 pub fn content_number(kind: u8) -> u8
-    ensures { λ r. ⌜ (r ≡ contentNumber kind) × (r ≤ 4) ⌝ }
+    ensures { λ r. ⌜ (r ≡ contentNumber kind) × (r ≤ 8) ⌝ }
 {
     match kind {
         DELETED => 1,
         BINARY => 3,
         TEXT => 4,
+        FORMAT => 6,
+        TYPE => 7,
+        ANY => 8,
         _ => 0,
+    }
+}
+
+// Whether a type of this number has a node name: an XML element and an XML hook.
+pub fn is_named(number: u8) -> bool
+    ensures { λ r. ⌜ r ≡ isNamed number ⌝ }
+{
+    match number {
+        3 => true,
+        5 => true,
+        _ => false,
+    }
+}
+
+// Whether a block of this kind and type number has a mark: a format its key, such a type its node name.
+pub fn is_marked(kind: u8, number: u8) -> bool
+    ensures { λ r. ⌜ r ≡ isMarked kind number ⌝ }
+{
+    match kind {
+        FORMAT => true,
+        TYPE => is_named(number),
+        _ => false,
     }
 }
 
@@ -59,7 +98,7 @@ pub struct Id {
     pub clock: u32,
 }
 
-// `has_left` says whether `left` is there, and so on; what is not there is zero. Kind and flags stand side by side behind the numbers: 128 bytes.
+// `has_left` says whether `left` is there, and so on; what is not there is zero. Kind, flags and type number stand side by side behind the numbers: 144 bytes.
 #[repr(C)]
 pub struct Block {
     pub client: u64,
@@ -69,8 +108,10 @@ pub struct Block {
     pub parent: Id,
     pub name: Part,
     pub key: Part,
-    // the stored part of a binary or a text
+    // the stored part of a binary or a text, a format's value, an any-list's values
     pub part: Part,
+    // a format's key, the node name of a type that has one
+    pub mark: Part,
     pub clock: u32,
     pub kind: u8,
     pub has_left: bool,
@@ -78,6 +119,7 @@ pub struct Block {
     pub has_parent: bool,
     pub has_name: bool,
     pub has_key: bool,
+    pub type_number: u8,
 }
 
 // The row that has no block: all zero.
@@ -108,5 +150,7 @@ pub fn none() -> Block
         has_key: false,
         key: part,
         part,
+        mark: part,
+        type_number: 0,
     }
 }

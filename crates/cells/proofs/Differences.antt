@@ -108,13 +108,15 @@ module _ (k : ℕ) (w : List ℕ) (s : Small w) (few : Narrow k) where
 
   -- the words of a difference column can be added
   pub short-here : (cell w k 2 ≤ 4294967295) × (cell w k 5 ≤ 4294967295)
-  short-here = go (eqb k 2) refl
+  short-here = go (eqb k 0) (eqb k 2) refl refl
     where
-      go : (x : Bool) → eqb k 2 ≡ x → (cell w k 2 ≤ 4294967295) × (cell w k 5 ≤ 4294967295)
-      go true q = rw (eqb-true k 2 q) (s .left .last, s .left .key)
-      go false q =
+      go : (x y : Bool) → eqb k 0 ≡ x → eqb k 2 ≡ y → (cell w k 2 ≤ 4294967295) × (cell w k 5 ≤ 4294967295)
+      go true y p q = rw (eqb-true k 0 p) (s .key .last, s .key .key)
+      go false true p q = rw (eqb-true k 2 q) (s .left .last, s .left .key)
+      go false false p q =
+          let m = eqb-false k 0 p in
           let n = eqb-false k 2 q in
-          let e : k ≡ 3 = omega arith in
+          let e : k ≡ 3 = omega (arith, few .1) in
           rw e (s .right .last, s .right .key)
 
 -- ---- the next value

@@ -1,8 +1,9 @@
--- What words that changed are for a state: one column moved, the place in line moved, or nothing. And an answer of one column as one of the whole state.
+-- What words that changed are for a state: one column moved, the place in line moved, keys came or went, or nothing. And an answer of one column as one of the
+-- whole state.
 use Prim.Native.Nat.{ℕ, _+_, _*_, _≤_, _<_}
 use mathlib.Core.Path.{_≡_, refl, sym, ap, _∙_}
 use mathlib.Core.Logic.{_≢_}
-use mathlib.Core.List.{List}
+use mathlib.Core.List.{List, [], _∷_, _++_}
 use mathlib.Core.Bool.{false}
 use native.Mathlib.Omega.{arith}
 use lib.Dec.{eqb}
@@ -18,14 +19,15 @@ use Rattle.columns.specs.declared.byte.Answer.the-variants as byte
 use Rattle.string.specs.declared.Answer as string-answer
 use Rattle.string.specs.declared.Answer.the-variants as string
 use Rattle.grammar.specs.Course as course
-use Rattle.decoder.specs.States.{Numbers, Differences, Bytes, Texts, State, movedTo, withClient, withLeft, withRight, withInfo, withText, withParent, withLen}
+use Rattle.decoder.specs.States.{maxKeys, Numbers, Differences, Bytes, Texts, State, movedTo, withKey, withClient, withLeft, withRight, withInfo, withText, withParent, withTypes, withLen, withKeys}
 use Rattle.columns.specs.Number.{nextNumber}
 use Rattle.columns.specs.Difference.{nextDifference}
 use Rattle.columns.specs.Byte.{nextByte}
 use Rattle.decoder.specs.Columned.{numberDrawn, differenceDrawn, byteDrawn, textDrawn, fromNumbers, fromDifferences, fromBytes}
 use Rattle.cells.specs.declared.Drawn.{Drawn}
 use Rattle.cells.specs.declared.Drawn.the-variants.{Number, Refused}
-use Rattle.cells.specs.Cells.{cell, numbersIn, differencesIn, bytesIn, textsIn, atIn, placeIn, stateIn, Small, Elsewhere, Beside, given, numbersGiven, differencesGiven, bytesGiven, NumberDrawn, DifferenceDrawn, ByteDrawn}
+use Rattle.cells.specs.Cells.{cell, numbersIn, differencesIn, bytesIn, textsIn, atIn, placeIn, keyCount, keysIn, stateIn, Short, Small, Elsewhere, Beside, given, numbersGiven, differencesGiven, bytesGiven, NumberDrawn, DifferenceDrawn, ByteDrawn}
+use Rattle.cells.proofs.Keys.{keys-same, keys-none, joined, joined-below, joined-size, joined-count, keys-joined}
 
 -- ---- columns that are as before
 
@@ -79,37 +81,45 @@ module _ (w v : List ℕ) (k : ℕ) (same : (j i : ℕ) → j ≤ 8 → j ≢ k 
   len-same h = same-numbers w v 8 (still 8 (omega arith) h)
 
 module _ (w v : List ℕ) where
+  pub state-key : Elsewhere 0 w v → stateIn v ≡ withKey (differencesIn v 0) (stateIn w)
+  unfolding stateIn
+  state-key e = rw (e .at, client-same w v 0 (e .same) refl, left-same w v 0 (e .same) refl, right-same w v 0 (e .same) refl, info-same w v 0 (e .same) refl, text-same w v 0 (e .same) refl, parent-same w v 0 (e .same) refl, types-same w v 0 (e .same) refl, len-same w v 0 (e .same) refl, keys-same w v (e .keys)) refl
+
   pub state-client : Elsewhere 1 w v → stateIn v ≡ withClient (numbersIn v 1) (stateIn w)
   unfolding stateIn
-  state-client e = rw (e .at, key-same w v 1 (e .same) refl, left-same w v 1 (e .same) refl, right-same w v 1 (e .same) refl, info-same w v 1 (e .same) refl, text-same w v 1 (e .same) refl, parent-same w v 1 (e .same) refl, types-same w v 1 (e .same) refl, len-same w v 1 (e .same) refl) refl
+  state-client e = rw (e .at, key-same w v 1 (e .same) refl, left-same w v 1 (e .same) refl, right-same w v 1 (e .same) refl, info-same w v 1 (e .same) refl, text-same w v 1 (e .same) refl, parent-same w v 1 (e .same) refl, types-same w v 1 (e .same) refl, len-same w v 1 (e .same) refl, keys-same w v (e .keys)) refl
 
   pub state-left : Elsewhere 2 w v → stateIn v ≡ withLeft (differencesIn v 2) (stateIn w)
   unfolding stateIn
-  state-left e = rw (e .at, key-same w v 2 (e .same) refl, client-same w v 2 (e .same) refl, right-same w v 2 (e .same) refl, info-same w v 2 (e .same) refl, text-same w v 2 (e .same) refl, parent-same w v 2 (e .same) refl, types-same w v 2 (e .same) refl, len-same w v 2 (e .same) refl) refl
+  state-left e = rw (e .at, key-same w v 2 (e .same) refl, client-same w v 2 (e .same) refl, right-same w v 2 (e .same) refl, info-same w v 2 (e .same) refl, text-same w v 2 (e .same) refl, parent-same w v 2 (e .same) refl, types-same w v 2 (e .same) refl, len-same w v 2 (e .same) refl, keys-same w v (e .keys)) refl
 
   pub state-right : Elsewhere 3 w v → stateIn v ≡ withRight (differencesIn v 3) (stateIn w)
   unfolding stateIn
-  state-right e = rw (e .at, key-same w v 3 (e .same) refl, client-same w v 3 (e .same) refl, left-same w v 3 (e .same) refl, info-same w v 3 (e .same) refl, text-same w v 3 (e .same) refl, parent-same w v 3 (e .same) refl, types-same w v 3 (e .same) refl, len-same w v 3 (e .same) refl) refl
+  state-right e = rw (e .at, key-same w v 3 (e .same) refl, client-same w v 3 (e .same) refl, left-same w v 3 (e .same) refl, info-same w v 3 (e .same) refl, text-same w v 3 (e .same) refl, parent-same w v 3 (e .same) refl, types-same w v 3 (e .same) refl, len-same w v 3 (e .same) refl, keys-same w v (e .keys)) refl
 
   pub state-info : Elsewhere 4 w v → stateIn v ≡ withInfo (bytesIn v 4) (stateIn w)
   unfolding stateIn
-  state-info e = rw (e .at, key-same w v 4 (e .same) refl, client-same w v 4 (e .same) refl, left-same w v 4 (e .same) refl, right-same w v 4 (e .same) refl, text-same w v 4 (e .same) refl, parent-same w v 4 (e .same) refl, types-same w v 4 (e .same) refl, len-same w v 4 (e .same) refl) refl
+  state-info e = rw (e .at, key-same w v 4 (e .same) refl, client-same w v 4 (e .same) refl, left-same w v 4 (e .same) refl, right-same w v 4 (e .same) refl, text-same w v 4 (e .same) refl, parent-same w v 4 (e .same) refl, types-same w v 4 (e .same) refl, len-same w v 4 (e .same) refl, keys-same w v (e .keys)) refl
 
   pub state-text : Elsewhere 5 w v → stateIn v ≡ withText (textsIn v 5) (stateIn w)
   unfolding stateIn
-  state-text e = rw (e .at, key-same w v 5 (e .same) refl, client-same w v 5 (e .same) refl, left-same w v 5 (e .same) refl, right-same w v 5 (e .same) refl, info-same w v 5 (e .same) refl, parent-same w v 5 (e .same) refl, types-same w v 5 (e .same) refl, len-same w v 5 (e .same) refl) refl
+  state-text e = rw (e .at, key-same w v 5 (e .same) refl, client-same w v 5 (e .same) refl, left-same w v 5 (e .same) refl, right-same w v 5 (e .same) refl, info-same w v 5 (e .same) refl, parent-same w v 5 (e .same) refl, types-same w v 5 (e .same) refl, len-same w v 5 (e .same) refl, keys-same w v (e .keys)) refl
 
   pub state-parent : Elsewhere 6 w v → stateIn v ≡ withParent (bytesIn v 6) (stateIn w)
   unfolding stateIn
-  state-parent e = rw (e .at, key-same w v 6 (e .same) refl, client-same w v 6 (e .same) refl, left-same w v 6 (e .same) refl, right-same w v 6 (e .same) refl, info-same w v 6 (e .same) refl, text-same w v 6 (e .same) refl, types-same w v 6 (e .same) refl, len-same w v 6 (e .same) refl) refl
+  state-parent e = rw (e .at, key-same w v 6 (e .same) refl, client-same w v 6 (e .same) refl, left-same w v 6 (e .same) refl, right-same w v 6 (e .same) refl, info-same w v 6 (e .same) refl, text-same w v 6 (e .same) refl, types-same w v 6 (e .same) refl, len-same w v 6 (e .same) refl, keys-same w v (e .keys)) refl
+
+  pub state-types : Elsewhere 7 w v → stateIn v ≡ withTypes (numbersIn v 7) (stateIn w)
+  unfolding stateIn
+  state-types e = rw (e .at, key-same w v 7 (e .same) refl, client-same w v 7 (e .same) refl, left-same w v 7 (e .same) refl, right-same w v 7 (e .same) refl, info-same w v 7 (e .same) refl, text-same w v 7 (e .same) refl, parent-same w v 7 (e .same) refl, len-same w v 7 (e .same) refl, keys-same w v (e .keys)) refl
 
   pub state-len : Elsewhere 8 w v → stateIn v ≡ withLen (numbersIn v 8) (stateIn w)
   unfolding stateIn
-  state-len e = rw (e .at, key-same w v 8 (e .same) refl, client-same w v 8 (e .same) refl, left-same w v 8 (e .same) refl, right-same w v 8 (e .same) refl, info-same w v 8 (e .same) refl, text-same w v 8 (e .same) refl, parent-same w v 8 (e .same) refl, types-same w v 8 (e .same) refl) refl
+  state-len e = rw (e .at, key-same w v 8 (e .same) refl, client-same w v 8 (e .same) refl, left-same w v 8 (e .same) refl, right-same w v 8 (e .same) refl, info-same w v 8 (e .same) refl, text-same w v 8 (e .same) refl, parent-same w v 8 (e .same) refl, types-same w v 8 (e .same) refl, keys-same w v (e .keys)) refl
 
   pub state-same : Elsewhere 9 w v → stateIn v ≡ stateIn w
   unfolding stateIn
-  state-same e = rw (e .at, key-same w v 9 (e .same) refl, client-same w v 9 (e .same) refl, left-same w v 9 (e .same) refl, right-same w v 9 (e .same) refl, info-same w v 9 (e .same) refl, text-same w v 9 (e .same) refl, parent-same w v 9 (e .same) refl, types-same w v 9 (e .same) refl, len-same w v 9 (e .same) refl) refl
+  state-same e = rw (e .at, key-same w v 9 (e .same) refl, client-same w v 9 (e .same) refl, left-same w v 9 (e .same) refl, right-same w v 9 (e .same) refl, info-same w v 9 (e .same) refl, text-same w v 9 (e .same) refl, parent-same w v 9 (e .same) refl, types-same w v 9 (e .same) refl, len-same w v 9 (e .same) refl, keys-same w v (e .keys)) refl
 
 -- ---- the place in line
 
@@ -122,15 +132,24 @@ module _ (w : List ℕ) (s : Small w) (e : ℕ) where
   unfolding cell
   cell-moved j i few l = getD-set-other w 63 (7 * j + i) e 0 (λ q. omega arith)
 
+  keys-moved : (i : ℕ) → 67 ≤ i → getD (set w 63 e) i 0 ≡ getD w i 0
+  keys-moved i l = getD-set-other w 63 i e 0 (λ q. omega arith)
+
   pub state-at : stateIn (set w 63 e) ≡ movedTo (stateIn w) e
   unfolding stateIn
   state-at =
       let same : (j i : ℕ) → j ≤ 8 → j ≢ 9 → i < 7 → cell (set w 63 e) j i ≡ cell w j i = λ j i few h l. cell-moved j i few l in
-      rw (at-moved, key-same w (set w 63 e) 9 same refl, client-same w (set w 63 e) 9 same refl, left-same w (set w 63 e) 9 same refl, right-same w (set w 63 e) 9 same refl, info-same w (set w 63 e) 9 same refl, text-same w (set w 63 e) 9 same refl, parent-same w (set w 63 e) 9 same refl, types-same w (set w 63 e) 9 same refl, len-same w (set w 63 e) 9 same refl) refl
+      rw (at-moved, key-same w (set w 63 e) 9 same refl, client-same w (set w 63 e) 9 same refl, left-same w (set w 63 e) 9 same refl, right-same w (set w 63 e) 9 same refl, info-same w (set w 63 e) 9 same refl, text-same w (set w 63 e) 9 same refl, parent-same w (set w 63 e) 9 same refl, types-same w (set w 63 e) 9 same refl, len-same w (set w 63 e) 9 same refl, keys-same w (set w 63 e) keys-moved) refl
+
+  count-moved : keyCount (set w 63 e) ≡ keyCount w
+  unfolding keyCount
+  count-moved = keys-moved 67 (omega arith)
 
   pub small-at : Small (set w 63 e)
   small-at = record {
     size = length-set w 63 e ∙ s .size;
+    keys = rw count-moved (s .keys);
+    key = record { last = rw (cell-moved 0 2 (omega arith) (omega arith)) (s .key .last); key = rw (cell-moved 0 5 (omega arith) (omega arith)) (s .key .key) };
     left = record { last = rw (cell-moved 2 2 (omega arith) (omega arith)) (s .left .last); key = rw (cell-moved 2 5 (omega arith) (omega arith)) (s .left .key) };
     right = record { last = rw (cell-moved 3 2 (omega arith) (omega arith)) (s .right .last); key = rw (cell-moved 3 5 (omega arith) (omega arith)) (s .right .key) };
     why = rw (getD-set-other w 63 65 e 0 (λ q. omega arith)) (s .why);
@@ -141,6 +160,64 @@ module _ (w : List ℕ) (s : Small w) (p : ℕ) where
   pub place-moved : placeIn (set w 64 p) ≡ p
   unfolding placeIn
   place-moved = getD-set-same w 64 p 0 (omega (arith, s .size))
+
+-- ---- the keys
+
+-- all words before those of keys are as before
+module _ (w v : List ℕ) (below : (i : ℕ) → i < 67 → getD v i 0 ≡ getD w i 0) where
+  cell-below : (j i : ℕ) → j ≤ 8 → i < 7 → cell v j i ≡ cell w j i
+  unfolding cell
+  cell-below j i few l = below (7 * j + i) (omega arith)
+
+  at-below : atIn v ≡ atIn w
+  unfolding atIn
+  at-below = below 63 (omega arith)
+
+  pub state-keys : stateIn v ≡ withKeys (keysIn v) (stateIn w)
+  unfolding stateIn
+  state-keys =
+      let same : (j i : ℕ) → j ≤ 8 → j ≢ 9 → i < 7 → cell v j i ≡ cell w j i = λ j i few h l. cell-below j i few l in
+      rw (at-below, key-same w v 9 same refl, client-same w v 9 same refl, left-same w v 9 same refl, right-same w v 9 same refl, info-same w v 9 same refl, text-same w v 9 same refl, parent-same w v 9 same refl, types-same w v 9 same refl, len-same w v 9 same refl) refl
+
+  short-below : (k : ℕ) → k ≤ 8 → Short w k → Short v k
+  short-below k few s = record { last = rw (cell-below k 2 few (omega arith)) (s .last); key = rw (cell-below k 5 few (omega arith)) (s .key) }
+
+  pub small-keys : Small w → length v ≡ 580 → keyCount v ≤ maxKeys → Small v
+  small-keys s l few = record {
+    size = l;
+    keys = few;
+    key = short-below 0 (omega arith) (s .key);
+    left = short-below 2 (omega arith) (s .left);
+    right = short-below 3 (omega arith) (s .right);
+    why = rw (below 65 (omega arith)) (s .why);
+  }
+
+-- no key
+module _ (w : List ℕ) (s : Small w) where
+  unkeyed-below : (i : ℕ) → i < 67 → getD (set w 67 0) i 0 ≡ getD w i 0
+  unkeyed-below i l = getD-set-other w 67 i 0 0 (λ q. omega arith)
+
+  unkeyed-count : keyCount (set w 67 0) ≡ 0
+  unfolding keyCount
+  unkeyed-count = getD-set-same w 67 0 0 (omega (arith, s .size))
+
+  pub state-unkeyed : stateIn (set w 67 0) ≡ withKeys [] (stateIn w)
+  state-unkeyed = state-keys w (set w 67 0) unkeyed-below ∙ ap (λ ps. withKeys ps (stateIn w)) (keys-none (set w 67 0) unkeyed-count)
+
+  pub small-unkeyed : Small (set w 67 0)
+  small-unkeyed = small-keys w (set w 67 0) unkeyed-below s (length-set w 67 0 ∙ s .size) (rw unkeyed-count (omega arith))
+
+-- a key more
+module _ (w : List ℕ) (s : Small w) (n : ℕ) (e : n ≡ keyCount w) (few : n < maxKeys) (place bytes : ℕ) where
+  pub state-joined : stateIn (joined w s n e few place bytes) ≡ withKeys (keysIn w ++ (record { place = place; bytes = record { 0 = bytes } } ∷ [])) (stateIn w)
+  state-joined =
+      state-keys w (joined w s n e few place bytes) (joined-below w s n e few place bytes)
+      ∙ ap (λ ps. withKeys ps (stateIn w)) (keys-joined w s n e few place bytes)
+
+  pub small-joined : Small (joined w s n e few place bytes)
+  small-joined =
+      small-keys w (joined w s n e few place bytes) (joined-below w s n e few place bytes) s (joined-size w s n e few place bytes)
+      (rw (joined-count w s n e few place bytes) (omega arith))
 
 -- ---- two words of a row
 

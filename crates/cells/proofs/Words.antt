@@ -1,4 +1,5 @@
--- Words stored in column k, or behind the columns: the column holds them, the other columns and the place in line are as before, and the words stay small.
+-- Words stored in column k, or behind the columns: the column holds them, the other columns, the place in line and the keys are as before, and the words stay
+-- small.
 use Prim.Native.Nat.{ℕ, zero, suc, _+_, _*_, _≤_, _<_}
 use mathlib.Core.Path.{_≡_, refl, sym, _∙_}
 use mathlib.Core.Logic.{_≢_}
@@ -9,19 +10,23 @@ use lib.Dec.{eqb}
 use lib.ListN.{length, getD, set, length-set}
 use lib.Seq.{getD-set-other, getD-set-same}
 use borrow.Author.Tests.{eqb-true, eqb-false}
-use Rattle.cells.specs.Cells.{cell, numbersIn, differencesIn, bytesIn, textsIn, atIn, placeIn, whyIn, Short, Small, Wide, Elsewhere}
+use Rattle.cells.specs.Cells.{cell, numbersIn, differencesIn, bytesIn, textsIn, atIn, placeIn, whyIn, keyCount, Short, Small, Wide, Elsewhere}
 
 -- ---- elsewhere
 
 pub elsewhere-none : (k : ℕ) (w : List ℕ) → Elsewhere k w w
-elsewhere-none k w = record { at = refl; same = λ j i s h l. refl }
+elsewhere-none k w = record { at = refl; same = λ j i s h l. refl; keys = λ i l. refl }
 
 pub elsewhere-on : (k : ℕ) (w v u : List ℕ) → Elsewhere k w v → Elsewhere k v u → Elsewhere k w u
-elsewhere-on k w v u a b = record { at = b .at ∙ a .at; same = λ j i s h l. b .same j i s h l ∙ a .same j i s h l }
+elsewhere-on k w v u a b = record {
+  at = b .at ∙ a .at;
+  same = λ j i s h l. b .same j i s h l ∙ a .same j i s h l;
+  keys = λ i l. b .keys i l ∙ a .keys i l;
+}
 
 -- where no column changed, none but k did
 pub elsewhere-any : (k : ℕ) (w v : List ℕ) → Elsewhere 9 w v → Elsewhere k w v
-elsewhere-any k w v e = record { at = e .at; same = λ j i s h l. e .same j i s (λ q. omega arith) l }
+elsewhere-any k w v e = record { at = e .at; same = λ j i s h l. e .same j i s (λ q. omega arith) l; keys = e .keys }
 
 -- a store in column k
 pub elsewhere-in : (k j n a : ℕ) (w : List ℕ) → n ≡ 7 * k + j → j < 7 → k ≤ 8 → Elsewhere k w (set w n a)
@@ -29,14 +34,16 @@ unfolding cell atIn
 elsewhere-in k j n a w e l few = record {
   at = getD-set-other w n 63 a 0 (λ q. omega arith);
   same = λ m i s h b. getD-set-other w n (7 * m + i) a 0 (λ q. h (omega arith));
+  keys = λ i b. getD-set-other w n i a 0 (λ q. omega arith);
 }
 
--- a store behind the place in line
-pub elsewhere-behind : (k n a : ℕ) (w : List ℕ) → 64 ≤ n → Elsewhere k w (set w n a)
+-- a store between the place in line and the keys
+pub elsewhere-behind : (k n a : ℕ) (w : List ℕ) → 64 ≤ n → n < 67 → Elsewhere k w (set w n a)
 unfolding cell atIn
-elsewhere-behind k n a w l = record {
+elsewhere-behind k n a w l m = record {
   at = getD-set-other w n 63 a 0 (λ q. omega arith);
   same = λ m i s h b. getD-set-other w n (7 * m + i) a 0 (λ q. omega arith);
+  keys = λ i b. getD-set-other w n i a 0 (λ q. omega arith);
 }
 
 -- ---- small words
@@ -44,18 +51,31 @@ elsewhere-behind k n a w l = record {
 pub short-same : (k j : ℕ) (w v : List ℕ) → Elsewhere k w v → j ≤ 8 → j ≢ k → Short w j → Short v j
 short-same k j w v e few h s = record { last = rw (e .same j 2 few h (omega arith)) (s .last); key = rw (e .same j 5 few h (omega arith)) (s .key) }
 
+pub count-same : (k : ℕ) (w v : List ℕ) → Elsewhere k w v → keyCount v ≡ keyCount w
+unfolding keyCount
+count-same k w v e = e .keys 67 (omega arith)
+
 -- a column that is none of differences changed
-pub small-wide : (k : ℕ) (w v : List ℕ) → Wide k → Small w → Elsewhere k w v → length v ≡ 67 → getD v 65 0 ≤ 255 → Small v
+pub small-wide : (k : ℕ) (w v : List ℕ) → Wide k → Small w → Elsewhere k w v → length v ≡ 580 → getD v 65 0 ≤ 255 → Small v
 small-wide k w v few s e l b = record {
   size = l;
-  left = short-same k 2 w v e (omega arith) (λ q. few .1 (sym q)) (s .left);
-  right = short-same k 3 w v e (omega arith) (λ q. few .2 (sym q)) (s .right);
+  keys = rw (count-same k w v e) (s .keys);
+  key = short-same k 0 w v e (omega arith) (λ q. few .1 (sym q)) (s .key);
+  left = short-same k 2 w v e (omega arith) (λ q. few .2 (sym q)) (s .left);
+  right = short-same k 3 w v e (omega arith) (λ q. few .3 (sym q)) (s .right);
   why = b;
 }
 
 -- any column changed, and is short if it is one of differences
-pub small-any : (k : ℕ) (w v : List ℕ) → Small w → Elsewhere k w v → length v ≡ 67 → getD v 65 0 ≤ 255 → Short v k → Small v
-small-any k w v s e l b short = record { size = l; left = at 2 (omega arith) (s .left); right = at 3 (omega arith) (s .right); why = b }
+pub small-any : (k : ℕ) (w v : List ℕ) → Small w → Elsewhere k w v → length v ≡ 580 → getD v 65 0 ≤ 255 → Short v k → Small v
+small-any k w v s e l b short = record {
+  size = l;
+  keys = rw (count-same k w v e) (s .keys);
+  key = at 0 (omega arith) (s .key);
+  left = at 2 (omega arith) (s .left);
+  right = at 3 (omega arith) (s .right);
+  why = b;
+}
   where
     go : (j : ℕ) → j ≤ 8 → Short w j → (x : Bool) → eqb j k ≡ x → Short v j
     go j few h true q = rw (eqb-true j k q) short
@@ -68,7 +88,7 @@ small-any k w v s e l b short = record { size = l; left = at 2 (omega arith) (s 
 
 -- v is w but for column k, whose seven words are c, and for the place blamed last
 pub record Held (k : ℕ) (w c v : List ℕ) : Type 0 where
-  pub size : length v ≡ 67
+  pub size : length v ≡ 580
   pub elsewhere : Elsewhere k w v
   pub why : getD v 65 0 ≤ 255
   pub seven : length c ≡ 7
@@ -115,7 +135,7 @@ module _ (k : ℕ) (w : List ℕ) where
     unfolding cell
     put-place a = record {
       size = length-set v 64 a ∙ h .size;
-      elsewhere = elsewhere-on k w v (set v 64 a) (h .elsewhere) (elsewhere-behind k 64 a v (omega arith));
+      elsewhere = elsewhere-on k w v (set v 64 a) (h .elsewhere) (elsewhere-behind k 64 a v (omega arith) (omega arith));
       why = rw (getD-set-other v 64 65 a 0 (λ q. omega arith)) (h .why);
       seven = h .seven;
       words = λ i b. getD-set-other v 64 (7 * k + i) a 0 (λ q. omega arith) ∙ h .words i b;
@@ -175,9 +195,9 @@ module _ (w : List ℕ) (s : Small w) (number place : ℕ) where
   pub elsewhere-refused : Elsewhere 9 w blamed
   elsewhere-refused =
       let v = set w 65 number in
-      elsewhere-on 9 w v blamed (elsewhere-behind 9 65 number w (omega arith)) (elsewhere-behind 9 66 place v (omega arith))
+      elsewhere-on 9 w v blamed (elsewhere-behind 9 65 number w (omega arith) (omega arith)) (elsewhere-behind 9 66 place v (omega arith) (omega arith))
 
-  size-refused : length blamed ≡ 67
+  size-refused : length blamed ≡ 580
   size-refused = length-set (set w 65 number) 66 place ∙ length-set w 65 number ∙ s .size
 
   number-refused : getD blamed 65 0 ≡ number
@@ -190,6 +210,8 @@ module _ (w : List ℕ) (s : Small w) (number place : ℕ) where
   pub small-refused : number ≤ 255 → Small blamed
   small-refused l = record {
     size = size-refused;
+    keys = rw (count-same 9 w blamed elsewhere-refused) (s .keys);
+    key = short-same 9 0 w blamed elsewhere-refused (omega arith) (λ q. omega arith) (s .key);
     left = short-same 9 2 w blamed elsewhere-refused (omega arith) (λ q. omega arith) (s .left);
     right = short-same 9 3 w blamed elsewhere-refused (omega arith) (λ q. omega arith) (s .right);
     why = rw number-refused l;

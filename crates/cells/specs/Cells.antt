@@ -1,10 +1,10 @@
 -- Where reading stands, as words: seven for each of the nine columns, in the format's order key, client, left clock, right clock, info, text, parent info,
--- type, length; then the place in line (63), the place that the number drawn last is blamed at (64), and why a field was refused (65, 66). A column's words
--- are at, from, last, count, to and two more.
-use Prim.Native.Nat.{ℕ, _+_, _*_, _≤_, _<_}
+-- type, length; then the place in line (63), the place that the number drawn last is blamed at (64), why a field was refused (65, 66), how many keys were read
+-- (67), and place and bytes of each of them, two words a key. A column's words are at, from, last, count, to and two more.
+use Prim.Native.Nat.{ℕ, zero, suc, _+_, _*_, _≤_, _<_}
 use mathlib.Core.Path.{_≡_}
 use mathlib.Core.Logic.{_≢_}
-use mathlib.Core.List.{List}
+use mathlib.Core.List.{List, [], _∷_}
 use lib.Dec.{eqb}
 use lib.ListN.{length, getD, set}
 use Rattle.numbers.specs.declared.Refusal.{Refusal}
@@ -13,7 +13,7 @@ use Rattle.columns.specs.declared.number.Answer as number-answer
 use Rattle.columns.specs.declared.difference.Answer as difference-answer
 use Rattle.columns.specs.declared.byte.Place as byte-place
 use Rattle.grammar.specs.Course as course
-use Rattle.decoder.specs.States.{Numbers, Differences, Bytes, Texts, State}
+use Rattle.decoder.specs.States.{maxKeys, Numbers, Differences, Bytes, Texts, State}
 use Rattle.decoder.specs.Columned.{numberDrawn, differenceDrawn, fromNumbers, fromDifferences, fromBytes}
 use Rattle.cells.specs.declared.Drawn.{Drawn}
 use Rattle.cells.specs.declared.Drawn.the-variants.{Number, Refused}
@@ -42,8 +42,22 @@ textsIn w k = record { place = record { at = cell w k 5; end = cell w k 6; units
 unfoldable pub atIn : List ℕ → ℕ
 atIn w = getD w 63 0
 
+unfoldable pub partIn : List ℕ → ℕ → Part
+partIn r k = record { place = getD r k 0; bytes = record { 0 = getD r (k + 1) 0 } }
+
+-- how many keys were read; n of them, from the i-th on
+unfoldable pub keyCount : List ℕ → ℕ
+keyCount w = getD w 67 0
+
+unfoldable pub keysFrom : List ℕ → ℕ → ℕ → List Part
+keysFrom w i zero = []
+keysFrom w i (suc n) = partIn w (68 + 2 * i) ∷ keysFrom w (suc i) n
+
+unfoldable pub keysIn : List ℕ → List Part
+keysIn w = keysFrom w 0 (keyCount w)
+
 unfoldable pub stateIn : List ℕ → State
-stateIn w = record { at = atIn w; key = differencesIn w 0; client = numbersIn w 1; left = differencesIn w 2; right = differencesIn w 3; info = bytesIn w 4; text = textsIn w 5; parent = bytesIn w 6; types = numbersIn w 7; len = numbersIn w 8 }
+stateIn w = record { at = atIn w; key = differencesIn w 0; client = numbersIn w 1; left = differencesIn w 2; right = differencesIn w 3; info = bytesIn w 4; text = textsIn w 5; parent = bytesIn w 6; types = numbersIn w 7; len = numbersIn w 8; keys = keysIn w }
 
 unfoldable pub placeIn : List ℕ → ℕ
 placeIn w = getD w 64 0
@@ -59,23 +73,26 @@ pub record Short (w : List ℕ) (k : ℕ) : Type 0 where
   pub key : cell w k 5 ≤ 4294967295
 
 pub record Small (w : List ℕ) : Type 0 where
-  pub size : length w ≡ 67
+  pub size : length w ≡ 580
+  pub keys : keyCount w ≤ maxKeys
+  pub key : Short w 0
   pub left : Short w 2
   pub right : Short w 3
   pub why : getD w 65 0 ≤ 255
 
--- a column other than the two of differences
+-- a column other than the three of differences
 abbrev pub Wide : ℕ → Type 0
-Wide k = (k ≤ 8) × (k ≢ 2) × (k ≢ 3)
+Wide k = (k ≤ 8) × (k ≢ 0) × (k ≢ 2) × (k ≢ 3)
 
--- a column of differences
+-- a column of differences: of keys, left clocks, right clocks
 abbrev pub Narrow : ℕ → Type 0
-Narrow k = (2 ≤ k) × (k ≤ 3)
+Narrow k = (k ≤ 3) × (k ≢ 1)
 
--- no column but k changed, nor the place in line; 9 is no column
+-- no column but k changed, nor the place in line, nor the keys; 9 is no column
 pub record Elsewhere (k : ℕ) (w v : List ℕ) : Type 0 where
   pub at : atIn v ≡ atIn w
   pub same : (j i : ℕ) → j ≤ 8 → j ≢ k → i < 7 → cell v j i ≡ cell w j i
+  pub keys : (i : ℕ) → 67 ≤ i → getD v i 0 ≡ getD w i 0
 
 -- the two words of column k that are no number's stay
 abbrev pub Kept : ℕ → List ℕ → List ℕ → Type 0
@@ -84,9 +101,6 @@ Kept k w v = (cell v k 5 ≡ cell w k 5) × (cell v k 6 ≡ cell w k 6)
 -- only words k and k + 1 of a row changed
 abbrev pub Beside : ℕ → List ℕ → List ℕ → Type 0
 Beside k r q = q ≡ set (set r k (getD q k 0)) (k + 1) (getD q (k + 1) 0)
-
-unfoldable pub partIn : List ℕ → ℕ → Part
-partIn r k = record { place = getD r k 0; bytes = record { 0 = getD r (k + 1) 0 } }
 
 -- ---- an answer, with the words v that it leaves
 

@@ -15,7 +15,7 @@ ghost use Rattle.cells.specs.declared.Drawn.the-variants as drawn;
 ghost use Rattle.cells.specs.Cells.{cell, whyIn, Small, Wide, Narrow, Elsewhere, NumberPut, DifferencePut, BytePut, NumberDrawn, DifferenceDrawn, ByteDrawn};
 
 // How many words there are, and which of them are no column's.
-pub const WORDS: usize = 67;
+pub const WORDS: usize = 580;
 
 pub const AT: usize = 63;
 
@@ -24,6 +24,14 @@ pub const PLACE: usize = 64;
 pub const NUMBER: usize = 65;
 
 pub const BLAMED: usize = 66;
+
+// How many keys were read; their places and bytes begin behind it.
+pub const KEY_COUNT: usize = 67;
+
+pub const KEYS: usize = 68;
+
+// How many keys form 2 may have.
+pub const MAX_KEYS: u64 = 256;
 
 // A number; the words have the place that it is blamed at, or why there is none.
 pub enum Drawn {

@@ -51,7 +51,7 @@ pub record Sought (form : ℕ) (u : List ℕ) (n : ℕ) (c : Course Block) (w r 
   pub fine : Fine m s
   pub small : Small w
   pub memory : length m ≡ 64
-  pub fields : length r ≡ 21
+  pub fields : length r ≡ 24
 
 seek-item : (found : Bool) (ahead : ℕ) (row b : Block) (p : ℕ) (c : Course Block) → found ≡ true → seek found ahead row (item b p c) ≡ seek found ahead row c
 unfolding seek

@@ -1,11 +1,12 @@
 -- The stored part of block n: a part of the update itself, once the whole update reads.
 use Prim.Native.Nat.{ℕ, zero, suc}
+use mathlib.Core.Bool.{Bool, _||_}
 use mathlib.Core.List.{List}
 use Rattle.numbers.specs.declared.Refusal.{Refusal}
 use Rattle.numbers.specs.Number.{pick, none}
 use Rattle.block.specs.declared.Block.{Block}
 use Rattle.block.specs.Row.{noBlock}
-use Rattle.block.specs.Kinds.{hasPart}
+use Rattle.block.specs.Kinds.{isBinary, isText}
 use Rattle.grammar.specs.Course.{Course, item, over, stopped, ending}
 use Rattle.decoder.specs.Update.{blocksOf, deleteSet}
 use Rattle.update.specs.declared.Begun.{Begun}
@@ -27,9 +28,12 @@ nth n (stopped why) = noBlock
 unfoldable pub scannedOf : ℕ → Course Block → Scanned
 scannedOf n c = ending c (λ at. scanned.Row (nth n c) at) (λ why. scanned.Refused why)
 
--- of a row that has one
+-- of a binary or a text; what a format, a type and a list have is in the record alone
+unfoldable pub isGiven : ℕ → Bool
+isGiven kind = isBinary kind || isText kind
+
 unfoldable pub stored : Block → Found
-stored b = pick (hasPart (b .kind)) (Part (b .part)) (Refused (record { number = 11; place = 0 }))
+stored b = pick (isGiven (b .kind)) (Part (b .part)) (Refused (record { number = 11; place = 0 }))
 
 unfoldable pub contentOf : ℕ → List ℕ → ℕ → Found
 contentOf form u n =

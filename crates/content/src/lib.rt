@@ -10,7 +10,7 @@ ghost use mathlib.Core.Path.{_≡_};
 ghost use lib.ListN.{replicate};
 ghost use Rattle.cells.specs.Cells.{Small};
 ghost use Rattle.update.specs.Steps.{comes, Fine};
-ghost use Rattle.content.specs.Content.{scannedOf, stored, contentOf, whyBegun, whyScanned, whyChecked};
+ghost use Rattle.content.specs.Content.{isGiven, scannedOf, stored, contentOf, whyBegun, whyScanned, whyChecked};
 
 // The row of the block sought, or the row that has none; and the place after all blocks.
 pub enum Scanned {
@@ -23,7 +23,7 @@ fn scan(form: u8, update: &[u8], w: &mut [u64], s: Spot, n: usize) -> Scanned
     requires { ⌜ Small (now w) × Fine (replicate 64 0) s ⌝ }
     ensures { λ r. ⌜ r ≡ scannedOf n (comes form (now (update .entry)) (replicate 64 0) (now (w .entry)) s) ⌝ }
 {
-    let mut fields = [0u64; 21];
+    let mut fields = [0u64; 24];
     let mut memory = [0u64; 64];
     let mut s = s;
     let mut ahead = n;
@@ -60,11 +60,21 @@ pub enum Found {
     Refused(Refusal),
 }
 
-// The stored part of a row that has one; 11 for all others.
+fn is_given(kind: u8) -> bool
+    ensures { λ r. ⌜ r ≡ isGiven kind ⌝ }
+{
+    match kind {
+        block::BINARY => true,
+        block::TEXT => true,
+        _ => false,
+    }
+}
+
+// The stored part of a binary or a text; 11 for all others.
 fn stored_part(b: Block) -> Found
     ensures { λ r. ⌜ r ≡ stored b ⌝ }
 {
-    if block::has_part(b.kind) {
+    if is_given(b.kind) {
         let part = b.part;
         return Found::Part(part);
     }
@@ -78,7 +88,7 @@ fn stored_part(b: Block) -> Found
 pub fn find(form: u8, update: &[u8], n: usize) -> Found
     ensures { λ r. ⌜ r ≡ contentOf form (now (update .entry)) n ⌝ }
 {
-    let mut words = [0u64; 67];
+    let mut words = [0u64; 580];
     let b = update::begin(form, update, &mut words);
     let Begun::At(s) = b else {
         return Found::Refused(why_begun(b));

@@ -9,14 +9,13 @@ use Rattle.numbers.specs.declared.Refusal.{Refusal}
 use Rattle.numbers.specs.Number.{pick}
 use Rattle.numbers.specs.Limits.{maxUpdate}
 use Rattle.block.specs.declared.Block.{Block}
-use Rattle.block.specs.Kinds.{hasPart}
 use Rattle.grammar.specs.Course.{Course, item, over, stopped, items, ending}
 use Rattle.decoder.specs.Update.{blocksOf, deleteSet}
 use Rattle.readings.specs.Sound.{Sound, All}
 use Rattle.readings.proofs.Sounds.{blocks-sound}
 use Rattle.content.specs.declared.Found.{Found}
 use Rattle.content.specs.declared.Found.the-variants as found
-use Rattle.content.specs.Content.{nth, stored, contentOf}
+use Rattle.content.specs.Content.{nth, stored, contentOf, isGiven}
 use Rattle.contents.specs.declared.Where.{Where}
 use Rattle.contents.specs.Promises.{refusedWhere, whereFound, whereOf, In}
 
@@ -50,7 +49,7 @@ module _ (u : List ℕ) where
   unfolding contentOf stored
   content-inside form n =
       by-end (blocksOf form u) _ _
-      (λ s. by-end (deleteSet form u s) _ _ (λ t. either FoundIn (hasPart (nth n (blocksOf form u) .kind)) _ _ (in-rows (blocksOf form u) (blocks-sound form u) n) tt) (λ why. tt))
+      (λ s. by-end (deleteSet form u s) _ _ (λ t. either FoundIn (isGiven (nth n (blocksOf form u) .kind)) _ _ (in-rows (blocksOf form u) (blocks-sound form u) n) tt) (λ why. tt))
       (λ why. tt)
 
 -- ---- what `content` hands back

@@ -1,13 +1,14 @@
--- Form 2: clients, clocks, infos, parent infos, texts and lengths are drawn from columns, each a prefix of the update, and blamed at their run's first
--- byte; all else stands in the rest. And the fields of either form over one state, as code has them.
+-- Form 2: clients, clocks, infos, parent infos, texts, type numbers, lengths and keys are drawn from columns, each a prefix of the update, and blamed at
+-- their run's first byte; all else stands in the rest. And the fields of either form over one state, as code has them.
 use Prim.Native.Nat.{ℕ}
-use mathlib.Core.List.{List}
-use lib.Dec.{eqb}
-use lib.ListN.{take}
+use mathlib.Core.List.{List, [], _∷_, _++_}
+use lib.Dec.{ltb, eqb}
+use lib.ListN.{length, getD, take}
 use Rattle.numbers.specs.Number.{pick}
 use Rattle.numbers.specs.Limits.{maxClock}
 use Rattle.text.specs.declared.Part.{Part}
 use Rattle.text.specs.declared.Units.{Units}
+use Rattle.block.specs.Row.{noPart}
 use Rattle.columns.specs.declared.number.Place as number-place
 use Rattle.columns.specs.declared.number.Answer as number-answer
 use Rattle.columns.specs.declared.number.Answer.the-variants as number
@@ -28,7 +29,7 @@ use Rattle.grammar.specs.Grammar as grammar
 use Rattle.grammar.specs.Grammar.{Number}
 use Rattle.grammar.specs.Course.{Drawn, got, not, Reader}
 use Rattle.decoder.specs.Line.{bounded, line}
-use Rattle.decoder.specs.States.{Numbers, Differences, Bytes, Texts, State, movedTo, withClient, withLeft, withRight, withInfo, withText, withParent, withLen}
+use Rattle.decoder.specs.States.{maxKeys, Numbers, Differences, Bytes, Texts, State, movedTo, withKey, withClient, withLeft, withRight, withInfo, withText, withParent, withTypes, withLen, withKeys}
 
 -- ---- a column's next value; `put` puts the column after it into a state
 
@@ -80,11 +81,33 @@ numberIn u (grammar.upTo most) s = onto s (line 2 u (grammar.number (grammar.upT
 numberIn u grammar.any s = onto s (line 2 u (grammar.number grammar.any) (s .at))
 numberIn u (grammar.deleteClock end) s = onto s (line 2 u (grammar.number (grammar.deleteClock end)) (s .at))
 numberIn u grammar.deleteLen s = onto s (line 2 u (grammar.number grammar.deleteLen) (s .at))
+numberIn u grammar.typeNumber s = fromNumbers u (s .types) (λ c. withTypes c s)
+
+abbrev pub textIn : List ℕ → State → Drawn State (Part × Units)
+textIn u s = fromTexts u (s .text) (λ c. withText c s)
+
+-- a text that is a key from now on
+unfoldable pub joining : Drawn State (Part × Units) → Drawn State Part
+joining (got a s) = got (a .0) (withKeys (s .keys ++ (a .0 ∷ [])) s)
+joining (not why) = not why
+
+-- a key by its number: one that was read is that key; any other takes the next text, which joins the keys read, and no more than so many may
+unfoldable pub numbered : List ℕ → Drawn State (ℕ × ℕ) → Drawn State Part
+numbered u (got a s) =
+    pick (ltb (a .0) (length (s .keys))) (got (getD (s .keys) (a .0) noPart) s)
+    (pick (ltb (length (s .keys)) maxKeys) (joining (textIn u s)) (not (record { number = 3; place = a .1 })))
+numbered u (not why) = not why
+
+unfoldable pub keyIn : List ℕ → State → Drawn State Part
+keyIn u s = numbered u (fromDifferences u (s .key) (λ c. withKey c s))
 
 unfoldable pub columned : List ℕ → Reader State
 columned u (grammar.number n) s = numberIn u n s
-columned u grammar.text s = fromTexts u (s .text) (λ c. withText c s)
+columned u grammar.text s = textIn u s
 columned u grammar.bytes s = onto s (line 2 u grammar.bytes (s .at))
+columned u grammar.key s = keyIn u s
+columned u (grammar.value blame) s = onto s (line 2 u (grammar.value blame) (s .at))
+columned u (grammar.values blame n) s = onto s (line 2 u (grammar.values blame n) (s .at))
 
 -- ---- either form over a state of form 2: form 1 moves its place alone
 

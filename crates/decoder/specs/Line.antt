@@ -11,6 +11,9 @@ use Rattle.numbers.specs.Limits.{maxValue, maxClock}
 use Rattle.text.specs.declared.Part.{Part}
 use Rattle.text.specs.declared.Units.{Units}
 use Rattle.text.specs.Utf8.{wellFormed, unitsOf}
+use Rattle.anys.specs.declared.Skipped.{Skipped}
+use Rattle.anys.specs.declared.Skipped.the-variants as skipped
+use Rattle.anys.specs.Any.{anys}
 use Rattle.grammar.specs.Grammar as grammar
 use Rattle.grammar.specs.Grammar.{Number}
 use Rattle.grammar.specs.Course.{Drawn, got, not, Reader}
@@ -53,6 +56,7 @@ numberOf form u grammar.parentInfo at = upTo maxClock u at
 numberOf form u grammar.len at = upTo maxClock u at
 numberOf form u (grammar.deleteClock end) at = deleteAt form end u at
 numberOf form u grammar.deleteLen at = deleteAt form 1 u at
+numberOf form u grammar.typeNumber at = varAt u at
 
 -- a length, and so many bytes
 unfoldable pub soMany : List ℕ → Read → Drawn ℕ Part
@@ -70,7 +74,24 @@ checked u (got p e) =
     pick (wellFormed bytes) (got (p, record { 0 = unitsOf bytes }) e) (not (record { number = 6; place = p .place }))
 checked u (not why) = not why
 
+-- a text of which the bytes alone are wanted
+unfoldable pub wordOf : {S : Type 0} → Drawn S (Part × Units) → Drawn S Part
+wordOf (got a s) = got (a .0) s
+wordOf (not why) = not why
+
+-- plain values are lib0's any-values; their bytes, from where they begin
+unfoldable pub spanned : ℕ → Skipped → Drawn ℕ Part
+spanned at (skipped.At e) = got (record { place = at; bytes = record { 0 = e - at } }) e
+spanned at (skipped.Refused why) = not why
+
+unfoldable pub valuesAt : List ℕ → ℕ → ℕ → ℕ → Drawn ℕ Part
+valuesAt u blame n at = spanned at (anys u blame n at)
+
+-- a mark's value is JSON text in form 1, which is not looked into, and one any-value in form 2
 unfoldable pub line : ℕ → List ℕ → Reader ℕ
 line form u (grammar.number n) at = numberOf form u n at
 line form u grammar.text at = checked u (bytesAt u at)
 line form u grammar.bytes at = bytesAt u at
+line form u grammar.key at = wordOf (checked u (bytesAt u at))
+line form u (grammar.value blame) at = pick (eqb form 1) (wordOf (checked u (bytesAt u at))) (valuesAt u blame 1 at)
+line form u (grammar.values blame n) at = valuesAt u blame n at

@@ -40,11 +40,11 @@ bytesFrom p = record { place = bytes.startAt (p .place); to = endOf p }
 abbrev pub textsFrom : Part → Texts
 textsFrom p = record { place = strings.placeAt 0 0 (numbers.startAt (p .place)); to = endOf p }
 
--- the nine columns in their order, and the rest at a place
+-- the nine columns in their order, the rest at a place, and no key yet
 abbrev pub standing : List Part → ℕ → State
 standing ps at =
     let column : ℕ → Part = λ k. getD ps k noPart in
-    record { at = at; key = differencesFrom (column 0); client = numbersFrom (column 1); left = differencesFrom (column 2); right = differencesFrom (column 3); info = bytesFrom (column 4); text = textsFrom (column 5); parent = bytesFrom (column 6); types = numbersFrom (column 7); len = numbersFrom (column 8) }
+    record { at = at; key = differencesFrom (column 0); client = numbersFrom (column 1); left = differencesFrom (column 2); right = differencesFrom (column 3); info = bytesFrom (column 4); text = textsFrom (column 5); parent = bytesFrom (column 6); types = numbersFrom (column 7); len = numbersFrom (column 8); keys = [] }
 
 -- ---- the text opened: it stands where the column begins, and its units behind it
 

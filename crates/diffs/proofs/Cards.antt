@@ -117,8 +117,8 @@ module _ {M : Type 1} (𝓤 : URA M) (H : Heap 𝓤) (A : Atoms 𝓤) (mem : Mem
       said = λ ns r ws. since 𝓤 (λ e. (e, tt));
     }
 
-    pub writing·encode-read-rows-ranges! : Triple 𝓤 (C #writing·encode-read) Writing·encode-read → (at-update : Seat) (update₀ : List ℕ) (at-vector : Seat) (vector₀ : List ℕ) (form₀ : ℕ) (g-form : Has byte form₀) (at-rows : Seat) (rows₀ : List Block) (blocks₀ : ℕ) (g-blocks : Has word blocks₀) (at-ranges : Seat) (ranges₀ : List ℕ) (n₀ : ℕ) (g-n : Has word n₀) (at-out : Seat) (out₀ : List ℕ) → ((blocks₀ ≤ length rows₀) × (3 * n₀ ≤ length ranges₀)) → Card 𝓤 H A C #writing·encode-read (pass byte at-update update₀ ∷ pass byte at-vector vector₀ ∷ val byte form₀ g-form ∷ read block at-rows rows₀ ∷ val word blocks₀ g-blocks ∷ read word at-ranges ranges₀ ∷ val word n₀ g-n ∷ mut byte at-out out₀ (readOut update₀ (vectorOf vector₀) form₀ rows₀ blocks₀ (rowsFrom ranges₀ 0 n₀) out₀) ∷ []) written (readAnswer update₀ (vectorOf vector₀) form₀ rows₀ blocks₀ (rowsFrom ranges₀ 0 n₀) (length out₀))
-    writing·encode-read-rows-ranges! known at-update update₀ at-vector vector₀ form₀ g-form at-rows rows₀ blocks₀ g-blocks at-ranges ranges₀ n₀ g-n at-out out₀ h = record {
+    pub writing·encode-read-rows-ranges! : Triple 𝓤 (C #writing·encode-read) Writing·encode-read → (at-update : Seat) (update₀ : List ℕ) (at-vector : Seat) (vector₀ : List ℕ) (from₀ : ℕ) (g-from : Has byte from₀) (form₀ : ℕ) (g-form : Has byte form₀) (at-rows : Seat) (rows₀ : List Block) (blocks₀ : ℕ) (g-blocks : Has word blocks₀) (at-ranges : Seat) (ranges₀ : List ℕ) (n₀ : ℕ) (g-n : Has word n₀) (at-out : Seat) (out₀ : List ℕ) → ((blocks₀ ≤ length rows₀) × (3 * n₀ ≤ length ranges₀)) → Card 𝓤 H A C #writing·encode-read (pass byte at-update update₀ ∷ pass byte at-vector vector₀ ∷ val byte from₀ g-from ∷ val byte form₀ g-form ∷ read block at-rows rows₀ ∷ val word blocks₀ g-blocks ∷ read word at-ranges ranges₀ ∷ val word n₀ g-n ∷ mut byte at-out out₀ (readOut update₀ (vectorOf vector₀) from₀ form₀ rows₀ blocks₀ (rowsFrom ranges₀ 0 n₀) out₀) ∷ []) written (readAnswer update₀ (vectorOf vector₀) from₀ form₀ rows₀ blocks₀ (rowsFrom ranges₀ 0 n₀) (length out₀))
+    writing·encode-read-rows-ranges! known at-update update₀ at-vector vector₀ from₀ g-from form₀ g-form at-rows rows₀ blocks₀ g-blocks at-ranges ranges₀ n₀ g-n at-out out₀ h = record {
       contract = Writing·encode-read;
       known = known;
       ghost = λ x. (x, tt);

@@ -82,10 +82,10 @@ module _ (form : ℕ) (u v : List ℕ) (to : ℕ) (rows₀ : List Block) (ranges
   R = reading form u M (N / 3)
 
   abbrev W : Written
-  W = readAnswer u (vectorOf v) to (rowsOf M R) (length (R .blocks)) (rowsFrom (wordsOf N R) 0 (length (R .ranges))) room
+  W = readAnswer u (vectorOf v) form to (rowsOf M R) (length (R .blocks)) (rowsFrom (wordsOf N R) 0 (length (R .ranges))) room
 
   abbrev O : List ℕ
-  O = readOut u (vectorOf v) to (rowsOf M R) (length (R .blocks)) (rowsFrom (wordsOf N R) 0 (length (R .ranges))) out₀
+  O = readOut u (vectorOf v) form to (rowsOf M R) (length (R .blocks)) (rowsFrom (wordsOf N R) 0 (length (R .ranges))) out₀
 
   abbrev d : Diffed
   d = diffOf form u v to M (N / 3) room
@@ -108,11 +108,11 @@ module _ (form : ℕ) (u v : List ℕ) (to : ℕ) (rows₀ : List Block) (ranges
   unfolding diffOf
   exit-unknown k =
       by-refusal (nowhere 12) M N room
-      (ap (λ (x : Bool). pick x (afterReading u (vectorOf v) to room R) (refusedWith (nowhere 12))) k) refl refl refl
+      (ap (λ (x : Bool). pick x (afterReading u (vectorOf v) form to room R) (refusedWith (nowhere 12))) k) refl refl refl
 
-  read-first : known to ≡ true → d ≡ afterReading u (vectorOf v) to room R
+  read-first : known to ≡ true → d ≡ afterReading u (vectorOf v) form to room R
   unfolding diffOf
-  read-first k = ap (λ (x : Bool). pick x (afterReading u (vectorOf v) to room R) (refusedWith (nowhere 12))) k
+  read-first k = ap (λ (x : Bool). pick x (afterReading u (vectorOf v) form to room R) (refusedWith (nowhere 12))) k
 
   pub exit-unread : known to ≡ true → (R .refusal .number ≡ 0 → ⊥)
       → Right (answered (refusedWith (R .refusal))) (rowsOf (length (rowsOf M R)) (refused (R .refusal)))
@@ -120,7 +120,7 @@ module _ (form : ℕ) (u v : List ℕ) (to : ℕ) (rows₀ : List Block) (ranges
   unfolding afterReading
   exit-unread k z =
       by-refusal (R .refusal) (length (rowsOf M R)) (length (wordsOf N R)) room
-      (read-first k ∙ ap (λ (x : Bool). pick x (against u (vectorOf v) to room R) (refusedWith (R .refusal))) (ne-eqb (R .refusal .number) 0 z))
+      (read-first k ∙ ap (λ (x : Bool). pick x (against u (vectorOf v) form to room R) (refusedWith (R .refusal))) (ne-eqb (R .refusal .number) 0 z))
       (rows-length form u M N) (words-length form u M N) refl
 
   -- ---- the update was read
@@ -130,7 +130,7 @@ module _ (form : ℕ) (u v : List ℕ) (to : ℕ) (rows₀ : List Block) (ranges
     es = items (vectorOf v)
 
     abbrev why : ℕ
-    why = diffWhy to u es (R .blocks) (R .ranges)
+    why = diffWhy form to u es (R .blocks) (R .ranges)
 
     abbrev bytes : List ℕ
     bytes = diffBytes to u es (R .blocks) (R .ranges)
@@ -141,16 +141,16 @@ module _ (form : ℕ) (u v : List ℕ) (to : ℕ) (rows₀ : List Block) (ranges
     fits : length (R .blocks) ≤ length (rowsOf M R)
     fits = omega (arith, good .fits, rows-length form u M N)
 
-    kept-answer : keptAnswer u es to (rowsOf M R) (length (R .blocks)) (R .ranges) room ≡ written why room bytes
+    kept-answer : keptAnswer u es form to (rowsOf M R) (length (R .blocks)) (R .ranges) room ≡ written why room bytes
     kept-answer =
-        answer-is u es (R .blocks) (rowsOf M R) (R .ranges) to (form-of to k) (rows-back form u M N) fits (good .ordered) (good .sound) (good .count)
+        answer-is u es (R .blocks) (rowsOf M R) (R .ranges) form to (form-of to k) (rows-back form u M N) fits (good .ordered) (good .sound) (good .count)
         (good .clients) (short form u M (N / 3) z)
         (λ _. legal-diff to u es (R .blocks) (R .ranges) (short form u M (N / 3) z) (good .sound) (good .ordered))
         (λ _. few-diff to u es (R .blocks) (R .ranges) (short form u M (N / 3) z) (good .count) (good .clients) (reading-few form u M (N / 3))) room
 
-    kept-out : keptOut u es to (rowsOf M R) (length (R .blocks)) (R .ranges) out₀ ≡ put why room bytes
+    kept-out : keptOut u es form to (rowsOf M R) (length (R .blocks)) (R .ranges) out₀ ≡ put why room bytes
     kept-out =
-        out-is u es (R .blocks) (rowsOf M R) (R .ranges) to (form-of to k) (rows-back form u M N) fits (good .ordered) (good .sound) (good .count)
+        out-is u es (R .blocks) (rowsOf M R) (R .ranges) form to (form-of to k) (rows-back form u M N) fits (good .ordered) (good .sound) (good .count)
         (good .clients) (short form u M (N / 3) z)
         (λ _. legal-diff to u es (R .blocks) (R .ranges) (short form u M (N / 3) z) (good .sound) (good .ordered))
         (λ _. few-diff to u es (R .blocks) (R .ranges) (short form u M (N / 3) z) (good .count) (good .clients) (reading-few form u M (N / 3))) out₀
@@ -192,7 +192,7 @@ module _ (form : ℕ) (u v : List ℕ) (to : ℕ) (rows₀ : List Block) (ranges
     diff-at : d ≡ pick (eqb all 0) whole (refusedBy all)
     unfolding afterReading against kept whyNot
     diff-at =
-        read-first k ∙ ap (λ (x : Bool). pick x (against u (vectorOf v) to room R) (refusedWith (R .refusal))) (eq-eqb (R .refusal .number) 0 z)
+        read-first k ∙ ap (λ (x : Bool). pick x (against u (vectorOf v) form to room R) (refusedWith (R .refusal))) (eq-eqb (R .refusal .number) 0 z)
         ∙ by-number v (pick (eqb last 0) whole (refusedBy last)) refusedBy ∙ go (eqb w 0) refl
       where
         go : (x : Bool) → eqb w 0 ≡ x

@@ -24,23 +24,23 @@ refusedWith why = record { refusal = why; bytes = []; reading = refused why }
 
 -- ---- the diff of an update of one form, against a vector, in another, with so many rows and bytes lent
 
--- 9, 13, then 10: what is written blames no byte
-unfoldable pub whyNot : List ℕ → List Entry → ℕ → ℕ → Reading → ℕ
-whyNot u v to room r = verdict (diffWhy to u v (r .blocks) (r .ranges)) room (diffBytes to u v (r .blocks) (r .ranges))
+-- 3, 9, 19, 13, then 10: what is written blames no byte
+unfoldable pub whyNot : List ℕ → List Entry → ℕ → ℕ → ℕ → Reading → ℕ
+whyNot u v form to room r = verdict (diffWhy form to u v (r .blocks) (r .ranges)) room (diffBytes to u v (r .blocks) (r .ranges))
 
-unfoldable pub kept : List ℕ → List Entry → ℕ → ℕ → Reading → Diffed
-kept u v to room r =
-    pick (eqb (whyNot u v to room r) 0) (record { refusal = none; bytes = diffBytes to u v (r .blocks) (r .ranges); reading = r }) (refusedWith (nowhere (whyNot u v to room r)))
+unfoldable pub kept : List ℕ → List Entry → ℕ → ℕ → ℕ → Reading → Diffed
+kept u v form to room r =
+    pick (eqb (whyNot u v form to room r) 0) (record { refusal = none; bytes = diffBytes to u v (r .blocks) (r .ranges); reading = r }) (refusedWith (nowhere (whyNot u v form to room r)))
 
 -- the vector is read after the update, and its refusal blames no byte
-unfoldable pub against : List ℕ → Course Entry → ℕ → ℕ → Reading → Diffed
-against u c to room r = ending c (λ s. kept u (items c) to room r) (λ why. refusedWith (nowhere (why .number)))
+unfoldable pub against : List ℕ → Course Entry → ℕ → ℕ → ℕ → Reading → Diffed
+against u c form to room r = ending c (λ s. kept u (items c) form to room r) (λ why. refusedWith (nowhere (why .number)))
 
-unfoldable pub afterReading : List ℕ → Course Entry → ℕ → ℕ → Reading → Diffed
-afterReading u c to room r = pick (eqb (r .refusal .number) 0) (against u c to room r) (refusedWith (r .refusal))
+unfoldable pub afterReading : List ℕ → Course Entry → ℕ → ℕ → ℕ → Reading → Diffed
+afterReading u c form to room r = pick (eqb (r .refusal .number) 0) (against u c form to room r) (refusedWith (r .refusal))
 
 unfoldable pub diffOf : ℕ → List ℕ → List ℕ → ℕ → ℕ → ℕ → ℕ → Diffed
-diffOf form u v to blockRows rangeRows room = pick (known to) (afterReading u (vectorOf v) to room (reading form u blockRows rangeRows)) (refusedWith (nowhere 12))
+diffOf form u v to blockRows rangeRows room = pick (known to) (afterReading u (vectorOf v) form to room (reading form u blockRows rangeRows)) (refusedWith (nowhere 12))
 
 -- ---- what `encode_diff` gives, and what it leaves in all that is lent
 

@@ -80,6 +80,7 @@ pub fn encode_diff(
     let written = writing::encode_read(
         update,
         vector,
+        form,
         to,
         rows,
         read.blocks,

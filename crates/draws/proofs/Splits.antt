@@ -3,7 +3,7 @@ use Prim.Native.Nat.{ℕ}
 use mathlib.Core.Path.{refl}
 use mathlib.Core.List.{List, [], _∷_, _++_}
 use Rattle.grammar.specs.Course.{Reader}
-use Rattle.tokens.specs.Tokens.{Token, field, text, var, buf}
+use Rattle.tokens.specs.Tokens.{Token, field, text, var, buf, key, value, values}
 use Rattle.draws.specs.Draws.{Draws}
 
 module _ {S : Type 0} (r : Reader S) (u : List ℕ) where
@@ -25,5 +25,14 @@ module _ {S : Type 0} (r : Reader S) (u : List ℕ) where
       let x = split xs ys (h .1) t (h .3) in
       record { between = x .between; first = (h .0, h .1, h .2, x .first); then = x .then }
   split (buf b ∷ xs) ys s t h =
+      let x = split xs ys (h .1) t (h .4) in
+      record { between = x .between; first = (h .0, h .1, h .2, h .3, x .first); then = x .then }
+  split (key b n ∷ xs) ys s t h =
+      let x = split xs ys (h .1) t (h .4) in
+      record { between = x .between; first = (h .0, h .1, h .2, h .3, x .first); then = x .then }
+  split (value b ∷ xs) ys s t h =
+      let x = split xs ys (h .1) t (h .4) in
+      record { between = x .between; first = (h .0, h .1, h .2, h .3, x .first); then = x .then }
+  split (values b ∷ xs) ys s t h =
       let x = split xs ys (h .1) t (h .4) in
       record { between = x .between; first = (h .0, h .1, h .2, h .3, x .first); then = x .then }

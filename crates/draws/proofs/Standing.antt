@@ -1,19 +1,23 @@
--- What stands in bytes from a place on, and what is read there in line: a number, a byte, bytes led by their length.
+-- What stands in bytes from a place on, and what is read there in line: a number, a byte, bytes led by their length, plain values.
 use Prim.Native.Nat.{ℕ, suc, _+_, _-_, _^_, _≤_, _<_}
 use mathlib.Core.Path.{_≡_, sym, ap, _∙_}
 use mathlib.Core.List.{List, [], _∷_, _++_, append-assoc}
 use native.Mathlib.Omega.{arith}
-use lib.ListN.{length, take, drop, getD, length-append, length-drop}
-use lib.Seq.{slice, length-take-le, drop-append-seam, take-append-seam, drop-drop, take-add, drop-at, drop-cons}
+use lib.ListN.{length, take, drop, getD, length-append, length-drop, List·getD-append}
+use lib.Seq.{slice, length-take-le, drop-append-seam, take-append-seam, drop-drop, take-add, drop-at, drop-cons, getD-drop}
 use borrow.Author.Tests.{le-ltb, lt-leb}
 use Rattle.numbers.specs.declared.Read.the-variants as read
 use Rattle.numbers.specs.Number.{unsigned, placed, readUnsigned}
 use Rattle.numbers.proofs.Laws.{spell-fuel, spelt-spell}
 use Rattle.text.specs.declared.Part.{Part}
+use Rattle.anys.specs.declared.Skipped.the-variants.{At}
+use Rattle.anys.specs.Any.{anys}
+use Rattle.anys.proofs.Moves.{Alike, anys-moved}
 use Rattle.grammar.specs.Course.{got}
-use Rattle.decoder.specs.Line.{numberAt, varAt, byteAt, soMany, bytesAt}
+use Rattle.decoder.specs.Line.{numberAt, varAt, byteAt, soMany, bytesAt, spanned, valuesAt}
 use Rattle.readings.specs.Sound.{bytesIn}
 use Rattle.tokens.specs.Tokens.{led}
+use Rattle.draws.specs.Draws.{AreAll}
 
 -- q stands in u from a place to the end
 pub record From (u : List ℕ) (at : ℕ) (q : List ℕ) : Type 0 where
@@ -87,3 +91,28 @@ unfolding bytesAt soMany
 bytes-read u at b q h l =
     let t : behind at b + length b + length q ≡ length u = past-length u (behind at b) b q (led-bytes u at b q h) in
     rw (read-here u at (length b) (b ++ q) (led-apart u at b q h) l, le-ltb (length u - behind at b) (length b) (omega arith))
+
+-- ---- plain values
+
+-- values that are all of b, where b stands
+module _ (u : List ℕ) (at : ℕ) (b q : List ℕ) (h : From u at (b ++ q)) where
+  alike : Alike b 0 u at (length b)
+  alike = record {
+    here = omega arith;
+    there = omega (arith, past-length u at b q h);
+    same = λ i l.
+        let e : 0 + i ≡ i = omega arith in
+        ap (λ (j : ℕ). getD b j 0) e ∙ sym (List·getD-append b q 0 i l) ∙ ap (λ (x : List ℕ). getD x i 0) (sym (h .here)) ∙ getD-drop at u i 0;
+  }
+
+  pub values-here : (blame n : ℕ) → AreAll n b → valuesAt u blame n at ≡ got (partOf at b) (at + length b)
+  unfolding valuesAt spanned
+  values-here blame n a =
+      let z : length b ≡ 0 + length b = omega arith in
+      let moved : anys u blame n at ≡ At (at + length b) = anys-moved b u 0 blame n 0 at (length b) (a ∙ ap At z) alike in
+      let e : at + length b - at ≡ length b = omega arith in
+      rw (moved, e)
+
+  pub values-bytes : bytesIn u (partOf at b) ≡ b
+  unfolding bytesIn
+  values-bytes = part-here u at b q h

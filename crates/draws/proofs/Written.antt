@@ -21,17 +21,20 @@ use Rattle.decoder.specs.Columned.{onto, numberIn, columned}
 use Rattle.decoder.specs.Opening.{heads, standing, withOpened, textOpened, onHeads, openedOf}
 use Rattle.decoder.specs.Update.{placed, inColumns, blocksOf}
 use Rattle.leftover.specs.Leftover.{columnsAt, columnsLeft}
-use Rattle.tokens.specs.Tokens.{Token, takenAll, inLine, columnIn, lane, clients, lefts, rights, infos, parents, lens, rest}
+use Rattle.tokens.specs.Tokens.{Token, takenAll, inLine, columnIn, lane, keys, clients, lefts, rights, infos, parents, types, lens, rest}
+use Rattle.tokens.specs.Keys.{keysAfter, crowded, numbered}
 use Rattle.tokens.specs.Bytes.{form2, near}
 use Rattle.draws.specs.Draws.{AllLegal, Lined, DrawnAgain}
 use Rattle.draws.proofs.Standing.{From, at-end, past, byte-here}
-use Rattle.draws.proofs.Values.{textsOf, texted}
+use Rattle.draws.proofs.Keys.{bytesEach}
+use Rattle.draws.proofs.Values.{textsOf, Texted, texted}
 use Rattle.draws.proofs.Whys.{Whys, whys}
-use Rattle.draws.proofs.Columns.{Holds, columns-from, columns-spent}
+use Rattle.draws.proofs.Columns.{Holds, columns-spent}
+use Rattle.draws.proofs.Keyed.{columns-from}
 use Rattle.draws.proofs.Opening.{ledAll, Cuts, cut-here, partsIn, endIn, cuts}
 use Rattle.draws.proofs.Giving.{numbers-cut, differences-cut, bytes-cut, GivesOpened, texts-cut}
 
--- ---- the columns of tokens
+-- ---- the columns of tokens, whose keys are numbers
 
 module _ (ts : List Token) where
   abbrev textsWritten : List ℕ
@@ -40,21 +43,23 @@ module _ (ts : List Token) where
   -- the nine in their order
   abbrev columns : List (List ℕ)
   columns =
-      [] ∷ (columnOf Number (takenAll clients ts) ∷ (columnOf Difference (takenAll lefts ts) ∷ (columnOf Difference (takenAll rights ts)
-      ∷ (columnOf Byte (takenAll infos ts) ∷ (textsWritten ∷ (columnOf Byte (takenAll parents ts) ∷ ([] ∷ (columnOf Number (takenAll lens ts) ∷ []))))))))
+      columnOf Difference (takenAll keys ts)
+      ∷ (columnOf Number (takenAll clients ts) ∷ (columnOf Difference (takenAll lefts ts) ∷ (columnOf Difference (takenAll rights ts)
+      ∷ (columnOf Byte (takenAll infos ts) ∷ (textsWritten ∷ (columnOf Byte (takenAll parents ts)
+      ∷ (columnOf Number (takenAll types ts) ∷ (columnOf Number (takenAll lens ts) ∷ []))))))))
 
-  form2-spelled : AllLegal ts → form2 ts ≡ 0 ∷ ledAll columns (takenAll rest ts)
+  form2-spelled : Texted ts → form2 ts ≡ 0 ∷ ledAll columns (takenAll rest ts)
   unfolding form2 lane inLine columnIn textColumn textHead ledAll
-  form2-spelled a = let t = texted ts a in rw (t .bytes, t .units)
+  form2-spelled t = rw (t .bytes, t .units)
 
-module _ (ts : List Token) (a : AllLegal ts) (w : Whys ts) (u : List ℕ) (l : length u < 2 ^ 62) (x : Cuts u (takenAll rest ts) 1 (columns ts)) where
+module _ (ts : List Token) (t : Texted ts) (w : Whys ts) (u : List ℕ) (l : length u < 2 ^ 62) (x : Cuts u (takenAll rest ts) 1 (columns ts)) where
   abbrev from5 : ℕ
   unfolding Cuts
   from5 = x .1 .1 .1 .1 .1 .0 .from
 
   texts-opened : GivesOpened (take (from5 + length (textsWritten ts)) u) from5 (textsOf ts)
   unfolding Cuts
-  texts-opened = let t = texted ts a in texts-cut (textsOf ts) l (x .1 .1 .1 .1 .1 .0) (t .formed) (rw (t .units) (w .units))
+  texts-opened = texts-cut (textsOf ts) l (x .1 .1 .1 .1 .1 .0) (t .formed) (rw (t .units) (w .units))
 
   abbrev openedState : State
   openedState =
@@ -65,10 +70,11 @@ module _ (ts : List Token) (a : AllLegal ts) (w : Whys ts) (u : List ℕ) (l : l
   unfolding openedOf heads onHeads textOpened withOpened run _>>=_ onDrawn line numberOf Cuts partsIn endIn
   opens h = rw (byte-here u 0 0 (ledAll (columns ts) (takenAll rest ts)) h, cuts u (takenAll rest ts) (columns ts) 1 x [], texts-opened .opens)
 
-  holds : Holds u openedState ts
-  unfolding Cuts partsIn endIn
+  holds : Holds u openedState [] ts
+  unfolding Cuts partsIn endIn bytesEach
   holds =
       record {
+        key = differences-cut (takenAll keys ts) (x .0) (w .key);
         client = numbers-cut (takenAll clients ts) (x .1 .0) (w .client);
         left = differences-cut (takenAll lefts ts) (x .1 .1 .0) (w .left);
         right = differences-cut (takenAll rights ts) (x .1 .1 .1 .0) (w .right);
@@ -76,34 +82,32 @@ module _ (ts : List Token) (a : AllLegal ts) (w : Whys ts) (u : List ℕ) (l : l
         text = texts-opened .gives;
         within = texts-opened .within;
         parent = bytes-cut (takenAll parents ts) (x .1 .1 .1 .1 .1 .1 .0) (w .parent);
+        types = numbers-cut (takenAll types ts) (x .1 .1 .1 .1 .1 .1 .1 .0) (w .type);
         len = numbers-cut (takenAll lens ts) (x .1 .1 .1 .1 .1 .1 .1 .1 .0) (w .len);
         rest = x .1 .1 .1 .1 .1 .1 .1 .1 .1;
+        known = refl;
         ends =
             record {
+              key = x .0 .rest .inside;
               client = x .1 .0 .rest .inside;
               left = x .1 .1 .0 .rest .inside;
               right = x .1 .1 .1 .0 .rest .inside;
               info = x .1 .1 .1 .1 .0 .rest .inside;
               text = x .1 .1 .1 .1 .1 .0 .rest .inside;
               parent = x .1 .1 .1 .1 .1 .1 .0 .rest .inside;
+              types = x .1 .1 .1 .1 .1 .1 .1 .0 .rest .inside;
               len = x .1 .1 .1 .1 .1 .1 .1 .1 .0 .rest .inside;
-              keys-none = omega arith;
-              types-none = omega arith;
             };
       }
 
-columns-open : (ts : List Token) → AllLegal ts → near 2 ts ≡ true → length ts ≤ maxCount → length (form2 ts) < 2 ^ 62
-    → (s : State) × (openedOf (form2 ts) ≡ got tt s) × Holds (form2 ts) s ts
-columns-open ts a n few l = (openedState ts a w u l x, opens ts a w u l x flag, holds ts a w u l x)
+columns-open : (ts : List Token) → Texted ts → Whys ts → length (form2 ts) < 2 ^ 62 → (s : State) × (openedOf (form2 ts) ≡ got tt s) × Holds (form2 ts) s [] ts
+columns-open ts t w l = (openedState ts t w u l x, opens ts t w u l x flag, holds ts t w u l x)
   where
     u : List ℕ
     u = form2 ts
 
-    w : Whys ts
-    w = whys ts a few n
-
     flag : From u 0 (0 ∷ ledAll (columns ts) (takenAll rest ts))
-    flag = record { inside = omega arith; here = form2-spelled ts a }
+    flag = record { inside = omega arith; here = form2-spelled ts t }
 
     x : Cuts u (takenAll rest ts) 1 (columns ts)
     x = cut-here u (takenAll rest ts) l (columns ts) 1 (past u 0 (0 ∷ []) (ledAll (columns ts) (takenAll rest ts)) flag)
@@ -144,16 +148,18 @@ columns-stay u v p s m e = go (varAt u (s .at)) e
     go (got a t) e = ap (λ (x : Drawn State (ℕ × ℕ)). columnsAt (state x)) (sym e)
     go (not why) e = ap (λ (x : Drawn State (ℕ × ℕ)). columnsAt (state x)) (sym e)
 
-pub columns-draw : (ts : List Token) → AllLegal ts → near 2 ts ≡ true → length ts ≤ maxCount → length (form2 ts) < 2 ^ 62 → DrawnAgain 2 (form2 ts) ts
+pub columns-draw : (ts : List Token) → AllLegal 2 ts → near 2 ts ≡ true → crowded [] ts ≡ false → length ts ≤ maxCount
+    → length (form2 (numbered [] ts)) < 2 ^ 62 → DrawnAgain 2 (form2 (numbered [] ts)) ts
 unfolding blocksOf inColumns onDrawn placed columnsLeft takenAll
-columns-draw ts a n few l =
-    let o = columns-open ts a n few l in
-    let r = columns-from (form2 ts) ts a (o .0) (o .2) in
+columns-draw ts a n c few l =
+    let u : List ℕ = form2 (numbered [] ts) in
+    let o = columns-open (numbered [] ts) (texted [] ts a) (whys ts a few n) l in
+    let r = columns-from u [] ts a c (o .0) (o .2) in
     record {
       State = State;
-      reader = columned (form2 ts);
+      reader = columned u;
       place = λ s. s .at;
-      lined = lined (form2 ts);
+      lined = lined u;
       first = o .0;
       last = r .0;
       drawn = r .1;
@@ -162,8 +168,8 @@ columns-draw ts a n few l =
       leaves-over = λ s. refl;
       blocks = rw (o .1);
       left = columnsAt;
-      stays = columns-stay (form2 ts);
+      stays = columns-stay u;
       columns = rw (o .1);
-      spent = columns-spent (form2 ts) (r .0) (r .2);
-      whole = at-end (form2 ts) (r .0 .at) (r .2 .rest);
+      spent = columns-spent u (r .0) (keysAfter [] ts) (r .2);
+      whole = at-end u (r .0 .at) (r .2 .rest);
     }

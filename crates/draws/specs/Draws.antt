@@ -1,7 +1,7 @@
 -- A reader draws tokens: each is what reading gives next, from a state up to a last one. And which tokens can be written and read again.
 use Prim.Native.Nat.{ℕ, _≤_, _<_, _^_}
 use mathlib.Core.Path.{_≡_}
-use mathlib.Core.Bool.{Bool, true}
+use mathlib.Core.Bool.{Bool, true, false}
 use mathlib.Core.List.{List, [], _∷_}
 use lib.Dec.{eqb}
 use lib.ListN.{length}
@@ -10,6 +10,8 @@ use Rattle.numbers.specs.Limits.{maxClock, maxValue}
 use Rattle.text.specs.declared.Part.{Part}
 use Rattle.text.specs.Utf8.{wellFormed, unitsOf}
 use Rattle.block.specs.declared.Block.{Block}
+use Rattle.anys.specs.declared.Skipped.the-variants.{At}
+use Rattle.anys.specs.Any.{anys}
 use Rattle.grammar.specs.Grammar as grammar
 use Rattle.grammar.specs.Grammar.{Number}
 use Rattle.grammar.specs.Course.{got, Reader, Run, item, over, Course, run, ending}
@@ -18,7 +20,7 @@ use Rattle.decoder.specs.Line.{bounded, line}
 use Rattle.decoder.specs.Update.{blocksOf}
 use Rattle.leftover.specs.Leftover.{Stretch, columnsLeft, Spent}
 use Rattle.readings.specs.Sound.{bytesIn}
-use Rattle.tokens.specs.Tokens.{Token, field, text, var, buf, clients, lefts, rights, infos, parents, lens}
+use Rattle.tokens.specs.Tokens.{Token, field, text, var, buf, key, value, values, clients, lefts, rights, infos, parents, types, lens}
 
 -- the field that a lane's numbers are
 unfoldable pub laneField : ℕ → Number
@@ -27,7 +29,11 @@ laneField k =
     (pick (eqb k lefts) grammar.leftClock
     (pick (eqb k rights) grammar.rightClock
     (pick (eqb k infos) grammar.info
-    (pick (eqb k parents) grammar.parentInfo grammar.len))))
+    (pick (eqb k parents) grammar.parentInfo (pick (eqb k types) grammar.typeNumber grammar.len)))))
+
+-- n plain values are all of these bytes
+abbrev pub AreAll : ℕ → List ℕ → Type 0
+AreAll n b = anys b 0 n 0 ≡ At (length b)
 
 module _ {S : Type 0} (r : Reader S) (u : List ℕ) where
   unfoldable pub Draws : S → List Token → S → Type 0
@@ -36,27 +42,44 @@ module _ {S : Type 0} (r : Reader S) (u : List ℕ) where
   Draws s (text b n ∷ ts) t = (p : Part) × (m : S) × (r grammar.text s ≡ got (p, record { 0 = n }) m) × (bytesIn u p ≡ b) × Draws m ts t
   Draws s (var v ∷ ts) t = (p : ℕ) × (m : S) × (r (grammar.number grammar.any) s ≡ got (v, p) m) × Draws m ts t
   Draws s (buf b ∷ ts) t = (p : Part) × (m : S) × (r grammar.bytes s ≡ got p m) × (bytesIn u p ≡ b) × Draws m ts t
+  Draws s (key b n ∷ ts) t = (p : Part) × (m : S) × (r grammar.key s ≡ got p m) × (bytesIn u p ≡ b) × Draws m ts t
+  Draws s (value b ∷ ts) t = (p : Part) × (m : S) × ((blame : ℕ) → r (grammar.value blame) s ≡ got p m) × (bytesIn u p ≡ b) × Draws m ts t
+  Draws s (values b ∷ ts) t =
+      (p : Part) × (m : S) × ((blame n : ℕ) → AreAll n b → r (grammar.values blame n) s ≡ got p m) × (bytesIn u p ≡ b) × Draws m ts t
 
 -- ---- which tokens
 
 -- a number that its lane takes and that reading allows
 unfoldable pub most : ℕ → ℕ
-most k = pick (eqb k clients) maxValue (pick (eqb k infos) 255 (pick (eqb k parents) 255 maxClock))
+most k = pick (eqb k clients) maxValue (pick (eqb k infos) 255 (pick (eqb k parents) 255 (pick (eqb k types) maxValue maxClock)))
 
 -- a lane with a column of numbers
 unfoldable pub isField : ℕ → Bool
-isField k = pick (eqb k clients) true (pick (eqb k lefts) true (pick (eqb k rights) true (pick (eqb k infos) true (pick (eqb k parents) true (eqb k lens)))))
+isField k =
+    pick (eqb k clients) true
+    (pick (eqb k lefts) true
+    (pick (eqb k rights) true (pick (eqb k infos) true (pick (eqb k parents) true (pick (eqb k types) true (eqb k lens))))))
 
--- a token that can be written and read again
-unfoldable pub Legal : Token → Type 0
-Legal (field k v) = (isField k ≡ true) × (v ≤ most k)
-Legal (text b n) = (wellFormed b ≡ true) × (unitsOf b ≡ n) × (n ≤ maxValue)
-Legal (var v) = v < 2 ^ 63
-Legal (buf b) = length b < 2 ^ 63
+abbrev pub LegalText : List ℕ → ℕ → Type 0
+LegalText b n = (wellFormed b ≡ true) × (unitsOf b ≡ n) × (n ≤ maxValue)
 
-unfoldable pub AllLegal : List Token → Type 0
-AllLegal [] = Unit {0}
-AllLegal (t ∷ ts) = Legal t × AllLegal ts
+-- a mark's value is a text in form 1, one plain value in form 2
+unfoldable pub LegalValue : ℕ → List ℕ → Type 0
+LegalValue form b = ((eqb form 1 ≡ true) → (wellFormed b ≡ true) × (length b < 2 ^ 63)) × ((eqb form 1 ≡ false) → AreAll 1 b)
+
+-- a token that can be written in a form and read again
+unfoldable pub Legal : ℕ → Token → Type 0
+Legal form (field k v) = (isField k ≡ true) × (v ≤ most k)
+Legal form (text b n) = LegalText b n
+Legal form (var v) = v < 2 ^ 63
+Legal form (buf b) = length b < 2 ^ 63
+Legal form (key b n) = LegalText b n
+Legal form (value b) = LegalValue form b
+Legal form (values b) = (n : ℕ) × AreAll n b
+
+unfoldable pub AllLegal : ℕ → List Token → Type 0
+AllLegal form [] = Unit {0}
+AllLegal form (t ∷ ts) = Legal form t × AllLegal form ts
 
 -- ---- bytes that are read
 

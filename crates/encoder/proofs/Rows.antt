@@ -7,8 +7,8 @@ use lib.ListN.{length, getD}
 use Rattle.block.specs.declared.Block.{Block}
 use Rattle.block.specs.Row.{noBlock}
 use Rattle.tokens.specs.Tokens.{Token}
-use Rattle.tokens.specs.Desk.{Tidy, Wrote}
-use Rattle.tokens.proofs.Wrote.{wrote-none, wrote-then, wrote-is}
+use Rattle.tokens.specs.Desk.{Tidy, WroteKeys}
+use Rattle.tokens.proofs.Keyed.{wrote-keys-none, wrote-keys-then, wrote-keys-is}
 use Rattle.kept.specs.declared.cursor.Cursor.{Cursor}
 use Rattle.kept.specs.Plan.{nowhere, openedAt, advanced, plannedFrom, stopsOf}
 use Rattle.records.specs.Stops.{rowTokens, stopsTokens}
@@ -24,7 +24,7 @@ module _ (form : ℕ) (out₀ lanes₀ : List ℕ) (at₀ : ℕ) (u : List ℕ) 
 
   pub record Going (c : Cursor) (out lanes : List ℕ) (at : ℕ) : Type 0 where
     pub done : List Token
-    pub wrote : Wrote form done out₀ lanes₀ at₀ out lanes at
+    pub wrote : WroteKeys u form done out₀ lanes₀ at₀ out lanes at
     pub all : done ++ before c ≡ plannedTokens u rows w n
 
   module _ (most : length rows ≤ nowhere) (room : 5 * n ≤ length w) where
@@ -34,19 +34,19 @@ module _ (form : ℕ) (out₀ lanes₀ : List ℕ) (at₀ : ℕ) (u : List ℕ) 
         let q : n - 0 ≡ n = omega arith in
         record {
           done = [];
-          wrote = wrote-none tidy;
+          wrote = wrote-keys-none tidy;
           all = opens u rows (length rows) most w n 0 room ∙ ap (λ (m : ℕ). stopsTokens u rows (length rows) (stopsOf (plannedFrom w 0 m))) q;
         }
 
     pub turns : (c : Cursor) (out lanes : List ℕ) (at : ℕ) → Going c out lanes at → c .row < length rows
-        → (out₁ lanes₁ : List ℕ) (at₁ : ℕ) → Wrote form (own c) out lanes at out₁ lanes₁ at₁ → Going (advanced w n c) out₁ lanes₁ at₁
+        → (out₁ lanes₁ : List ℕ) (at₁ : ℕ) → WroteKeys u form (own c) out lanes at out₁ lanes₁ at₁ → Going (advanced w n c) out₁ lanes₁ at₁
     turns c out lanes at g l out₁ lanes₁ at₁ more = record {
       done = g .done ++ own c;
-      wrote = wrote-then (g .wrote) more;
+      wrote = wrote-keys-then (g .wrote) more;
       all = append-assoc (g .done) (own c) (before (advanced w n c)) ∙ ap (λ (ts : List Token). g .done ++ ts) (sym (goes u rows (length rows) most w n c room l)) ∙ g .all;
     }
 
     pub written : (c : Cursor) (out lanes : List ℕ) (at : ℕ) → Going c out lanes at → length rows ≤ c .row
-        → Wrote form (plannedTokens u rows w n) out₀ lanes₀ at₀ out lanes at
+        → WroteKeys u form (plannedTokens u rows w n) out₀ lanes₀ at₀ out lanes at
     written c out lanes at g l =
-        wrote-is (sym (g .all) ∙ ap (λ (ts : List Token). g .done ++ ts) (ends u rows (length rows) most w n c l) ∙ append-nil (g .done)) (g .wrote)
+        wrote-keys-is (sym (g .all) ∙ ap (λ (ts : List Token). g .done ++ ts) (ends u rows (length rows) most w n c l) ∙ append-nil (g .done)) (g .wrote)

@@ -100,11 +100,14 @@ outcome = record {
   silent = λ x w. refl;
 }
 
-pub outcome-has : (sections₀ : ℕ) (g-sections : Has word sections₀) (torn₀ : Bool) (g-torn : Has bool-kind torn₀) → Has outcome (record { sections = sections₀; torn = torn₀ })
-outcome-has sections₀ g-sections torn₀ g-torn = LL.owes Outcome₁.the-type Outcome₂.the-laws (record { sections = sections₀; torn = torn₀ }) (g-sections, (g-torn, tt))
+pub outcome-has : (sections₀ : ℕ) (g-sections : Has word sections₀) (torn₀ : Bool) (g-torn : Has bool-kind torn₀) (formats₀ : Bool) (g-formats : Has bool-kind formats₀) → Has outcome (record { sections = sections₀; torn = torn₀; formats = formats₀ })
+outcome-has sections₀ g-sections torn₀ g-torn formats₀ g-formats = LL.owes Outcome₁.the-type Outcome₂.the-laws (record { sections = sections₀; torn = torn₀; formats = formats₀ }) (g-sections, (g-torn, (g-formats, tt)))
 
 pub outcome-sections : (x : Outcome) → Has outcome x → Has word (x .sections)
 outcome-sections x g = LL.owed Outcome₁.the-type Outcome₂.the-laws x _ g .0
 
 pub outcome-torn : (x : Outcome) → Has outcome x → Has bool-kind (x .torn)
 outcome-torn x g = LL.owed Outcome₁.the-type Outcome₂.the-laws x _ g .1 .0
+
+pub outcome-formats : (x : Outcome) → Has outcome x → Has bool-kind (x .formats)
+outcome-formats x g = LL.owed Outcome₁.the-type Outcome₂.the-laws x _ g .1 .1 .0

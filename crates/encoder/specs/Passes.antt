@@ -13,7 +13,7 @@ use Rattle.encoder.specs.declared.steps.Outcome.{Outcome}
 -- ---- the plan
 
 unfoldable pub outcomeOf : List ℕ → Planning → Outcome
-outcomeOf w s = record { sections = endedCount w s; torn = s .torn }
+outcomeOf w s = record { sections = endedCount w s; torn = s .torn; formats = s .formats }
 
 unfoldable pub outcomeFor : List ℕ → List Entry → List ℕ → List Block → Outcome
 outcomeFor u v w bs = outcomeOf (planAllWords u v w unplanned 0 bs) (planAll u v w unplanned 0 bs)

@@ -7,7 +7,7 @@ ghost use mathlib.Core.Path.{_≡_};
 ghost use Prim.Native.Nat.{_*_, _≤_};
 ghost use lib.ListN.{length, take};
 ghost use Rattle.kept.specs.Plan.{entriesOf};
-ghost use Rattle.tokens.specs.Desk.{Tidy, Wrote};
+ghost use Rattle.tokens.specs.Desk.{Tidy, WroteKeys};
 ghost use Rattle.encoder.specs.Passes.{outcomeFor, wordsFor, plannedTokens};
 
 // The first n rows planned, the other side having m entries.
@@ -48,7 +48,7 @@ pub fn put_rows(
     at: usize,
 ) -> usize
     requires { ⌜ Tidy (now lanes) × (5 * sections ≤ length (now plan)) ⌝ }
-    ensures { λ r. ⌜ Wrote form (plannedTokens (now (update .entry)) (now (rows .entry)) (now (plan .entry)) sections)
+    ensures { λ r. ⌜ WroteKeys (now (update .entry)) form (plannedTokens (now (update .entry)) (now (rows .entry)) (now (plan .entry)) sections)
         (now (out .entry)) (now (lanes .entry)) at (now (out .exit)) (now (lanes .exit)) r ⌝ }
 {
     let mut end = at;

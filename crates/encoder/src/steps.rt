@@ -4,16 +4,22 @@ ghost use mathlib.Core.Path.{_≡_};
 ghost use Rattle.kept.specs.Plan.{endedWords};
 ghost use Rattle.encoder.specs.Passes.{outcomeOf};
 
-// How many sections are kept, and whether a cut would be inside a pair.
+// How many sections are kept, whether a cut would be inside a pair, and whether a format is among them.
 pub struct Outcome {
     pub sections: usize,
     pub torn: bool,
+    pub formats: bool,
 }
 
 pub fn end_plan(plan: &mut [u64], s: Planning) -> Outcome
     ensures { λ r. ⌜ (r ≡ outcomeOf (now (plan .entry)) s) × (now (plan .exit) ≡ endedWords (now (plan .entry)) s) ⌝ }
 {
     let torn = s.torn;
+    let formats = s.formats;
     let sections = kept::plan::end_section(plan, s);
-    Outcome { sections, torn }
+    Outcome {
+        sections,
+        torn,
+        formats,
+    }
 }

@@ -57,13 +57,13 @@ module _ (w : List ℕ) (s : Small w) (e p : ℕ) where
   pub small-moved : Small moved
   small-moved =
       let v = set w 63 e in
-      let h = held 0 v (small-at w s e) in
-      held-wide 0 v _ moved (put-place 0 v _ v (omega arith) h p) (omega arith, (λ q. omega arith), (λ q. omega arith)) (small-at w s e)
+      let h = held 1 v (small-at w s e) in
+      held-wide 1 v _ moved (put-place 1 v _ v (omega arith) h p) (omega arith, (λ q. omega arith), (λ q. omega arith), (λ q. omega arith)) (small-at w s e)
 
   pub given-moved : (x : ℕ) → given moved (Number x) ≡ course.got (x, p) (movedTo (stateIn w) e)
   unfolding given
   given-moved x =
-      rw (state-same (set w 63 e) moved (elsewhere-behind 9 64 p (set w 63 e) (omega arith)) ∙ state-at w s e, place-moved (set w 63 e) (small-at w s e) p) refl
+      rw (state-same (set w 63 e) moved (elsewhere-behind 9 64 p (set w 63 e) (omega arith) (omega arith)) ∙ state-at w s e, place-moved (set w 63 e) (small-at w s e) p) refl
 
 module _ (v : List ℕ) {r : Drawn} {why : Refusal} (e : r ≡ Refused) (q : whyIn v ≡ why) where
   pub given-refused : given v r ≡ course.not why

@@ -143,7 +143,7 @@ module _ (u w v : List ℕ) (n : ℕ) (p : NumberDrawn u 5 w v (Number n)) where
       let z = set v 40 (at + b .0) in
       let h : Held 5 v _ z = put-at 5 v (column v 5) v (omega arith) (held 5 v (p .0)) 40 5 (at + b .0) refl (omega arith) in
       let last : numbersIn v 5 .place .last ≡ n = rw (found .0) at (lasts-next (take (cell w 5 4) u) (numbersIn w 5 .place)) in (
-        held-wide 5 v _ z h (omega arith, (λ q. omega arith), (λ q. omega arith)) (p .0),
+        held-wide 5 v _ z h (omega arith, (λ q. omega arith), (λ q. omega arith), (λ q. omega arith)) (p .0),
         elsewhere-on 5 w v z (p .1) (h .elsewhere),
         beside-put k at (b .0) r room,
         rw (row-first k at (b .0) r room, row-second k at (b .0) r room, texts-held 5 v _ z h, text-next t x et (rw (← ea) ex), told, last, ea) refl,

@@ -36,6 +36,10 @@ partGiven k v q field.Refused = course.not (whyIn v)
 abbrev pub PartGiven : List ℕ → ℕ → List ℕ → List ℕ → List ℕ → List ℕ → cells-field.Field → Type 0
 PartGiven u k w v r q f = Small v × Beside k r q × (partGiven k v q f ≡ onto (stateIn w) (bytesAt u (atIn w)))
 
+-- the same of any draw d that gives a part
+abbrev pub WordGiven : ℕ → List ℕ → List ℕ → List ℕ → List ℕ → cells-field.Field → course.Drawn State Part → Type 0
+WordGiven k w v r q f d = Small v × Beside k r q × (partGiven k v q f ≡ d)
+
 unfoldable pub textGiven : ℕ → List ℕ → List ℕ → cells-drawn.Drawn → course.Drawn State (Part × Units)
 textGiven k v q (drawn.Number n) = course.got (partIn q k, record { 0 = n }) (stateIn v)
 textGiven k v q drawn.Refused = course.not (whyIn v)

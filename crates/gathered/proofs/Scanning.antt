@@ -47,13 +47,13 @@ pub record Scanning (form : ℕ) (u : List ℕ) (c : Course Block) (s₀ : Spot)
   pub fine : Fine m s
   pub small : Small w
   pub memory : length m ≡ 64
-  pub fields : length r ≡ 21
+  pub fields : length r ≡ 24
   pub can : Gatherable (items c)
   pub size : length v ≡ 256
   pub count : n ≡ length (rowsOf seen)
   pub words : take (4 * n) v ≡ wordsIn (rowsOf seen)
 
-pub scan-begins : (form : ℕ) (u w : List ℕ) (s : Spot) (r v : List ℕ) → Small w → Fine (replicate 64 0) s → length v ≡ 256 → length r ≡ 21
+pub scan-begins : (form : ℕ) (u w : List ℕ) (s : Spot) (r v : List ℕ) → Small w → Fine (replicate 64 0) s → length v ≡ 256 → length r ≡ 24
     → Gatherable (items (comes form u (replicate 64 0) w s)) → Scanning form u (comes form u (replicate 64 0) w s) s w r (replicate 64 0) s v 0
 unfolding rowsOf wordsIn clientsAfter
 scan-begins form u w s r v small fine size row can =

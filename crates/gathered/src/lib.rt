@@ -31,7 +31,7 @@ fn scan(form: u8, update: &[u8], w: &mut [u64], s: Spot, rows: &mut [u64]) -> Sc
         × Gatherable (items (comes form (now update) (replicate 64 0) (now w) s)) ⌝ }
     ensures { λ r. ⌜ Scans (comes form (now (update .entry)) (replicate 64 0) (now (w .entry)) s) (now (rows .exit)) r ⌝ }
 {
-    let mut fields = [0u64; 21];
+    let mut fields = [0u64; 24];
     let mut memory = [0u64; 64];
     let mut s = s;
     let mut n: usize = 0;
@@ -69,7 +69,7 @@ pub fn gather(form: u8, update: &[u8], rows: &mut [u64]) -> Gathered
     requires { ⌜ length (now rows) ≡ 256 ⌝ }
     ensures { λ g. ⌜ Tells (toldOf form (now (update .entry))) (now (rows .exit)) g ⌝ }
 {
-    let mut words = [0u64; 67];
+    let mut words = [0u64; 580];
     let b = update::begin(form, update, &mut words);
     let Begun::At(s) = b else {
         return Gathered::Refused(why_begun(b));

@@ -9,6 +9,7 @@ use Rattle.numbers.specs.Words.{among}
 use Rattle.numbers.specs.Limits.{maxClock, maxBlocks}
 use Rattle.block.specs.declared.Block.{Block}
 use Rattle.block.specs.Rows.{plain}
+use Rattle.block.specs.Kinds.{maxType, isNamed}
 use Rattle.grammar.specs.Grammar.{Number, Field, Answer, Grammar, ask, emit, stop, done, _>>=_}
 use Rattle.grammar.specs.Course.{Drawn, got, not, Reader, Run, onDrawn, run}
 use Rattle.grammar.specs.Blocks as grammar
@@ -79,10 +80,22 @@ place-owns i b =
     owns-either Low (ltb i 64) _ _ (owns-bind Low (grammar.parent b) (grammar.key i) (parent-owns b) (key-owns i))
     (owns-bind Low (grammar.left i b) (grammar.right i) (left-owns i b) (right-owns i))
 
+node-owns : (n : ℕ) (b : Block) → Owns Low {E = Block} (grammar.node n b)
+unfolding Owns _>>=_ grammar.node
+node-owns n b = owns-either Low (isNamed n) _ _ (λ a. tt) tt
+
+type-owns : (at : ℕ) (b : Block) → Owns Low {E = Block} (grammar.type at b)
+unfolding Owns _>>=_ grammar.type
+type-owns at b = λ a. owns-either Low (ltb maxType (a .0)) _ _ low5 (node-owns (a .0) _)
+
 content-owns : (i at : ℕ) (b : Block) → Owns Low {E = Block} (grammar.content i at b)
-unfolding Owns _>>=_ grammar.content grammar.deleted grammar.binary grammar.string
+unfolding Owns _>>=_ grammar.content grammar.contentOf grammar.deleted grammar.binary grammar.string grammar.format grammar.anyList
 content-owns i at b =
-    owns-either Low (eqb (i % 32) 1) _ _ (λ a. tt) (owns-either Low (eqb (i % 32) 3) _ _ (λ a. tt) (owns-either Low (eqb (i % 32) 4) _ _ (λ a. tt) low5))
+    owns-either Low (eqb (i % 32) 1) _ _ (λ a. tt)
+    (owns-either Low (eqb (i % 32) 3) _ _ (λ a. tt)
+    (owns-either Low (eqb (i % 32) 4) _ _ (λ a. tt)
+    (owns-either Low (eqb (i % 32) 6) _ _ (λ a v. tt)
+    (owns-either Low (eqb (i % 32) 7) _ _ (type-owns at b) (owns-either Low (eqb (i % 32) 8) _ _ (λ a v. tt) low5)))))
 
 body-owns : (c clock i at : ℕ) → Owns Low {E = Block} (grammar.body c clock i at)
 unfolding Owns _>>=_ grammar.body grammar.bare grammar.anItem

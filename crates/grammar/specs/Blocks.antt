@@ -9,9 +9,10 @@ use Rattle.numbers.specs.Limits.{maxClock, maxClients, maxBlocks}
 use Rattle.block.specs.declared.Id.{Id}
 use Rattle.block.specs.declared.Block.{Block}
 use Rattle.block.specs.Row.{noPart}
-use Rattle.block.specs.Rows.{plain, withLeft, withRight, withParent, withName, withKey, withContent}
-use Rattle.block.specs.Kinds.{GC, SKIP, DELETED, BINARY, TEXT, isItem}
-use Rattle.grammar.specs.Grammar.{Number, upTo, client, leftClock, rightClock, info, parentInfo, len, number, text, bytes, Grammar, emit, stop, done, draw, _>>=_}
+use Rattle.block.specs.Rows.{plain, withLeft, withRight, withParent, withName, withKey, withMark, withType, withContent}
+use Rattle.block.specs.Kinds.{GC, SKIP, DELETED, BINARY, TEXT, FORMAT, TYPE, ANY, isItem, maxType, isNamed}
+use Rattle.grammar.specs.Grammar as fields
+use Rattle.grammar.specs.Grammar.{Number, upTo, client, leftClock, rightClock, info, parentInfo, len, typeNumber, number, text, bytes, value, values, Grammar, emit, stop, done, draw, _>>=_}
 
 -- ---- a block, and the place of its info byte; nothing of it is kept yet
 
@@ -52,9 +53,40 @@ module _ {E : Type 0} where
   unfoldable pub string : Block → Grammar E Block
   string b = draw text >>= λ (p, n). done (withContent TEXT n p b)
 
-  -- deleted (1) is a length field, binary (3) length and bytes in line, string (4) a text; all else is refused with 5, at the info byte
+  -- a key and its value
+  unfoldable pub format : ℕ → Block → Grammar E Block
+  format at b = do
+    k ← draw fields.key
+    v ← draw (value at)
+    done (withMark k (withContent FORMAT (record { 0 = 1 }) v b))
+
+  -- the node name, if the type has one
+  unfoldable pub node : ℕ → Block → Grammar E Block
+  node n b = pick (isNamed n) (draw fields.key >>= λ k. done (withMark k b)) (done b)
+
+  unfoldable pub type : ℕ → Block → Grammar E Block
+  type at b = do
+    (n, _) ← draw (number typeNumber)
+    pick (ltb maxType n) (stop 5 at) (node n (withType n (withContent TYPE (record { 0 = 1 }) noPart b)))
+
+  -- a list of plain values
+  unfoldable pub anyList : ℕ → Block → Grammar E Block
+  anyList at b = do
+    (n, _) ← draw (number len)
+    v ← draw (values at n)
+    done (withContent ANY (record { 0 = n }) v b)
+
+  -- deleted (1) is a length field, binary (3) length and bytes in line, string (4) a text, format (6) a key and a value, type (7) its number, and a node
+  -- name if it has one, any (8) a length field and so many values; all else is refused with 5, at the info byte
+  unfoldable pub contentOf : ℕ → ℕ → Block → Grammar E Block
+  contentOf n at b =
+      pick (eqb n 1) (deleted b)
+      (pick (eqb n 3) (binary b)
+      (pick (eqb n 4) (string b) (pick (eqb n 6) (format at b) (pick (eqb n 7) (type at b) (pick (eqb n 8) (anyList at b) (stop 5 at))))))
+
+  -- by the low five bits of the info byte
   unfoldable pub content : ℕ → ℕ → Block → Grammar E Block
-  content i at b = pick (eqb (i % 32) 1) (deleted b) (pick (eqb (i % 32) 3) (binary b) (pick (eqb (i % 32) 4) (string b) (stop 5 at)))
+  content i at b = contentOf (i % 32) at b
 
   unfoldable pub anItem : ℕ → ℕ → Block → Grammar E Block
   anItem i at b = place i b >>= content i at

@@ -17,17 +17,26 @@ pub data Number : Type 0 where
   len : Number
   deleteClock : ℕ → Number
   deleteLen : Number
+  typeNumber : Number
 
+-- a key is a mark's or a node's name, which a form may have once for all that bear it; a mark's value, and so many plain values, say where a value of an
+-- unknown kind is blamed
 pub data Field : Type 0 where
   number : Number → Field
   text : Field
   bytes : Field
+  key : Field
+  value : ℕ → Field
+  values : ℕ → ℕ → Field
 
--- a number, and the place that it is blamed at; a text, and its units; so many bytes
+-- a number, and the place that it is blamed at; a text, and its units; so many bytes; the bytes of a key and of values
 abbrev pub Answer : Field → Type 0
 Answer (number n) = ℕ × ℕ
 Answer text = Part × Units
 Answer bytes = Part
+Answer key = Part
+Answer (value blame) = Part
+Answer (values blame n) = Part
 
 -- draw a field and go on with its answer; keep a thing, with the place that is blamed if there is no row for it; refuse, by number and place; be done
 pub data Grammar (E A : Type 0) : Type 0 where

@@ -8,11 +8,14 @@ pub data Event (E : Type 0) : Type 0 where
   drew : (f : Field) → Answer f → Event E
   kept : E → Event E
 
--- a number is blamed at its place; a text and bytes begin at theirs
+-- a number is blamed at its place; a text, bytes, a key and values begin at theirs
 unfoldable pub placeOf : (f : Field) → Answer f → ℕ
 placeOf (grammar.number n) a = a .1
 placeOf grammar.text a = a .0 .place
 placeOf grammar.bytes a = a .place
+placeOf grammar.key a = a .place
+placeOf (grammar.value blame) a = a .place
+placeOf (grammar.values blame n) a = a .place
 
 unfoldable pub traced : {E A : Type 0} → Grammar E A → Grammar (Event E) A
 traced (ask f k) = ask f (λ a. emit (drew f a) (placeOf f a) (traced (k a)))

@@ -1,74 +1,32 @@
--- What stores into the words of a row do to the row: the fields whose words they are change, and the others are as before.
-use Prim.Native.Nat.{ℕ, _+_, _≤_, _<_}
-use mathlib.Core.Path.{_≡_, refl, sym, ap, subst, _∙_}
+-- What stores into the words of a row do to where it stands: a left id, a right one, a parent, a name, a key; and a row that is begun.
+use Prim.Native.Nat.{ℕ, _≤_, _<_}
+use mathlib.Core.Path.{_≡_, refl, sym, ap, _∙_}
 use mathlib.Core.List.{List, [], _∷_, _++_}
-use mathlib.Core.Bool.{Bool, true, false}
-use mathlib.Core.Logic.{_≢_}
+use mathlib.Core.Bool.{false}
 use native.Mathlib.Omega.{arith}
-use lib.ListN.{length, getD, set, drop, length-set}
+use lib.ListN.{length, getD, set, drop}
 use lib.Seq.{getD-set-other, getD-set-same, sets, sets-eq, length-sets}
-use Rattle.numbers.specs.Number.{pick}
 use Rattle.numbers.specs.Words.{among}
-use Rattle.text.specs.declared.Part.{Part}
 use Rattle.block.specs.declared.Block.{Block}
-use Rattle.block.specs.Row.{noPart}
 use Rattle.block.specs.Rows.{plain, withLeft, withRight, withParent, withName, withKey, withContent}
 use Rattle.cells.specs.Cells.{Beside, partIn}
-use Rattle.cells.proofs.States.{beside-put}
-use Rattle.fields.proofs.Laws as fields
+use Rattle.held.proofs.Rows.{Only, only-none, only-set, only-beside, size-kept, kept, narrow-parts, CONTENTS, content-put}
 use Rattle.item.specs.Row.{idIn, rowIn, Narrow, Begun}
 
--- ---- only the words ks changed, from r to q
+-- ---- a clock that is small
 
-pub record Only (ks r q : List ℕ) : Type 0 where
-  pub size : length q ≡ length r
-  pub same : (j : ℕ) → among j ks ≡ false → getD q j 0 ≡ getD r j 0
+module _ (ks r q : List ℕ) (o : Only ks r q) (n : Narrow r) (a : among 1 ks ≡ false) (b : among 3 ks ≡ false) (t : among 23 ks ≡ false) where
+  narrow-left : getD q 6 0 ≤ 4294967295 → among 9 ks ≡ false → among 12 ks ≡ false → Narrow q
+  narrow-left c d e =
+      record { size = size-kept ks r q o n; clock = kept ks r q o n 1 _ a (n .clock); kind = kept ks r q o n 3 _ b (n .kind); left = c; right = kept ks r q o n 9 _ d (n .right); parent = kept ks r q o n 12 _ e (n .parent); type = kept ks r q o n 23 _ t (n .type) }
 
-among-other : (ks : List ℕ) (j n : ℕ) → among n ks ≡ true → among j ks ≡ false → j ≢ n
-among-other ks j n a b e =
-    let x : true ≡ false = sym a ∙ ap (λ (m : ℕ). among m ks) (sym e) ∙ b in
-    absurd (let z : _≡_ {A = ℕ} 0 1 = ap (λ (x : Bool). pick x 0 1) x in omega arith)
+  narrow-right : among 6 ks ≡ false → getD q 9 0 ≤ 4294967295 → among 12 ks ≡ false → Narrow q
+  narrow-right c d e =
+      record { size = size-kept ks r q o n; clock = kept ks r q o n 1 _ a (n .clock); kind = kept ks r q o n 3 _ b (n .kind); left = kept ks r q o n 6 _ c (n .left); right = d; parent = kept ks r q o n 12 _ e (n .parent); type = kept ks r q o n 23 _ t (n .type) }
 
-module _ (ks r : List ℕ) where
-  pub only-none : Only ks r r
-  only-none = record { size = refl; same = λ j h. refl }
-
-  pub only-set : (q : List ℕ) (n a : ℕ) → among n ks ≡ true → Only ks r q → Only ks r (set q n a)
-  only-set q n a h o = record { size = length-set q n a ∙ o .size; same = λ j k. getD-set-other q n j a 0 (among-other ks j n h k) ∙ o .same j k }
-
-  pub only-beside : (k : ℕ) (q : List ℕ) → among k ks ≡ true → among (k + 1) ks ≡ true → Beside k r q → Only ks r q
-  only-beside k q a b e =
-      subst (Only ks r) (sym e) (only-set (set r k (getD q k 0)) (k + 1) (getD q (k + 1) 0) b (only-set r k (getD q k 0) a only-none))
-
--- ---- small words stay small
-
-module _ (ks r q : List ℕ) (o : Only ks r q) (n : Narrow r) where
-  pub size-kept : length q ≡ 21
-  size-kept = o .size ∙ n .size
-
-  kept : (j m : ℕ) → among j ks ≡ false → getD r j 0 ≤ m → getD q j 0 ≤ m
-  kept j m h b = subst (λ (x : ℕ). x ≤ m) (sym (o .same j h)) b
-
-  -- what is no clock and no kind changed
-  pub narrow-parts : among 1 ks ≡ false → among 3 ks ≡ false → among 6 ks ≡ false → among 9 ks ≡ false → among 12 ks ≡ false → Narrow q
-  narrow-parts a b c d e =
-      record { size = size-kept; clock = kept 1 _ a (n .clock); kind = kept 3 _ b (n .kind); left = kept 6 _ c (n .left); right = kept 9 _ d (n .right); parent = kept 12 _ e (n .parent) }
-
-  pub narrow-kind : among 1 ks ≡ false → getD q 3 0 ≤ 255 → among 6 ks ≡ false → among 9 ks ≡ false → among 12 ks ≡ false → Narrow q
-  narrow-kind a b c d e =
-      record { size = size-kept; clock = kept 1 _ a (n .clock); kind = b; left = kept 6 _ c (n .left); right = kept 9 _ d (n .right); parent = kept 12 _ e (n .parent) }
-
-  pub narrow-left : among 1 ks ≡ false → among 3 ks ≡ false → getD q 6 0 ≤ 4294967295 → among 9 ks ≡ false → among 12 ks ≡ false → Narrow q
-  narrow-left a b c d e =
-      record { size = size-kept; clock = kept 1 _ a (n .clock); kind = kept 3 _ b (n .kind); left = c; right = kept 9 _ d (n .right); parent = kept 12 _ e (n .parent) }
-
-  pub narrow-right : among 1 ks ≡ false → among 3 ks ≡ false → among 6 ks ≡ false → getD q 9 0 ≤ 4294967295 → among 12 ks ≡ false → Narrow q
-  narrow-right a b c d e =
-      record { size = size-kept; clock = kept 1 _ a (n .clock); kind = kept 3 _ b (n .kind); left = kept 6 _ c (n .left); right = d; parent = kept 12 _ e (n .parent) }
-
-  pub narrow-parent : among 1 ks ≡ false → among 3 ks ≡ false → among 6 ks ≡ false → among 9 ks ≡ false → getD q 12 0 ≤ 4294967295 → Narrow q
-  narrow-parent a b c d e =
-      record { size = size-kept; clock = kept 1 _ a (n .clock); kind = kept 3 _ b (n .kind); left = kept 6 _ c (n .left); right = kept 9 _ d (n .right); parent = e }
+  narrow-parent : among 6 ks ≡ false → among 9 ks ≡ false → getD q 12 0 ≤ 4294967295 → Narrow q
+  narrow-parent c d e =
+      record { size = size-kept ks r q o n; clock = kept ks r q o n 1 _ a (n .clock); kind = kept ks r q o n 3 _ b (n .kind); left = kept ks r q o n 6 _ c (n .left); right = kept ks r q o n 9 _ d (n .right); parent = e; type = kept ks r q o n 23 _ t (n .type) }
 
 -- ---- a field put, with its flag behind it
 
@@ -87,11 +45,8 @@ NAMES = 13 ∷ 14 ∷ 15 ∷ []
 abbrev KEYS : List ℕ
 KEYS = 16 ∷ 17 ∷ 18 ∷ []
 
-abbrev CONTENTS : List ℕ
-CONTENTS = 2 ∷ 3 ∷ 19 ∷ 20 ∷ []
-
 module _ (r q : List ℕ) (n : Narrow r) where
-  flag : (ks : List ℕ) (i : ℕ) → Only ks r q → i < 21 → getD (set q i 1) i 0 ≡ 1
+  flag : (ks : List ℕ) (i : ℕ) → Only ks r q → i < 24 → getD (set q i 1) i 0 ≡ 1
   flag ks i o l = getD-set-same q i 1 0 (omega (arith, size-kept ks r q o n))
 
   -- a left id, whether or not its flag is set
@@ -103,9 +58,9 @@ module _ (r q : List ℕ) (n : Narrow r) where
       let p : Only LEFTS r z = only-set LEFTS r q 4 1 refl o in
       let five : getD z 5 0 ≡ getD q 5 0 = getD-set-other q 4 5 1 0 (λ x. omega arith) in
       let six : getD z 6 0 ≡ getD q 6 0 = getD-set-other q 4 6 1 0 (λ x. omega arith) in (
-        narrow-left LEFTS r q o n refl refl b refl refl,
-        narrow-left LEFTS r z p n refl refl (rw six b) refl refl,
-        rw (flag LEFTS 4 o (omega arith), five, six, p .same 0 refl, p .same 1 refl, p .same 2 refl, p .same 3 refl, p .same 7 refl, p .same 8 refl, p .same 9 refl, p .same 10 refl, p .same 11 refl, p .same 12 refl, p .same 13 refl, p .same 14 refl, p .same 15 refl, p .same 16 refl, p .same 17 refl, p .same 18 refl, p .same 19 refl, p .same 20 refl) refl,
+        narrow-left LEFTS r q o n refl refl refl b refl refl,
+        narrow-left LEFTS r z p n refl refl refl (rw six b) refl refl,
+        rw (flag LEFTS 4 o (omega arith), five, six, p .same 0 refl, p .same 1 refl, p .same 2 refl, p .same 3 refl, p .same 7 refl, p .same 8 refl, p .same 9 refl, p .same 10 refl, p .same 11 refl, p .same 12 refl, p .same 13 refl, p .same 14 refl, p .same 15 refl, p .same 16 refl, p .same 17 refl, p .same 18 refl, p .same 19 refl, p .same 20 refl, p .same 21 refl, p .same 22 refl, p .same 23 refl) refl,
       )
 
   pub right-put : Beside 8 r q → getD q 9 0 ≤ 4294967295 → Narrow q × Narrow (set q 7 1) × (rowIn (set q 7 1) ≡ withRight (idIn q 8) (rowIn r))
@@ -116,9 +71,9 @@ module _ (r q : List ℕ) (n : Narrow r) where
       let p : Only RIGHTS r z = only-set RIGHTS r q 7 1 refl o in
       let eight : getD z 8 0 ≡ getD q 8 0 = getD-set-other q 7 8 1 0 (λ x. omega arith) in
       let nine : getD z 9 0 ≡ getD q 9 0 = getD-set-other q 7 9 1 0 (λ x. omega arith) in (
-        narrow-right RIGHTS r q o n refl refl refl b refl,
-        narrow-right RIGHTS r z p n refl refl refl (rw nine b) refl,
-        rw (flag RIGHTS 7 o (omega arith), eight, nine, p .same 0 refl, p .same 1 refl, p .same 2 refl, p .same 3 refl, p .same 4 refl, p .same 5 refl, p .same 6 refl, p .same 10 refl, p .same 11 refl, p .same 12 refl, p .same 13 refl, p .same 14 refl, p .same 15 refl, p .same 16 refl, p .same 17 refl, p .same 18 refl, p .same 19 refl, p .same 20 refl) refl,
+        narrow-right RIGHTS r q o n refl refl refl refl b refl,
+        narrow-right RIGHTS r z p n refl refl refl refl (rw nine b) refl,
+        rw (flag RIGHTS 7 o (omega arith), eight, nine, p .same 0 refl, p .same 1 refl, p .same 2 refl, p .same 3 refl, p .same 4 refl, p .same 5 refl, p .same 6 refl, p .same 10 refl, p .same 11 refl, p .same 12 refl, p .same 13 refl, p .same 14 refl, p .same 15 refl, p .same 16 refl, p .same 17 refl, p .same 18 refl, p .same 19 refl, p .same 20 refl, p .same 21 refl, p .same 22 refl, p .same 23 refl) refl,
       )
 
   pub parent-put : Beside 11 r q → getD q 12 0 ≤ 4294967295 → Narrow q × Narrow (set q 10 1) × (rowIn (set q 10 1) ≡ withParent (idIn q 11) (rowIn r))
@@ -129,9 +84,9 @@ module _ (r q : List ℕ) (n : Narrow r) where
       let p : Only PARENTS r z = only-set PARENTS r q 10 1 refl o in
       let eleven : getD z 11 0 ≡ getD q 11 0 = getD-set-other q 10 11 1 0 (λ x. omega arith) in
       let twelve : getD z 12 0 ≡ getD q 12 0 = getD-set-other q 10 12 1 0 (λ x. omega arith) in (
-        narrow-parent PARENTS r q o n refl refl refl refl b,
-        narrow-parent PARENTS r z p n refl refl refl refl (rw twelve b),
-        rw (flag PARENTS 10 o (omega arith), eleven, twelve, p .same 0 refl, p .same 1 refl, p .same 2 refl, p .same 3 refl, p .same 4 refl, p .same 5 refl, p .same 6 refl, p .same 7 refl, p .same 8 refl, p .same 9 refl, p .same 13 refl, p .same 14 refl, p .same 15 refl, p .same 16 refl, p .same 17 refl, p .same 18 refl, p .same 19 refl, p .same 20 refl) refl,
+        narrow-parent PARENTS r q o n refl refl refl refl refl b,
+        narrow-parent PARENTS r z p n refl refl refl refl refl (rw twelve b),
+        rw (flag PARENTS 10 o (omega arith), eleven, twelve, p .same 0 refl, p .same 1 refl, p .same 2 refl, p .same 3 refl, p .same 4 refl, p .same 5 refl, p .same 6 refl, p .same 7 refl, p .same 8 refl, p .same 9 refl, p .same 13 refl, p .same 14 refl, p .same 15 refl, p .same 16 refl, p .same 17 refl, p .same 18 refl, p .same 19 refl, p .same 20 refl, p .same 21 refl, p .same 22 refl, p .same 23 refl) refl,
       )
 
   pub name-put : Beside 14 r q → Narrow q × Narrow (set q 13 1) × (rowIn (set q 13 1) ≡ withName (partIn q 14) (rowIn r))
@@ -142,9 +97,9 @@ module _ (r q : List ℕ) (n : Narrow r) where
       let p : Only NAMES r z = only-set NAMES r q 13 1 refl o in
       let first : getD z 14 0 ≡ getD q 14 0 = getD-set-other q 13 14 1 0 (λ x. omega arith) in
       let second : getD z 15 0 ≡ getD q 15 0 = getD-set-other q 13 15 1 0 (λ x. omega arith) in (
-        narrow-parts NAMES r q o n refl refl refl refl refl,
-        narrow-parts NAMES r z p n refl refl refl refl refl,
-        rw (flag NAMES 13 o (omega arith), first, second, p .same 0 refl, p .same 1 refl, p .same 2 refl, p .same 3 refl, p .same 4 refl, p .same 5 refl, p .same 6 refl, p .same 7 refl, p .same 8 refl, p .same 9 refl, p .same 10 refl, p .same 11 refl, p .same 12 refl, p .same 16 refl, p .same 17 refl, p .same 18 refl, p .same 19 refl, p .same 20 refl) refl,
+        narrow-parts NAMES r q o n refl refl refl refl refl refl,
+        narrow-parts NAMES r z p n refl refl refl refl refl refl,
+        rw (flag NAMES 13 o (omega arith), first, second, p .same 0 refl, p .same 1 refl, p .same 2 refl, p .same 3 refl, p .same 4 refl, p .same 5 refl, p .same 6 refl, p .same 7 refl, p .same 8 refl, p .same 9 refl, p .same 10 refl, p .same 11 refl, p .same 12 refl, p .same 16 refl, p .same 17 refl, p .same 18 refl, p .same 19 refl, p .same 20 refl, p .same 21 refl, p .same 22 refl, p .same 23 refl) refl,
       )
 
   pub key-put : Beside 17 r q → Narrow q × Narrow (set q 16 1) × (rowIn (set q 16 1) ≡ withKey (partIn q 17) (rowIn r))
@@ -155,49 +110,12 @@ module _ (r q : List ℕ) (n : Narrow r) where
       let p : Only KEYS r z = only-set KEYS r q 16 1 refl o in
       let first : getD z 17 0 ≡ getD q 17 0 = getD-set-other q 16 17 1 0 (λ x. omega arith) in
       let second : getD z 18 0 ≡ getD q 18 0 = getD-set-other q 16 18 1 0 (λ x. omega arith) in (
-        narrow-parts KEYS r q o n refl refl refl refl refl,
-        narrow-parts KEYS r z p n refl refl refl refl refl,
-        rw (flag KEYS 16 o (omega arith), first, second, p .same 0 refl, p .same 1 refl, p .same 2 refl, p .same 3 refl, p .same 4 refl, p .same 5 refl, p .same 6 refl, p .same 7 refl, p .same 8 refl, p .same 9 refl, p .same 10 refl, p .same 11 refl, p .same 12 refl, p .same 13 refl, p .same 14 refl, p .same 15 refl, p .same 19 refl, p .same 20 refl) refl,
+        narrow-parts KEYS r q o n refl refl refl refl refl refl,
+        narrow-parts KEYS r z p n refl refl refl refl refl refl,
+        rw (flag KEYS 16 o (omega arith), first, second, p .same 0 refl, p .same 1 refl, p .same 2 refl, p .same 3 refl, p .same 4 refl, p .same 5 refl, p .same 6 refl, p .same 7 refl, p .same 8 refl, p .same 9 refl, p .same 10 refl, p .same 11 refl, p .same 12 refl, p .same 13 refl, p .same 14 refl, p .same 15 refl, p .same 19 refl, p .same 20 refl, p .same 21 refl, p .same 22 refl, p .same 23 refl) refl,
       )
-
-  -- a length and a kind, of a row whose part may have changed
-  pub content-put : (len kind : ℕ) → Only CONTENTS r q → kind ≤ 255
-      → (let z = set (set q 2 len) 3 kind in Narrow z × (rowIn z ≡ withContent kind (record { 0 = len }) (partIn q 19) (rowIn r)))
-  unfolding among rowIn idIn partIn
-  content-put len kind o b =
-      let y = set q 2 len in
-      let z = set y 3 kind in
-      let p : Only CONTENTS r z = only-set CONTENTS r y 3 kind refl (only-set CONTENTS r q 2 len refl o) in
-      let size = size-kept CONTENTS r q o n in
-      let two : getD z 2 0 ≡ len = getD-set-other y 3 2 kind 0 (λ x. omega arith) ∙ getD-set-same q 2 len 0 (omega (arith, size)) in
-      let three : getD z 3 0 ≡ kind = getD-set-same y 3 kind 0 (omega (arith, size, length-set q 2 len)) in
-      let first : getD z 19 0 ≡ getD q 19 0 = getD-set-other y 3 19 kind 0 (λ x. omega arith) ∙ getD-set-other q 2 19 len 0 (λ x. omega arith) in
-      let second : getD z 20 0 ≡ getD q 20 0 = getD-set-other y 3 20 kind 0 (λ x. omega arith) ∙ getD-set-other q 2 20 len 0 (λ x. omega arith) in (
-        narrow-kind CONTENTS r z p n refl (rw three b) refl refl refl,
-        rw (two, three, first, second, p .same 0 refl, p .same 1 refl, p .same 4 refl, p .same 5 refl, p .same 6 refl, p .same 7 refl, p .same 8 refl, p .same 9 refl, p .same 10 refl, p .same 11 refl, p .same 12 refl, p .same 13 refl, p .same 14 refl, p .same 15 refl, p .same 16 refl, p .same 17 refl, p .same 18 refl) refl,
-      )
-
-  -- the part is in words 19 and 20
-  pub part-narrow : Beside 19 r q → Narrow q
-  unfolding among
-  part-narrow e =
-      let ks : List ℕ = 19 ∷ 20 ∷ [] in
-      narrow-parts ks r q (only-beside ks r 19 q refl refl e) n refl refl refl refl refl
-
-  pub part-put : (len kind : ℕ) → Beside 19 r q → kind ≤ 255
-      → (let z = set (set q 2 len) 3 kind in Narrow z × (rowIn z ≡ withContent kind (record { 0 = len }) (partIn q 19) (rowIn r)))
-  unfolding among
-  part-put len kind e b = content-put len kind (only-beside CONTENTS r 19 q refl refl e) b
 
 -- ---- rows without a part
-
--- no part, put in words 19 and 20
-pub deleted-put : (r : List ℕ) → Narrow r → (len kind : ℕ) → kind ≤ 255
-    → (let z = set (set (set (set r 19 0) 20 0) 2 len) 3 kind in Narrow z × (rowIn z ≡ withContent kind (record { 0 = len }) noPart (rowIn r)))
-deleted-put r n len kind b =
-    let room : 19 + 1 < length r = omega (arith, n .size) in
-    let p = part-put r (set (set r 19 0) 20 0) n len kind (beside-put 19 0 0 r room) b in
-    (p .0, p .1 ∙ ap (λ (part : Part). withContent kind (record { 0 = len }) part (rowIn r)) (fields.part-put 19 0 0 r room))
 
 module _ (r : List ℕ) (n : Narrow r) (len kind : ℕ) (b : kind ≤ 255) where
   -- of a row that is begun
@@ -208,21 +126,21 @@ module _ (r : List ℕ) (n : Narrow r) (len kind : ℕ) (b : kind ≤ 255) where
       (p .0, p .1 ∙ ap (λ (b : Block). withContent kind (record { 0 = len }) (b .part) b) e)
 
 -- nothing but a client and a clock
-module _ (r : List ℕ) (client clock : ℕ) (l : length r ≡ 21) where
+module _ (r : List ℕ) (client clock : ℕ) (l : length r ≡ 24) where
   abbrev begunWords : List ℕ
-  begunWords = client ∷ clock ∷ 0 ∷ 0 ∷ 0 ∷ 0 ∷ 0 ∷ 0 ∷ 0 ∷ 0 ∷ 0 ∷ 0 ∷ 0 ∷ 0 ∷ 0 ∷ 0 ∷ 0 ∷ 0 ∷ 0 ∷ 0 ∷ 0 ∷ []
+  begunWords = client ∷ clock ∷ 0 ∷ 0 ∷ 0 ∷ 0 ∷ 0 ∷ 0 ∷ 0 ∷ 0 ∷ 0 ∷ 0 ∷ 0 ∷ 0 ∷ 0 ∷ 0 ∷ 0 ∷ 0 ∷ 0 ∷ 0 ∷ 0 ∷ 0 ∷ 0 ∷ 0 ∷ []
 
-  begun-words : sets r 0 begunWords ≡ begunWords ++ drop 21 r
+  begun-words : sets r 0 begunWords ≡ begunWords ++ drop 24 r
   begun-words = sets-eq begunWords r 0 (omega arith)
 
   pub begun-put : clock ≤ 4294967295 → Narrow (sets r 0 begunWords) × (rowIn (sets r 0 begunWords) ≡ plain client clock 0 0)
   unfolding rowIn idIn partIn
   begun-put b = rw begun-words (
-    record { size = size; clock = b; kind = omega arith; left = omega arith; right = omega arith; parent = omega arith },
+    record { size = size; clock = b; kind = omega arith; left = omega arith; right = omega arith; parent = omega arith; type = omega arith },
     refl,
   )
     where
-      size : length (begunWords ++ drop 21 r) ≡ 21
+      size : length (begunWords ++ drop 24 r) ≡ 24
       size = ap length (sym begun-words) ∙ length-sets r 0 begunWords ∙ l
 
 pub begun-is : (q : List ℕ) (client clock : ℕ) → rowIn q ≡ plain client clock 0 0 → Begun q

@@ -4,6 +4,11 @@ use block::Id;
 use cells::Drawn;
 use cells::Field;
 use cells::PLACE;
+use held::KIND;
+use held::LENGTH;
+use held::MARK;
+use held::PART;
+use held::TYPE;
 use text::Part;
 use text::Units;
 ghost use mathlib.Core.Path.{_≡_};
@@ -18,16 +23,12 @@ ghost use Rattle.fields.specs.Fields.{clockAt};
 ghost use Rattle.cells.specs.Cells.{Small, partIn};
 ghost use Rattle.item.specs.Row.{idIn, rowIn, Narrow, Begun, bareIn, bodyIn, Put, PutId, PutBlock};
 
-// How many words a row has, and which.
-pub const WORDS: usize = 21;
+// How many words a row has, and which are not of what it holds.
+pub const WORDS: usize = 24;
 
 const CLIENT: usize = 0;
 
 const CLOCK: usize = 1;
-
-const LENGTH: usize = 2;
-
-const KIND: usize = 3;
 
 const HAS_LEFT: usize = 4;
 
@@ -48,8 +49,6 @@ const NAME: usize = 14;
 const HAS_KEY: usize = 16;
 
 const KEY: usize = 17;
-
-const PART: usize = 19;
 
 // ---- where an item stands
 
@@ -157,69 +156,7 @@ fn read_place(form: u8, update: &[u8], w: &mut [u64], r: &mut [u64], info: u64) 
     read_right(form, update, w, r, info)
 }
 
-// ---- what an item holds
-
-fn read_deleted(form: u8, update: &[u8], w: &mut [u64], r: &mut [u64]) -> Field
-    requires { ⌜ Small (now w) × Narrow (now r) ⌝ }
-    ensures { λ f. ⌜ Put form (now (update .entry)) (now (w .entry)) (now (w .exit)) (now (r .exit)) f (blocks.deleted (rowIn (now (r .entry)))) ⌝ }
-{
-    let Drawn::Number(v) = fields::read_len(form, update, w) else {
-        return Field::Refused;
-    };
-    r[PART] = 0;
-    r[PART + 1] = 0;
-    r[LENGTH] = v;
-    r[KIND] = block::DELETED as u64;
-    Field::Done
-}
-
-fn read_binary(form: u8, update: &[u8], w: &mut [u64], r: &mut [u64]) -> Field
-    requires { ⌜ Small (now w) × Narrow (now r) ⌝ }
-    ensures { λ f. ⌜ Put form (now (update .entry)) (now (w .entry)) (now (w .exit)) (now (r .exit)) f (blocks.binary (rowIn (now (r .entry)))) ⌝ }
-{
-    let Field::Done = fields::read_buf(update, w, r, PART) else {
-        return Field::Refused;
-    };
-    r[LENGTH] = 1;
-    r[KIND] = block::BINARY as u64;
-    Field::Done
-}
-
-fn read_string(form: u8, update: &[u8], w: &mut [u64], r: &mut [u64]) -> Field
-    requires { ⌜ Small (now w) × Narrow (now r) ⌝ }
-    ensures { λ f. ⌜ Put form (now (update .entry)) (now (w .entry)) (now (w .exit)) (now (r .exit)) f (blocks.string (rowIn (now (r .entry)))) ⌝ }
-{
-    let Drawn::Number(units) = fields::read_text(form, update, w, r, PART) else {
-        return Field::Refused;
-    };
-    r[LENGTH] = units;
-    r[KIND] = block::TEXT as u64;
-    Field::Done
-}
-
-// The content, by the low five bits of the info byte, which stands at `place`.
-fn read_content(
-    form: u8,
-    update: &[u8],
-    w: &mut [u64],
-    r: &mut [u64],
-    info: u64,
-    place: usize,
-) -> Field
-    requires { ⌜ Small (now w) × Narrow (now r) ⌝ }
-    ensures { λ f. ⌜ Put form (now (update .entry)) (now (w .entry)) (now (w .exit)) (now (r .exit)) f (blocks.content info place (rowIn (now (r .entry)))) ⌝ }
-{
-    let content = info % 32;
-    match content {
-        1 => read_deleted(form, update, w, r),
-        3 => read_binary(form, update, w, r),
-        4 => read_string(form, update, w, r),
-        _ => {
-            cells::refuse(w, 5, place);
-            Field::Refused
-        }
-    }
-}
+// ---- a block
 
 fn read_item(
     form: u8,
@@ -235,10 +172,8 @@ fn read_item(
     let Field::Done = read_place(form, update, w, r, info) else {
         return Field::Refused;
     };
-    read_content(form, update, w, r, info, place)
+    held::read_content(form, update, w, r, info, place)
 }
-
-// ---- a block
 
 fn read_skip(form: u8, update: &[u8], w: &mut [u64], r: &mut [u64]) -> Field
     requires { ⌜ Small (now w) × Narrow (now r) × Begun (now r) ⌝ }
@@ -267,7 +202,7 @@ fn read_gc(form: u8, update: &[u8], w: &mut [u64], r: &mut [u64]) -> Field
 
 // The row of a block of which nothing is read yet.
 fn begin_row(r: &mut [u64], client: u64, clock: u64)
-    requires { ⌜ (length (now r) ≡ 21) × (clock ≤ maxClock) ⌝ }
+    requires { ⌜ (length (now r) ≡ 24) × (clock ≤ maxClock) ⌝ }
     ensures { λ _. ⌜ Narrow (now (r .exit)) × (rowIn (now (r .exit)) ≡ plain client clock 0 0) ⌝ }
 {
     r[CLIENT] = client;
@@ -291,6 +226,9 @@ fn begin_row(r: &mut [u64], client: u64, clock: u64)
     r[KEY + 1] = 0;
     r[PART] = 0;
     r[PART + 1] = 0;
+    r[MARK] = 0;
+    r[MARK + 1] = 0;
+    r[TYPE] = 0;
 }
 
 // The info byte, which stands at `place`, decides between Skip, GC and item; the length of a Skip is in line.
@@ -321,7 +259,7 @@ pub fn read_block(
     client: u64,
     clock: u64,
 ) -> Drawn
-    requires { ⌜ Small (now w) × (length (now r) ≡ 21) × (clock ≤ maxClock) ⌝ }
+    requires { ⌜ Small (now w) × (length (now r) ≡ 24) × (clock ≤ maxClock) ⌝ }
     ensures { λ d. ⌜ PutBlock form (now (update .entry)) (now (w .entry)) (now (w .exit)) (now (r .exit)) d (blocks.block client clock) ⌝ }
 {
     begin_row(r, client, clock);
@@ -387,6 +325,7 @@ pub fn row_in(r: &[u64]) -> Block
     let name = part_in(r, NAME);
     let key = part_in(r, KEY);
     let part = part_in(r, PART);
+    let mark = part_in(r, MARK);
     Block {
         client: r[CLIENT],
         clock: r[CLOCK] as u32,
@@ -403,5 +342,7 @@ pub fn row_in(r: &[u64]) -> Block
         has_key: r[HAS_KEY] == 1,
         key,
         part,
+        mark,
+        type_number: r[TYPE] as u8,
     }
 }

@@ -1,8 +1,8 @@
--- A sound row that is cut: the units behind the cut take all bytes that are left, so only the cut itself can lie inside a pair, and what is left of the row is
--- the piece's record.
+-- A sound row that is cut: the units behind the cut take all bytes that are left, of a text as of a list, so only the cut of a text can lie inside a pair,
+-- and what is left of the row is the piece's record.
 use Prim.Native.Nat.{ℕ, _+_, _-_, _≤_, _<_}
 use mathlib.Core.Path.{_≡_, refl, sym, ap, ap₂, _∙_}
-use mathlib.Core.Bool.{Bool, true, false}
+use mathlib.Core.Bool.{Bool, true, false, _||_}
 use mathlib.Core.List.{List, [], append-nil}
 use native.Mathlib.Omega.{arith}
 use lib.Dec.{eqb}
@@ -16,14 +16,15 @@ use Rattle.text.specs.declared.Taken.the-variants as units
 use Rattle.text.specs.Utf8.{wellFormed, unitsOf, took, takeUnits}
 use Rattle.text.proofs.Cutting.{cut, found}
 use Rattle.block.specs.declared.Block.{Block}
-use Rattle.block.specs.Kinds.{TEXT, isText}
+use Rattle.block.specs.Kinds.{TEXT, ANY, isText, isAny}
 use Rattle.readings.specs.Sound.{bytesIn, Lies, Sound}
 use Rattle.parts.specs.Brim.{brim}
 use Rattle.kept.specs.Kept.{Piece, piece, wholePiece}
-use Rattle.kept.specs.Cut.{bytesFor, broken, before, cutPart, tornText, isWhole, partOf, front, behind, shortened, begunLater, cutRow, torn}
-use Rattle.kept.specs.Plan.{cutIn, cuts, sane, partAt, cutAt, restOf}
+use Rattle.kept.specs.Cut.{bytesFor, broken, before, cutPart, span, cutList, tornText, isWhole, partOf, front, behind, shortened, begunLater, cutRow, torn}
+use Rattle.kept.specs.Plan.{cutIn, cuts, skipFor, sane, partAt, cutAt, restOf}
 use Rattle.kept.proofs.Sane.{within-sane}
-use Rattle.kept.proofs.SectionsRun.{skipOf, tornAt}
+use Rattle.kept.proofs.Lists.{IsList, list-row, span-within, span-rest}
+use Rattle.kept.proofs.SectionsRun.{tornAt}
 
 not-broken : (r : Taken) → broken r ≡ false → r ≡ took (bytesFor r)
 unfolding broken bytesFor
@@ -84,67 +85,85 @@ module _ (u : List ℕ) (b : Block) (sound : Sound u b) where
 
   -- ---- what is left of it
 
-  -- a cut that is not torn
-  module _ (n : ℕ) (whole : tornAt u b n ≡ false) where
-    cut-took : cuts b n ≡ true → takeUnits 9 n (bytesIn u (b .part)) ≡ took (skipOf u b n)
-    unfolding tornAt skipOf cutIn
-    cut-took c = rw c (not-broken (takeUnits 9 n (bytesIn u (b .part))) (rw c at whole))
-
-    skip-none : cuts b n ≡ false → skipOf u b n ≡ 0
-    unfolding skipOf
-    skip-none c = rw c
-
-    cuts-text : cuts b n ≡ true → b .kind ≡ TEXT
-    unfolding cuts
-    cuts-text c = go (eqb n 0) c
-      where
-        go : (x : Bool) → pick x false (isText (b .kind)) ≡ true → b .kind ≡ TEXT
-        go true e = absurd (let z : _≡_ {A = ℕ} 0 1 = cc in omega arith)
-        go false e = eqb-true (b .kind) TEXT e
-
+  -- a cut in the row that is not torn
+  module _ (n : ℕ) (inside : n ≤ b .length .0) (whole : tornAt u b n ≡ false) where
     text-cuts : eqb n 0 ≡ false → isText (b .kind) ≡ true → cuts b n ≡ true
     unfolding cuts
     text-cuts some kind = rw some kind
 
-    pub skip-within : skipOf u b n ≤ b .part .bytes .0
-    skip-within = go (cuts b n) refl
-      where
-        go : (x : Bool) → cuts b n ≡ x → skipOf u b n ≤ b .part .bytes .0
-        go true c = rest-taken n (skipOf u b n) (cuts-text c) (cut-took c) .within
-        go false c = omega (arith, skip-none c)
+    -- what falls away: of a text, of a list, of all else
 
-    pub first-sane : length u < brim → n ≤ b .length .0 → sane b (restOf b n (skipOf u b n)) ≡ true
-    first-sane short l =
-        within-sane b (restOf b n (skipOf u b n))
+    skip-text : eqb n 0 ≡ false → isText (b .kind) ≡ true → takeUnits 9 n (bytesIn u (b .part)) ≡ took (skipFor u b n)
+    unfolding skipFor tornAt cutIn
+    skip-text some kind =
+        rw (some, kind) (not-broken (takeUnits 9 n (bytesIn u (b .part))) (rw (text-cuts some kind) at whole))
+
+    skip-list : eqb n 0 ≡ false → isAny (b .kind) ≡ true → skipFor u b n ≡ span u (b .part .place) n
+    unfolding skipFor
+    skip-list some kind = rw (some, eqb-true (b .kind) ANY kind)
+
+    skip-none : isText (b .kind) ≡ false → isAny (b .kind) ≡ false → skipFor u b n ≡ 0
+    unfolding skipFor
+    skip-none text any = rw (text, any) (go (eqb n 0))
+      where
+        go : (x : Bool) → _≡_ {A = ℕ} (pick x 0 0) 0
+        go true = refl
+        go false = refl
+
+    skip-nothing : eqb n 0 ≡ true → skipFor u b n ≡ 0
+    unfolding skipFor
+    skip-nothing none = rw none
+
+    a-list : isAny (b .kind) ≡ true → IsList u (b .part) (b .length .0)
+    a-list kind = list-row u (wholePiece b) (eqb-true (b .kind) ANY kind) sound
+
+    pub skip-within : skipFor u b n ≤ b .part .bytes .0
+    skip-within = go (eqb n 0) refl (isText (b .kind)) refl (isAny (b .kind)) refl
+      where
+        go : (x : Bool) → eqb n 0 ≡ x → (y : Bool) → isText (b .kind) ≡ y → (z : Bool) → isAny (b .kind) ≡ z → skipFor u b n ≤ b .part .bytes .0
+        go true e y f z g = omega (arith, skip-nothing e)
+        go false e true f z g = rest-taken n (skipFor u b n) (eqb-true (b .kind) TEXT f) (skip-text e f) .within
+        go false e false f true g = omega (arith, skip-list e g, span-within u (b .part) (b .length .0) (a-list g) n inside)
+        go false e false f false g = omega (arith, skip-none f g)
+
+    pub first-sane : length u < brim → sane b (restOf b n (skipFor u b n)) ≡ true
+    first-sane short =
+        within-sane b (restOf b n (skipFor u b n))
         (record {
-          some = l;
+          some = inside;
           units = omega arith;
           end = sound .end;
           bytes = omega (arith, skip-within);
           place = omega (arith, sound .stored .lies);
         })
 
-    part-left : eqb n 0 ≡ false → partAt b (restOf b n (skipOf u b n)) ≡ partOf u (piece b n (b .length .0))
-    unfolding partAt partOf cutPart bytesFor
-    part-left some = go (isText (b .kind)) refl
+    abbrev partWith : ℕ → ℕ → Part
+    partWith x y = record { place = b .part .place + x; bytes = record { 0 = y } }
+
+    part-left : eqb n 0 ≡ false → partAt b (restOf b n (skipFor u b n)) ≡ partOf u (piece b n (b .length .0))
+    unfolding partAt partOf cutPart cutList bytesFor
+    part-left some = go (isText (b .kind)) refl (isAny (b .kind)) refl
       where
-        go : (x : Bool) → isText (b .kind) ≡ x
-            → pick x (record { place = b .part .place + skipOf u b n; bytes = record { 0 = b .part .bytes .0 - skipOf u b n } }) (b .part)
-            ≡ pick x (cutPart u (b .part) n (b .length .0 - n)) (b .part)
-        go true k =
+        go : (x : Bool) → isText (b .kind) ≡ x → (y : Bool) → isAny (b .kind) ≡ y
+            → pick (x || y) (partWith (skipFor u b n) (b .part .bytes .0 - skipFor u b n)) (b .part)
+            ≡ pick x (cutPart u (b .part) n (b .length .0 - n)) (pick y (cutList u (b .part) n (b .length .0 - n)) (b .part))
+        go true k y l =
             let t = bytesIn u (b .part) in
-            let c : cuts b n ≡ true = text-cuts some k in
-            let e = skipOf u b n in
-            let p = cut-took c in
+            let e = skipFor u b n in
+            let p = skip-text some k in
             let first : e ≡ before t n = sym (ap bytesFor p) in
             let rest : b .part .bytes .0 - e ≡ before (drop (before t n) t) (b .length .0 - n) =
-            sym (ap bytesFor (rest-taken n e (cuts-text c) p .taken)) ∙ ap (λ (x : ℕ). before (drop x t) (b .length .0 - n)) first in
-            let part : ℕ → ℕ → Part = λ x y. record { place = b .part .place + x; bytes = record { 0 = y } } in
-            ap₂ part first rest
-        go false k = refl
+            sym (ap bytesFor (rest-taken n e (eqb-true (b .kind) TEXT k) p .taken)) ∙ ap (λ (x : ℕ). before (drop x t) (b .length .0 - n)) first in
+            ap₂ partWith first rest
+        go false k true l =
+            let first = skip-list some l in
+            let rest : b .part .bytes .0 - skipFor u b n ≡ span u (b .part .place + span u (b .part .place) n) (b .length .0 - n) =
+            ap (λ (x : ℕ). b .part .bytes .0 - x) first ∙ sym (span-rest u (b .part) (b .length .0) (a-list l) n inside) in
+            ap₂ partWith first rest
+        go false k false l = refl
 
     -- the piece that is left is the row cut
-    pub first-left : cutAt b (restOf b n (skipOf u b n)) ≡ cutRow u (piece b n (b .length .0))
+    pub first-left : cutAt b (restOf b n (skipFor u b n)) ≡ cutRow u (piece b n (b .length .0))
     unfolding cutAt cutRow isWhole
     first-left = rw (eq-eqb (b .length .0) (b .length .0) refl) (go (eqb n 0) refl)
       where
@@ -152,7 +171,7 @@ module _ (u : List ℕ) (b : Block) (sound : Sound u b) where
         p = piece b n (b .length .0)
 
         part : Part
-        part = partAt b (restOf b n (skipOf u b n))
+        part = partAt b (restOf b n (skipFor u b n))
 
         go : (x : Bool) → eqb n 0 ≡ x
             → pick (pick x true false) b (pick x (front (b .length .0) part b) (behind n (b .length .0) part b))

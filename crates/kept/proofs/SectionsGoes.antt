@@ -17,11 +17,11 @@ use Rattle.readings.proofs.Groups.{groups-joined, groups-all, ordered-distinct}
 use Rattle.parts.specs.Brim.{brim}
 use Rattle.kept.specs.Kept.{Section, remote, falls, piece, wholePiece, keepFrom, withPieces, keepEach, place, falling, clientOf, sectionsOf}
 use Rattle.kept.specs.Cut.{torn, tornPieces, anyTorn}
-use Rattle.kept.specs.Plan.{Planned, plannedFrom, placed, Stop, stop, onward, stopsOf, unplanned, endedWords, endedCount, planAll, planAllWords, Of, Opens, further, GoesOn, Goes}
+use Rattle.kept.specs.Plan.{Planned, plannedFrom, placed, skipFor, Stop, stop, onward, stopsOf, unplanned, endedWords, endedCount, planAll, planAllWords, Of, Opens, further, GoesOn, Goes}
 use Rattle.kept.proofs.SectionsPlaced.{alone, before, behind, falling-length, into, into-falling}
 use Rattle.kept.proofs.SectionsKept.{Stays, not-fallen, each-distinct, sections-length}
 use Rattle.kept.proofs.Words.{placed-first, placed-before, placed-behind}
-use Rattle.kept.proofs.SectionsRun.{skipOf, tornAt, plannedAt, planOne, or}
+use Rattle.kept.proofs.SectionsRun.{tornAt, plannedAt, planOne, or}
 use Rattle.kept.proofs.SectionsPlan.{planEach, inserted, rows-come}
 use Rattle.kept.proofs.SectionsCut.{torn-first, first-sane, first-left, whole-sane, whole-left}
 
@@ -92,8 +92,9 @@ module _ (u : List ℕ) (all : List Block) (short : length u < brim) where
             let n = k - b .clock in
             let row = row-at all i b (g ++ rest) e in
             let part = neither (torn u (piece b n (b .length .0))) (tornPieces u (map wholePiece g)) untorn in
+            let inside : n ≤ b .length .0 = omega (arith, stays .end) in
             let whole : tornAt u b n ≡ false = sym (torn-first u b sound n) ∙ part .0 in
-            let first : Of u all (stop i n (skipOf u b n) (suc (length g))) (piece b n (b .length .0)) =
+            let first : Of u all (stop i n (skipFor u b n) (suc (length g))) (piece b n (b .length .0)) =
             record {
               source = refl;
               within = row .within;
@@ -101,8 +102,8 @@ module _ (u : List ℕ) (all : List Block) (short : length u < brim) where
               from = refl;
               to = refl;
               sound = sound;
-              fits = first-sane u b sound n whole short (omega (arith, stays .end));
-              left = first-left u b sound n whole;
+              fits = first-sane u b sound n inside whole short;
+              left = first-left u b sound n inside whole;
             } in (
               (ap suc (sym (length-map g wholePiece)), first),
               subst (λ (m : ℕ). GoesOn u all (onward (i + 1) m ++ sts) (map wholePiece g) ss) one-less (further-go (i + 1) g rest sts ss sounds (row .later) h),

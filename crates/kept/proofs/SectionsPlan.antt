@@ -19,7 +19,7 @@ use Rattle.kept.specs.declared.plan.Planning.{Planning}
 use Rattle.kept.specs.Kept.{remote, falls, clientOf}
 use Rattle.kept.specs.Plan.{Planned, plannedFrom, placed, unplanned, endedWords, endedCount, begun, grown, continues, planStep, planWords, planAll, planAllWords}
 use Rattle.kept.proofs.Words.{has-room, with-planned, with-length}
-use Rattle.kept.proofs.SectionsRun.{run, Same, Under, grown-under, one-step, run-same, stateOf, plannedAt, planOne, tornOne, doneOf, or, or-none, run-done}
+use Rattle.kept.proofs.SectionsRun.{run, Same, Under, grown-under, one-step, run-same, stateOf, plannedAt, planOne, tornOne, formatOne, doneOf, or, or-none, run-done}
 
 -- ---- the plan, client by client
 
@@ -32,6 +32,11 @@ unfoldable pub tornEach : List ℕ → List Entry → List (List Block) → Bool
 tornEach u v [] = false
 tornEach u v ([] ∷ gs) = tornEach u v gs
 tornEach u v ((b ∷ g) ∷ gs) = or (tornOne u (remote v (b .client)) (b ∷ g)) (tornEach u v gs)
+
+unfoldable pub formatEach : List Entry → List (List Block) → Bool
+formatEach v [] = false
+formatEach v ([] ∷ gs) = formatEach v gs
+formatEach v ((b ∷ g) ∷ gs) = or (formatOne (remote v (b .client)) (b ∷ g)) (formatEach v gs)
 
 -- put in one after the other
 unfoldable pub inserted : List Planned → List Planned → List Planned
@@ -77,33 +82,37 @@ pub record Ends (w : List ℕ) (s : Planning) (z n : ℕ) (l : List Planned) : T
   pub size : length (endedWords w s) ≡ z
   pub list : plannedFrom (endedWords w s) 0 n ≡ l
 
-module _ (w : List ℕ) (n : ℕ) (torn : Bool) (k : ℕ) (room : 5 * (n + 1) ≤ length w) where
+module _ (w : List ℕ) (n : ℕ) (torn formats : Bool) (k : ℕ) (room : 5 * (n + 1) ≤ length w) where
   ends-one : (p : Planned) → 0 < p .count
-      → Ends w (stateOf n torn (p .client) k (p .first) (p .count) (p .from) (p .skip)) (length w) (n + 1) (placed p (plannedFrom w 0 n))
+      → Ends w (stateOf n torn formats (p .client) k (p .first) (p .count) (p .from) (p .skip)) (length w) (n + 1) (placed p (plannedFrom w 0 n))
   unfolding endedCount endedWords
   ends-one p pos =
       let some : eqb (p .count) 0 ≡ false = ne-eqb (p .count) 0 (λ e. omega arith) in
       let fits = has-room w n (omega arith) in
       record { count = rw (some, fits); size = rw some (with-length w n p room); list = rw some (with-planned w n p room) }
 
-  ends-done : (c : ℕ) (l : List Planned) → One c l → Ends w (doneOf n torn c k l) (length w) (n + length l) (inserted l (plannedFrom w 0 n))
+  ends-done : (c : ℕ) (l : List Planned) → One c l → Ends w (doneOf n torn formats c k l) (length w) (n + length l) (inserted l (plannedFrom w 0 n))
   unfolding One inserted endedCount endedWords
   ends-done c [] h = record { count = none; size = refl; list = ap (plannedFrom w 0) (sym none) }
     where
       none : n ≡ n + 0
       none = omega arith
   ends-done c (p ∷ []) h =
-      subst (λ (d : ℕ). Ends w (stateOf n torn d k (p .first) (p .count) (p .from) (p .skip)) (length w) (n + 1) (placed p (plannedFrom w 0 n))) (h .0)
+      subst (λ (d : ℕ). Ends w (stateOf n torn formats d k (p .first) (p .count) (p .from) (p .skip)) (length w) (n + 1) (placed p (plannedFrom w 0 n))) (h .0)
       (ends-one p (h .1))
   ends-done c (p ∷ q ∷ l) h = absurd h
 
-done-under : (n : ℕ) (torn : Bool) (c k : ℕ) (l : List Planned) → Under c (doneOf n torn c k l)
-done-under n torn c k [] = (refl, refl)
-done-under n torn c k (p ∷ l) = (refl, refl)
+done-under : (n : ℕ) (torn formats : Bool) (c k : ℕ) (l : List Planned) → Under c (doneOf n torn formats c k l)
+done-under n torn formats c k [] = (refl, refl)
+done-under n torn formats c k (p ∷ l) = (refl, refl)
 
-done-torn : (n : ℕ) (torn : Bool) (c k : ℕ) (l : List Planned) → doneOf n torn c k l .torn ≡ torn
-done-torn n torn c k [] = refl
-done-torn n torn c k (p ∷ l) = refl
+done-torn : (n : ℕ) (torn formats : Bool) (c k : ℕ) (l : List Planned) → doneOf n torn formats c k l .torn ≡ torn
+done-torn n torn formats c k [] = refl
+done-torn n torn formats c k (p ∷ l) = refl
+
+done-formats : (n : ℕ) (torn formats : Bool) (c k : ℕ) (l : List Planned) → doneOf n torn formats c k l .formats ≡ formats
+done-formats n torn formats c k [] = refl
+done-formats n torn formats c k (p ∷ l) = refl
 
 -- ---- where rows of another client come next
 
@@ -118,17 +127,17 @@ module _ (u : List ℕ) (v : List Entry) (w : List ℕ) (s : Planning) (i : ℕ)
   unfolding planWords continues
   next-words = rw apart
 
-  next-state : (n : ℕ) → endedCount w s ≡ n → planStep u v w s i b ≡ grown u (begun n (s .torn) (b .client) (remote v (b .client))) i b
+  next-state : (n : ℕ) → endedCount w s ≡ n → planStep u v w s i b ≡ grown u (begun n (s .torn) (s .formats) (b .client) (remote v (b .client))) i b
   unfolding planStep continues
   next-state n e = rw (apart, e)
 
   -- all rows of it
   group-same : (n : ℕ) → endedCount w s ≡ n → (g rest : List Block) → All (λ (d : Block). d .client ≡ b .client) g
-      → Same u v w (endedWords w s) s (run u (begun n (s .torn) (b .client) (remote v (b .client))) i (b ∷ g)) i (i + suc (length g)) (b ∷ (g ++ rest)) rest
+      → Same u v w (endedWords w s) s (run u (begun n (s .torn) (s .formats) (b .client) (remote v (b .client))) i (b ∷ g)) i (i + suc (length g)) (b ∷ (g ++ rest)) rest
   unfolding run
   group-same n e g rest all =
       let c = b .client in
-      let begins = begun n (s .torn) c (remote v c) in
+      let begins = begun n (s .torn) (s .formats) c (remote v c) in
       let w′ = endedWords w s in
       let one = one-step u v w w′ s (grown u begins i b) i b (g ++ rest) next-words (next-state n e) in
       let on = run-same u v w′ c (grown u begins i b) (i + 1) g rest (grown-under u c begins i b (refl, refl)) all in
@@ -142,13 +151,14 @@ module _ (u : List ℕ) (v : List Entry) (w : List ℕ) (s : Planning) (i : ℕ)
 
 -- ---- all rows
 
-pub record Comes (w : List ℕ) (s : Planning) (z n : ℕ) (l : List Planned) (t : Bool) : Type 0 where
+pub record Comes (w : List ℕ) (s : Planning) (z n : ℕ) (l : List Planned) (t f : Bool) : Type 0 where
   pub ends : Ends w s z n l
   pub torn : s .torn ≡ t
+  pub formats : s .formats ≡ f
 
-comes-by : (w w′ : List ℕ) (s s′ : Planning) (z n n′ : ℕ) (l l′ : List Planned) (t t′ : Bool) → w ≡ w′ → s ≡ s′ → n ≡ n′ → l ≡ l′ → t ≡ t′
-    → Comes w′ s′ z n′ l′ t′ → Comes w s z n l t
-comes-by w w′ s s′ z n n′ l l′ t t′ p q r x y h = rw (p, q, r, x, y) h
+comes-by : (w w′ : List ℕ) (s s′ : Planning) (z n n′ : ℕ) (l l′ : List Planned) (t t′ f f′ : Bool) → w ≡ w′ → s ≡ s′ → n ≡ n′ → l ≡ l′
+    → t ≡ t′ → f ≡ f′ → Comes w′ s′ z n′ l′ t′ f′ → Comes w s z n l t f
+comes-by w w′ s s′ z n n′ l l′ t t′ f f′ p q r x y z′ h = rw (p, q, r, x, y, z′) h
 
 or-assoc : (a b c : Bool) → or (or a b) c ≡ or a (or b c)
 or-assoc true b c = refl
@@ -170,12 +180,12 @@ module _ (u : List ℕ) (v : List Entry) where
   each-comes : (gs : List (List Block)) (w : List ℕ) (s : Planning) (i z n : ℕ) (l : List Planned) → All (Single clientOf) gs → Distinct (clients clientOf gs)
       → All (Apart s) (clients clientOf gs) → length (joined gs) ≤ brim → 5 * (n + length gs) ≤ z → Ends w s z n l
       → Comes (planAllWords u v w s i (joined gs)) (planAll u v w s i (joined gs)) z (n + length (planEach u v i gs)) (inserted (planEach u v i gs) l)
-      (or (s .torn) (tornEach u v gs))
-  unfolding joined planEach tornEach Single clients Distinct
+      (or (s .torn) (tornEach u v gs)) (or (s .formats) (formatEach v gs))
+  unfolding joined planEach tornEach formatEach Single clients Distinct
   each-comes [] w s i z n l single distinct apart brimmed room ends =
       comes-by (planAllWords u v w s i []) w (planAll u v w s i []) s z (n + 0) n (inserted [] l) l (or (s .torn) false) (s .torn)
-      (none-words w s i) (none-state w s i)
-      (omega arith) (inserted-none l) (or-none (s .torn)) (record { ends = ends; torn = refl })
+      (or (s .formats) false) (s .formats) (none-words w s i) (none-state w s i)
+      (omega arith) (inserted-none l) (or-none (s .torn)) (or-none (s .formats)) (record { ends = ends; torn = refl; formats = refl })
   each-comes ([] ∷ gs) w s i z n l single distinct apart brimmed room ends = absurd (single .0)
   each-comes ((b ∷ g) ∷ gs) w s i z n l single distinct apart brimmed room ends =
       let c = b .client in
@@ -184,22 +194,25 @@ module _ (u : List ℕ) (v : List Entry) where
       let j = i + suc (length g) in
       let ps = planOne u c k i (b ∷ g) in
       let qs = planEach u v j gs in
-      let begins = run u (begun n (s .torn) c k) i (b ∷ g) in
+      let begins = run u (begun n (s .torn) (s .formats) c k) i (b ∷ g) in
       let torn = or (s .torn) (tornOne u k (b ∷ g)) in
-      let done = doneOf n torn c k ps in
-      let is : begins ≡ done = run-done u n c k (s .torn) i (b ∷ g) (omega (arith, length-append g (joined gs))) in
+      let formats = or (s .formats) (formatOne k (b ∷ g)) in
+      let done = doneOf n torn formats c k ps in
+      let is : begins ≡ done = run-done u n c k (s .torn) (s .formats) i (b ∷ g) (omega (arith, length-append g (joined gs))) in
       let same = group-same u v w s i b (apart .0) n (ends .count) g (joined gs) (single .0) in
       let one = plan-one u c k i (b ∷ g) in
-      let ends-now = ends-on w′ done z n l ps (ends .size) (ends .list) (ends-done w′ n torn k (omega (arith, ends .size)) c ps one) in
-      let others = all-map (λ (d : ℕ). d ≢ c) (Apart done) (λ d ne. under-apart c done d (done-under n torn c k ps) ne) (clients clientOf gs) (distinct .0) in
+      let ends-now = ends-on w′ done z n l ps (ends .size) (ends .list) (ends-done w′ n torn formats k (omega (arith, ends .size)) c ps one) in
+      let others = all-map (λ (d : ℕ). d ≢ c) (Apart done) (λ d ne. under-apart c done d (done-under n torn formats c k ps) ne) (clients clientOf gs) (distinct .0) in
       let on = each-comes gs w′ done j z (n + length ps) (inserted ps l) (single .1) (distinct .1) others (omega (arith, length-append g (joined gs)))
       (omega (arith, one-length c ps one)) ends-now in
       comes-by (planAllWords u v w s i (b ∷ (g ++ joined gs))) (planAllWords u v w′ done j (joined gs)) (planAll u v w s i (b ∷ (g ++ joined gs)))
       (planAll u v w′ done j (joined gs)) z (n + length (ps ++ qs)) (n + length ps + length qs) (inserted (ps ++ qs) l) (inserted qs (inserted ps l))
       (or (s .torn) (or (tornOne u k (b ∷ g)) (tornEach u v gs))) (or (done .torn) (tornEach u v gs))
+      (or (s .formats) (or (formatOne k (b ∷ g)) (formatEach v gs))) (or (done .formats) (formatEach v gs))
       (same .words ∙ ap (λ (x : Planning). planAllWords u v w′ x j (joined gs)) is) (same .state ∙ ap (λ (x : Planning). planAll u v w′ x j (joined gs)) is)
       (omega (arith, length-append ps qs)) (inserted-append ps qs l)
-      (sym (or-assoc (s .torn) (tornOne u k (b ∷ g)) (tornEach u v gs)) ∙ ap (λ (x : Bool). or x (tornEach u v gs)) (sym (done-torn n torn c k ps))) on
+      (sym (or-assoc (s .torn) (tornOne u k (b ∷ g)) (tornEach u v gs)) ∙ ap (λ (x : Bool). or x (tornEach u v gs)) (sym (done-torn n torn formats c k ps)))
+      (sym (or-assoc (s .formats) (formatOne k (b ∷ g)) (formatEach v gs)) ∙ ap (λ (x : Bool). or x (formatEach v gs)) (sym (done-formats n torn formats c k ps))) on
 
   -- from the first row on
   module _ (w : List ℕ) (bs : List Block) (ordered : Ordered bs) (brimmed : length bs ≤ brim) (room : 5 * length (groups clientOf bs) ≤ length w) where
@@ -212,13 +225,13 @@ module _ (u : List ℕ) (v : List Entry) where
     first-ends = record { count = refl; size = refl; list = refl }
 
     pub rows-come : Comes (planAllWords u v w unplanned 0 bs) (planAll u v w unplanned 0 bs) (length w) (length (planEach u v 0 (groups clientOf bs)))
-        (inserted (planEach u v 0 (groups clientOf bs)) []) (tornEach u v (groups clientOf bs))
+        (inserted (planEach u v 0 (groups clientOf bs)) []) (tornEach u v (groups clientOf bs)) (formatEach v (groups clientOf bs))
     rows-come =
         let gs = groups clientOf bs in
         let is : bs ≡ joined gs = sym (groups-joined clientOf bs) in
         let ps = planEach u v 0 gs in
         comes-by (planAllWords u v w unplanned 0 bs) (planAllWords u v w unplanned 0 (joined gs)) (planAll u v w unplanned 0 bs)
         (planAll u v w unplanned 0 (joined gs)) (length w) (length ps) (0 + length ps) (inserted ps []) (inserted ps []) (tornEach u v gs) (tornEach u v gs)
-        (ap (planAllWords u v w unplanned 0) is) (ap (planAll u v w unplanned 0) is) (omega arith) refl refl
+        (formatEach v gs) (formatEach v gs) (ap (planAllWords u v w unplanned 0) is) (ap (planAll u v w unplanned 0) is) (omega arith) refl refl refl
         (each-comes gs w unplanned 0 (length w) 0 [] (groups-single clientOf bs) (ordered-distinct bs ordered) (first-apart (clients clientOf gs))
         (omega (arith, ap length is)) (omega arith) first-ends)

@@ -9,13 +9,14 @@ use lib.ListN.{length}
 use borrow.Author.Tests.{lt-ltb, eq-eqb, ne-eqb}
 use Rattle.numbers.specs.Number.{pick}
 use Rattle.block.specs.declared.Block.{Block}
+use Rattle.block.specs.Kinds.{isFormat}
 use Rattle.vector.specs.Vector.{Entry}
 use Rattle.readings.specs.Sound.{All}
 use Rattle.parts.specs.Brim.{brim}
 use Rattle.kept.specs.declared.plan.Planning.{Planning}
 use Rattle.kept.specs.Kept.{falls}
-use Rattle.kept.specs.Cut.{bytesFor, broken}
-use Rattle.kept.specs.Plan.{Planned, begun, cutIn, cuts, firstPiece, onePieceMore, grown, continues, planStep, planWords, planAll, planAllWords}
+use Rattle.kept.specs.Cut.{broken}
+use Rattle.kept.specs.Plan.{Planned, begun, cutIn, cuts, skipFor, formatsWith, firstPiece, onePieceMore, grown, continues, planStep, planWords, planAll, planAllWords}
 
 -- ---- rows of a client that is under way
 
@@ -39,11 +40,11 @@ grown-under u c s i b h = go (eqb (s .count) 0)
     falls-or true = h
     falls-or false = (refl, h .1)
 
-    counts : (t : Bool) → Under c (pick t (onePieceMore s) s)
+    counts : (t : Bool) → Under c (pick t (onePieceMore s b) s)
     counts true = (refl, h .1)
     counts false = h
 
-    go : (t : Bool) → Under c (pick t (pick (falls (s .remote) b) s (firstPiece u s i b)) (pick (ltb (s .count) brim) (onePieceMore s) s))
+    go : (t : Bool) → Under c (pick t (pick (falls (s .remote) b) s (firstPiece u s i b)) (pick (ltb (s .count) brim) (onePieceMore s b) s))
     go true = falls-or (falls (s .remote) b)
     go false = counts (ltb (s .count) brim)
 
@@ -92,11 +93,12 @@ run-same u v w c s i (b ∷ g) rest h all =
 
 -- ---- what is then known
 
-abbrev pub stateOf : ℕ → Bool → ℕ → ℕ → ℕ → ℕ → ℕ → ℕ → Planning
-stateOf n torn client remote first count from skip =
+abbrev pub stateOf : ℕ → Bool → Bool → ℕ → ℕ → ℕ → ℕ → ℕ → ℕ → Planning
+stateOf n torn formats client remote first count from skip =
     record {
       sections = n;
       torn = torn;
+      formats = formats;
       going = true;
       client = client;
       remote = remote;
@@ -106,16 +108,12 @@ stateOf n torn client remote first count from skip =
       skip = record { 0 = skip };
     }
 
--- the bytes of the first piece's row that fall away
-unfoldable pub skipOf : List ℕ → Block → ℕ → ℕ
-skipOf u b n = pick (cuts b n) (bytesFor (cutIn u b n)) 0
-
 unfoldable pub tornAt : List ℕ → Block → ℕ → Bool
 tornAt u b n = pick (cuts b n) (broken (cutIn u b n)) false
 
 -- the section of a client's rows from row i on, if any are kept: from the first that does not fall
 abbrev pub plannedAt : List ℕ → ℕ → ℕ → ℕ → Block → List Block → Planned
-plannedAt u c k i b later = record { client = c; first = i; count = suc (length later); from = k - b .clock; skip = skipOf u b (k - b .clock) }
+plannedAt u c k i b later = record { client = c; first = i; count = suc (length later); from = k - b .clock; skip = skipFor u b (k - b .clock) }
 
 unfoldable pub planOne : List ℕ → ℕ → ℕ → ℕ → List Block → List Planned
 planOne u c k i [] = []
@@ -125,10 +123,6 @@ unfoldable pub tornOne : List ℕ → ℕ → List Block → Bool
 tornOne u k [] = false
 tornOne u k (b ∷ bs) = pick (falls k b) (tornOne u k bs) (tornAt u b (k - b .clock))
 
-abbrev pub doneOf : ℕ → Bool → ℕ → ℕ → List Planned → Planning
-doneOf n torn c k [] = begun n torn c k
-doneOf n torn c k (p ∷ ps) = stateOf n torn c k (p .first) (p .count) (p .from) (p .skip)
-
 abbrev pub or : Bool → Bool → Bool
 or a b = pick a true b
 
@@ -136,28 +130,63 @@ pub or-none : (a : Bool) → or a false ≡ a
 or-none true = refl
 or-none false = refl
 
+-- the first two in either order
+pub or-swap : (a b c : Bool) → or a (or b c) ≡ or b (or a c)
+or-swap true true c = refl
+or-swap true false c = refl
+or-swap false true c = refl
+or-swap false false c = refl
+
+-- a format among rows, and among those of them that are kept
+unfoldable pub formatRows : List Block → Bool
+formatRows [] = false
+formatRows (b ∷ bs) = or (isFormat (b .kind)) (formatRows bs)
+
+unfoldable pub formatOne : ℕ → List Block → Bool
+formatOne k [] = false
+formatOne k (b ∷ bs) = pick (falls k b) (formatOne k bs) (formatRows (b ∷ bs))
+
+rows-after : (formats : Bool) (b : Block) (bs : List Block) → or (formatsWith formats b) (formatRows bs) ≡ or formats (formatRows (b ∷ bs))
+unfolding formatRows
+rows-after formats b bs = go formats (isFormat (b .kind)) (formatRows bs)
+  where
+    go : (f x y : Bool) → or (or x f) y ≡ or f (or x y)
+    go true true y = refl
+    go true false y = refl
+    go false true y = refl
+    go false false y = refl
+
+abbrev pub doneOf : ℕ → Bool → Bool → ℕ → ℕ → List Planned → Planning
+doneOf n torn formats c k [] = begun n torn formats c k
+doneOf n torn formats c k (p ∷ ps) = stateOf n torn formats c k (p .first) (p .count) (p .from) (p .skip)
+
 module _ (u : List ℕ) (n c k : ℕ) where
-  -- rows are counted
-  run-counts : (torn : Bool) (first count from skip i : ℕ) (bs : List Block) → 0 < count → count + length bs ≤ brim
-      → run u (stateOf n torn c k first count from skip) i bs ≡ stateOf n torn c k first (count + length bs) from skip
-  unfolding run grown
-  run-counts torn first count from skip i [] pos l = ap (λ (m : ℕ). stateOf n torn c k first m from skip) none
+  -- rows are counted, and formats among them seen
+  run-counts : (torn formats : Bool) (first count from skip i : ℕ) (bs : List Block) → 0 < count → count + length bs ≤ brim
+      → run u (stateOf n torn formats c k first count from skip) i bs
+      ≡ stateOf n torn (or formats (formatRows bs)) c k first (count + length bs) from skip
+  unfolding run grown formatRows
+  run-counts torn formats first count from skip i [] pos l =
+      ap₂ (λ (f : Bool) (m : ℕ). stateOf n torn f c k first m from skip) (sym (or-none formats)) none
     where
       none : count ≡ count + 0
       none = omega arith
-  run-counts torn first count from skip i (b ∷ bs) pos l =
+  run-counts torn formats first count from skip i (b ∷ bs) pos l =
       rw (ne-eqb count 0 (λ e. omega arith), lt-ltb count brim (omega arith))
-      (run-counts torn first (count + 1) from skip (i + 1) bs (omega arith) (omega arith) ∙ ap (λ (m : ℕ). stateOf n torn c k first m from skip) next)
+      (run-counts torn (formatsWith formats b) first (count + 1) from skip (i + 1) bs (omega arith) (omega arith)
+      ∙ ap₂ (λ (f : Bool) (m : ℕ). stateOf n torn f c k first m from skip) (rows-after formats b bs) next)
     where
       next : count + 1 + length bs ≡ count + suc (length bs)
       next = omega arith
 
   -- the first piece's row
-  first-state : (torn : Bool) (i : ℕ) (b : Block)
-      → firstPiece u (begun n torn c k) i b ≡ stateOf n (or torn (tornAt u b (k - b .clock))) c k i 1 (k - b .clock) (skipOf u b (k - b .clock))
-  unfolding skipOf tornAt
-  first-state torn i b =
-      ap (λ (t : Bool). stateOf n t c k i 1 (k - b .clock) (skipOf u b (k - b .clock))) (go torn (cuts b (k - b .clock)) (broken (cutIn u b (k - b .clock))))
+  first-state : (torn formats : Bool) (i : ℕ) (b : Block)
+      → firstPiece u (begun n torn formats c k) i b
+      ≡ stateOf n (or torn (tornAt u b (k - b .clock))) (formatsWith formats b) c k i 1 (k - b .clock) (skipFor u b (k - b .clock))
+  unfolding tornAt
+  first-state torn formats i b =
+      ap (λ (t : Bool). stateOf n t (formatsWith formats b) c k i 1 (k - b .clock) (skipFor u b (k - b .clock)))
+      (go torn (cuts b (k - b .clock)) (broken (cutIn u b (k - b .clock))))
     where
       go : (torn x y : Bool) → pick x (pick y true torn) torn ≡ pick torn true (pick x y false)
       go true true true = refl
@@ -169,22 +198,23 @@ module _ (u : List ℕ) (n c k : ℕ) where
       go false false true = refl
       go false false false = refl
 
-  pub run-done : (torn : Bool) (i : ℕ) (g : List Block) → length g ≤ brim
-      → run u (begun n torn c k) i g ≡ doneOf n (or torn (tornOne u k g)) c k (planOne u c k i g)
-  unfolding run grown tornOne planOne
-  run-done torn i [] l = ap (λ (t : Bool). begun n t c k) (sym (or-none torn))
-  run-done torn i (b ∷ g) l = go (run-done torn (i + 1) g (omega arith)) (falls k b)
+  pub run-done : (torn formats : Bool) (i : ℕ) (g : List Block) → length g ≤ brim
+      → run u (begun n torn formats c k) i g ≡ doneOf n (or torn (tornOne u k g)) (or formats (formatOne k g)) c k (planOne u c k i g)
+  unfolding run grown tornOne formatOne planOne
+  run-done torn formats i [] l = ap₂ (λ (t f : Bool). begun n t f c k) (sym (or-none torn)) (sym (or-none formats))
+  run-done torn formats i (b ∷ g) l = go (run-done torn formats (i + 1) g (omega arith)) (falls k b)
     where
-      go : run u (begun n torn c k) (i + 1) g ≡ doneOf n (or torn (tornOne u k g)) c k (planOne u c k (i + 1) g) → (t : Bool)
-          → run u (pick t (begun n torn c k) (firstPiece u (begun n torn c k) i b)) (i + 1) g
-          ≡ doneOf n (or torn (pick t (tornOne u k g) (tornAt u b (k - b .clock)))) c k (pick t (planOne u c k (i + 1) g)
-          (plannedAt u c k i b g ∷ []))
+      go : run u (begun n torn formats c k) (i + 1) g
+          ≡ doneOf n (or torn (tornOne u k g)) (or formats (formatOne k g)) c k (planOne u c k (i + 1) g) → (t : Bool)
+          → run u (pick t (begun n torn formats c k) (firstPiece u (begun n torn formats c k) i b)) (i + 1) g
+          ≡ doneOf n (or torn (pick t (tornOne u k g) (tornAt u b (k - b .clock)))) (or formats (pick t (formatOne k g) (formatRows (b ∷ g)))) c k
+          (pick t (planOne u c k (i + 1) g) (plannedAt u c k i b g ∷ []))
       go on true = on
       go on false =
           let m = k - b .clock in
-          ap (λ (s : Planning). run u s (i + 1) g) (first-state torn i b)
-          ∙ run-counts (or torn (tornAt u b m)) i 1 m (skipOf u b m) (i + 1) g (omega arith) (omega arith)
-          ∙ ap (λ (x : ℕ). stateOf n (or torn (tornAt u b m)) c k i x m (skipOf u b m)) next
+          ap (λ (s : Planning). run u s (i + 1) g) (first-state torn formats i b)
+          ∙ run-counts (or torn (tornAt u b m)) (formatsWith formats b) i 1 m (skipFor u b m) (i + 1) g (omega arith) (omega arith)
+          ∙ ap₂ (λ (f : Bool) (x : ℕ). stateOf n (or torn (tornAt u b m)) f c k i x m (skipFor u b m)) (rows-after formats b g) next
         where
           next : 1 + length g ≡ suc (length g)
           next = omega arith

@@ -1,5 +1,5 @@
 -- A piece of a block as a record. A piece that does not begin with its block has the id before it as its left id, and no parent; its key is no longer
--- spelled, but the info byte still says that it had one. A text is cut by its units.
+-- spelled, but the info byte still says that it had one. A text is cut by its units, a list of plain values by its entries.
 use Prim.Native.Nat.{ℕ, _+_, _-_}
 use mathlib.Core.Bool.{Bool, true, false}
 use mathlib.Core.List.{List, [], _∷_}
@@ -14,7 +14,10 @@ use Rattle.block.specs.declared.Id.{Id}
 use Rattle.block.specs.declared.Block.{Block}
 use Rattle.block.specs.Row.{noId}
 use Rattle.block.specs.Rows.{startingAt, lasting, leftIs, withoutParent, withoutName, withPart}
-use Rattle.block.specs.Kinds.{isItem, isText}
+use Rattle.block.specs.Kinds.{isItem, isText, isFormat, isAny}
+use Rattle.anys.specs.declared.Skipped.{Skipped}
+use Rattle.anys.specs.declared.Skipped.the-variants as skipped
+use Rattle.anys.specs.Any.{anys}
 use Rattle.readings.specs.Sound.{bytesIn}
 use Rattle.kept.specs.Kept.{Piece, Section}
 
@@ -44,14 +47,32 @@ tornText u p from n =
     let t = bytesIn u p in
     pick (broken (takeUnits 9 from t)) true (broken (takeUnits 9 n (drop (before t from) t)))
 
+-- ---- a list's bytes, by entries
+
+-- the bytes that so many plain values take
+unfoldable pub spanOf : ℕ → Skipped → ℕ
+spanOf at (skipped.At e) = e - at
+spanOf at (skipped.Refused why) = 0
+
+abbrev pub span : List ℕ → ℕ → ℕ → ℕ
+span u at n = spanOf at (anys u 0 n at)
+
+-- the part of a list from entry `from` on, `n` entries
+unfoldable pub cutList : List ℕ → Part → ℕ → ℕ → Part
+cutList u p from n =
+    let at = p .place + span u (p .place) from in
+    record { place = at; bytes = record { 0 = span u at n } }
+
 -- ---- a piece
 
 unfoldable pub isWhole : Piece → Bool
 isWhole p = pick (eqb (p .from) 0) (eqb (p .to) (p .row .length .0)) false
 
--- what a text has left; all else keeps its part
+-- what a text or a list has left; all else keeps its part
 unfoldable pub partOf : List ℕ → Piece → Part
-partOf u p = pick (isText (p .row .kind)) (cutPart u (p .row .part) (p .from) (p .to - p .from)) (p .row .part)
+partOf u p =
+    pick (isText (p .row .kind)) (cutPart u (p .row .part) (p .from) (p .to - p .from))
+    (pick (isAny (p .row .kind)) (cutList u (p .row .part) (p .from) (p .to - p .from)) (p .row .part))
 
 -- the id before a unit of a row; only items have ids
 abbrev pub leftOf : Block → ℕ → Id
@@ -90,3 +111,13 @@ tornPieces u (p ∷ ps) = pick (torn u p) true (tornPieces u ps)
 unfoldable pub anyTorn : List ℕ → List Section → Bool
 anyTorn u [] = false
 anyTorn u (s ∷ ss) = pick (tornPieces u (s .pieces)) true (anyTorn u ss)
+
+-- ---- formats among them, whose value is not the same in either form
+
+unfoldable pub formatIn : List Piece → Bool
+formatIn [] = false
+formatIn (p ∷ ps) = pick (isFormat (p .row .kind)) true (formatIn ps)
+
+unfoldable pub anyFormat : List Section → Bool
+anyFormat [] = false
+anyFormat (s ∷ ss) = pick (formatIn (s .pieces)) true (anyFormat ss)

@@ -5,8 +5,9 @@ use text::Bytes;
 use text::Part;
 use text::Units;
 ghost use mathlib.Core.Path.{_≡_};
-ghost use mathlib.Core.Bool.{true};
+ghost use mathlib.Core.Bool.{true, _||_};
 ghost use Rattle.block.specs.Row.{noId};
+ghost use Rattle.block.specs.Kinds.{isText, isAny};
 ghost use Rattle.kept.specs.Plan.{openedAt, advanced, atEnd, unitsLie, bytesLie, sane, partAt, cutAt, restOf};
 ghost use Rattle.kept.specs.Cut.{leftOf, front, behind};
 ghost use Prim.Native.Nat.{_+_, _≤_, _<_};
@@ -86,7 +87,7 @@ pub fn advance(plan: &[u64], n: usize, c: Cursor) -> Cursor
     next
 }
 
-// Where a piece begins and ends in its row, in units; how many bytes of the row's text stand before it, and how many it has.
+// Where a piece begins and ends in its row, in units; how many bytes of the row's text or list stand before it, and how many it has.
 pub struct Ends {
     pub from: Units,
     pub to: Units,
@@ -180,13 +181,24 @@ fn left_of(b: Block, from: Units) -> Id
     }
 }
 
+// Whether a part of this kind is cut with its row: a text by its units, a list by its entries.
+fn is_cut(kind: u8) -> bool
+    ensures { λ r. ⌜ r ≡ (isText kind || isAny kind) ⌝ }
+{
+    match kind {
+        block::TEXT => true,
+        block::ANY => true,
+        _ => false,
+    }
+}
+
 fn part_at(b: Block, e: Ends) -> Part
     requires { ⌜ sane b e ≡ true ⌝ }
     ensures { λ r. ⌜ r ≡ partAt b e ⌝ }
 {
     let part = b.part;
     let skip = e.skip;
-    if b.kind == block::TEXT {
+    if is_cut(b.kind) {
         let place = part.place + skip.0;
         let bytes = e.keep;
         return Part { place, bytes };

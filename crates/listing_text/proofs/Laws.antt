@@ -35,7 +35,7 @@ either false xs ys p q = q
 pub kind-short : (kind : ℕ) → length (kindName kind) ≤ 7
 unfolding kindName
 kind-short kind =
-    either (eqb kind 1) _ _ (omega arith) (either (eqb kind 2) _ _ (omega arith) (either (eqb kind 3) _ _ (omega arith) (either (eqb kind 4) _ _ (omega arith) (either (eqb kind 5) _ _ (omega arith) (omega arith)))))
+    either (eqb kind 1) _ _ (omega arith) (either (eqb kind 2) _ _ (omega arith) (either (eqb kind 3) _ _ (omega arith) (either (eqb kind 4) _ _ (omega arith) (either (eqb kind 5) _ _ (omega arith) (either (eqb kind 6) _ _ (omega arith) (either (eqb kind 7) _ _ (omega arith) (either (eqb kind 8) _ _ (omega arith) (omega arith))))))))
 
 pub block-short : (b : Block) → length (blockLine b) ≤ 71
 unfolding blockLine

@@ -6,10 +6,10 @@ use lib.ListN.{length}
 use lib.Dec.{eqb}
 use Rattle.numbers.specs.declared.Refusal.{Refusal}
 use Rattle.block.specs.declared.Block.{Block}
-use Rattle.block.specs.Kinds.{GC, SKIP, DELETED, BINARY, TEXT}
+use Rattle.block.specs.Kinds.{GC, SKIP, DELETED, BINARY, TEXT, FORMAT, TYPE, ANY}
 use Rattle.ranges.specs.Ranges.{Range}
 use Rattle.lines.specs.Lines.{decimal}
-use Rattle.listing_text.specs.Words.{wordForm, wordBlocks, wordRanges, wordRefused, wordAt, wordEmpty, wordEnd, wordGc, wordSkip, wordDeleted, wordBinary, wordText}
+use Rattle.listing_text.specs.Words.{wordForm, wordBlocks, wordRanges, wordRefused, wordAt, wordEmpty, wordEnd, wordGc, wordSkip, wordDeleted, wordBinary, wordText, wordFormat, wordType, wordAny}
 
 -- a number with the byte that ends it
 unfoldable pub number : ℕ → ℕ → List ℕ
@@ -26,7 +26,8 @@ kindName kind =
     (cond (eqb kind SKIP) wordSkip
     (cond (eqb kind DELETED) wordDeleted
     (cond (eqb kind BINARY) wordBinary
-    (cond (eqb kind TEXT) wordText []))))
+    (cond (eqb kind TEXT) wordText
+    (cond (eqb kind FORMAT) wordFormat (cond (eqb kind TYPE) wordType (cond (eqb kind ANY) wordAny [])))))))
 
 unfoldable pub blockLine : Block → List ℕ
 blockLine b = number (b .client) 32 ++ number (b .clock) 32 ++ number (b .length .0) 32 ++ kindName (b .kind) ++ (10 ∷ [])

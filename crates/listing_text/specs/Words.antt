@@ -49,3 +49,15 @@ wordBinary = 98 ∷ 105 ∷ 110 ∷ 97 ∷ 114 ∷ 121 ∷ []
 -- `text`
 abbrev pub wordText : List ℕ
 wordText = 116 ∷ 101 ∷ 120 ∷ 116 ∷ []
+
+-- `format`
+abbrev pub wordFormat : List ℕ
+wordFormat = 102 ∷ 111 ∷ 114 ∷ 109 ∷ 97 ∷ 116 ∷ []
+
+-- `type`
+abbrev pub wordType : List ℕ
+wordType = 116 ∷ 121 ∷ 112 ∷ 101 ∷ []
+
+-- `any`
+abbrev pub wordAny : List ℕ
+wordAny = 97 ∷ 110 ∷ 121 ∷ []

@@ -48,6 +48,15 @@ fn put_kind(out: &mut [u8], used: usize, kind: u8) -> usize
     if kind == block::TEXT {
         return put_text(out, used, b"text");
     }
+    if kind == block::FORMAT {
+        return put_text(out, used, b"format");
+    }
+    if kind == block::TYPE {
+        return put_text(out, used, b"type");
+    }
+    if kind == block::ANY {
+        return put_text(out, used, b"any");
+    }
     used
 }
 

@@ -21,14 +21,14 @@ use Rattle.string.specs.String as strings
 use Rattle.grammar.specs.Grammar.{_>>=_}
 use Rattle.grammar.specs.Course as course
 use Rattle.decoder.specs.Line.{line, numberOf, byteAt, soMany, bytesAt}
-use Rattle.decoder.specs.States.{State, Texts, withText, movedTo}
+use Rattle.decoder.specs.States.{State, Texts, withText, withKeys, movedTo}
 use Rattle.decoder.specs.Opening.{cut, heads, endOf, numbersFrom, differencesFrom, bytesFrom, standing, withOpened, textOpened, onHeads, openedOf}
 use Rattle.cells.specs.declared.Drawn.{Drawn}
 use Rattle.cells.specs.declared.Drawn.the-variants.{Number, Refused}
 use Rattle.cells.specs.Cells.{cell, numbersIn, differencesIn, bytesIn, textsIn, stateIn, whyIn, Small, Elsewhere}
 use Rattle.opening.specs.Opening.{Cut, openedIn, Opened}
 use Rattle.cells.proofs.Words.{Held, put-at, run, put-run, texts-held, held-wide, held-short}
-use Rattle.cells.proofs.States.{state-text, state-at}
+use Rattle.cells.proofs.States.{state-text, state-at, small-at, state-unkeyed}
 
 -- ---- the text
 
@@ -57,7 +57,7 @@ module _ (u w : List ℕ) (s : Small w) where
     text-open p told =
         let h = text-held p in
         let v = textPut p in (
-          held-wide 5 w _ v h (omega arith, (λ q. omega arith), (λ q. omega arith)) s,
+          held-wide 5 w _ v h (omega arith, (λ q. omega arith), (λ q. omega arith), (λ q. omega arith)) s,
           rw (text-opened, told) (ap (course.got tt) (state-text w v (h .elsewhere) ∙ ap (λ (c : Texts). withText c (stateIn w)) (texts-held 5 w _ v h ∙ rw text-to refl))),
         )
 
@@ -184,7 +184,7 @@ module _ (u : List ℕ) where
       go (opened.Not why) = refl
 
   module _ (w : List ℕ) (at : ℕ) (c : Cutting u w 9 at) (s : Small w) where
-    stood : movedTo (stateIn w) at ≡ withText (textsIn w 5) (standing (c .parts) at)
+    stood : withKeys [] (movedTo (stateIn w) at) ≡ withText (textsIn w 5) (standing (c .parts) at)
     unfolding stateIn
     stood = rw (
       fresh-differences w 0 _ (c .fresh 0 (omega arith)),
@@ -201,10 +201,10 @@ module _ (u : List ℕ) where
     unfolding cut course.run onHeads
     over-comes = c .comes
 
-    pub cutting-over : textOpened u (stateIn (set w 63 at)) ≡ openedOf u
+    pub cutting-over : textOpened u (stateIn (set (set w 63 at) 67 0)) ≡ openedOf u
     unfolding textsIn numbersIn
     cutting-over =
-        ap (textOpened u) (state-at w s at ∙ stood)
+        ap (textOpened u) (state-unkeyed (set w 63 at) (small-at w s at) ∙ ap (withKeys []) (state-at w s at) ∙ stood)
         ∙ text-alike (standing (c .parts) at) (textsIn w 5) (c .fresh 5 (omega arith) .ends) (c .fresh 5 (omega arith) .begins .0)
         ∙ over-comes
 

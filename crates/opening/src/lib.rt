@@ -1,6 +1,7 @@
 // Form 2 opened into the words that reading stands in: the flag, the nine columns, the text.
 use cells::AT;
 use cells::Drawn;
+use cells::KEY_COUNT;
 use numbers::Read;
 ghost use mathlib.Core.Path.{_≡_};
 ghost use Prim.Native.Nat.{_≤_};
@@ -44,7 +45,7 @@ fn put_column(w: &mut [u64], k: usize, from: usize, to: usize)
     w[b + 6] = 0;
 }
 
-// The state before form 2's first number: a flag byte of any value, nine columns, and the text among them opened.
+// The state before form 2's first number: a flag byte of any value, nine columns, and the text among them opened. No key was read yet.
 pub fn open(update: &[u8], w: &mut [u64]) -> Drawn
     requires { ⌜ Small (now w) ⌝ }
     ensures { λ r. ⌜ Opened (now (update .entry)) (now (w .exit)) r ⌝ }
@@ -70,5 +71,6 @@ pub fn open(update: &[u8], w: &mut [u64]) -> Drawn
         k += 1;
     }
     w[AT] = at as u64;
+    w[KEY_COUNT] = 0;
     open_text(update, w)
 }

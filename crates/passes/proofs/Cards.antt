@@ -14,7 +14,7 @@ use contract.Monad.{Fun, fact, factI}
 use denote.Triple.Statement.{Contract, Triple}
 use denote.Triple.Spec.{tripleOf}
 use denote.Triple.Clauses.{atExit}
-use Rattle.tokens.specs.Desk.{lanesIn, deskIn, Tidy, closedEach, laidEnds, Wrote}
+use Rattle.tokens.specs.Desk.{lanesIn, deskIn, keyCount, crowdedIn, Tidy, closedEach, laidEnds, WroteKeys}
 use Rattle.records.specs.Records.{deleteTokens}
 use Rattle.records.specs.DeleteRows.{InLine}
 use Rattle.encoder.specs.Passes.{plannedTokens}
@@ -25,13 +25,14 @@ use Rattle.walks.proofs.Refs.{Seat, val, mut, read, pass, Card, Told, since}
 use Rattle.block.specs.declared.Block.{Block}
 use Rattle.numbers.specs.Number.{unsigned}
 use Rattle.passes.specs.Forms.{anyFar, placesOf}
-use Rattle.tokens.specs.Desk.{Tidy, lanesIn}
 use Rattle.tokens.specs.Lanes.{ahead, laidAt}
 use Rattle.table.proofs.Sorts.{block}
 use Rattle.encoder.proofs.put_rows as encoder·put-rows-fn
 use Rattle.encoder.proofs.put_rows.Symbol.{name as #encoder·put-rows}
 use Rattle.tokens.proofs.lanes.close as tokens·lanes·close-fn
 use Rattle.tokens.proofs.lanes.close.Symbol.{name as #tokens·lanes·close}
+use Rattle.passes.proofs.leads.is_crowded as passes·leads·is-crowded-fn
+use Rattle.passes.proofs.leads.is_crowded.Symbol.{name as #passes·leads·is-crowded}
 use Rattle.passes.proofs.leads.note as passes·leads·note-fn
 use Rattle.passes.proofs.leads.note.Symbol.{name as #passes·leads·note}
 use Rattle.passes.proofs.leads.open as passes·leads·open-fn
@@ -50,6 +51,9 @@ module _ {M : Type 1} (𝓤 : URA M) (H : Heap 𝓤) (A : Atoms 𝓤) (mem : Mem
   abbrev pub Tokens·lanes·close : Contract 𝓤
   Tokens·lanes·close = tripleOf 𝓤 H A tokens·lanes·close-fn.signature (tokens·lanes·close-fn.spec 𝓤 H A mem run)
 
+  abbrev pub Passes·leads·is-crowded : Contract 𝓤
+  Passes·leads·is-crowded = tripleOf 𝓤 H A passes·leads·is-crowded-fn.signature (passes·leads·is-crowded-fn.spec 𝓤 H A mem run)
+
   abbrev pub Passes·leads·note : Contract 𝓤
   Passes·leads·note = tripleOf 𝓤 H A passes·leads·note-fn.signature (passes·leads·note-fn.spec 𝓤 H A mem run)
 
@@ -66,7 +70,7 @@ module _ {M : Type 1} (𝓤 : URA M) (H : Heap 𝓤) (A : Atoms 𝓤) (mem : Mem
   Records·delete-set·write-delete-set = tripleOf 𝓤 H A records·delete-set·write-delete-set-fn.signature (records·delete-set·write-delete-set-fn.spec 𝓤 H A mem run)
 
   module _ (C : Calls 𝓤 H) where
-    pub encoder·put-rows! : Triple 𝓤 (C #encoder·put-rows) Encoder·put-rows → (at-out : Seat) (out₀ : List ℕ) (at-lanes : Seat) (lanes₀ : List ℕ) (at-update : Seat) (update₀ : List ℕ) (at-rows : Seat) (rows₀ : List Block) (at-plan : Seat) (plan₀ : List ℕ) (sections₀ : ℕ) (g-sections : Has word sections₀) (form₀ : ℕ) (g-form : Has byte form₀) (at₀ : ℕ) (g-at : Has word at₀) → (Tidy lanes₀ × (5 * sections₀ ≤ length plan₀)) → Told 𝓤 H A C #encoder·put-rows (mut byte at-out out₀ out₀ ∷ mut word at-lanes lanes₀ lanes₀ ∷ pass byte at-update update₀ ∷ pass block at-rows rows₀ ∷ pass word at-plan plan₀ ∷ val word sections₀ g-sections ∷ val byte form₀ g-form ∷ val word at₀ g-at ∷ []) word (λ r ws. Wrote form₀ (plannedTokens update₀ rows₀ plan₀ sections₀) out₀ lanes₀ at₀ (ws .0) (ws .1 .0) r)
+    pub encoder·put-rows! : Triple 𝓤 (C #encoder·put-rows) Encoder·put-rows → (at-out : Seat) (out₀ : List ℕ) (at-lanes : Seat) (lanes₀ : List ℕ) (at-update : Seat) (update₀ : List ℕ) (at-rows : Seat) (rows₀ : List Block) (at-plan : Seat) (plan₀ : List ℕ) (sections₀ : ℕ) (g-sections : Has word sections₀) (form₀ : ℕ) (g-form : Has byte form₀) (at₀ : ℕ) (g-at : Has word at₀) → (Tidy lanes₀ × (5 * sections₀ ≤ length plan₀)) → Told 𝓤 H A C #encoder·put-rows (mut byte at-out out₀ out₀ ∷ mut word at-lanes lanes₀ lanes₀ ∷ pass byte at-update update₀ ∷ pass block at-rows rows₀ ∷ pass word at-plan plan₀ ∷ val word sections₀ g-sections ∷ val byte form₀ g-form ∷ val word at₀ g-at ∷ []) word (λ r ws. WroteKeys update₀ form₀ (plannedTokens update₀ rows₀ plan₀ sections₀) out₀ lanes₀ at₀ (ws .0) (ws .1 .0) r)
     encoder·put-rows! known at-out out₀ at-lanes lanes₀ at-update update₀ at-rows rows₀ at-plan plan₀ sections₀ g-sections form₀ g-form at₀ g-at h = record {
       loose = record {
         contract = Encoder·put-rows;
@@ -98,29 +102,43 @@ module _ {M : Type 1} (𝓤 : URA M) (H : Heap 𝓤) (A : Atoms 𝓤) (mem : Mem
       said = λ ns r ws. since 𝓤 (λ e. e);
     }
 
-    pub passes·leads·note-lanes! : Triple 𝓤 (C #passes·leads·note) Passes·leads·note → (at-sizes : Seat) (sizes₀ : List ℕ) (at-lanes : Seat) (lanes₀ : List ℕ) → ((length sizes₀ ≡ 8) × Tidy lanes₀) → Card 𝓤 H A C #passes·leads·note (mut word at-sizes sizes₀ (placesOf (lanesIn lanes₀)) ∷ read word at-lanes lanes₀ ∷ []) bool-kind (anyFar (lanesIn lanes₀))
+    pub passes·leads·is-crowded-lanes! : Triple 𝓤 (C #passes·leads·is-crowded) Passes·leads·is-crowded → (at-lanes : Seat) (lanes₀ : List ℕ) → (Tidy lanes₀) → Card 𝓤 H A C #passes·leads·is-crowded (read word at-lanes lanes₀ ∷ []) bool-kind (crowdedIn lanes₀)
+    passes·leads·is-crowded-lanes! known at-lanes lanes₀ h = record {
+      contract = Passes·leads·is-crowded;
+      known = known;
+      ghost = λ x. (x, tt);
+      args = λ ns. refl;
+      asked = fact 𝓤 (Tidy lanes₀);
+      asks = factI 𝓤 (Tidy lanes₀) (emp 𝓤) h;
+      into = λ ns. id⊢ 𝓤 _;
+      ensured = λ x r ws. passes·leads·is-crowded-fn.clauses 𝓤 H A mem run (x .0) (x .3) .ensures tt r (atExit passes·leads·is-crowded-fn.ended (x .0) (x .3) ws);
+      out = λ ns v. id⊢ 𝓤 _;
+      said = λ ns r ws. since 𝓤 (λ e. (e, tt));
+    }
+
+    pub passes·leads·note-lanes! : Triple 𝓤 (C #passes·leads·note) Passes·leads·note → (at-sizes : Seat) (sizes₀ : List ℕ) (at-lanes : Seat) (lanes₀ : List ℕ) → ((length sizes₀ ≡ 10) × Tidy lanes₀) → Card 𝓤 H A C #passes·leads·note (mut word at-sizes sizes₀ (placesOf (lanesIn lanes₀)) ∷ read word at-lanes lanes₀ ∷ []) bool-kind (anyFar (lanesIn lanes₀))
     passes·leads·note-lanes! known at-sizes sizes₀ at-lanes lanes₀ h = record {
       contract = Passes·leads·note;
       known = known;
       ghost = λ x. (x, tt);
       args = λ ns. refl;
-      asked = fact 𝓤 ((length sizes₀ ≡ 8) × Tidy lanes₀);
-      asks = factI 𝓤 ((length sizes₀ ≡ 8) × Tidy lanes₀) (emp 𝓤) h;
+      asked = fact 𝓤 ((length sizes₀ ≡ 10) × Tidy lanes₀);
+      asks = factI 𝓤 ((length sizes₀ ≡ 10) × Tidy lanes₀) (emp 𝓤) h;
       into = λ ns. id⊢ 𝓤 _;
       ensured = λ x r ws. passes·leads·note-fn.clauses 𝓤 H A mem run (x .0) (x .3) .ensures tt r (atExit passes·leads·note-fn.ended (x .0) (x .3) ws);
       out = λ ns v. id⊢ 𝓤 _;
       said = λ ns r ws. since 𝓤 (λ e. (e .0, (e .1, tt)));
     }
 
-    pub passes·leads·open! : Triple 𝓤 (C #passes·leads·open) Passes·leads·open → (at-out : Seat) (out₀ : List ℕ) (at-lanes : Seat) (lanes₀ : List ℕ) (at-sizes : Seat) (sizes₀ : List ℕ) (form₀ : ℕ) (g-form : Has byte form₀) → ((length sizes₀ ≡ 8) × (lanes₀ ≡ replicate {A = ℕ} 40 0)) → Told 𝓤 H A C #passes·leads·open (mut byte at-out out₀ out₀ ∷ mut word at-lanes lanes₀ lanes₀ ∷ pass word at-sizes sizes₀ ∷ val byte form₀ g-form ∷ []) word (λ r ws. (deskIn form₀ (ws .1 .0) r ≡ begun form₀ sizes₀) × (ws .0 ≡ ledBytes form₀ sizes₀ out₀) × Tidy (ws .1 .0))
+    pub passes·leads·open! : Triple 𝓤 (C #passes·leads·open) Passes·leads·open → (at-out : Seat) (out₀ : List ℕ) (at-lanes : Seat) (lanes₀ : List ℕ) (at-sizes : Seat) (sizes₀ : List ℕ) (form₀ : ℕ) (g-form : Has byte form₀) → ((length sizes₀ ≡ 10) × (lanes₀ ≡ replicate {A = ℕ} 564 0)) → Told 𝓤 H A C #passes·leads·open (mut byte at-out out₀ out₀ ∷ mut word at-lanes lanes₀ lanes₀ ∷ pass word at-sizes sizes₀ ∷ val byte form₀ g-form ∷ []) word (λ r ws. (deskIn form₀ (ws .1 .0) r ≡ begun form₀ sizes₀) × (ws .0 ≡ ledBytes form₀ sizes₀ out₀) × Tidy (ws .1 .0) × (keyCount (ws .1 .0) ≡ 0))
     passes·leads·open! known at-out out₀ at-lanes lanes₀ at-sizes sizes₀ form₀ g-form h = record {
       loose = record {
         contract = Passes·leads·open;
         known = known;
         ghost = λ x. (x, tt);
         args = λ ns. refl;
-        asked = fact 𝓤 ((length sizes₀ ≡ 8) × (lanes₀ ≡ replicate {A = ℕ} 40 0));
-        asks = factI 𝓤 ((length sizes₀ ≡ 8) × (lanes₀ ≡ replicate {A = ℕ} 40 0)) (emp 𝓤) h;
+        asked = fact 𝓤 ((length sizes₀ ≡ 10) × (lanes₀ ≡ replicate {A = ℕ} 564 0));
+        asks = factI 𝓤 ((length sizes₀ ≡ 10) × (lanes₀ ≡ replicate {A = ℕ} 564 0)) (emp 𝓤) h;
         into = λ ns. id⊢ 𝓤 _;
         ensured = λ x r ws. passes·leads·open-fn.clauses 𝓤 H A mem run (x .0) (x .3) .ensures tt r (atExit passes·leads·open-fn.ended (x .0) (x .3) ws);
         out = λ ns v. id⊢ 𝓤 _;

@@ -45,10 +45,10 @@ module _ (z : List ℕ) (ts : List Token) where
   chain-length k n =
       omega (arith, ap length (chain-more k n), length-append (lead z k) (lane k ts ++ chain z ts (k + 1) n), length-append (lane k ts) (chain z ts (k + 1) n))
 
-  pub chain-le : (k n : ℕ) → length (chain z ts k n) ≤ n * (30 + 21 * sizeAll ts)
+  pub chain-le : (k n : ℕ) → length (chain z ts k n) ≤ n * (20 + 21 * sizeAll ts)
   chain-le k zero = omega (arith, ap length (chain-none k))
   chain-le k (suc n) =
-      omega (arith, chain-length k n, lead-le z k, size-le k ts, chain-le (k + 1) n, suc-mul n (30 + 21 * sizeAll ts))
+      omega (arith, chain-length k n, lead-le z k, size-le k ts, chain-le (k + 1) n, suc-mul n (20 + 21 * sizeAll ts))
 
 -- ---- where the lanes stand
 
@@ -99,7 +99,7 @@ Sized z ts k n = (i : ℕ) → k ≤ i → i < k + n → getD z i 0 ≡ length (
 module _ (z : List ℕ) (ts : List Token) (legal : legalAll ts ≡ true) where
   -- far from the brim, from `at` on
   abbrev pub Low : ℕ → ℕ → ℕ → Type 0
-  Low k n at = at + length (chain z ts k n) + 21 * sizeAll ts + 30 < brim
+  Low k n at = at + length (chain z ts k n) + 21 * sizeAll ts + 20 < brim
 
   abbrev next : ℕ → ℕ → ℕ
   next k at = at + length (lead z k) + length (lane k ts)
@@ -107,7 +107,7 @@ module _ (z : List ℕ) (ts : List Token) (legal : legalAll ts ≡ true) where
   -- ---- the first lane
 
   module _ (k n at : ℕ) (low : Low k (suc n) at) where
-    begin-low : at + 30 < brim
+    begin-low : at + 20 < brim
     begin-low = omega (arith, low)
 
     lane-low : at + length (lead z k) + 21 * sizeAll ts < brim

@@ -8,13 +8,19 @@ use lib.ListN.{length, take, replicate}
 use lib.Seq.{take-at}
 use borrow.Author.Tests.{eqb-true, eqb-false}
 use Rattle.numbers.specs.Number.{pick, unsigned}
-use Rattle.tokens.specs.Tokens.{Token, var, clients, rest, whole}
+use Rattle.tokens.specs.Tokens.{Token, var, keys, rest, whole}
+use Rattle.tokens.specs.Keys.{spelled, manyKeys, crowded}
 use Rattle.tokens.specs.Lanes.{Lane, freshLane, ahead, laidAt, putAll, laidAll}
-use Rattle.tokens.specs.Desk.{putTokens, laidTokens, laneIn, lanesIn, deskIn, Tidy, closedEach, laidEnds, Wrote}
-use Rattle.tokens.proofs.Wrote.{wrote-then, wrote-var}
+use Rattle.tokens.specs.Desk.{putTokens, laidTokens, laneIn, lanesIn, deskIn, keyCount, knownIn, crowdedIn, Tidy, closedEach, laidEnds, WroteKeys}
+use Rattle.tokens.proofs.Wrote.{wrote-var}
+use Rattle.tokens.proofs.Keys.{isKey, keyless}
+use Rattle.tokens.proofs.Keyed.{known-none, zeros-known, zeros-crowd, wrote-keys, wrote-keys-then}
 use Rattle.records.specs.DeleteRows.{InLine}
+use Rattle.passes.specs.declared.Measured.{Measured}
+use Rattle.passes.specs.Measures.{measuredFor}
 use Rattle.passes.specs.Forms.{freshFrom, measured, placesOf, anyFar, sizesFor, farFor, begun, ledBytes, lastPlace, endFor, outFor}
 use Rattle.passes.proofs.Apart.{lanes-put, none-put}
+use Rattle.passes.proofs.Plain.{count-spelled}
 use Rattle.passes.proofs.Places.{ends-line, ends-lanes}
 
 -- ---- measured
@@ -28,35 +34,58 @@ all-many : (es : List Lane) (ts : List Token) → length (putTokens es ts) ≡ l
 all-many [] ts = rw (none-put ts)
 all-many (e ∷ es) ts = rw (lanes-put ts e es, all-many es ts)
 
-fresh-lanes : lanesIn (replicate 40 0) ≡ freshFrom clients 8
+fresh-lanes : lanesIn (replicate {A = ℕ} 564 0) ≡ freshFrom keys 10
 unfolding lanesIn laneIn freshFrom
 fresh-lanes = refl
 
-eight : (w : List ℕ) → length (lanesIn w) ≡ 8
+ten : (w : List ℕ) → length (lanesIn w) ≡ 10
 unfolding lanesIn
-eight w = refl
+ten w = refl
 
 module _ (form : ℕ) (ts : List Token) where
-  pub measured-line : (z : List ℕ) → eqb form 1 ≡ true → (false ≡ farFor form ts) × (z ≡ sizesFor form ts z)
-  unfolding farFor sizesFor
+  pub measured-line : (z : List ℕ) → eqb form 1 ≡ true
+      → (record { far = false; crowded = false } ≡ measuredFor form ts) × (z ≡ sizesFor form (spelled form [] ts) z)
+  unfolding measuredFor farFor manyKeys sizesFor
   measured-line z f = rw f (refl, refl)
 
-  module _ {out out₁ w₁ : List ℕ} {r : ℕ} (f : eqb form 1 ≡ false) (wrote : Wrote form ts out (replicate 40 0) 0 out₁ w₁ r) where
-    all-lanes : lanesIn w₁ ++ (freshLane rest r ∷ []) ≡ putTokens (lanesIn (replicate 40 0) ++ (freshLane rest 0 ∷ [])) ts
-    unfolding deskIn
-    all-lanes = rw f at (wrote .desk)
+  module _ {u out out₁ w₁ : List ℕ} {r : ℕ} (f : eqb form 1 ≡ false) (wrote : WroteKeys u form ts out (replicate {A = ℕ} 564 0) 0 out₁ w₁ r) where
+    abbrev zeros : List ℕ
+    zeros = replicate {A = ℕ} 564 0
 
-    columns : lanesIn w₁ ≡ putTokens (freshFrom clients 8) ts
+    abbrev ps : List Token
+    ps = spelled form [] ts
+
+    desk-put : deskIn form w₁ r ≡ putTokens (deskIn form zeros 0) ps
+    desk-put = wrote .desk ∙ ap (λ (ks : List (List ℕ)). putTokens (deskIn form zeros 0) (spelled form ks ts)) (zeros-known u)
+
+    all-lanes : lanesIn w₁ ++ (freshLane rest r ∷ []) ≡ putTokens (lanesIn zeros ++ (freshLane rest 0 ∷ [])) ps
+    unfolding deskIn
+    all-lanes = rw f at desk-put
+
+    columns : lanesIn w₁ ≡ putTokens (freshFrom keys 10) ps
     columns =
-        let old = lanesIn (replicate 40 0) in
-        sym (take-at (lanesIn w₁) (freshLane rest r ∷ []) 8 (eight w₁)) ∙ ap (take 8) (all-lanes ∙ all-append old (freshLane rest 0 ∷ []) ts)
-        ∙ take-at (putTokens old ts) (putTokens (freshLane rest 0 ∷ []) ts) 8 (all-many old ts ∙ eight (replicate 40 0))
-        ∙ ap (λ (es : List Lane). putTokens es ts) fresh-lanes
+        let old = lanesIn zeros in
+        sym (take-at (lanesIn w₁) (freshLane rest r ∷ []) 10 (ten w₁)) ∙ ap (take 10) (all-lanes ∙ all-append old (freshLane rest 0 ∷ []) ps)
+        ∙ take-at (putTokens old ps) (putTokens (freshLane rest 0 ∷ []) ps) 10 (all-many old ps ∙ ten zeros)
+        ∙ ap (λ (es : List Lane). putTokens es ps) fresh-lanes
+
+    -- the keys crowd the words as they crowd form 2
+    many : crowdedIn w₁ ≡ manyKeys form ts
+    unfolding manyKeys
+    many =
+        wrote .crowd
+        ∙ ap (λ (b : Bool). pick b true (pick (eqb form 1) false (crowded (knownIn u zeros) ts))) zeros-crowd
+        ∙ ap (λ (ks : List (List ℕ)). pick (eqb form 1) false (crowded ks ts)) (zeros-known u)
 
     pub measured-lanes : (w₂ : List ℕ) → lanesIn w₂ ≡ closedEach (lanesIn w₁) → (z : List ℕ)
-        → (anyFar (lanesIn w₂) ≡ farFor form ts) × (placesOf (lanesIn w₂) ≡ sizesFor form ts z)
-    unfolding farFor sizesFor measured
-    measured-lanes w₂ c z = let m = c ∙ ap closedEach columns in rw f (ap anyFar m, ap placesOf m)
+        → (record { far = anyFar (lanesIn w₂); crowded = crowdedIn w₁ } ≡ measuredFor form ts) × (placesOf (lanesIn w₂) ≡ sizesFor form (spelled form [] ts) z)
+    unfolding measuredFor farFor sizesFor measured
+    measured-lanes w₂ c z =
+        let m = c ∙ ap closedEach columns in
+        rw (f, many) (ap (λ (es : List Lane). measuredSo (anyFar es)) m, ap placesOf m)
+      where
+        measuredSo : Bool → Measured
+        measuredSo b = record { far = b; crowded = manyKeys form ts }
 
 -- ---- written
 
@@ -76,29 +105,38 @@ ends-there form out w at = go (eqb form 1) refl
     go true e = sym (ends-line out w 0 (eqb-true form 1 e)) ∙ ends-line out w at (eqb-true form 1 e)
     go false e = sym (ends-lanes out w 0 (eqb-false form 1 e)) ∙ ends-lanes out w at (eqb-false form 1 e)
 
-module _ (form : ℕ) (z out₀ : List ℕ) (n : ℕ) (ts ds : List Token) (out₁ w₁ : List ℕ) (at₁ : ℕ)
-    (opened : (deskIn form w₁ at₁ ≡ begun form z) × (out₁ ≡ ledBytes form z out₀) × Tidy w₁) (out₃ w₃ : List ℕ) (end : ℕ)
-    (rows : Wrote form ts (laidAt out₁ at₁ (unsigned n)) w₁ (ahead at₁ (unsigned n)) out₃ w₃ end) where
-  wrote : Wrote form (var n ∷ ts) out₁ w₁ at₁ out₃ w₃ end
-  wrote = wrote-then (wrote-var n (opened .2) (refl, refl)) rows
+module _ (u : List ℕ) (form : ℕ) (z out₀ : List ℕ) (n : ℕ) (ts ds : List Token) (out₁ w₁ : List ℕ) (at₁ : ℕ)
+    (opened : (deskIn form w₁ at₁ ≡ begun form z) × (out₁ ≡ ledBytes form z out₀) × Tidy w₁ × (keyCount w₁ ≡ 0)) (out₃ w₃ : List ℕ) (end : ℕ)
+    (rows : WroteKeys u form ts (laidAt out₁ at₁ (unsigned n)) w₁ (ahead at₁ (unsigned n)) out₃ w₃ end) where
+  abbrev us : List Token
+  us = var n ∷ spelled form [] ts
 
-  desk-is : deskIn form w₃ end ≡ putTokens (begun form z) (var n ∷ ts)
-  desk-is = wrote .desk ∙ ap (λ (es : List Lane). putTokens es (var n ∷ ts)) (opened .0)
+  wrote : WroteKeys u form (var n ∷ ts) out₁ w₁ at₁ out₃ w₃ end
+  unfolding keyless isKey
+  wrote = wrote-keys-then (wrote-keys refl (wrote-var n (opened .2) (refl, refl))) rows
 
-  bytes-are : out₃ ≡ laidTokens (ledBytes form z out₀) (begun form z) (var n ∷ ts)
+  -- no key is known yet, and a number is none
+  spelled-is : spelled form (knownIn u w₁) (var n ∷ ts) ≡ var n ∷ spelled form [] ts
+  spelled-is = ap (λ (ks : List (List ℕ)). spelled form ks (var n ∷ ts)) (known-none u w₁ (opened .3)) ∙ count-spelled form n ts
+
+  desk-is : deskIn form w₃ end ≡ putTokens (begun form z) (var n ∷ spelled form [] ts)
+  desk-is =
+      wrote .desk ∙ ap (λ (ts : List Token). putTokens (deskIn form w₁ at₁) ts) spelled-is ∙ ap (λ (es : List Lane). putTokens es us) (opened .0)
+
+  bytes-are : out₃ ≡ laidTokens (ledBytes form z out₀) (begun form z) (var n ∷ spelled form [] ts)
   bytes-are =
-      wrote .bytes ∙ ap (λ (es : List Lane). laidTokens out₁ es (var n ∷ ts)) (opened .0)
-      ∙ ap (λ (o : List ℕ). laidTokens o (begun form z) (var n ∷ ts)) (opened .1)
+      wrote .bytes ∙ ap (λ (ts : List Token). laidTokens out₁ (deskIn form w₁ at₁) ts) spelled-is
+      ∙ ap (λ (es : List Lane). laidTokens out₁ es us) (opened .0) ∙ ap (λ (o : List ℕ). laidTokens o (begun form z) us) (opened .1)
 
-  in-line : freshLane whole end ≡ freshLane whole (lastPlace (putTokens (begun form z) (var n ∷ ts)))
+  in-line : freshLane whole end ≡ freshLane whole (lastPlace (putTokens (begun form z) (var n ∷ spelled form [] ts)))
   in-line = ap (freshLane whole) (sym (last-place form w₃ end) ∙ ap lastPlace desk-is)
 
   pub written : {out₄ : List ℕ} {out₅ : List ℕ} {r : ℕ} → out₄ ≡ laidEnds out₃ (deskIn form w₃ 0) → InLine ds out₄ end out₅ r
-      → (r ≡ endFor form z (var n ∷ ts) ds) × (out₅ ≡ outFor form z (var n ∷ ts) ds out₀)
+      → (r ≡ endFor form z (var n ∷ spelled form [] ts) ds) × (out₅ ≡ outFor form z (var n ∷ spelled form [] ts) ds out₀)
   unfolding endFor outFor
   written {out₄} c i = (
     i .place ∙ ap (λ (e : Lane). putAll e ds .run .at) in-line,
     i .bytes ∙ ap (λ (e : Lane). laidAll out₄ e ds) in-line
-        ∙ ap (λ (o : List ℕ). laidAll o (freshLane whole (lastPlace (putTokens (begun form z) (var n ∷ ts)))) ds)
-        (c ∙ ends-there form out₃ w₃ end ∙ ap (laidEnds out₃) desk-is ∙ ap (λ (o : List ℕ). laidEnds o (putTokens (begun form z) (var n ∷ ts))) bytes-are),
+        ∙ ap (λ (o : List ℕ). laidAll o (freshLane whole (lastPlace (putTokens (begun form z) (var n ∷ spelled form [] ts)))) ds)
+        (c ∙ ends-there form out₃ w₃ end ∙ ap (laidEnds out₃) desk-is ∙ ap (λ (o : List ℕ). laidEnds o (putTokens (begun form z) (var n ∷ spelled form [] ts))) bytes-are),
   )

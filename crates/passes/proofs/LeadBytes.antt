@@ -13,7 +13,7 @@ use Rattle.parts.specs.Brim.{brim}
 use Rattle.runs.specs.declared.Column.{Column}
 use Rattle.runs.specs.declared.Column.the-variants.{Number, Difference, Byte}
 use Rattle.runs.specs.Runs.{coding, spellable}
-use Rattle.tokens.specs.Tokens.{Token, var, clients, texts, lens, whole, takenAll, inLine, columnIn}
+use Rattle.tokens.specs.Tokens.{Token, var, keys, texts, whole, takenAll, inLine, columnIn}
 use Rattle.tokens.specs.Bytes.{nearIn}
 use Rattle.tokens.specs.Lanes.{Lane, freshLane, putAll, laidAll, closed}
 use Rattle.tokens.proofs.Laying.{moved-on, bytes-laid}
@@ -44,24 +44,22 @@ module _ (ts : List Token) (at : ℕ) (low : at + length (takenAll whole ts) < b
 unfoldable pub lead : List ℕ → ℕ → List ℕ
 lead z k = takenAll whole (leadTokens z k)
 
-lead-size : (z : List ℕ) (k : ℕ) → sizeAll (leadTokens z k) ≤ 30
+lead-size : (z : List ℕ) (k : ℕ) → sizeAll (leadTokens z k) ≤ 20
 unfolding leadTokens sizeAll sizeOf
-lead-size z k = go (isBare k) (eqb k clients) (eqb k texts) (eqb k lens)
+lead-size z k = go (isBare k) (eqb k keys) (eqb k texts)
   where
-    go : (a b c d : Bool)
-        → sizeAll (pick a [] (pick b (var 0 ∷ (var 0 ∷ (var (getD z k 0) ∷ []))) (pick c (var (textSize z) ∷ (var (getD z k 0) ∷ []))
-        (pick d (var 0 ∷ (var (getD z k 0) ∷ [])) (var (getD z k 0) ∷ []))))) ≤ 30
-    go true b c d = omega arith
-    go false true c d = omega arith
-    go false false true d = omega arith
-    go false false false true = omega arith
-    go false false false false = omega arith
+    go : (a b c : Bool)
+        → sizeAll (pick a [] (pick b (var 0 ∷ (var (getD z k 0) ∷ [])) (pick c (var (textSize z) ∷ (var (getD z k 0) ∷ [])) (var (getD z k 0) ∷ [])))) ≤ 20
+    go true b c = omega arith
+    go false true c = omega arith
+    go false false true = omega arith
+    go false false false = omega arith
 
-pub lead-le : (z : List ℕ) (k : ℕ) → length (lead z k) ≤ 30
+pub lead-le : (z : List ℕ) (k : ℕ) → length (lead z k) ≤ 20
 unfolding lead
 lead-le z k = omega (arith, takenAll-le whole (leadTokens z k), lead-size z k)
 
-module _ (z : List ℕ) (k at : ℕ) (low : at + 30 < brim) where
+module _ (z : List ℕ) (k at : ℕ) (low : at + 20 < brim) where
   lead-low : at + length (takenAll whole (leadTokens z k)) < brim
   unfolding lead
   lead-low = omega (arith, lead-le z k)

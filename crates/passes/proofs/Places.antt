@@ -8,14 +8,14 @@ use native.Mathlib.Omega.{arith}
 use native.Mathlib.Numerals.{add-one}
 use borrow.Author.Tests.{eq-eqb, ne-eqb, lt-ltb, eqb-true, eqb-false}
 use lib.Dec.{ltb, leb, eqb}
-use lib.ListN.{length, getD, set, take, replicate, length-set}
+use lib.ListN.{length, getD, set, take, replicate, length-set, length-replicate, getD-replicate}
 use lib.Seq.{getD-set-same, getD-set-other, take-suc-set, take-all}
 use Rattle.numbers.specs.Number.{pick}
 use Rattle.runs.specs.Writer.{Sound}
 use Rattle.parts.specs.Brim.{brim}
-use Rattle.tokens.specs.Tokens.{Token, var, clients, texts, units, lens, rest, whole, inLine}
+use Rattle.tokens.specs.Tokens.{Token, var, keys, texts, units, rest, whole, inLine}
 use Rattle.tokens.specs.Lanes.{Lane, freshLane, movedTo, lay, laidBytes, lastRun, laidEnd}
-use Rattle.tokens.specs.Desk.{laneIn, lanesIn, deskIn, Tidy, laidEnds}
+use Rattle.tokens.specs.Desk.{laneIn, lanesIn, deskIn, keyCount, Tidy, laidEnds}
 use Rattle.records.specs.DeleteRows.{InLine}
 use Rattle.records.proofs.Lines.{line-none, line-is}
 use Rattle.passes.specs.Forms.{firstLane, lanesOf, placesOf, anyFar, textSize, isBare, leadTokens, leadEnd, leadBytes, onTo, begunFrom, ledFrom, begun, ledBytes}
@@ -35,22 +35,18 @@ module _ (z : List ℕ) (k : ℕ) where
   unfolding leadTokens isBare
   whole-tokens h = rw h
 
-  pub clients-tokens : k ≡ clients → leadTokens z k ≡ var 0 ∷ (var 0 ∷ (var (getD z k 0) ∷ []))
+  pub keys-tokens : k ≡ keys → leadTokens z k ≡ var 0 ∷ (var (getD z k 0) ∷ [])
   unfolding leadTokens isBare
-  clients-tokens h = rw h
+  keys-tokens h = rw h
 
   pub texts-tokens : k ≡ texts → leadTokens z k ≡ var (textSize z) ∷ (var (getD z k 0) ∷ [])
   unfolding leadTokens isBare
   texts-tokens h = rw h
 
-  pub lens-tokens : k ≡ lens → leadTokens z k ≡ var 0 ∷ (var (getD z k 0) ∷ [])
+  pub other-tokens : k < 10 → k ≢ units → k ≢ keys → k ≢ texts → leadTokens z k ≡ var (getD z k 0) ∷ []
   unfolding leadTokens isBare
-  lens-tokens h = rw h
-
-  pub other-tokens : k < 8 → k ≢ units → k ≢ clients → k ≢ texts → k ≢ lens → leadTokens z k ≡ var (getD z k 0) ∷ []
-  unfolding leadTokens isBare
-  other-tokens b u c t h =
-      rw (ne-eqb k units u, ne-eqb k rest (λ q. absurd (omega (arith, b, q))), ne-eqb k whole (λ q. absurd (omega (arith, b, q))), ne-eqb k clients c, ne-eqb k texts t, ne-eqb k lens h)
+  other-tokens b u c t =
+      rw (ne-eqb k units u, ne-eqb k rest (λ q. absurd (omega (arith, b, q))), ne-eqb k whole (λ q. absurd (omega (arith, b, q))), ne-eqb k keys c, ne-eqb k texts t)
 
 -- in line
 pub lead-is : (z : List ℕ) (k : ℕ) {ts : List Token} {out o : List ℕ} {at r : ℕ} → leadTokens z k ≡ ts → InLine ts out at o r
@@ -63,7 +59,7 @@ unfoldable pub firstIn : List ℕ → ℕ → List Lane
 firstIn w zero = []
 firstIn w (suc n) = firstIn w n ++ (laneIn w n ∷ [])
 
-pub first-all : (w : List ℕ) → firstIn w 8 ≡ lanesIn w
+pub first-all : (w : List ℕ) → firstIn w 10 ≡ lanesIn w
 unfolding firstIn lanesIn
 first-all w = refl
 
@@ -78,7 +74,7 @@ first-same w w′ (suc n) h = rw (first-same w w′ n (λ j l. h j (omega (arith
 
 -- ---- a place noted
 
-module _ (w : List ℕ) (size : length w ≡ 40) (k : ℕ) (l : k < 8) (at : ℕ) where
+module _ (w : List ℕ) (size : length w ≡ 564) (k : ℕ) (l : k < 10) (at : ℕ) where
   pub own-place : laneIn (set w (5 * k) at) k ≡ movedTo (laneIn w k) at
   unfolding laneIn
   own-place =
@@ -104,13 +100,18 @@ module _ (w : List ℕ) (size : length w ≡ 40) (k : ℕ) (l : k < 8) (at : ℕ
         getD-set-other w (5 * k) (5 * j + 4) at 0 (no 4 (omega arith)),
       )
 
+-- it is none of the keys' words
+other-keys : (w : List ℕ) (k : ℕ) → k < 10 → (at : ℕ) → keyCount (set w (5 * k) at) ≡ keyCount w
+unfolding keyCount
+other-keys w k l at = getD-set-other w (5 * k) 50 at 0 (λ q. absurd (omega (arith, l, q)))
+
 -- ---- the lanes at their beginnings, the first k of them noted
 
 -- of these lanes nothing is written yet
 abbrev pub Fresh : List ℕ → Type 0
-Fresh w = (j : ℕ) → j < 8 → laneIn w j ≡ freshLane j (laneIn w j .run .at)
+Fresh w = (j : ℕ) → j < 10 → laneIn w j ≡ freshLane j (laneIn w j .run .at)
 
-pub fresh-words : Fresh (replicate 40 0)
+pub fresh-words : Fresh (replicate {A = ℕ} 564 0)
 unfolding laneIn
 fresh-words zero l = refl
 fresh-words (suc zero) l = refl
@@ -120,49 +121,62 @@ fresh-words (suc (suc (suc (suc zero)))) l = refl
 fresh-words (suc (suc (suc (suc (suc zero))))) l = refl
 fresh-words (suc (suc (suc (suc (suc (suc zero)))))) l = refl
 fresh-words (suc (suc (suc (suc (suc (suc (suc zero))))))) l = refl
-fresh-words (suc (suc (suc (suc (suc (suc (suc (suc j)))))))) l = absurd (omega (arith, l))
+fresh-words (suc (suc (suc (suc (suc (suc (suc (suc zero)))))))) l = refl
+fresh-words (suc (suc (suc (suc (suc (suc (suc (suc (suc zero))))))))) l = refl
+fresh-words (suc (suc (suc (suc (suc (suc (suc (suc (suc (suc j)))))))))) l = absurd (omega (arith, l))
 
-pub fresh-tidy : (w : List ℕ) → length w ≡ 40 → Fresh w → Tidy w
-fresh-tidy w size h = record { size = size; sound = λ k l. subst (λ (e : Lane). Sound (e .run)) (sym (h k l)) (omega arith, omega arith) }
+-- and no key is known
+pub no-keys : keyCount (replicate {A = ℕ} 564 0) ≡ 0
+unfolding keyCount
+no-keys = getD-replicate {A = ℕ} 564 50 0 0 (omega arith)
 
-pub tidy-words : Tidy (replicate 40 0)
-tidy-words = fresh-tidy (replicate 40 0) refl fresh-words
+pub fresh-tidy : (w : List ℕ) → length w ≡ 564 → Fresh w → keyCount w ≡ 0 → Tidy w
+fresh-tidy w size h none = record {
+  size = size;
+  sound = λ k l. subst (λ (e : Lane). Sound (e .run)) (sym (h k l)) (omega arith, omega arith);
+  keys = omega (arith, none);
+}
+
+pub tidy-words : Tidy (replicate {A = ℕ} 564 0)
+tidy-words = fresh-tidy (replicate {A = ℕ} 564 0) (length-replicate {A = ℕ} 564 0) fresh-words no-keys
 
 -- what leads the lanes from lane k on, and where they begin, are what they are from the first on
 pub record Opening (out₀ z out w : List ℕ) (at k : ℕ) : Type 0 where
-  pub below : k ≤ 8
-  pub size : length w ≡ 40
+  pub below : k ≤ 10
+  pub size : length w ≡ 564
   pub fresh : Fresh w
-  pub lanes : firstIn w k ++ begunFrom z k (9 - k) at ≡ begunFrom z 0 9 0
-  pub bytes : ledFrom out z k (9 - k) at ≡ ledFrom out₀ z 0 9 0
+  pub keys : keyCount w ≡ 0
+  pub lanes : firstIn w k ++ begunFrom z k (11 - k) at ≡ begunFrom z 0 11 0
+  pub bytes : ledFrom out z k (11 - k) at ≡ ledFrom out₀ z 0 11 0
 
-one-more : (k : ℕ) → k < 8 → 9 - k ≡ suc (9 - (k + 1))
+one-more : (k : ℕ) → k < 10 → 11 - k ≡ suc (11 - (k + 1))
 one-more k l = omega (arith, l)
 
-begun-one : (z : List ℕ) (k at r : ℕ) → k < 8 → r ≡ leadEnd z k at
-    → begunFrom z k (9 - k) at ≡ freshLane k r ∷ begunFrom z (k + 1) (9 - (k + 1)) (onTo r (getD z k 0))
+begun-one : (z : List ℕ) (k at r : ℕ) → k < 10 → r ≡ leadEnd z k at
+    → begunFrom z k (11 - k) at ≡ freshLane k r ∷ begunFrom z (k + 1) (11 - (k + 1)) (onTo r (getD z k 0))
 unfolding begunFrom
 begun-one z k at r l h = rw (one-more k l, h)
 
-led-one : (out o z : List ℕ) (k at r : ℕ) → k < 8 → r ≡ leadEnd z k at → o ≡ leadBytes out z k at
-    → ledFrom out z k (9 - k) at ≡ ledFrom o z (k + 1) (9 - (k + 1)) (onTo r (getD z k 0))
+led-one : (out o z : List ℕ) (k at r : ℕ) → k < 10 → r ≡ leadEnd z k at → o ≡ leadBytes out z k at
+    → ledFrom out z k (11 - k) at ≡ ledFrom o z (k + 1) (11 - (k + 1)) (onTo r (getD z k 0))
 unfolding ledFrom
 led-one out o z k at r l h h′ = rw (one-more k l, h, h′)
 
 module _ (out₀ z : List ℕ) where
-  pub opens : (w : List ℕ) → w ≡ replicate 40 0 → Opening out₀ z out₀ w 0 0
+  pub opens : (w : List ℕ) → w ≡ replicate {A = ℕ} 564 0 → Opening out₀ z out₀ w 0 0
   unfolding firstIn
-  opens w h = rw h (record { below = omega arith; size = refl; fresh = fresh-words; lanes = refl; bytes = refl })
+  opens w h = rw h (record { below = omega arith; size = length-replicate {A = ℕ} 564 0; fresh = fresh-words; keys = no-keys; lanes = refl; bytes = refl })
 
-  pub opens-on : {out o w : List ℕ} {at k r : ℕ} → Opening out₀ z out w at k → k < 8 → (r ≡ leadEnd z k at) × (o ≡ leadBytes out z k at)
+  pub opens-on : {out o w : List ℕ} {at k r : ℕ} → Opening out₀ z out w at k → k < 10 → (r ≡ leadEnd z k at) × (o ≡ leadBytes out z k at)
       → Opening out₀ z o (set w (5 * k) r) (onTo r (getD z k 0)) (k + 1)
   opens-on {out} {o} {w} {at} {k} {r} g l h = record {
     below = omega (arith, l);
     size = length-set w (5 * k) r ∙ g .size;
     fresh = λ j b. still j b (eqb j k) refl;
+    keys = other-keys w k l r ∙ g .keys;
     lanes =
-        ap (λ (es : List Lane). es ++ begunFrom z (k + 1) (9 - (k + 1)) (onTo r (getD z k 0))) noted
-        ∙ append-assoc (firstIn w k) (freshLane k r ∷ []) (begunFrom z (k + 1) (9 - (k + 1)) (onTo r (getD z k 0)))
+        ap (λ (es : List Lane). es ++ begunFrom z (k + 1) (11 - (k + 1)) (onTo r (getD z k 0))) noted
+        ∙ append-assoc (firstIn w k) (freshLane k r ∷ []) (begunFrom z (k + 1) (11 - (k + 1)) (onTo r (getD z k 0)))
         ∙ ap (λ (es : List Lane). firstIn w k ++ es) (sym (begun-one z k at r l (h .0))) ∙ g .lanes;
     bytes = sym (led-one out o z k at r l (h .0) (h .1)) ∙ g .bytes;
   }
@@ -173,7 +187,7 @@ module _ (out₀ z : List ℕ) where
       others : (j : ℕ) → j ≢ k → laneIn (set w (5 * k) r) j ≡ laneIn w j
       others j d = other-place w (g .size) k l r j d
 
-      still : (j : ℕ) → j < 8 → (b : Bool) → eqb j k ≡ b → laneIn (set w (5 * k) r) j ≡ freshLane j (laneIn (set w (5 * k) r) j .run .at)
+      still : (j : ℕ) → j < 10 → (b : Bool) → eqb j k ≡ b → laneIn (set w (5 * k) r) j ≡ freshLane j (laneIn (set w (5 * k) r) j .run .at)
       still j b true e = let q = eqb-true j k e in rw (q, own)
       still j b false e = rw (others j (eqb-false j k e)) (g .fresh j b)
 
@@ -181,34 +195,35 @@ module _ (out₀ z : List ℕ) where
       noted = first-one (set w (5 * k) r) k ∙ rw (own, first-same w (set w (5 * k) r) k (λ j p. others j (λ q. absurd (omega (arith, p, q)))))
 
   -- the rest begins where the lanes before it end, and nothing leads it
-  rest-begun : (at : ℕ) → begunFrom z 8 1 at ≡ freshLane rest at ∷ []
+  rest-begun : (at : ℕ) → begunFrom z 10 1 at ≡ freshLane rest at ∷ []
   unfolding begunFrom
-  rest-begun at = ap (λ (a : ℕ). freshLane rest a ∷ []) (sym (lead-is z 8 {out = []} (rest-tokens z 8 refl) line-none .0))
+  rest-begun at = ap (λ (a : ℕ). freshLane rest a ∷ []) (sym (lead-is z 10 {out = []} (rest-tokens z 10 refl) line-none .0))
 
-  rest-led : (out : List ℕ) (at : ℕ) → ledFrom out z 8 1 at ≡ out
+  rest-led : (out : List ℕ) (at : ℕ) → ledFrom out z 10 1 at ≡ out
   unfolding ledFrom
-  rest-led out at = sym (lead-is z 8 {at = at} (rest-tokens z 8 refl) line-none .1)
+  rest-led out at = sym (lead-is z 10 {at = at} (rest-tokens z 10 refl) line-none .1)
 
   abbrev Opened : ℕ → List ℕ → List ℕ → ℕ → Type 0
-  Opened form out w at = (deskIn form w at ≡ begun form z) × (out ≡ ledBytes form z out₀) × Tidy w
+  Opened form out w at = (deskIn form w at ≡ begun form z) × (out ≡ ledBytes form z out₀) × Tidy w × (keyCount w ≡ 0)
 
-  pub opened : {form : ℕ} {out w : List ℕ} {at k : ℕ} → form ≢ 1 → Opening out₀ z out w at k → 8 ≤ k → Opened form out w at
+  pub opened : {form : ℕ} {out w : List ℕ} {at k : ℕ} → form ≢ 1 → Opening out₀ z out w at k → 10 ≤ k → Opened form out w at
   unfolding deskIn firstLane lanesOf
   opened {form} {out} {w} {at} {k} f g l =
-      let q : k ≡ 8 = omega (arith, l, g .below) in
-      let a = subst (λ (m : ℕ). firstIn w m ++ begunFrom z m (9 - m) at ≡ begunFrom z 0 9 0) q (g .lanes) in
-      let b = subst (λ (m : ℕ). ledFrom out z m (9 - m) at ≡ ledFrom out₀ z 0 9 0) q (g .bytes) in
+      let q : k ≡ 10 = omega (arith, l, g .below) in
+      let a = subst (λ (m : ℕ). firstIn w m ++ begunFrom z m (11 - m) at ≡ begunFrom z 0 11 0) q (g .lanes) in
+      let b = subst (λ (m : ℕ). ledFrom out z m (11 - m) at ≡ ledFrom out₀ z 0 11 0) q (g .bytes) in
       rw (ne-eqb form 1 f) (
-        ap (λ (es : List Lane). es ++ (freshLane rest at ∷ [])) (sym (first-all w)) ∙ ap (λ (es : List Lane). firstIn w 8 ++ es) (sym (rest-begun at)) ∙ a,
+        ap (λ (es : List Lane). es ++ (freshLane rest at ∷ [])) (sym (first-all w)) ∙ ap (λ (es : List Lane). firstIn w 10 ++ es) (sym (rest-begun at)) ∙ a,
         sym (rest-led out at) ∙ b,
-        fresh-tidy w (g .size) (g .fresh),
+        fresh-tidy w (g .size) (g .fresh) (g .keys),
+        g .keys,
       )
 
-  pub opened-line : {form : ℕ} {w : List ℕ} → form ≡ 1 → w ≡ replicate 40 0 → Opened form out₀ w 0
+  pub opened-line : {form : ℕ} {w : List ℕ} → form ≡ 1 → w ≡ replicate {A = ℕ} 564 0 → Opened form out₀ w 0
   unfolding deskIn firstLane lanesOf begunFrom ledFrom
   opened-line {form} {w} f h =
       let n = lead-is z whole {out = out₀} {at = 0} (whole-tokens z whole refl) line-none in
-      rw (eq-eqb form 1 f) (ap (λ (a : ℕ). freshLane whole a ∷ []) (n .0), n .1, fresh-tidy w (rw h) (rw h fresh-words))
+      rw (eq-eqb form 1 f) (ap (λ (a : ℕ). freshLane whole a ∷ []) (n .0), n .1, fresh-tidy w (rw h (length-replicate {A = ℕ} 564 0)) (rw h fresh-words) (rw h no-keys), rw h no-keys)
 
 -- ---- ends: a lane in line has none
 
@@ -260,17 +275,17 @@ far-append (f ∷ es) e = rw (far-append es e) (go (f .far))
     go false = refl
 
 pub record Noted (w z : List ℕ) (far : Bool) (k : ℕ) : Type 0 where
-  pub below : k ≤ 8
-  pub size : length z ≡ 8
+  pub below : k ≤ 10
+  pub size : length z ≡ 10
   pub places : take k z ≡ placesOf (firstIn w k)
   pub fars : far ≡ anyFar (firstIn w k)
 
 module _ (w : List ℕ) where
-  pub notes : {z : List ℕ} → length z ≡ 8 → Noted w z false 0
+  pub notes : {z : List ℕ} → length z ≡ 10 → Noted w z false 0
   unfolding firstIn placesOf anyFar
   notes h = record { below = omega arith; size = h; places = refl; fars = refl }
 
-  pub notes-on : {z : List ℕ} (far : Bool) {far₁ : Bool} {k : ℕ} → Noted w z far k → k < 8 → far₁ ≡ pick far true (laneIn w k .far)
+  pub notes-on : {z : List ℕ} (far : Bool) {far₁ : Bool} {k : ℕ} → Noted w z far k → k < 10 → far₁ ≡ pick far true (laneIn w k .far)
       → Noted w (set z k (getD w (5 * k) 0)) far₁ (k + 1)
   unfolding laneIn
   notes-on {z} far {far₁} {k} g l h = record {
@@ -282,12 +297,12 @@ module _ (w : List ℕ) where
     fars = h ∙ ap (λ (b : Bool). pick b true (laneIn w k .far)) (g .fars) ∙ sym (far-append (firstIn w k) (laneIn w k)) ∙ ap anyFar (sym (first-one w k));
   }
 
-  pub noted : {z : List ℕ} {far : Bool} {k : ℕ} → Noted w z far k → 8 ≤ k → (far ≡ anyFar (lanesIn w)) × (z ≡ placesOf (lanesIn w))
+  pub noted : {z : List ℕ} {far : Bool} {k : ℕ} → Noted w z far k → 10 ≤ k → (far ≡ anyFar (lanesIn w)) × (z ≡ placesOf (lanesIn w))
   noted {z} {far} {k} g l =
-      let q : k ≡ 8 = omega (arith, l, g .below) in
+      let q : k ≡ 10 = omega (arith, l, g .below) in
       let a = subst (λ (m : ℕ). take m z ≡ placesOf (firstIn w m)) q (g .places) in
       let b = subst (λ (m : ℕ). far ≡ anyFar (firstIn w m)) q (g .fars) in
-      (b ∙ ap anyFar (first-all w), sym (take-all 8 z (omega (arith, g .size))) ∙ a ∙ ap placesOf (first-all w))
+      (b ∙ ap anyFar (first-all w), sym (take-all 10 z (omega (arith, g .size))) ∙ a ∙ ap placesOf (first-all w))
 
   -- what the word says
   pub far-there : (k : ℕ) (far : Bool) {far₁ : Bool} → getD w (5 * k + 4) 0 ≢ 0 → far₁ ≡ true → far₁ ≡ pick far true (laneIn w k .far)

@@ -8,19 +8,24 @@ use lib.Dec.{eqb}
 use Rattle.numbers.specs.Number.{pick}
 use Rattle.readings.specs.Sound.{All}
 use Rattle.tokens.specs.Tokens.{Token, var, lefts, rights, rest, whole, taken, takenAll, inLine, lane}
+use Rattle.tokens.specs.Keys.{spelled, numbered, knownAfter, keysAfter, manyKeys, crowded}
 use Rattle.tokens.specs.Bytes.{form1, form2, bytesOf, nearIn, near}
 use Rattle.tokens.proofs.Taking.{var-line, var-rest, var-other}
 use Rattle.tokens.proofs.Fitting.{taken-append}
+use Rattle.tokens.proofs.Keys.{isKey, keyless, keyless-all, keyless-spelled, spelled-append, crowded-append}
 
 -- a token that no lane takes but the one in line, in either form the same
 pub record Plain (t : Token) : Type 0 where
   pub none : (k : ℕ) → k < rest → taken k t ≡ []
   pub line : taken rest t ≡ taken whole t
+  pub key : isKey t ≡ false
 
 pub var-plain : (v : ℕ) → Plain (var v)
+unfolding isKey
 var-plain v = record {
   none = λ k h. var-other k v (λ e. omega arith) (λ e. omega arith);
   line = var-rest rest v (λ e. omega arith) refl ∙ sym (var-line whole v refl);
+  key = refl;
 }
 
 pub var-skipped : (v : ℕ) (ts : List Token) (k : ℕ) → k < rest → takenAll k (var v ∷ ts) ≡ takenAll k ts
@@ -40,6 +45,18 @@ line-taken (t ∷ ds) p = ap₂ (λ (a b : List ℕ). a ++ b) (p .0 .line) (line
 pub lane-same : (k : ℕ) (a b : List Token) → takenAll k a ≡ takenAll k b → lane k a ≡ lane k b
 unfolding lane
 lane-same k a b h = rw h
+
+-- a form's bytes, of tokens that have their keys as the form has them
+unfoldable pub formOf : ℕ → List Token → List ℕ
+formOf f ts = pick (eqb f 1) (form1 ts) (form2 ts)
+
+pub form-spelled : (f : ℕ) (ts : List Token) → bytesOf f ts ≡ formOf f (spelled f [] ts)
+unfolding bytesOf formOf spelled
+form-spelled f ts = go (eqb f 1)
+  where
+    go : (b : Bool) → pick b (form1 ts) (form2 (numbered [] ts)) ≡ pick b (form1 (pick b ts (numbered [] ts))) (form2 (pick b ts (numbered [] ts)))
+    go true = refl
+    go false = refl
 
 -- behind other tokens
 module _ (ts ds : List Token) (plain : All Plain ds) where
@@ -69,17 +86,51 @@ module _ (ts ds : List Token) (plain : All Plain ds) where
         plain-lane 5 (omega arith),
         plain-lane 6 (omega arith),
         plain-lane 7 (omega arith),
+        plain-lane 8 (omega arith),
+        plain-lane 9 (omega arith),
         plain-rest,
       )
       (simp append-assoc)
 
-  pub plain-bytes : (f : ℕ) → bytesOf f (ts ++ ds) ≡ bytesOf f ts ++ takenAll whole ds
-  unfolding bytesOf
+  pub plain-bytes : (f : ℕ) → formOf f (ts ++ ds) ≡ formOf f ts ++ takenAll whole ds
+  unfolding formOf
   plain-bytes f = go (eqb f 1)
     where
       go : (b : Bool) → pick b (form1 (ts ++ ds)) (form2 (ts ++ ds)) ≡ pick b (form1 ts) (form2 ts) ++ takenAll whole ds
       go true = plain-form1
       go false = plain-form2
+
+-- ---- there is no key among them
+
+plain-keyless : (ds : List Token) → All Plain ds → keyless ds ≡ true
+unfolding keyless
+plain-keyless [] p = refl
+plain-keyless (t ∷ ds) p = rw (p .0 .key) (plain-keyless ds (p .1))
+
+module _ (f n : ℕ) (ts : List Token) where
+  pub count-spelled : spelled f [] (var n ∷ ts) ≡ var n ∷ spelled f [] ts
+  unfolding spelled numbered
+  count-spelled = go (eqb f 1)
+    where
+      go : (b : Bool) → pick b (var n ∷ ts) (var n ∷ numbered [] ts) ≡ var n ∷ pick b ts (numbered [] ts)
+      go true = refl
+      go false = refl
+
+  module _ (ds : List Token) (plain : All Plain ds) where
+    pub plain-spelled : spelled f [] (var n ∷ (ts ++ ds)) ≡ var n ∷ (spelled f [] ts ++ ds)
+    plain-spelled =
+        spelled-append f [] (var n ∷ ts) ds ∙ rw (count-spelled, keyless-spelled f (knownAfter f [] (var n ∷ ts)) ds (plain-keyless ds plain))
+
+    -- so they crowd none
+    pub plain-many : manyKeys f (var n ∷ (ts ++ ds)) ≡ manyKeys f ts
+    unfolding manyKeys crowded
+    plain-many =
+        ap (λ (b : Bool). pick (eqb f 1) false b)
+        (crowded-append [] (var n ∷ ts) ds ∙ rw (keyless-all (keysAfter [] (var n ∷ ts)) ds (plain-keyless ds plain) .2) (none-more (crowded [] ts)))
+      where
+        none-more : (b : Bool) → pick b true false ≡ b
+        none-more true = refl
+        none-more false = refl
 
 pub near-same : (f : ℕ) (a b : List Token) → takenAll lefts a ≡ takenAll lefts b → takenAll rights a ≡ takenAll rights b → near f a ≡ near f b
 unfolding near nearIn

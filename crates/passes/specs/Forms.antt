@@ -1,5 +1,6 @@
 -- A form written, all its lanes at once: the sizes of its lanes, what leads each of them, where they begin, and what is written. Form 1 has one lane and
--- nothing is measured; form 2 has nine, and all but the last are measured first, since their lengths stand before them.
+-- nothing is measured; form 2 has eleven, and all but the last are measured first, since their lengths stand before them. Tokens have their keys as the
+-- form has them.
 use Prim.Native.Nat.{ℕ, zero, suc, _+_}
 use mathlib.Core.Bool.{Bool, true, false}
 use mathlib.Core.List.{List, [], _∷_}
@@ -7,27 +8,27 @@ use lib.Dec.{ltb, eqb}
 use lib.ListN.{length, getD}
 use Rattle.numbers.specs.Number.{pick, unsigned}
 use Rattle.parts.specs.Brim.{brim}
-use Rattle.tokens.specs.Tokens.{Token, var, clients, texts, units, lens, rest, whole}
+use Rattle.tokens.specs.Tokens.{Token, var, keys, texts, units, rest, whole}
 use Rattle.tokens.specs.Lanes.{Lane, freshLane, putAll, laidAll}
 use Rattle.tokens.specs.Desk.{putTokens, laidTokens, closedEach, laidEnds}
 
 -- ---- the lanes of a form
 
 unfoldable pub firstLane : ℕ → ℕ
-firstLane form = pick (eqb form 1) whole clients
+firstLane form = pick (eqb form 1) whole keys
 
 unfoldable pub lanesOf : ℕ → ℕ
-lanesOf form = pick (eqb form 1) 1 9
+lanesOf form = pick (eqb form 1) 1 11
 
 -- n lanes from lane k on, of which nothing is written, at place 0
 unfoldable pub freshFrom : ℕ → ℕ → List Lane
 freshFrom k zero = []
 freshFrom k (suc n) = freshLane k 0 ∷ freshFrom (k + 1) n
 
--- ---- measured: the eight lanes of form 2 before the rest, once the tokens ts are put
+-- ---- measured: the ten lanes of form 2 before the rest, once the tokens ts are put
 
 unfoldable pub measured : List Token → List Lane
-measured ts = closedEach (putTokens (freshFrom clients 8) ts)
+measured ts = closedEach (putTokens (freshFrom keys 10) ts)
 
 unfoldable pub placesOf : List Lane → List ℕ
 placesOf [] = []
@@ -54,13 +55,12 @@ textSize z = pick (ltb (getD z texts 0) brim) (pick (ltb (getD z units 0) brim) 
 unfoldable pub isBare : ℕ → Bool
 isBare k = pick (eqb k units) true (pick (eqb k rest) true (eqb k whole))
 
--- the flag and the empty key column before the clients, the empty type column before the lengths
+-- the flag before the keys
 unfoldable pub leadTokens : List ℕ → ℕ → List Token
 leadTokens z k =
     pick (isBare k) []
-    (pick (eqb k clients) (var 0 ∷ (var 0 ∷ (var (getD z k 0) ∷ [])))
-    (pick (eqb k texts) (var (textSize z) ∷ (var (getD z k 0) ∷ []))
-    (pick (eqb k lens) (var 0 ∷ (var (getD z k 0) ∷ [])) (var (getD z k 0) ∷ []))))
+    (pick (eqb k keys) (var 0 ∷ (var (getD z k 0) ∷ []))
+    (pick (eqb k texts) (var (textSize z) ∷ (var (getD z k 0) ∷ [])) (var (getD z k 0) ∷ [])))
 
 -- the place after it, and the bytes lent then
 abbrev pub leadEnd : List ℕ → ℕ → ℕ → ℕ

@@ -1,2 +1,3 @@
 -- What the passes over all lanes of a form make.
 pub mod Forms
+pub mod Measures

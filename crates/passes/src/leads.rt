@@ -2,16 +2,16 @@
 ghost use mathlib.Core.Path.{_≡_};
 ghost use Prim.Native.Nat.{ℕ, _<_};
 ghost use lib.ListN.{length, replicate};
-ghost use Rattle.tokens.specs.Desk.{deskIn, lanesIn, Tidy, laidEnds};
+ghost use Rattle.tokens.specs.Desk.{deskIn, lanesIn, keyCount, crowdedIn, Tidy, laidEnds};
 ghost use Rattle.passes.specs.Forms.{placesOf, anyFar, textSize, isBare, leadEnd, leadBytes, onTo, begun, ledBytes};
 
 // The text column has its texts, led by their length, and their units.
 fn text_size(sizes: &[u64]) -> u64
-    requires { ⌜ length (now sizes) ≡ 8 ⌝ }
+    requires { ⌜ length (now sizes) ≡ 10 ⌝ }
     ensures { λ r. ⌜ r ≡ textSize (now (sizes .entry)) ⌝ }
 {
-    let texts = sizes[4];
-    let units = sizes[5];
+    let texts = sizes[5];
+    let units = sizes[6];
     if parts::BRIM as u64 <= texts {
         return 0;
     }
@@ -23,28 +23,23 @@ fn text_size(sizes: &[u64]) -> u64
     led + units
 }
 
-// The length of a column, after what else stands before it: the flag and the empty key column, the empty type column, the texts' own length.
+// The length of a column, and what else stands before it: the flag before the keys, the texts' own length.
 fn put_lead(out: &mut [u8], at: usize, sizes: &[u64], k: usize) -> usize
-    requires { ⌜ (length (now sizes) ≡ 8) × (k < 8) ⌝ }
+    requires { ⌜ (length (now sizes) ≡ 10) × (k < 10) ⌝ }
     ensures { λ r. ⌜ (r ≡ leadEnd (now (sizes .entry)) k at) × (now (out .exit) ≡ leadBytes (now (out .entry)) (now (sizes .entry)) k at) ⌝ }
 {
     let size = sizes[k];
     if k == tokens::lanes::UNITS {
         return at;
     }
-    if k == tokens::lanes::CLIENTS {
+    if k == tokens::lanes::KEYS {
         let flag = tokens::line::number(out, at, 0);
-        let key = tokens::line::number(out, flag, 0);
-        return tokens::line::number(out, key, size);
+        return tokens::line::number(out, flag, size);
     }
     if k == tokens::lanes::TEXTS {
         let column = text_size(sizes);
         let led = tokens::line::number(out, at, column);
         return tokens::line::number(out, led, size);
-    }
-    if k == tokens::lanes::LENS {
-        let types = tokens::line::number(out, at, 0);
-        return tokens::line::number(out, types, size);
     }
     tokens::line::number(out, at, size)
 }
@@ -63,22 +58,30 @@ fn on_to(at: usize, size: u64) -> usize
 
 // The lanes of a form at their beginnings, what leads them written; the place in line.
 pub fn open(out: &mut [u8], lanes: &mut [u64], sizes: &[u64], form: u8) -> usize
-    requires { ⌜ (length (now sizes) ≡ 8) × (now lanes ≡ replicate {A = ℕ} 40 0) ⌝ }
+    requires { ⌜ (length (now sizes) ≡ 10) × (now lanes ≡ replicate {A = ℕ} 564 0) ⌝ }
     ensures { λ r. ⌜ (deskIn form (now (lanes .exit)) r ≡ begun form (now (sizes .entry)))
-        × (now (out .exit) ≡ ledBytes form (now (sizes .entry)) (now (out .entry))) × Tidy (now (lanes .exit)) ⌝ }
+        × (now (out .exit) ≡ ledBytes form (now (sizes .entry)) (now (out .entry))) × Tidy (now (lanes .exit)) × (keyCount (now (lanes .exit)) ≡ 0) ⌝ }
 {
     if form == 1 {
         return 0;
     }
     let mut at = 0;
     let mut k = 0;
-    while k < 8 {
+    while k < 10 {
         let lead = put_lead(out, at, sizes, k);
         lanes[5 * k] = lead as u64;
         at = on_to(lead, sizes[k]);
         k += 1;
     }
     at
+}
+
+// Whether a key found no room.
+pub fn is_crowded(lanes: &[u64]) -> bool
+    requires { ⌜ Tidy (now lanes) ⌝ }
+    ensures { λ r. ⌜ r ≡ crowdedIn (now (lanes .entry)) ⌝ }
+{
+    0 < lanes[numbering::CROWDED]
 }
 
 // The ends of all lanes; the lane in line has none, wherever it stands.
@@ -94,12 +97,12 @@ pub fn close(out: &mut [u8], lanes: &mut [u64], form: u8)
 
 // The sizes of the lanes before the last, measured from place 0 on, and whether one of them needs a difference that cannot be spelled.
 pub fn note(sizes: &mut [u64], lanes: &[u64]) -> bool
-    requires { ⌜ (length (now sizes) ≡ 8) × Tidy (now lanes) ⌝ }
+    requires { ⌜ (length (now sizes) ≡ 10) × Tidy (now lanes) ⌝ }
     ensures { λ r. ⌜ (r ≡ anyFar (lanesIn (now (lanes .entry)))) × (now (sizes .exit) ≡ placesOf (lanesIn (now (lanes .entry)))) ⌝ }
 {
     let mut far = false;
     let mut k = 0;
-    while k < 8 {
+    while k < 10 {
         sizes[k] = lanes[5 * k];
         if lanes[5 * k + 4] != 0 {
             far = true;

@@ -3,16 +3,24 @@ pub mod leads;
 
 use block::Block;
 ghost use mathlib.Core.Path.{_≡_};
-ghost use mathlib.Core.List.{_∷_};
+ghost use mathlib.Core.List.{[], _∷_};
 ghost use Prim.Native.Nat.{_*_, _≤_};
 ghost use lib.ListN.{length};
 ghost use Rattle.ranges.specs.Table.{rowsFrom};
 ghost use Rattle.tokens.specs.Tokens.{var};
+ghost use Rattle.tokens.specs.Keys.{spelled};
 ghost use Rattle.records.specs.Records.{deleteTokens};
 ghost use Rattle.encoder.specs.Passes.{plannedTokens};
-ghost use Rattle.passes.specs.Forms.{sizesFor, farFor, endFor, outFor};
+ghost use Rattle.passes.specs.Forms.{sizesFor, endFor, outFor};
+ghost use Rattle.passes.specs.Measures.{measuredFor};
 
-// The sizes of the lanes that are led by them, and whether a difference cannot be spelled. Form 1 has no such lanes.
+// Whether a difference cannot be spelled, and whether there are more keys than form 2 may have.
+pub struct Measured {
+    pub far: bool,
+    pub crowded: bool,
+}
+
+// The sizes of the lanes that are led by them, and what stands in the way of writing them. Form 1 has no such lanes.
 pub fn measure(
     sizes: &mut [u64],
     update: &[u8],
@@ -20,21 +28,27 @@ pub fn measure(
     plan: &[u64],
     sections: usize,
     form: u8,
-) -> bool
-    requires { ⌜ (length (now sizes) ≡ 8) × (5 * sections ≤ length (now plan)) ⌝ }
-    ensures { λ r. ⌜ (r ≡ farFor form (plannedTokens (now (update .entry)) (now (rows .entry)) (now (plan .entry)) sections))
-        × (now (sizes .exit) ≡ sizesFor form (plannedTokens (now (update .entry)) (now (rows .entry)) (now (plan .entry)) sections) (now (sizes .entry))) ⌝ }
+) -> Measured
+    requires { ⌜ (length (now sizes) ≡ 10) × (5 * sections ≤ length (now plan)) ⌝ }
+    ensures { λ r. ⌜ (r ≡ measuredFor form (plannedTokens (now (update .entry)) (now (rows .entry)) (now (plan .entry)) sections))
+        × (now (sizes .exit) ≡ sizesFor form (spelled form [] (plannedTokens (now (update .entry)) (now (rows .entry)) (now (plan .entry)) sections))
+        (now (sizes .entry))) ⌝ }
 {
     if form == 1 {
-        return false;
+        return Measured {
+            far: false,
+            crowded: false,
+        };
     }
-    let mut table = [0u64; 40];
+    let mut table = [0u64; 564];
     let lanes = &mut table[..];
     let mut room = [0u8; 16];
     let nothing = &mut room[..];
     encoder::put_rows(nothing, lanes, update, rows, plan, sections, form, 0);
+    let crowded = leads::is_crowded(lanes);
     tokens::lanes::close(nothing, lanes);
-    leads::note(sizes, lanes)
+    let far = leads::note(sizes, lanes);
+    Measured { far, crowded }
 }
 
 // All lanes written, the sizes being known, and the first n ranges; the place after them.
@@ -49,15 +63,15 @@ pub fn write(
     n: usize,
     form: u8,
 ) -> usize
-    requires { ⌜ (length (now sizes) ≡ 8) × (3 * n ≤ length (now ranges)) × (5 * sections ≤ length (now plan)) ⌝ }
+    requires { ⌜ (length (now sizes) ≡ 10) × (3 * n ≤ length (now ranges)) × (5 * sections ≤ length (now plan)) ⌝ }
     ensures { λ r. ⌜ (r ≡ endFor form (now (sizes .entry))
-        (var sections ∷ plannedTokens (now (update .entry)) (now (rows .entry)) (now (plan .entry)) sections)
+        (var sections ∷ spelled form [] (plannedTokens (now (update .entry)) (now (rows .entry)) (now (plan .entry)) sections))
         (deleteTokens form (rowsFrom (now (ranges .entry)) 0 n)))
         × (now (out .exit) ≡ outFor form (now (sizes .entry))
-        (var sections ∷ plannedTokens (now (update .entry)) (now (rows .entry)) (now (plan .entry)) sections)
+        (var sections ∷ spelled form [] (plannedTokens (now (update .entry)) (now (rows .entry)) (now (plan .entry)) sections))
         (deleteTokens form (rowsFrom (now (ranges .entry)) 0 n)) (now (out .entry))) ⌝ }
 {
-    let mut table = [0u64; 40];
+    let mut table = [0u64; 564];
     let lanes = &mut table[..];
     let at = leads::open(out, lanes, sizes, form);
     let counted = tokens::line::number(out, at, sections as u64);

@@ -14,8 +14,14 @@ use Rattle.numbers.specs.declared.Read.the-variants as read
 use Rattle.numbers.specs.Number.{pick, Spelt, got, short, long, after, spelt, placed, readUnsigned}
 use Rattle.numbers.specs.Limits.{maxValue, maxClock}
 use Rattle.text.specs.declared.Part.{Part}
+use Rattle.text.specs.declared.Units.{Units}
 use Rattle.text.specs.Utf8.{wellFormed}
 use Rattle.string.proofs.Texts.{read-ends}
+use Rattle.anys.specs.declared.Skipped.{Skipped}
+use Rattle.anys.specs.declared.Skipped.the-variants as skipped
+use Rattle.anys.specs.Any.{anys}
+use Rattle.anys.proofs.More as skipping
+use Rattle.anys.proofs.More.{anys-more}
 use Rattle.grammar.specs.Grammar as grammar
 use Rattle.grammar.specs.Grammar.{Number, Field, Grammar}
 use Rattle.grammar.specs.Course as course
@@ -24,7 +30,7 @@ use Rattle.grammar.specs.Update.{anUpdate}
 use Rattle.grammar.specs.Fragments.{joined}
 use Rattle.grammar.proofs.Runs.{both}
 use Rattle.grammar.proofs.Fragments.{Firm, arrives-whole}
-use Rattle.decoder.specs.Line.{numberAt, varAt, bounded, upTo, byteAt, restored, deleteAt, numberOf, soMany, bytesAt, checked, line}
+use Rattle.decoder.specs.Line.{numberAt, varAt, bounded, upTo, byteAt, restored, deleteAt, numberOf, soMany, bytesAt, checked, wordOf, spanned, valuesAt, line}
 use Rattle.pieces.specs.Pieces.{inPieces}
 
 -- ---- what is spelt
@@ -132,6 +138,7 @@ module _ (u w : List ℕ) (at : ℕ) where
   number-firm form grammar.len = up-to-firm maxClock
   number-firm form (grammar.deleteClock end) = delete-firm form end
   number-firm form grammar.deleteLen = delete-firm form 1
+  number-firm form grammar.typeNumber = var-firm
 
   pub bytes-firm : FirmPart u (bytesAt u at) (bytesAt (u ++ w) at)
   unfolding bytesAt soMany
@@ -166,11 +173,30 @@ module _ (u w : List ℕ) (at : ℕ) where
       (rw (take-append-le (p .place + p .bytes .0) u w (h .1)) (both Firm (wellFormed (slice (p .place) (p .place + p .bytes .0) u)) refl (λ q. refl)))
   checked-firm (not why) y h = λ q. ap (checked (u ++ w)) (h q)
 
+  word-firm : (x y : Drawn ℕ (Part × Units)) → Firm x y → Firm (wordOf x) (wordOf y)
+  unfolding wordOf
+  word-firm (course.got a e) y h = ap wordOf h
+  word-firm (not why) y h = λ q. ap wordOf (h q)
+
+  key-firm : Firm (wordOf (checked u (bytesAt u at))) (wordOf (checked (u ++ w) (bytesAt (u ++ w) at)))
+  key-firm = word-firm _ _ (checked-firm _ _ bytes-firm)
+
+  values-firm : (blame n : ℕ) → Firm (valuesAt u blame n at) (valuesAt (u ++ w) blame n at)
+  unfolding valuesAt spanned
+  values-firm blame n = go (anys u blame n at) (anys (u ++ w) blame n at) (anys-more u w blame n at)
+    where
+      go : (x y : Skipped) → skipping.Firm x y → Firm (spanned at x) (spanned at y)
+      go (skipped.At e) y h = ap (spanned at) h
+      go (skipped.Refused why) y h = λ q. ap (spanned at) (h q)
+
   pub line-firm : (form : ℕ) (f : Field) → Firm (line form u f at) (line form (u ++ w) f at)
   unfolding line
   line-firm form (grammar.number n) = number-firm form n
   line-firm form grammar.text = checked-firm _ _ bytes-firm
   line-firm form grammar.bytes = part-firm (bytesAt u at) (bytesAt (u ++ w) at) bytes-firm
+  line-firm form grammar.key = key-firm
+  line-firm form (grammar.value blame) = both Firm (eqb form 1) key-firm (values-firm blame 1)
+  line-firm form (grammar.values blame n) = values-firm blame n
 
 -- every grammar, every way of cutting: the same things kept, the same end, the same refusal with the same place
 pub pieces : {E A : Type 0} (form : ℕ) (x : Grammar E A) (at : ℕ) (ws : List (List ℕ)) → inPieces form x at ws ≡ run (line form (joined [] ws)) x at

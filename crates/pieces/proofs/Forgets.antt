@@ -16,13 +16,19 @@ use Rattle.numbers.specs.Number.{pick, Spelt, got, short, long, spelt, placed, 
 use Rattle.numbers.specs.Limits.{maxValue, maxClock}
 use Rattle.numbers.proofs.Inside.{Reads, unsigned-inside}
 use Rattle.text.specs.declared.Part.{Part}
+use Rattle.text.specs.declared.Units.{Units}
 use Rattle.text.specs.Utf8.{wellFormed, unitsOf}
+use Rattle.anys.specs.declared.Skipped.{Skipped}
+use Rattle.anys.specs.declared.Skipped.the-variants as skipped
+use Rattle.anys.specs.Any.{anys}
+use Rattle.anys.proofs.Laws.{anys-bytes}
+use Rattle.anys.proofs.More.{anys-forgets}
 use Rattle.grammar.specs.Grammar as grammar
 use Rattle.grammar.specs.Grammar.{Number, Field, Grammar}
 use Rattle.grammar.specs.Course as course
 use Rattle.grammar.specs.Course.{Drawn, not, Run, item, over, stopped, run}
 use Rattle.grammar.proofs.Mirrors.{Follows, Mirrors, mirrors}
-use Rattle.decoder.specs.Line.{numberAt, varAt, bounded, upTo, byteAt, restored, deleteAt, numberOf, soMany, bytesAt, checked, line}
+use Rattle.decoder.specs.Line.{numberAt, varAt, bounded, upTo, byteAt, restored, deleteAt, numberOf, soMany, bytesAt, checked, wordOf, spanned, valuesAt, line}
 
 -- so many bytes from a place on
 sliced : (u : List ℕ) (a m : ℕ) → a ≤ length u → slice a (a + m) u ≡ take m (drop a u)
@@ -130,6 +136,7 @@ module _ (u u′ : List ℕ) (n : ℕ) (len : length u ≡ length u′) (same : 
     number form grammar.len = up-to maxClock
     number form (grammar.deleteClock end) = delete form end
     number form grammar.deleteLen = delete form 1
+    number form grammar.typeNumber = follows _ _ var-same var-ends
 
     -- ---- bytes, and texts
 
@@ -175,11 +182,43 @@ module _ (u u′ : List ℕ) (n : ℕ) (len : length u ≡ length u′) (same : 
     checked-ends (course.got p e) h = chosen Ends (wellFormed (slice (p .place) (p .place + p .bytes .0) u)) (h .2, h .3) tt
     checked-ends (not why) h = tt
 
+    text-same : checked u′ (bytesAt u′ at) ≡ checked u (bytesAt u at)
+    text-same = ap (checked u′) bytes-same ∙ checked-same (bytesAt u at) there
+
+    word-ends : (d : Drawn ℕ (Part × Units)) → Ends d → Ends (wordOf d)
+    unfolding wordOf
+    word-ends (course.got a e) h = h
+    word-ends (not why) h = tt
+
+    key : Follows Stands All (wordOf (checked u (bytesAt u at))) (wordOf (checked u′ (bytesAt u′ at)))
+    key = follows _ _ (ap wordOf text-same) (word-ends _ (checked-ends (bytesAt u at) there))
+
+    -- ---- plain values
+
+    values-end : (blame k : ℕ) → Ends (valuesAt u blame k at)
+    unfolding valuesAt spanned
+    values-end blame k = go (anys u blame k at) refl
+      where
+        go : (s : Skipped) → anys u blame k at ≡ s → Ends (spanned at s)
+        go (skipped.At e) h = let b = anys-bytes u blame k at e m h in (omega (arith, b .0), b .1)
+        go (skipped.Refused why) h = tt
+
+    values : (blame k : ℕ) → Follows Stands All (valuesAt u blame k at) (valuesAt u′ blame k at)
+    unfolding valuesAt
+    values blame k = follows _ _ (ap (spanned at) (anys-forgets u u′ n len same blame k at l)) (values-end blame k)
+
     field : (form : ℕ) (f : Field) → Follows Stands All (line form u f at) (line form u′ f at)
     unfolding line
     field form (grammar.number k) = number form k
-    field form grammar.text = follows _ _ (ap (checked u′) bytes-same ∙ checked-same (bytesAt u at) there) (checked-ends (bytesAt u at) there)
+    field form grammar.text = follows _ _ text-same (checked-ends (bytesAt u at) there)
     field form grammar.bytes = follows _ _ bytes-same (part-ends (bytesAt u at) there)
+    field form grammar.key = key
+    field form (grammar.value blame) = go (eqb form 1)
+      where
+        go : (b : Bool) → Follows Stands All (pick b (wordOf (checked u (bytesAt u at))) (valuesAt u blame 1 at)) (pick b (wordOf (checked u′ (bytesAt u′ at))) (valuesAt u′ blame 1 at))
+        go true = key
+        go false = values blame 1
+    field form (grammar.values blame k) = values blame k
 
   all-same : {E A : Type 0} (c d : Run ℕ E A) → Mirrors Stands All c d → d ≡ c
   unfolding Mirrors

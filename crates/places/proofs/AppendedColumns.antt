@@ -9,6 +9,7 @@ use lib.Seq.{take-append-le}
 use borrow.Author.Tests.{ne-eqb}
 use Rattle.numbers.specs.Limits.{maxClock}
 use Rattle.text.specs.declared.Part.{Part}
+use Rattle.text.specs.declared.Units.{Units}
 use Rattle.block.specs.Row.{noPart}
 use Rattle.columns.specs.declared.number.Place as number-place
 use Rattle.columns.specs.declared.number.Answer as number-answer
@@ -34,8 +35,8 @@ use Rattle.grammar.specs.Blocks.{allBlocks}
 use Rattle.grammar.proofs.Runs.{both}
 use Rattle.grammar.proofs.Fragments.{Firm}
 use Rattle.decoder.specs.Line.{bounded, byteAt, bytesAt, line, numberOf}
-use Rattle.decoder.specs.States.{Numbers, Differences, Bytes, State, withText}
-use Rattle.decoder.specs.Columned.{numberDrawn, fromNumbers, differenceDrawn, fromDifferences, byteDrawn, fromBytes, textDrawn, fromTexts, onto, numberIn, columned}
+use Rattle.decoder.specs.States.{maxKeys, Numbers, Differences, Bytes, State, withText}
+use Rattle.decoder.specs.Columned.{numberDrawn, fromNumbers, differenceDrawn, fromDifferences, byteDrawn, fromBytes, textDrawn, onto, numberIn, textIn, joining, numbered, keyIn, columned}
 use Rattle.decoder.specs.Opening.{cut, heads, endOf, standing, withOpened, textOpened, onHeads, openedOf}
 use Rattle.decoder.specs.Update.{placed, inColumns}
 use Rattle.pieces.proofs.Firm.{FirmPart, byte-firm, bytes-firm, line-firm}
@@ -43,18 +44,21 @@ use Rattle.places.specs.Appended.{Stays}
 use Rattle.places.proofs.AppendedRuns.{Keeps, drawn-stays, run-stays}
 
 -- ends of columns, at most n
-record AtMost (n c l r i t p k : ℕ) : Type 0 where
+record AtMost (n k c l r i t p y e : ℕ) : Type 0 where
+  key : k ≤ n
   client : c ≤ n
   left : l ≤ n
   right : r ≤ n
   info : i ≤ n
   text : t ≤ n
   parent : p ≤ n
-  len : k ≤ n
+  types : y ≤ n
+  len : e ≤ n
 
--- the columns that are drawn from end within n bytes; a draw changes no column's end
+-- the columns end within n bytes; a draw changes no column's end
 abbrev Within : ℕ → State → Type 0
-Within n s = AtMost n (s .client .to) (s .left .to) (s .right .to) (s .info .to) (s .text .to) (s .parent .to) (s .len .to)
+Within n s =
+    AtMost n (s .key .to) (s .client .to) (s .left .to) (s .right .to) (s .info .to) (s .text .to) (s .parent .to) (s .types .to) (s .len .to)
 
 -- of a state its place
 placed-stays : {E A : Type 0} (x y : Run State E A) → Stays x y → Stays (placed x) (placed y)
@@ -104,7 +108,7 @@ module _ (u w : List ℕ) where
   bounded-keeps most (not why) y h = λ q. ap (bounded most) (h q)
 
   module _ (s : State) (h : I s) where
-    text-keeps : Keeps I (fromTexts u (s .text) (λ c. withText c s)) (fromTexts (u ++ w) (s .text) (λ c. withText c s))
+    text-keeps : Keeps I (textIn u s) (textIn (u ++ w) s)
     unfolding textDrawn
     text-keeps = rw (take-append-le (s .text .to) u w (h .text)) (go (nextText (take (s .text .to) u) (s .text .place)))
       where
@@ -143,12 +147,35 @@ module _ (u w : List ℕ) where
     number-keeps grammar.any = in-line (grammar.number grammar.any)
     number-keeps (grammar.deleteClock end) = in-line (grammar.number (grammar.deleteClock end))
     number-keeps grammar.deleteLen = in-line (grammar.number grammar.deleteLen)
+    number-keeps grammar.typeNumber = numbers-keep (s .types) _ (h .types) (λ p. h)
+
+  -- ---- keys
+
+  joining-keeps : (x y : Drawn State (Part × Units)) → Keeps I x y → Keeps I (joining x) (joining y)
+  unfolding joining
+  joining-keeps (got a t) y h = (ap joining (h .0), h .1)
+  joining-keeps (not why) y h = λ q. ap joining (h q)
+
+  numbered-keeps : (x y : Drawn State (ℕ × ℕ)) → Keeps I x y → Keeps I (numbered u x) (numbered (u ++ w) y)
+  unfolding numbered
+  numbered-keeps (got a t) y h =
+      subst (λ (z : Drawn State (ℕ × ℕ)). Keeps I (numbered u (got a t)) (numbered (u ++ w) z)) (sym (h .0))
+      (both (Keeps I) (ltb (a .0) (length (t .keys))) (refl, h .1)
+      (both (Keeps I) (ltb (length (t .keys)) maxKeys) (joining-keeps (textIn u t) (textIn (u ++ w) t) (text-keeps t (h .1))) (λ q. refl)))
+  numbered-keeps (not why) y h = λ q. ap (numbered (u ++ w)) (h q)
+
+  key-keeps : (s : State) → I s → Keeps I (keyIn u s) (keyIn (u ++ w) s)
+  unfolding keyIn
+  key-keeps s h = numbered-keeps _ _ (differences-keep (s .key) _ (h .key) (λ p. h))
 
   columned-keeps : (f : Field) (s : State) → I s → Keeps I (columned u f s) (columned (u ++ w) f s)
   unfolding columned
   columned-keeps (grammar.number k) s h = number-keeps s h k
   columned-keeps grammar.text s h = text-keeps s h
   columned-keeps grammar.bytes s h = in-line s h grammar.bytes
+  columned-keeps grammar.key s h = key-keeps s h
+  columned-keeps (grammar.value blame) s h = in-line s h (grammar.value blame)
+  columned-keeps (grammar.values blame n) s h = in-line s h (grammar.values blame n)
 
   -- ---- opening: what was cut lies within the bytes
 
@@ -167,7 +194,7 @@ module _ (u w : List ℕ) where
   cut-keeps : (n : ℕ) (ps : List Part) (at : ℕ) → Inside ps → Keeps I (opened u n ps at) (opened (u ++ w) n ps at)
   unfolding onHeads run cut _>>=_ onDrawn line
   cut-keeps zero ps at h =
-      opened-keeps (standing ps at) (record { client = h 1; left = h 2; right = h 3; info = h 4; text = h 5; parent = h 6; len = h 8 })
+      opened-keeps (standing ps at) (record { key = h 0; client = h 1; left = h 2; right = h 3; info = h 4; text = h 5; parent = h 6; types = h 7; len = h 8 })
   cut-keeps (suc n) ps at h =
       go (bytesAt u at) (bytesAt (u ++ w) at) (bytes-firm u w at) (λ p e l. cut-keeps n (ps ++ (p ∷ [])) e (inside-more ps p h l))
     where

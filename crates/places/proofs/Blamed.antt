@@ -34,7 +34,7 @@ use Rattle.places.proofs.BlamedStates.{Stands, front, columned-gives}
 
 module _ (u : List ℕ) where
   line-blames : {E A : Type 0} (form : ℕ) (x : Grammar E A) → Points u Any x → (at : ℕ) → BlamesIn u (run (line form u) x at)
-  line-blames form x h at = run-blames u Any (line form u) (λ f s _. line-gives u s form f) Any x h at tt
+  line-blames form x h at = run-blames u Any (line form u) (λ f s b _. line-gives u s form f b) Any x h at tt
 
   -- ---- form 2 opened: no column has a run under way
 
@@ -64,7 +64,7 @@ module _ (u : List ℕ) where
       go (read.Number n e) h =
           chosen Good (ltb (length s - e) n) (end-blames u s (front u to))
           (tested Good (wellFormed (slice e (e + n) s))
-          (λ _. (tt, (start _, start _, start _, start _, (omega arith, idle (e + n) (e + n) (omega arith)), start _, start _)))
+          (λ _. (tt, (start _, start _, start _, start _, start _, (omega arith, idle (e + n) (e + n) (omega arith)), start _, start _, start _)))
           (λ q. inl (omega (arith, not-text s e (e + n) q, front u to))))
       go (read.Refused why) h = h
 

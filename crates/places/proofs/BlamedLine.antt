@@ -1,5 +1,6 @@
 -- What stands in line blames the update, and a number's place there is its first byte: wherever the place was.
-use Prim.Native.Nat.{ℕ, _+_, _-_}
+use Prim.Native.Nat.{ℕ, _+_, _-_, _<_}
+use mathlib.Core.Path.{_≡_, refl}
 use mathlib.Core.Logic.{inl}
 use mathlib.Core.List.{List}
 use native.Mathlib.Omega.{arith}
@@ -12,15 +13,20 @@ use Rattle.numbers.specs.declared.Read.the-variants as read
 use Rattle.numbers.specs.Number.{readUnsigned}
 use Rattle.numbers.specs.Limits.{maxValue, maxClock}
 use Rattle.text.specs.declared.Part.{Part}
+use Rattle.text.specs.declared.Units.{Units}
 use Rattle.text.specs.Utf8.{wellFormed}
+use Rattle.anys.specs.declared.Skipped.{Skipped}
+use Rattle.anys.specs.declared.Skipped.the-variants as skipped
+use Rattle.anys.specs.Any.{anys}
+use Rattle.anys.proofs.Laws.{anys-where}
 use Rattle.grammar.specs.Grammar as grammar
 use Rattle.grammar.specs.Grammar.{Number, Field}
 use Rattle.grammar.specs.Course.{Drawn, got, not}
-use Rattle.decoder.specs.Line.{numberAt, varAt, bounded, upTo, byteAt, restored, deleteAt, numberOf, soMany, bytesAt, checked, line}
+use Rattle.decoder.specs.Line.{numberAt, varAt, bounded, upTo, byteAt, restored, deleteAt, numberOf, soMany, bytesAt, checked, wordOf, spanned, valuesAt, line}
 use Rattle.pieces.proofs.Forgets.{chosen}
 use Rattle.places.specs.Places.{Blames}
 use Rattle.places.proofs.BlamedReads.{tested, not-text, Reads, end-blames, unsigned-reads}
-use Rattle.places.proofs.BlamedGrammars.{Any, Byte, AtByte, Gives}
+use Rattle.places.proofs.BlamedGrammars.{Any, Byte, AtByte, Fair, Gives}
 
 module _ (u : List ℕ) where
   -- a number over its limit is blamed where it was drawn, from any state
@@ -69,6 +75,7 @@ module _ (u : List ℕ) where
     number-gives form grammar.len = up-to-gives maxClock
     number-gives form (grammar.deleteClock end) = delete-gives form end
     number-gives form grammar.deleteLen = delete-gives form 1
+    number-gives form grammar.typeNumber = var-gives
 
     bytes-give : Gives u Any Any (bytesAt u at)
     unfolding bytesAt soMany Gives
@@ -85,8 +92,28 @@ module _ (u : List ℕ) where
         tested (Gives u Any Any) (wellFormed (slice (p .place) end u)) (λ _. (tt, tt)) (λ q. inl (not-text u (p .place) end q))
     checked-gives (not why) h = h
 
-    pub line-gives : (form : ℕ) (f : Field) → Gives u (AtByte u f) Any (line form u f at)
+    word-gives : (d : Drawn ℕ (Part × Units)) → Gives u Any Any d → Gives u Any Any (wordOf d)
+    unfolding wordOf Gives
+    word-gives (got a e) h = h
+    word-gives (not why) h = h
+
+    key-gives : Gives u Any Any (wordOf (checked u (bytesAt u at)))
+    key-gives = word-gives (checked u (bytesAt u at)) (checked-gives (bytesAt u at) bytes-give)
+
+    -- a value of an unknown kind is blamed at the place that was given
+    values-give : (blame n : ℕ) → blame < length u → Gives u Any Any (valuesAt u blame n at)
+    unfolding valuesAt spanned Gives Blames
+    values-give blame n b = go (anys u blame n at) refl
+      where
+        go : (s : Skipped) → anys u blame n at ≡ s → Gives u Any Any (spanned at s)
+        go (skipped.At e) h = (tt, tt)
+        go (skipped.Refused why) h = anys-where u blame n at why b h
+
+    pub line-gives : (form : ℕ) (f : Field) → Fair u f → Gives u (AtByte u f) Any (line form u f at)
     unfolding line AtByte
-    line-gives form (grammar.number n) = number-gives form n
-    line-gives form grammar.text = checked-gives (bytesAt u at) bytes-give
-    line-gives form grammar.bytes = bytes-give
+    line-gives form (grammar.number n) b = number-gives form n
+    line-gives form grammar.text b = checked-gives (bytesAt u at) bytes-give
+    line-gives form grammar.bytes b = bytes-give
+    line-gives form grammar.key b = key-gives
+    line-gives form (grammar.value blame) b = chosen (Gives u Any Any) (eqb form 1) key-gives (values-give blame 1 b)
+    line-gives form (grammar.values blame n) b = values-give blame n b

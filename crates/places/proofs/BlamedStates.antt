@@ -5,9 +5,12 @@ use mathlib.Core.Path.{_≡_, refl}
 use mathlib.Core.Logic.{inl}
 use mathlib.Core.List.{List}
 use native.Mathlib.Omega.{arith}
+use lib.Dec.{ltb}
 use lib.ListN.{length, take, length-take, length-drop}
 use lib.Seq.{slice}
 use Rattle.numbers.specs.Limits.{maxClock}
+use Rattle.text.specs.declared.Part.{Part}
+use Rattle.text.specs.declared.Units.{Units}
 use Rattle.text.specs.declared.Taken.{Taken}
 use Rattle.text.specs.declared.Taken.the-variants as units
 use Rattle.text.specs.Utf8.{takeUnits}
@@ -19,10 +22,11 @@ use Rattle.grammar.specs.Grammar as grammar
 use Rattle.grammar.specs.Grammar.{Number, Field}
 use Rattle.grammar.specs.Course.{Drawn, got, not}
 use Rattle.decoder.specs.Line.{line}
-use Rattle.decoder.specs.States.{Numbers, Differences, Bytes, Texts, State}
-use Rattle.decoder.specs.Columned.{numberDrawn, fromNumbers, differenceDrawn, fromDifferences, byteDrawn, fromBytes, textDrawn, fromTexts, onto, numberIn, columned}
+use Rattle.decoder.specs.States.{maxKeys, Numbers, Differences, Bytes, Texts, State}
+use Rattle.decoder.specs.Columned.{numberDrawn, fromNumbers, differenceDrawn, fromDifferences, byteDrawn, fromBytes, textDrawn, fromTexts, onto, numberIn, textIn, joining, numbered, keyIn, columned}
+use Rattle.pieces.proofs.Forgets.{chosen}
 use Rattle.places.specs.Places.{Blames}
-use Rattle.places.proofs.BlamedGrammars.{Any, Byte, AtByte, Gives}
+use Rattle.places.proofs.BlamedGrammars.{Any, Byte, AtByte, Fair, Gives}
 use Rattle.places.proofs.BlamedLine.{bounded-gives, line-gives}
 use Rattle.places.proofs.BlamedColumns.{Runs, NumberHolds, DifferenceHolds, ByteHolds, number-next, difference-next, byte-next}
 
@@ -31,15 +35,17 @@ module _ (u : List ℕ) where
   abbrev pub TextHolds : string-place.Place → Type 0
   TextHolds c = (c .at ≤ c .end) × NumberHolds u (c .end) (c .units)
 
-  -- client, left, right, info, text, parent info, length
+  -- key, client, left, right, info, text, parent info, type, length
   abbrev pub Stands : State → Type 0
   Stands s =
-      NumberHolds u 0 (s .client .place)
+      DifferenceHolds u 0 (s .key .place)
+      × NumberHolds u 0 (s .client .place)
       × DifferenceHolds u 0 (s .left .place)
       × DifferenceHolds u 0 (s .right .place)
       × ByteHolds u 0 (s .info .place)
       × TextHolds (s .text .place)
       × ByteHolds u 0 (s .parent .place)
+      × NumberHolds u 0 (s .types .place)
       × NumberHolds u 0 (s .len .place)
 
   pub front : (n : ℕ) → length (take n u) ≤ length u
@@ -100,26 +106,52 @@ module _ (u : List ℕ) where
     onto-gives P (got a e) k = (k .0, h)
     onto-gives P (not why) k = k
 
-    in-line : (f : Field) → Gives u (AtByte u f) Stands (onto s (line 2 u f (s .at)))
-    in-line f = onto-gives (AtByte u f) (line 2 u f (s .at)) (line-gives u (s .at) 2 f)
+    in-line : (f : Field) → Fair u f → Gives u (AtByte u f) Stands (onto s (line 2 u f (s .at)))
+    in-line f b = onto-gives (AtByte u f) (line 2 u f (s .at)) (line-gives u (s .at) 2 f b)
 
     number-gives : (n : Number) → Gives u (AtByte u (grammar.number n)) Stands (numberIn u n s)
     unfolding numberIn AtByte
-    number-gives grammar.client = numbers-give Stands (s .client) _ (h .0) (λ c k. (k, h .1, h .2, h .3, h .4, h .5, h .6))
-    number-gives grammar.leftClock = differences-give Stands (s .left) _ (h .1) (λ c k. (h .0, k, h .2, h .3, h .4, h .5, h .6))
-    number-gives grammar.rightClock = differences-give Stands (s .right) _ (h .2) (λ c k. (h .0, h .1, k, h .3, h .4, h .5, h .6))
-    number-gives grammar.info = bytes-give Stands (s .info) _ (h .3) (λ c k. (h .0, h .1, h .2, k, h .4, h .5, h .6))
-    number-gives grammar.parentInfo = bytes-give Stands (s .parent) _ (h .5) (λ c k. (h .0, h .1, h .2, h .3, h .4, k, h .6))
+    number-gives grammar.client = numbers-give Stands (s .client) _ (h .1) (λ c k. (h .0, k, h .2, h .3, h .4, h .5, h .6, h .7, h .8))
+    number-gives grammar.leftClock = differences-give Stands (s .left) _ (h .2) (λ c k. (h .0, h .1, k, h .3, h .4, h .5, h .6, h .7, h .8))
+    number-gives grammar.rightClock = differences-give Stands (s .right) _ (h .3) (λ c k. (h .0, h .1, h .2, k, h .4, h .5, h .6, h .7, h .8))
+    number-gives grammar.info = bytes-give Stands (s .info) _ (h .4) (λ c k. (h .0, h .1, h .2, h .3, k, h .5, h .6, h .7, h .8))
+    number-gives grammar.parentInfo = bytes-give Stands (s .parent) _ (h .6) (λ c k. (h .0, h .1, h .2, h .3, h .4, h .5, k, h .7, h .8))
     number-gives grammar.len =
-        bounded-gives u Stands maxClock _ (numbers-give Stands (s .len) _ (h .6) (λ c k. (h .0, h .1, h .2, h .3, h .4, h .5, k)))
-    number-gives grammar.byte = in-line (grammar.number grammar.byte)
-    number-gives (grammar.upTo most) = in-line (grammar.number (grammar.upTo most))
-    number-gives grammar.any = in-line (grammar.number grammar.any)
-    number-gives (grammar.deleteClock end) = in-line (grammar.number (grammar.deleteClock end))
-    number-gives grammar.deleteLen = in-line (grammar.number grammar.deleteLen)
+        bounded-gives u Stands maxClock _ (numbers-give Stands (s .len) _ (h .8) (λ c k. (h .0, h .1, h .2, h .3, h .4, h .5, h .6, h .7, k)))
+    number-gives grammar.byte = in-line (grammar.number grammar.byte) tt
+    number-gives (grammar.upTo most) = in-line (grammar.number (grammar.upTo most)) tt
+    number-gives grammar.any = in-line (grammar.number grammar.any) tt
+    number-gives (grammar.deleteClock end) = in-line (grammar.number (grammar.deleteClock end)) tt
+    number-gives grammar.deleteLen = in-line (grammar.number grammar.deleteLen) tt
+    number-gives grammar.typeNumber = numbers-give Stands (s .types) _ (h .7) (λ c k. (h .0, h .1, h .2, h .3, h .4, h .5, h .6, k, h .8))
 
-  pub columned-gives : (f : Field) (s : State) → Stands s → Gives u (AtByte u f) Stands (columned u f s)
+    text-gives : Gives u Any Stands (textIn u s)
+    text-gives = texts-give Stands (s .text) _ (h .5) (λ c k. (h .0, h .1, h .2, h .3, h .4, k, h .6, h .7, h .8))
+
+  -- ---- keys: what was read before is no matter
+
+  joining-gives : (d : Drawn State (Part × Units)) → Gives u Any Stands d → Gives u Any Stands (joining d)
+  unfolding joining Gives
+  joining-gives (got a s) h = h
+  joining-gives (not why) h = h
+
+  -- one key too many is blamed where its number was drawn
+  numbered-gives : (d : Drawn State (ℕ × ℕ)) → Gives u (Byte u) Stands d → Gives u Any Stands (numbered u d)
+  unfolding numbered Gives Blames
+  numbered-gives (got a s) h =
+      chosen (Gives u Any Stands) (ltb (a .0) (length (s .keys))) (tt, h .1)
+      (chosen (Gives u Any Stands) (ltb (length (s .keys)) maxKeys) (joining-gives (textIn u s) (text-gives s (h .1))) (inl (h .0)))
+  numbered-gives (not why) h = h
+
+  key-gives : (s : State) → Stands s → Gives u Any Stands (keyIn u s)
+  unfolding keyIn
+  key-gives s h = numbered-gives _ (differences-give Stands (s .key) _ (h .0) (λ c k. (k, h .1, h .2, h .3, h .4, h .5, h .6, h .7, h .8)))
+
+  pub columned-gives : (f : Field) (s : State) → Fair u f → Stands s → Gives u (AtByte u f) Stands (columned u f s)
   unfolding columned AtByte
-  columned-gives (grammar.number n) s h = number-gives s h n
-  columned-gives grammar.text s h = texts-give Stands (s .text) _ (h .4) (λ c k. (h .0, h .1, h .2, h .3, k, h .5, h .6))
-  columned-gives grammar.bytes s h = in-line s h grammar.bytes
+  columned-gives (grammar.number n) s b h = number-gives s h n
+  columned-gives grammar.text s b h = text-gives s h
+  columned-gives grammar.bytes s b h = in-line s h grammar.bytes tt
+  columned-gives grammar.key s b h = key-gives s h
+  columned-gives (grammar.value blame) s b h = in-line s h (grammar.value blame) b
+  columned-gives (grammar.values blame n) s b h = in-line s h (grammar.values blame n) b

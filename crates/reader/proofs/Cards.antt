@@ -79,15 +79,15 @@ module _ {M : Type 1} (𝓤 : URA M) (H : Heap 𝓤) (A : Atoms 𝓤) (mem : Mem
       said = λ ns r ws. since 𝓤 (λ e. e);
     }
 
-    pub update·next! : Triple 𝓤 (C #update·next) Update·next → (form₀ : ℕ) (g-form : Has byte form₀) (at-update : Seat) (update₀ : List ℕ) (at-w : Seat) (w₀ : List ℕ) (at-r : Seat) (r₀ : List ℕ) (at-memory : Seat) (memory₀ : List ℕ) (s₀ : Spot) (g-s : Has update·spot s₀) → (Small w₀ × (length r₀ ≡ 21) × Fine memory₀ s₀) → Told 𝓤 H A C #update·next (val byte form₀ g-form ∷ pass byte at-update update₀ ∷ mut word at-w w₀ w₀ ∷ mut word at-r r₀ r₀ ∷ mut word at-memory memory₀ memory₀ ∷ val update·spot s₀ g-s ∷ []) update·step (λ r ws. Stepped form₀ update₀ memory₀ w₀ r₀ s₀ (ws .1 .1 .1 .1 .0) (ws .1 .1 .0) (ws .1 .1 .1 .0) r)
+    pub update·next! : Triple 𝓤 (C #update·next) Update·next → (form₀ : ℕ) (g-form : Has byte form₀) (at-update : Seat) (update₀ : List ℕ) (at-w : Seat) (w₀ : List ℕ) (at-r : Seat) (r₀ : List ℕ) (at-memory : Seat) (memory₀ : List ℕ) (s₀ : Spot) (g-s : Has update·spot s₀) → (Small w₀ × (length r₀ ≡ 24) × Fine memory₀ s₀) → Told 𝓤 H A C #update·next (val byte form₀ g-form ∷ pass byte at-update update₀ ∷ mut word at-w w₀ w₀ ∷ mut word at-r r₀ r₀ ∷ mut word at-memory memory₀ memory₀ ∷ val update·spot s₀ g-s ∷ []) update·step (λ r ws. Stepped form₀ update₀ memory₀ w₀ r₀ s₀ (ws .1 .1 .1 .1 .0) (ws .1 .1 .0) (ws .1 .1 .1 .0) r)
     update·next! known form₀ g-form at-update update₀ at-w w₀ at-r r₀ at-memory memory₀ s₀ g-s h = record {
       loose = record {
         contract = Update·next;
         known = known;
         ghost = λ x. (x, tt);
         args = λ ns. refl;
-        asked = fact 𝓤 (Small w₀ × (length r₀ ≡ 21) × Fine memory₀ s₀);
-        asks = factI 𝓤 (Small w₀ × (length r₀ ≡ 21) × Fine memory₀ s₀) (emp 𝓤) h;
+        asked = fact 𝓤 (Small w₀ × (length r₀ ≡ 24) × Fine memory₀ s₀);
+        asks = factI 𝓤 (Small w₀ × (length r₀ ≡ 24) × Fine memory₀ s₀) (emp 𝓤) h;
         into = λ ns. id⊢ 𝓤 _;
         ensured = λ x r ws. update·next-fn.clauses 𝓤 H A mem run (x .0) (x .3) .ensures tt r (atExit update·next-fn.ended (x .0) (x .3) ws);
         out = λ ns v. id⊢ 𝓤 _;

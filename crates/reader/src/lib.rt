@@ -27,7 +27,7 @@ fn read_sections(form: u8, update: &[u8], w: &mut [u64], rows: &mut [Block], fir
         × Stands (fit (length (now (rows .entry))) (reads form (now (update .entry)) (replicate 64 0) (now (w .entry)) first)) (now (w .exit))
         × Small (now (w .exit)) ⌝ }
 {
-    let mut fields = [0u64; 21];
+    let mut fields = [0u64; 24];
     let r = &mut fields[..];
     let mut memory = [0u64; 64];
     let seen = &mut memory[..];
@@ -80,7 +80,7 @@ pub fn read_blocks(form: u8, update: &[u8], rows: &mut [Block]) -> Filled
     ensures { λ r. ⌜ (r ≡ filledOf (length (now (rows .entry))) (blocksOf form (now (update .entry))))
         × (now (rows .exit) ≡ rowsOf (length (now (rows .entry))) (blocksOf form (now (update .entry)))) ⌝ }
 {
-    let mut words = [0u64; 67];
+    let mut words = [0u64; 580];
     let w = &mut words[..];
     read_blocks_over(form, update, w, rows)
 }

@@ -2,7 +2,7 @@
 -- many units.
 use Prim.Native.Nat.{ℕ, _+_, _-_, _%_, _≤_}
 use mathlib.Core.Path.{_≡_, refl, sym, ap, _∙_}
-use mathlib.Core.Bool.{Bool, true, false}
+use mathlib.Core.Bool.{Bool, true, false, true≢false}
 use mathlib.Core.List.{List}
 use native.Mathlib.Omega.{arith}
 use lib.Dec.{ltb, eqb}
@@ -35,6 +35,9 @@ use Rattle.columns.specs.Number as numbers
 use Rattle.columns.specs.Difference as differences
 use Rattle.string.specs.String as strings
 use Rattle.string.proofs.Texts.{read-ends}
+
+pub clash : {A : Type 0} → true ≡ false → A
+clash e = absurd (true≢false e)
 
 -- a choice has what each way has
 pub chosen : {A : Type 0} (P : A → Type 0) (t : Bool) {x y : A} → (t ≡ true → P x) → (t ≡ false → P y) → P (pick t x y)

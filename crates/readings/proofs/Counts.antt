@@ -21,8 +21,8 @@ Counted n seen room bs = length bs ≤ room
 abbrev CountedPart : OfPart
 CountedPart n seen room k client clock bs = length bs ≤ k + room
 
-count-holds : (u : List ℕ) → Holds u Counted CountedPart
-count-holds u =
+count-holds : (form : ℕ) (u : List ℕ) → Holds form u Counted CountedPart
+count-holds form u =
     record {
       none = λ n seen room. omega arith;
       stopped = λ n seen room k client clock. omega arith;
@@ -33,7 +33,7 @@ count-holds u =
     }
 
 pub blocks-count : (form : ℕ) (u : List ℕ) → length (items (blocksOf form u)) ≤ maxBlocks
-blocks-count form u = blocks-by u Counted CountedPart (count-holds u) form .holds
+blocks-count form u = blocks-by form u Counted CountedPart (count-holds form u) .holds
 
 -- ---- groups: one a section at most
 
@@ -45,9 +45,9 @@ abbrev GroupedPart : OfPart
 GroupedPart n seen room k client clock bs =
     (length (groups owner bs) ≤ suc n) × ((b : Block) → b .client ≡ client → length (groups owner (b ∷ bs)) ≤ suc n)
 
-group-holds : (u : List ℕ) → Holds u Grouped GroupedPart
+group-holds : (form : ℕ) (u : List ℕ) → Holds form u Grouped GroupedPart
 unfolding groups
-group-holds u =
+group-holds form u =
     record {
       none = λ n seen room. omega arith;
       stopped = λ n seen room k client clock. (omega arith, λ b e. omega (arith, join-length owner b (groups owner [])));
@@ -59,5 +59,5 @@ group-holds u =
 
 pub blocks-groups : (form : ℕ) (u : List ℕ) → length (groups owner (items (blocksOf form u))) ≤ maxClients
 blocks-groups form u =
-    let all = blocks-by u Grouped GroupedPart (group-holds u) form in
+    let all = blocks-by form u Grouped GroupedPart (group-holds form u) in
     omega (arith, all .holds, all .fits)

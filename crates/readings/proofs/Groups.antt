@@ -1,12 +1,12 @@
 -- A list in groups: joined again they are the list, each has one client, and those of an update's blocks have clients that differ and blocks that adjoin.
-use Prim.Native.Nat.{ℕ, suc, _≤_}
+use Prim.Native.Nat.{ℕ, zero, suc, _≤_, _<_}
 use mathlib.Core.Path.{_≡_, refl, sym, ap, subst, _∙_}
 use mathlib.Core.Logic.{_≢_, ⊎-elim}
 use mathlib.Core.Bool.{Bool, true, false}
-use mathlib.Core.List.{List, [], _∷_}
+use mathlib.Core.List.{List, [], _∷_, _++_}
 use native.Mathlib.Omega.{arith}
 use lib.Dec.{eqb}
-use lib.ListN.{length}
+use lib.ListN.{length, getD}
 use borrow.Author.Tests.{eqb-true, eqb-false}
 use Rattle.numbers.specs.Number.{pick}
 use Rattle.block.specs.declared.Block.{Block}
@@ -17,6 +17,17 @@ use Rattle.readings.specs.Groups.{join, groups, joined, Single, clients,
 pub all-map : {A : Type 0} (P Q : A → Type 0) → ((a : A) → P a → Q a) → (l : List A) → All P l → All Q l
 all-map P Q f [] h = tt
 all-map P Q f (a ∷ l) h = (f a (h .0), all-map P Q f l (h .1))
+
+-- what all have, the one at a place has
+pub all-at : {A : Type 0} (P : A → Type 0) (l : List A) (k : ℕ) (d : A) → All P l → k < length l → P (getD l k d)
+all-at P [] k d h b = absurd (omega arith)
+all-at P (a ∷ l) zero d h b = h .0
+all-at P (a ∷ l) (suc k) d h b = all-at P l k d (h .1) (omega arith)
+
+-- and all have it where one that has it comes behind them
+pub all-more : {A : Type 0} (P : A → Type 0) (l : List A) (a : A) → All P l → P a → All P (l ++ (a ∷ []))
+all-more P [] a h p = (p, tt)
+all-more P (b ∷ l) a h p = (h .0, all-more P l a (h .1) p)
 
 module _ {A : Type 0} (client : A → ℕ) where
   -- ---- one element more

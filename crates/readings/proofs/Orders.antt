@@ -66,9 +66,9 @@ Whole n seen room bs = Ordered bs × All (New seen) bs
 abbrev Part : OfPart
 Part n seen room k client clock bs = Ordered bs × First client clock bs × Together client bs × All (New seen) bs
 
-hold : (u : List ℕ) → Holds u Whole Part
+hold : (form : ℕ) (u : List ℕ) → Holds form u Whole Part
 unfolding Ordered
-hold u =
+hold form u =
     record {
       none = λ n seen room. (tt, tt);
       stopped = λ n seen room k client clock. (tt, tt, tt, tt);
@@ -82,4 +82,4 @@ hold u =
     }
 
 pub blocks-ordered : (form : ℕ) (u : List ℕ) → Ordered (items (blocksOf form u))
-blocks-ordered form u = blocks-by u Whole Part (hold u) form .holds .0
+blocks-ordered form u = blocks-by form u Whole Part (hold form u) .holds .0

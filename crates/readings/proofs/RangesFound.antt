@@ -2,6 +2,7 @@
 use Prim.Native.Nat.{ℕ, zero, suc, _+_, _≤_, _<_}
 use mathlib.Core.Path.{_≡_, refl, ap}
 use mathlib.Core.Logic.{_⊎_, inl, inr}
+use mathlib.Core.Bool.{Bool}
 use mathlib.Core.List.{List, [], _∷_, _++_}
 use native.Mathlib.Omega.{arith}
 use lib.Dec.{ltb, eqb}
@@ -46,9 +47,9 @@ record Announced (first : List ℕ) (n : ℕ) (rs : List Range) : Type 0 where
 none : (first : List ℕ) (n : ℕ) → Announced first n []
 none first n = record { names = []; few = omega arith; each = tt }
 
-module _ (u : List ℕ) where
+module _ (u : List ℕ) (one : Bool) where
   abbrev Keeps : (List Range → Type 0) → Grammar Range (Unit {0}) → Type 0
-  Keeps N x = walks.Keeps (Good u) N x
+  Keeps N x = walks.Keeps (Good u one) N x
 
   -- k ranges of a client, and then those of n others
   module _ (client n : ℕ) (most : client ≤ maxValue) (then : Unit {0} → Grammar Range (Unit {0})) where
@@ -61,7 +62,7 @@ module _ (u : List ℕ) where
     ended clock at len x rest =
         chosen Here (ltb maxClock (clock + len)) (λ _. none (client ∷ []) n)
         (λ l. chosen Here (eqb len 0) (λ _. rest)
-        (λ e. walks.keeps-map (Good u) _ _ (x >>= then) (λ rs a. record {
+        (λ e. walks.keeps-map (Good u one) _ _ (x >>= then) (λ rs a. record {
           names = a .names;
           few = a .few;
           each = ((record { some = omega (arith, eqb-false len 0 e); end = ltb-false maxClock (clock + len) l; client = most }, inl refl), a .each);
@@ -70,7 +71,7 @@ module _ (u : List ℕ) where
     ranges-keep : Keeps (Announced [] n) (then tt) → (k end : ℕ) → Here (grammar.ranges k client end)
     unfolding walks.Keeps _>>=_ grammar.ranges
     ranges-keep rest zero end =
-        walks.keeps-map (Good u) _ _ (then tt)
+        walks.keeps-map (Good u one) _ _ (then tt)
         (λ rs a. record { names = a .names; few = a .few; each = all-map _ _ (λ r x. (x .0, inr (x .1))) rs (a .each) }) rest
     ranges-keep rest (suc k) end =
         (none (client ∷ []) n, λ c _. (none (client ∷ []) n, λ l _. ended (c .0) (c .1) (l .0) _ (ranges-keep rest k (c .0 + l .0))))
@@ -83,7 +84,7 @@ module _ (u : List ℕ) where
     λ c most. (
       none [] (suc n),
       λ k _.
-          walks.keeps-map (Good u) _ _ (grammar.ranges (k .0) (c .0) 0 >>= λ _. grammar.clients n)
+          walks.keeps-map (Good u one) _ _ (grammar.ranges (k .0) (c .0) 0 >>= λ _. grammar.clients n)
           (λ rs a. record { names = c .0 ∷ a .names; few = omega (arith, a .few); each = a .each }) (ranges-keep (c .0) n most _ (clients-keep n) (k .0) 0),
     ),
   )
@@ -92,13 +93,13 @@ module _ (u : List ℕ) where
   unfolding walks.Keeps _>>=_ grammar.allRanges Good GoodNumber
   all-keep = (
     none [] maxClients,
-    λ n l. walks.keeps-map (Good u) _ _ (grammar.clients (n .0))
+    λ n l. walks.keeps-map (Good u one) _ _ (grammar.clients (n .0))
         (λ rs a. record { names = a .names; few = omega (arith, a .few); each = a .each }) (clients-keep (n .0)),
   )
 
 set-announced : (form : ℕ) (u : List ℕ) (at : ℕ) → Announced [] maxClients (items (deleteSet form u at))
 unfolding deleteSet
-set-announced form u at = walks.kept-has (Good u) (λ (e : ℕ). Unit {0}) (line form u) (line-faithful u form) (Announced [] maxClients) grammar.allRanges (all-keep u) at tt
+set-announced form u at = walks.kept-has (Good u (eqb form 1)) (λ (e : ℕ). Unit {0}) (line form u) (line-faithful u form) (Announced [] maxClients) grammar.allRanges (all-keep u (eqb form 1)) at tt
 
 -- ---- each range is fine
 

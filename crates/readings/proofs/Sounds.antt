@@ -1,27 +1,39 @@
--- Every block of an update is sound, whatever the update and however its blocks end.
+-- Every block of an update is sound, and has its value as its form has it, whatever the update and however its blocks end.
 use Prim.Native.Nat.{ℕ}
 use mathlib.Core.List.{List}
+use Rattle.block.specs.declared.Block.{Block}
 use Rattle.grammar.specs.Course.{items}
 use Rattle.decoder.specs.Update.{blocksOf}
-use Rattle.readings.specs.Sound.{Sound, All}
+use Rattle.readings.specs.Sound.{Sound, Valued, All}
+use Rattle.readings.proofs.Groups.{all-map}
 use Rattle.readings.proofs.Sections.{OfSections, OfPart, Holds, blocks-by}
 
-abbrev Whole : List ℕ → OfSections
-Whole u n seen room bs = All (Sound u) bs
+module _ (form : ℕ) (u : List ℕ) where
+  abbrev Has : Block → Type 0
+  Has b = Sound u b × Valued form u b
 
-abbrev Part : List ℕ → OfPart
-Part u n seen room k client clock bs = All (Sound u) bs
+  abbrev Whole : OfSections
+  Whole n seen room bs = All Has bs
 
-hold : (u : List ℕ) → Holds u (Whole u) (Part u)
-hold u =
-    record {
-      none = λ n seen room. tt;
-      stopped = λ n seen room k client clock. tt;
-      head = λ n seen room k client clock bs l new h. h;
-      end = λ n seen room client clock bs new h. h;
-      drop = λ n seen room k client clock bs h. h;
-      block = λ n seen room k client clock b bs new sound c t h. (sound, h);
-    }
+  abbrev Part : OfPart
+  Part n seen room k client clock bs = All Has bs
 
-pub blocks-sound : (form : ℕ) (u : List ℕ) → All (Sound u) (items (blocksOf form u))
-blocks-sound form u = blocks-by u (Whole u) (Part u) (hold u) form .holds
+  hold : Holds form u Whole Part
+  hold =
+      record {
+        none = λ n seen room. tt;
+        stopped = λ n seen room k client clock. tt;
+        head = λ n seen room k client clock bs l new h. h;
+        end = λ n seen room client clock bs new h. h;
+        drop = λ n seen room k client clock bs h. h;
+        block = λ n seen room k client clock b bs new has c t h. (has, h);
+      }
+
+  all-has : All Has (items (blocksOf form u))
+  all-has = blocks-by form u Whole Part hold .holds
+
+  pub blocks-sound : All (Sound u) (items (blocksOf form u))
+  blocks-sound = all-map Has (Sound u) (λ b h. h .0) (items (blocksOf form u)) all-has
+
+  pub blocks-valued : All (Valued form u) (items (blocksOf form u))
+  blocks-valued = all-map Has (Valued form u) (λ b h. h .1) (items (blocksOf form u)) all-has

@@ -5,6 +5,7 @@ use mathlib.Core.Path.{_≡_}
 use mathlib.Core.Logic.{_⊎_, _≢_}
 use mathlib.Core.Bool.{Bool, true, false}
 use mathlib.Core.List.{List, [], _∷_}
+use lib.Dec.{eqb}
 use lib.ListN.{length}
 use lib.Seq.{slice}
 use Rattle.numbers.specs.Number.{pick}
@@ -14,7 +15,9 @@ use Rattle.text.specs.Utf8.{wellFormed, unitsOf}
 use Rattle.block.specs.declared.Id.{Id}
 use Rattle.block.specs.declared.Block.{Block}
 use Rattle.block.specs.Row.{noId, noPart}
-use Rattle.block.specs.Kinds.{BINARY, TEXT, isItem, isBlock, hasPart}
+use Rattle.block.specs.Kinds.{BINARY, TEXT, FORMAT, TYPE, ANY, isType, isItem, isBlock, hasPart, maxType, isMarked}
+use Rattle.anys.specs.declared.Skipped.the-variants.{At}
+use Rattle.anys.specs.Any.{anys}
 
 -- ---- a part and an id
 
@@ -46,11 +49,19 @@ pub record Shape (b : Block) : Type 0 where
   pub rootless : isItem (b .kind) ≡ true → linked b ≡ true → (b .«has_parent» ≡ false) × (b .«has_name» ≡ false) × (b .«has_key» ≡ false)
   pub rooted : isItem (b .kind) ≡ true → linked b ≡ false → b .«has_name» ≡ pick (b .«has_parent») false true
 
+-- so many plain values are a part, which ends where they end; an unknown kind among them would be blamed anywhere
+abbrev pub AreValues : List ℕ → ℕ → Part → Type 0
+AreValues u n p = anys u 0 n (p .place) ≡ At (p .place + p .bytes .0)
+
 -- a part where the kind has one
 pub record Stored (u : List ℕ) (b : Block) : Type 0 where
   pub lies : Lies u (b .part)
   pub nothing : hasPart (b .kind) ≡ false → b .part ≡ noPart
   pub binary : b .kind ≡ BINARY → b .length .0 ≡ 1
+  pub format : b .kind ≡ FORMAT → b .length .0 ≡ 1
+  pub type : b .kind ≡ TYPE → (b .length .0 ≡ 1) × (b .«type_number» ≤ maxType)
+  pub untyped : isType (b .kind) ≡ false → b .«type_number» ≡ 0
+  pub any : b .kind ≡ ANY → AreValues u (b .length .0) (b .part)
   pub text : b .kind ≡ TEXT → (wellFormed (bytesIn u (b .part)) ≡ true) × (unitsOf (bytesIn u (b .part)) ≡ b .length .0)
   pub some : isItem (b .kind) ≡ true → 0 < b .length .0
 
@@ -63,8 +74,14 @@ pub record Sound (u : List ℕ) (b : Block) : Type 0 where
   pub parent : SoundId (b .«has_parent») (b .parent)
   pub name : SoundText u (b .«has_name») (b .name)
   pub key : SoundText u (b .«has_key») (b .key)
+  pub mark : SoundText u (isMarked (b .kind) (b .«type_number»)) (b .mark)
   pub shape : Shape b
   pub stored : Stored u b
+
+-- the value of a format, as the form of the update has it: a text in form 1, one plain value in form 2
+pub record Valued (form : ℕ) (u : List ℕ) (b : Block) : Type 0 where
+  pub text : b .kind ≡ FORMAT → eqb form 1 ≡ true → wellFormed (bytesIn u (b .part)) ≡ true
+  pub value : b .kind ≡ FORMAT → eqb form 1 ≡ false → AreValues u 1 (b .part)
 
 -- ---- blocks in a row
 

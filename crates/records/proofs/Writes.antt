@@ -12,7 +12,7 @@ use Rattle.tokens.specs.Tokens.{client, left, right, info, parentInfo, text, le
 use Rattle.block.specs.Kinds.{isItem}
 use Rattle.kept.specs.Plan.{sane, cutAt, restOf}
 use Rattle.records.specs.Records.{contentNumber, infoByte, name, leftTokens, rightTokens, parentTokens, keyTokens}
-use Rattle.records.specs.Records.{placeTokens, contentTokens, blockTokens}
+use Rattle.records.specs.Records.{placeTokens, markedTokens, contentTokens, blockTokens}
 use Rattle.records.specs.Stops.{headTokens, rowTokens}
 
 -- ---- numbers
@@ -89,9 +89,9 @@ module _ (u : List ℕ) (b : Block) where
   unfolding contentTokens
   content-text n m h = rw (ne-eqb (b .kind) 3 n, ne-eqb (b .kind) 4 m, eq-eqb (b .kind) 5 h)
 
-  pub content-none : b .kind ≢ 3 → b .kind ≢ 4 → b .kind ≢ 5 → contentTokens u b ≡ []
+  pub content-marked : b .kind ≢ 3 → b .kind ≢ 4 → b .kind ≢ 5 → contentTokens u b ≡ markedTokens u b
   unfolding contentTokens
-  content-none n m l = rw (ne-eqb (b .kind) 3 n, ne-eqb (b .kind) 4 m, ne-eqb (b .kind) 5 l)
+  content-marked n m l = rw (ne-eqb (b .kind) 3 n, ne-eqb (b .kind) 4 m, ne-eqb (b .kind) 5 l)
 
   -- ---- a block
 

@@ -15,6 +15,8 @@ use Rattle.ranges.specs.Ranges.{Range}
 use Rattle.readings.specs.Sound.{bytesIn, linked}
 use Rattle.readings.specs.Groups.{groups}
 use Rattle.tokens.specs.Tokens.{Token, client, left, right, info, parentInfo, text, len, var, buf}
+pub use Rattle.marked.specs.Marked.{mark}
+unfoldable pub use Rattle.marked.specs.Marked.{formatTokens, typeTokens, markedTokens}
 use Rattle.kept.specs.Kept.{Piece, Section}
 use Rattle.kept.specs.Cut.{cutRow}
 
@@ -49,7 +51,8 @@ placeTokens u b = pick (linked b) (leftTokens b ++ rightTokens b) (parentTokens 
 unfoldable pub contentTokens : List ℕ → Block → List Token
 contentTokens u b =
     pick (isDeleted (b .kind)) (len (b .length .0) ∷ [])
-    (pick (isBinary (b .kind)) (buf (bytesIn u (b .part)) ∷ []) (pick (isText (b .kind)) (text (bytesIn u (b .part)) (b .length .0) ∷ []) []))
+    (pick (isBinary (b .kind)) (buf (bytesIn u (b .part)) ∷ [])
+    (pick (isText (b .kind)) (text (bytesIn u (b .part)) (b .length .0) ∷ []) (markedTokens u b)))
 
 -- GC is 0 and a length field, Skip is 10 and its length among the rest, an item its info byte, its place and its content
 unfoldable pub blockTokens : List ℕ → Block → List Token

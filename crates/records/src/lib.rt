@@ -10,9 +10,8 @@ ghost use mathlib.Core.List.{[], _∷_};
 ghost use Prim.Native.Nat.{_+_, _≤_};
 ghost use Rattle.numbers.specs.Number.{pick};
 ghost use Rattle.numbers.specs.Limits.{maxClock};
-ghost use Rattle.text.specs.Utf8.{countedIn};
-ghost use Rattle.readings.specs.Sound.{bytesIn, linked};
-ghost use Rattle.tokens.specs.Desk.{Tidy, Wrote};
+ghost use Rattle.readings.specs.Sound.{linked};
+ghost use Rattle.tokens.specs.Desk.{Tidy, Wrote, WroteKeys};
 ghost use Rattle.records.specs.Records.{infoByte, name, leftTokens, rightTokens, parentTokens, keyTokens};
 ghost use Rattle.records.specs.Records.{placeTokens, contentTokens, blockTokens};
 ghost use Rattle.records.specs.Stops.{headTokens, rowTokens};
@@ -43,18 +42,6 @@ fn is_linked(b: Block) -> bool
     b.has_right
 }
 
-fn count_units(update: &[u8], part: Part) -> Units
-    ensures { λ r. ⌜ r ≡ countedIn (bytesIn (now (update .entry)) part) .units ⌝ }
-{
-    let size = parts::bytes_inside(update, part);
-    if size == 0 {
-        return Units(0);
-    }
-    let from = part.place;
-    let counted = text::count_units(update, from, from + size);
-    counted.units
-}
-
 // A name or a key: form 1 has no use for its units, so they are counted for form 2 alone.
 fn write_name(
     out: &mut [u8],
@@ -71,7 +58,7 @@ fn write_name(
     if form == 1 {
         return tokens::line::led_part(out, update, at, part);
     }
-    let units = count_units(update, part);
+    let units = marked::count_units(update, part);
     tokens::fields::write_string(out, update, lanes, form, at, part, units)
 }
 
@@ -172,7 +159,7 @@ fn write_content(
     b: Block,
 ) -> usize
     requires { ⌜ Tidy (now lanes) ⌝ }
-    ensures { λ r. ⌜ Wrote form (contentTokens (now (update .entry)) b)
+    ensures { λ r. ⌜ WroteKeys (now (update .entry)) form (contentTokens (now (update .entry)) b)
         (now (out .entry)) (now (lanes .entry)) at (now (out .exit)) (now (lanes .exit)) r ⌝ }
 {
     let length = b.length;
@@ -186,7 +173,7 @@ fn write_content(
     if b.kind == block::TEXT {
         return tokens::fields::write_string(out, update, lanes, form, at, part, length);
     }
-    at
+    marked::write_marked(out, update, lanes, form, at, b)
 }
 
 // A block: a GC, a Skip, or an item; of anything else nothing is written.
@@ -199,7 +186,7 @@ pub fn write_block(
     b: Block,
 ) -> usize
     requires { ⌜ Tidy (now lanes) ⌝ }
-    ensures { λ r. ⌜ Wrote form (blockTokens (now (update .entry)) b)
+    ensures { λ r. ⌜ WroteKeys (now (update .entry)) form (blockTokens (now (update .entry)) b)
         (now (out .entry)) (now (lanes .entry)) at (now (out .exit)) (now (lanes .exit)) r ⌝ }
 {
     let length = b.length;
@@ -252,7 +239,7 @@ pub fn write_row(
     b: Block,
 ) -> usize
     requires { ⌜ Tidy (now lanes) ⌝ }
-    ensures { λ r. ⌜ Wrote form (rowTokens (now (update .entry)) (c .head) (c .from .0) (c .skip .0) b)
+    ensures { λ r. ⌜ WroteKeys (now (update .entry)) form (rowTokens (now (update .entry)) (c .head) (c .from .0) (c .skip .0) b)
         (now (out .entry)) (now (lanes .entry)) at (now (out .exit)) (now (lanes .exit)) r ⌝ }
 {
     let from = c.from;

@@ -1,4 +1,5 @@
--- A diff with the number 0 was made: form, update and vector were good, nothing was cut inside a pair, every difference could be spelled, the bytes fit.
+-- A diff with the number 0 was made: form, update and vector were good, form 2 had not too many keys, nothing was cut inside a pair, no format changed its
+-- form, every difference could be spelled, the bytes fit.
 use Prim.Native.Nat.{ℕ, _≤_}
 use mathlib.Core.Path.{_≡_, refl, sym, ap, _∙_}
 use mathlib.Core.Bool.{Bool, true, false}
@@ -37,7 +38,7 @@ pub record Done (form : ℕ) (u v : List ℕ) (to m n room : ℕ) : Type 0 where
   pub refusal : diffOf form u v to m n room .refusal ≡ none
   pub read : reading form u m n .refusal .number ≡ 0
   pub vector : Reads v
-  pub why : diffWhy to u (entriesIn v) (reading form u m n .blocks) (reading form u m n .ranges) ≡ 0
+  pub why : diffWhy form to u (entriesIn v) (reading form u m n .blocks) (reading form u m n .ranges) ≡ 0
   pub fits : length (diffBytes to u (entriesIn v) (reading form u m n .blocks) (reading form u m n .ranges)) ≤ room
   pub bytes : diffOf form u v to m n room .bytes ≡ diffBytes to u (entriesIn v) (reading form u m n .blocks) (reading form u m n .ranges)
   pub source : diffOf form u v to m n room .reading ≡ reading form u m n
@@ -59,47 +60,47 @@ had-room why room b z = go (eqb why 0) refl (leb (length b) room) refl z
     go true e false l z = absurd (omega (arith, z))
     go false e y l z = absurd (eqb-false why 0 e z)
 
-module _ (u v : List ℕ) (to room : ℕ) (r : Reading) where
+module _ (u v : List ℕ) (form to room : ℕ) (r : Reading) where
   abbrev bytes : List ℕ
   bytes = diffBytes to u (entriesIn v) (r .blocks) (r .ranges)
 
   record Made (d : Diffed) : Type 0 where
-    why : diffWhy to u (entriesIn v) (r .blocks) (r .ranges) ≡ 0
+    why : diffWhy form to u (entriesIn v) (r .blocks) (r .ranges) ≡ 0
     fits : length (diffBytes to u (entriesIn v) (r .blocks) (r .ranges)) ≤ room
     same : d ≡ record { refusal = none; bytes = diffBytes to u (entriesIn v) (r .blocks) (r .ranges); reading = r }
 
-  made : kept u (entriesIn v) to room r .refusal .number ≡ 0 → Made (kept u (entriesIn v) to room r)
+  made : kept u (entriesIn v) form to room r .refusal .number ≡ 0 → Made (kept u (entriesIn v) form to room r)
   unfolding kept whyNot
-  made z = go (eqb (whyNot u (entriesIn v) to room r) 0) refl z
+  made z = go (eqb (whyNot u (entriesIn v) form to room r) 0) refl z
     where
-      go : (x : Bool) → eqb (whyNot u (entriesIn v) to room r) 0 ≡ x
-          → pick x (record { refusal = none; bytes = bytes; reading = r }) (refusedWith (nowhere (whyNot u (entriesIn v) to room r))) .refusal .number
+      go : (x : Bool) → eqb (whyNot u (entriesIn v) form to room r) 0 ≡ x
+          → pick x (record { refusal = none; bytes = bytes; reading = r }) (refusedWith (nowhere (whyNot u (entriesIn v) form to room r))) .refusal .number
           ≡ 0
-          → Made (pick x (record { refusal = none; bytes = bytes; reading = r }) (refusedWith (nowhere (whyNot u (entriesIn v) to room r))))
+          → Made (pick x (record { refusal = none; bytes = bytes; reading = r }) (refusedWith (nowhere (whyNot u (entriesIn v) form to room r))))
       go true e z =
-          let zero = eqb-true (whyNot u (entriesIn v) to room r) 0 e in
+          let zero = eqb-true (whyNot u (entriesIn v) form to room r) 0 e in
           record { why = not-refused _ room bytes zero; fits = had-room _ room bytes zero; same = refl }
-      go false e z = absurd (eqb-false (whyNot u (entriesIn v) to room r) 0 e z)
+      go false e z = absurd (eqb-false (whyNot u (entriesIn v) form to room r) 0 e z)
 
   record MadeAfter (d : Diffed) : Type 0 where
     read : r .refusal .number ≡ 0
     vector : Reads v
     made : Made d
 
-  reads-then : against u (vectorOf v) to room r .refusal .number ≡ 0 → Reads v
+  reads-then : against u (vectorOf v) form to room r .refusal .number ≡ 0 → Reads v
   unfolding against
-  reads-then z = read-whole (vectorOf v) (kept u (entriesIn v) to room r) (vector-numbered v) z
+  reads-then z = read-whole (vectorOf v) (kept u (entriesIn v) form to room r) (vector-numbered v) z
 
-  made-after : afterReading u (vectorOf v) to room r .refusal .number ≡ 0 → MadeAfter (afterReading u (vectorOf v) to room r)
+  made-after : afterReading u (vectorOf v) form to room r .refusal .number ≡ 0 → MadeAfter (afterReading u (vectorOf v) form to room r)
   unfolding afterReading
   made-after z = go (eqb (r .refusal .number) 0) refl z
     where
       go : (x : Bool) → eqb (r .refusal .number) 0 ≡ x
-          → pick x (against u (vectorOf v) to room r) (refusedWith (r .refusal)) .refusal .number ≡ 0
-          → MadeAfter (pick x (against u (vectorOf v) to room r) (refusedWith (r .refusal)))
+          → pick x (against u (vectorOf v) form to room r) (refusedWith (r .refusal)) .refusal .number ≡ 0
+          → MadeAfter (pick x (against u (vectorOf v) form to room r) (refusedWith (r .refusal)))
       go true e z =
           let reads = reads-then z in
-          let same = vector-read u to room r v reads in
+          let same = vector-read u form to room r v reads in
           let k = made (ap (λ (d : Diffed). d .refusal .number) (sym same) ∙ z) in
           record { read = eqb-true (r .refusal .number) 0 e; vector = reads; made = record { why = k .why; fits = k .fits; same = same ∙ k .same } }
       go false e z = absurd (eqb-false (r .refusal .number) 0 e z)
@@ -112,10 +113,10 @@ module _ (form : ℕ) (u v : List ℕ) (to m n room : ℕ) where
   unfolding diffOf
   done z = go (known to) refl z refl
     where
-      go : (x : Bool) → known to ≡ x → pick x (afterReading u (vectorOf v) to room R) (refusedWith (nowhere 12)) .refusal .number ≡ 0
-          → diffOf form u v to m n room ≡ pick x (afterReading u (vectorOf v) to room R) (refusedWith (nowhere 12)) → Done form u v to m n room
+      go : (x : Bool) → known to ≡ x → pick x (afterReading u (vectorOf v) form to room R) (refusedWith (nowhere 12)) .refusal .number ≡ 0
+          → diffOf form u v to m n room ≡ pick x (afterReading u (vectorOf v) form to room R) (refusedWith (nowhere 12)) → Done form u v to m n room
       go true e z same =
-          let k = made-after u v to room R z in
+          let k = made-after u v form to room R z in
           let all = same ∙ k .made .same in
           record {
             target = e;

@@ -26,17 +26,17 @@ ends-well (item a p c) e x refused = ends-well c e x refused
 ends-well (over y s) e x refused = refl
 ends-well (stopped why) e x refused = absurd (omega (arith, ap (λ (t : Bool). pick {A = ℕ} t 1 0) e))
 
-module _ (u : List ℕ) (to room : ℕ) (r : Reading) where
-  pub vector-read : (v : List ℕ) → Reads v → against u (vectorOf v) to room r ≡ kept u (entriesIn v) to room r
+module _ (u : List ℕ) (form to room : ℕ) (r : Reading) where
+  pub vector-read : (v : List ℕ) → Reads v → against u (vectorOf v) form to room r ≡ kept u (entriesIn v) form to room r
   unfolding against
-  vector-read v e = ends-well (vectorOf v) e (kept u (entriesIn v) to room r) (λ why. refusedWith (nowhere (why .number)))
+  vector-read v e = ends-well (vectorOf v) e (kept u (entriesIn v) form to room r) (λ why. refusedWith (nowhere (why .number)))
 
-  kept-same : (es fs : List Entry) → sectionsOf es (r .blocks) ≡ sectionsOf fs (r .blocks) → kept u es to room r ≡ kept u fs to room r
+  kept-same : (es fs : List Entry) → sectionsOf es (r .blocks) ≡ sectionsOf fs (r .blocks) → kept u es form to room r ≡ kept u fs form to room r
   unfolding kept whyNot diffWhy diffBytes diffTokens
   kept-same es fs e = rw e
 
   same-after : (v w : List ℕ) → Reads v → Reads w → SameRemote v w (r .blocks)
-      → afterReading u (vectorOf v) to room r ≡ afterReading u (vectorOf w) to room r
+      → afterReading u (vectorOf v) form to room r ≡ afterReading u (vectorOf w) form to room r
   unfolding afterReading
   same-after v w e f h =
       ap (λ (d : Diffed). pick (eqb (r .refusal .number) 0) d (refusedWith (r .refusal)))
@@ -46,7 +46,7 @@ module _ (form : ℕ) (u v w : List ℕ) (to m n room : ℕ) (e : Reads v) (f : 
   -- only remote clocks of clients that have blocks count
   pub same-bytes : SameRemote v w (reading form u m n .blocks) → diffOf form u v to m n room ≡ diffOf form u w to m n room
   unfolding diffOf
-  same-bytes h = ap (λ (d : Diffed). pick (known to) d (refusedWith (nowhere 12))) (same-after u to room (reading form u m n) v w e f h)
+  same-bytes h = ap (λ (d : Diffed). pick (known to) d (refusedWith (nowhere 12))) (same-after u form to room (reading form u m n) v w e f h)
 
   -- ---- the remote clock is the first of a client's entries
 

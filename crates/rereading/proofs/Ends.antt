@@ -17,15 +17,17 @@ use Rattle.decoder.specs.Line.{numberAt, varAt, bounded, upTo, numberOf, line}
 use Rattle.vector.specs.Vector.{Entry, entries, aVector, vectorOf}
 use Rattle.ranges.specs.Ranges.{Range}
 use Rattle.updates.specs.Promises.{known, reading}
+use Rattle.readings.specs.Sound.{All}
 use Rattle.readings.specs.Groups.{groups}
-use Rattle.tokens.specs.Tokens.{var, lefts, rights, rest, whole, taken, takenAll}
+use Rattle.tokens.specs.Tokens.{Token, var, lefts, rights, rest, whole, taken, takenAll}
+use Rattle.tokens.specs.Keys.{crowded, manyKeys}
 use Rattle.tokens.specs.Bytes.{bytesOf, nearIn, near}
 use Rattle.kept.specs.Kept.{Section, falling, clientOf, sectionsOf, wholeEach}
-use Rattle.kept.specs.Cut.{anyTorn}
+use Rattle.kept.specs.Cut.{anyTorn, anyFormat}
 use Rattle.kept.proofs.SectionsRemote.{nothing-kept, against-nothing}
 use Rattle.records.specs.Records.{sectionsTokens, deleteTokens, updateTokens}
-use Rattle.records.proofs.Deletes.{deletes-taken}
-use Rattle.writing.specs.Diff.{diffTokens, diffBytes, diffWhy}
+use Rattle.records.proofs.Deletes.{deletes-plain, deletes-taken}
+use Rattle.writing.specs.Diff.{diffTokens, diffBytes, diffWhy, turnedFormat}
 use Rattle.diffs.specs.Promises.{refusedWith, whyNot, kept, against, afterReading, diffOf, emptyVector}
 use Rattle.rereading.specs.Vectors.{Reads, entriesIn, HasAll}
 use Rattle.rereading.proofs.Elsewhere.{vector-read}
@@ -40,6 +42,37 @@ numbers-near form rs = rw (free lefts (λ e. omega (arith, e)) (λ e. omega (ari
     free k n m = deletes-taken k n m form rs
 
     go : (x : Bool) → pick x true true ≡ true
+    go true = refl
+    go false = refl
+
+-- and they have no keys
+abbrev Keyless : Token → Type 0
+Keyless t = (ts : List Token) → crowded [] (t ∷ ts) ≡ crowded [] ts
+
+none-crowded : (ts : List Token) → All Keyless ts → crowded [] ts ≡ false
+unfolding crowded
+none-crowded [] h = refl
+none-crowded (t ∷ ts) h = h .0 ts ∙ none-crowded ts (h .1)
+
+var-keyless : (n : ℕ) → Keyless (var n)
+unfolding crowded
+var-keyless n ts = refl
+
+numbers-keyless : (form : ℕ) (rs : List Range) → manyKeys form (var 0 ∷ deleteTokens form rs) ≡ false
+unfolding manyKeys
+numbers-keyless form rs =
+    rw (none-crowded (var 0 ∷ deleteTokens form rs) (var-keyless 0, deletes-plain Keyless var-keyless form rs)) (go (eqb form 1))
+  where
+    go : (x : Bool) → pick x false false ≡ false
+    go true = refl
+    go false = refl
+
+-- nothing kept, no format kept
+none-turned : (form to : ℕ) → turnedFormat form to [] ≡ false
+unfolding turnedFormat anyFormat
+none-turned form to = go (eqb form to)
+  where
+    go : (x : Bool) → pick x false false ≡ false
     go true = refl
     go false = refl
 
@@ -68,13 +101,19 @@ module _ (form : ℕ) (u : List ℕ) (to m n room : ℕ) where
   abbrev bytes : List ℕ
   bytes = bytesOf to (var 0 ∷ deleteTokens to (reading form u m n .ranges))
 
-  has-why : (v : List ℕ) → HasAll v (reading form u m n .blocks) → length bytes ≤ room → whyNot u (entriesIn v) to room (reading form u m n) ≡ 0
+  has-why : (v : List ℕ) → HasAll v (reading form u m n .blocks) → length bytes ≤ room → whyNot u (entriesIn v) form to room (reading form u m n) ≡ 0
   unfolding whyNot diffWhy diffBytes diffTokens anyTorn updateTokens sectionsTokens verdict
   has-why v h fits =
-      rw (nothing-kept (entriesIn v) (reading form u m n .blocks) h, numbers-near to (reading form u m n .ranges), le-leb (length bytes) room fits)
+      rw (
+        nothing-kept (entriesIn v) (reading form u m n .blocks) h,
+        numbers-keyless to (reading form u m n .ranges),
+        none-turned form to,
+        numbers-near to (reading form u m n .ranges),
+        le-leb (length bytes) room fits,
+      )
 
   has-kept : (v : List ℕ) → HasAll v (reading form u m n .blocks) → length bytes ≤ room
-      → kept u (entriesIn v) to room (reading form u m n) ≡ record { refusal = none; bytes = bytes; reading = reading form u m n }
+      → kept u (entriesIn v) form to room (reading form u m n) ≡ record { refusal = none; bytes = bytes; reading = reading form u m n }
   unfolding kept diffBytes diffTokens updateTokens sectionsTokens
   has-kept v h fits = rw (has-why v h fits, nothing-kept (entriesIn v) (reading form u m n .blocks) h)
 
@@ -85,9 +124,9 @@ module _ (form : ℕ) (u : List ℕ) (to m n room : ℕ) where
       ≡ record { refusal = none; bytes = bytesOf to (var 0 ∷ deleteTokens to (reading form u m n .ranges)); reading = reading form u m n }
   unfolding diffOf afterReading
   has-all-made v e z reads h fits =
-      ap (λ (x : Bool). pick x (afterReading u (vectorOf v) to room (reading form u m n)) (refusedWith (nowhere 12))) e
-      ∙ ap (λ (k : ℕ). pick (eqb k 0) (against u (vectorOf v) to room (reading form u m n)) (refusedWith (reading form u m n .refusal))) z
-      ∙ vector-read u to room (reading form u m n) v reads
+      ap (λ (x : Bool). pick x (afterReading u (vectorOf v) form to room (reading form u m n)) (refusedWith (nowhere 12))) e
+      ∙ ap (λ (k : ℕ). pick (eqb k 0) (against u (vectorOf v) form to room (reading form u m n)) (refusedWith (reading form u m n .refusal))) z
+      ∙ vector-read u form to room (reading form u m n) v reads
       ∙ has-kept v h fits
 
   -- ---- nothing: every block, but for a client's leading Skips and leading blocks that end at 0

@@ -1,21 +1,23 @@
--- The tokens of a diff are few: six a piece, three a section, four a range, and two.
+-- The tokens of a diff are few: seven a piece, three a section, four a range, and two.
 use Prim.Native.Nat.{ℕ, _+_, _*_, _≤_}
 use mathlib.Core.Path.{_≡_, refl, ap}
+use mathlib.Core.Bool.{Bool, true, false}
 use mathlib.Core.List.{List, [], _∷_}
 use native.Mathlib.Omega.{arith}
 use lib.ListN.{length, length-append}
+use Rattle.numbers.specs.Number.{pick}
 use Rattle.numbers.specs.Limits.{maxUpdate, maxCount}
 use Rattle.block.specs.declared.Block.{Block}
-use Rattle.block.specs.Kinds.{isGc, isSkip, isDeleted, isBinary, isText, isItem}
+use Rattle.block.specs.Kinds.{isGc, isSkip, isDeleted, isBinary, isText, isFormat, isType, isAny, isItem, isNamed}
 use Rattle.ranges.specs.Ranges.{Range}
 use Rattle.readings.specs.Sound.{linked}
 use Rattle.readings.specs.Groups.{groups, joined}
 use Rattle.readings.proofs.Columns.{chosen}
 use Rattle.readings.proofs.Groups.{groups-joined, groups-length}
-use Rattle.tokens.specs.Tokens.{Token}
+use Rattle.tokens.specs.Tokens.{Token, typeNumber}
 use Rattle.kept.specs.Kept.{Piece, Section, pieceCount}
 use Rattle.kept.specs.Cut.{cutRow}
-use Rattle.records.specs.Records.{leftTokens, rightTokens, parentTokens, keyTokens, placeTokens, contentTokens, blockTokens, piecesTokens, sectionTokens, sectionsTokens, rangesTokens, clientTokens, ownerOf, deleteTokens, updateTokens}
+use Rattle.records.specs.Records.{leftTokens, rightTokens, parentTokens, keyTokens, placeTokens, mark, formatTokens, typeTokens, markedTokens, contentTokens, blockTokens, piecesTokens, sectionTokens, sectionsTokens, rangesTokens, clientTokens, ownerOf, deleteTokens, updateTokens}
 use Rattle.written.specs.Kept.{Kept}
 
 -- ---- a record
@@ -47,33 +49,47 @@ module _ (u : List ℕ) (b : Block) where
       (λ _. omega (arith, length-append (leftTokens b) (rightTokens b), left-few, right-few))
       (λ _. omega (arith, length-append (parentTokens u b) (keyTokens u b), parent-few, key-few))
 
-  content-few : length (contentTokens u b) ≤ 1
+  type-few : length (typeTokens u b) ≤ 2
+  unfolding typeTokens
+  type-few = go (isNamed (b .«type_number»))
+    where
+      go : (x : Bool) → length (typeNumber (b .«type_number») ∷ pick x (mark u (b .mark) ∷ []) []) ≤ 2
+      go true = omega arith
+      go false = omega arith
+
+  marked-few : length (markedTokens u b) ≤ 2
+  unfolding markedTokens formatTokens
+  marked-few =
+      chosen (Few 2) (isFormat (b .kind)) (λ _. omega arith)
+      (λ _. chosen (Few 2) (isType (b .kind)) (λ _. type-few) (λ _. chosen (Few 2) (isAny (b .kind)) (λ _. omega arith) (λ _. omega arith)))
+
+  content-few : length (contentTokens u b) ≤ 2
   unfolding contentTokens
   content-few =
-      chosen (Few 1) (isDeleted (b .kind)) (λ _. omega arith)
-      (λ _. chosen (Few 1) (isBinary (b .kind)) (λ _. omega arith) (λ _. chosen (Few 1) (isText (b .kind)) (λ _. omega arith) (λ _. omega arith)))
+      chosen (Few 2) (isDeleted (b .kind)) (λ _. omega arith)
+      (λ _. chosen (Few 2) (isBinary (b .kind)) (λ _. omega arith) (λ _. chosen (Few 2) (isText (b .kind)) (λ _. omega arith) (λ _. marked-few)))
 
-  block-few : length (blockTokens u b) ≤ 6
+  block-few : length (blockTokens u b) ≤ 7
   unfolding blockTokens
   block-few =
-      chosen (Few 6) (isGc (b .kind)) (λ _. omega arith)
-      (λ _. chosen (Few 6) (isSkip (b .kind)) (λ _. omega arith)
-      (λ _. chosen (Few 6) (isItem (b .kind))
+      chosen (Few 7) (isGc (b .kind)) (λ _. omega arith)
+      (λ _. chosen (Few 7) (isSkip (b .kind)) (λ _. omega arith)
+      (λ _. chosen (Few 7) (isItem (b .kind))
       (λ _. omega (arith, length-append (placeTokens u b) (contentTokens u b), place-few, content-few)) (λ _. omega arith)))
 
 -- ---- sections
 
 module _ (u : List ℕ) where
-  pieces-few : (ps : List Piece) → length (piecesTokens u ps) ≤ 6 * length ps
+  pieces-few : (ps : List Piece) → length (piecesTokens u ps) ≤ 7 * length ps
   unfolding piecesTokens
   pieces-few [] = omega arith
   pieces-few (p ∷ ps) = omega (arith, length-append (blockTokens u (cutRow u p)) (piecesTokens u ps), block-few u (cutRow u p), pieces-few ps)
 
-  section-few : (s : Section) → length (sectionTokens u s) ≤ 3 + 6 * length (s .pieces)
+  section-few : (s : Section) → length (sectionTokens u s) ≤ 3 + 7 * length (s .pieces)
   unfolding sectionTokens
   section-few s = omega (arith, pieces-few (s .pieces))
 
-  sections-few : (ss : List Section) → length (sectionsTokens u ss) ≤ 3 * length ss + 6 * pieceCount ss
+  sections-few : (ss : List Section) → length (sectionsTokens u ss) ≤ 3 * length ss + 7 * pieceCount ss
   unfolding sectionsTokens pieceCount
   sections-few [] = omega arith
   sections-few (s ∷ ss) = omega (arith, length-append (sectionTokens u s) (sectionsTokens u ss), section-few s, sections-few ss)
@@ -105,7 +121,7 @@ module _ (form : ℕ) where
 
   -- ---- all of it
 
-  pub few-tokens : (u : List ℕ) (ss : List Section) (rs : List Range) → length u ≤ maxUpdate → Kept u ss → length rs ≤ length u
+  pub few-tokens : (u : List ℕ) (ss : List Section) (rs : List Range) → length u ≤ maxUpdate → Kept form u ss → length rs ≤ length u
       → length (updateTokens form u ss rs) ≤ maxCount
   unfolding updateTokens
   few-tokens u ss rs short k ranges =

@@ -18,7 +18,7 @@ use Rattle.rereading.proofs.Reread.{reread}
 module _ (d e u : List ℕ) where
   alike-both : (a b c : Block) → Alike d a u c → Alike e b u c → Alike d a e b
   alike-both a b c h k =
-      record { same = h .same ∙ sym (k .same); name = h .name ∙ sym (k .name); key = h .key ∙ sym (k .key); part = h .part ∙ sym (k .part) }
+      record { same = h .same ∙ sym (k .same); name = h .name ∙ sym (k .name); key = h .key ∙ sym (k .key); part = h .part ∙ sym (k .part); mark = h .mark ∙ sym (k .mark) }
 
   all-both : (xs bs cs : List Block) → AllAlike d xs u cs → AllAlike e bs u cs → AllAlike d xs e bs
   unfolding AllAlike

@@ -19,10 +19,11 @@ use Rattle.leftover.specs.Leftover.{left, Spent}
 use Rattle.updates.specs.Promises.{Reading, refused, withRanges, withBlocks, known, reading}
 use Rattle.readings.specs.Sound.{All}
 use Rattle.tokens.specs.Tokens.{Token}
+use Rattle.tokens.specs.Keys.{manyKeys}
 use Rattle.tokens.specs.Bytes.{form2, bytesOf, near}
 use Rattle.draws.proofs.Drawn.{draws}
 use Rattle.kept.specs.Kept.{Piece, Section, sectionsOf, pieceCount}
-use Rattle.kept.specs.Cut.{torn, tornPieces, anyTorn}
+use Rattle.kept.specs.Cut.{torn, tornPieces, anyTorn, anyFormat}
 use Rattle.kept.proofs.SectionsKept.{sections-count}
 use Rattle.records.specs.Records.{updateTokens}
 use Rattle.written.specs.Written.{AllAlike, sectionsRead}
@@ -30,13 +31,13 @@ use Rattle.written.specs.Kept.{Kept, Clean, KeptRanges}
 use Rattle.written.proofs.LegalUpdate.{update-legal}
 use Rattle.written.proofs.Keeping.{kept-sections, kept-ranges}
 use Rattle.written.proofs.Whole.{written-reads, records-alike, reading-written, nothing-left}
-use Rattle.writing.specs.Diff.{diffTokens, diffBytes, diffWhy}
+use Rattle.writing.specs.Diff.{diffTokens, diffBytes, diffWhy, turnedFormat}
 use Rattle.writing.proofs.SmallRanges.{found-few}
 use Rattle.diffs.specs.Promises.{Diffed, diffOf}
 use Rattle.rereading.specs.Vectors.{entriesIn}
 use Rattle.rereading.specs.Again.{keptBy, ReadAgain}
 use Rattle.rereading.proofs.Few.{few-tokens}
-use Rattle.rereading.proofs.Doable.{both-good}
+use Rattle.rereading.proofs.Doable.{all-good}
 use Rattle.rereading.proofs.Done.{Done, done}
 use Rattle.rereading.proofs.Wholes.{AllRead, in-time, all-read}
 
@@ -78,19 +79,19 @@ record Found (to : ℕ) (u d : List ℕ) (ss : List Section) (rs : List Range) (
   alike : AllAlike d (items (blocksOf to d)) u (sectionsRead u ss)
   spent : Spent (left to d)
 
-module _ (to : ℕ) (u : List ℕ) (ss : List Section) (rs : List Range) (k : Kept u ss) (l : KeptRanges rs) where
+module _ (to : ℕ) (u : List ℕ) (ss : List Section) (rs : List Range) (k : Kept to u ss) (l : KeptRanges rs) where
   abbrev ts : List Token
   ts = updateTokens to u ss rs
 
   abbrev d : List ℕ
   d = bytesOf to ts
 
-  found : known to ≡ true → length u ≤ maxUpdate → length rs ≤ length u → near to (updateTokens to u ss rs) ≡ true
+  found : known to ≡ true → length u ≤ maxUpdate → length rs ≤ length u → near to (updateTokens to u ss rs) ≡ true → manyKeys to (updateTokens to u ss rs) ≡ false
       → length (bytesOf to (updateTokens to u ss rs)) ≤ maxUpdate → (m n : ℕ) → pieceCount ss ≤ m → length rs ≤ n
       → Found to u (bytesOf to (updateTokens to u ss rs)) ss rs (reading to (bytesOf to (updateTokens to u ss rs)) m n)
   unfolding withBlocks withRanges
-  found e short few close small m n rows ranges =
-      let drawn = draws to (one-or-two to e) ts (update-legal to u ss rs short k l) close (few-tokens to u ss rs short k few) (omega arith) in
+  found e short few close keys small m n rows ranges =
+      let drawn = draws to (one-or-two to e) ts (update-legal to u ss rs short k l) close keys (few-tokens to u ss rs short k few) (omega arith) in
       let reads = written-reads to d u ss rs drawn k l in
       record {
         same = read-on to d m n (in-time to d e small)
@@ -109,19 +110,25 @@ module _ (form : ℕ) (u v : List ℕ) (to m n room : ℕ) where
   abbrev D : Diffed
   D = diffOf form u v to m n room
 
+  -- what is kept of blocks is written and read again, if nothing is torn and no format changes its form
+  abbrev Keeps : List Block → Type 0
+  Keeps bs =
+      Clean u (sectionsOf (entriesIn v) bs) → pick (eqb form to) false (anyFormat (sectionsOf (entriesIn v) bs)) ≡ false
+      → Kept to u (sectionsOf (entriesIn v) bs)
+
   -- as the update was read
   from-reading : Done form u v to m n room → AllRead form u R m n → length (diffBytes to u (entriesIn v) (R .blocks) (R .ranges)) ≤ maxUpdate
       → (m′ n′ : ℕ) → pieceCount (keptBy v R) ≤ m′ → length (R .ranges) ≤ n′
       → Found to u (diffBytes to u (entriesIn v) (R .blocks) (R .ranges)) (keptBy v R) (R .ranges)
       (reading to (diffBytes to u (entriesIn v) (R .blocks) (R .ranges)) m′ n′)
-  unfolding diffWhy diffBytes diffTokens
+  unfolding diffWhy diffBytes diffTokens turnedFormat
   from-reading h a small m′ n′ rows ranges =
-      let g = both-good (anyTorn u (keptBy v R)) (near to (updateTokens to u (keptBy v R) (R .ranges))) (h .why) in
-      let k = subst (λ (bs : List Block). Clean u (sectionsOf (entriesIn v) bs) → Kept u (sectionsOf (entriesIn v) bs)) (sym (a .blocks))
-      (kept-sections form u (entriesIn v)) (clean-sections u (keptBy v R) (g .0)) in
+      let ts = updateTokens to u (keptBy v R) (R .ranges) in
+      let g = all-good (manyKeys to ts) (anyTorn u (keptBy v R)) (turnedFormat form to (keptBy v R)) (near to ts) (h .why) in
+      let k = subst Keeps (sym (a .blocks)) (kept-sections form to u (entriesIn v)) (clean-sections u (keptBy v R) (g .untorn)) (g .formats) in
       let l = subst KeptRanges (sym (a .ranges)) (kept-ranges form u (a .middle) n) in
       let few : length (R .ranges) ≤ length u = omega (arith, ap length (a .ranges), found-few form u (a .middle) n) in
-      found to u (keptBy v R) (R .ranges) k l (h .target) (a .short) few (g .1) small m′ n′ rows ranges
+      found to u (keptBy v R) (R .ranges) k l (h .target) (a .short) few (g .close) (g .keys) small m′ n′ rows ranges
 
   pub reread : diffOf form u v to m n room .refusal .number ≡ 0 → length (diffOf form u v to m n room .bytes) ≤ maxUpdate
       → (m′ n′ : ℕ) → pieceCount (keptBy v (diffOf form u v to m n room .reading)) ≤ m′ → length (diffOf form u v to m n room .reading .ranges) ≤ n′

@@ -36,6 +36,8 @@ block c clock length kind there i = record {
   «has_key» = false;
   key = noPart;
   part = noPart;
+  mark = noPart;
+  «type_number» = 0;
 }
 
 -- a binary block at clock 0, and one that hangs on an id

@@ -89,7 +89,7 @@ pub fn read_update_strict(form: u8, update: &[u8], rows: &mut [Block], ranges: &
         };
         return refuse(rows, ranges, why);
     }
-    let mut words = [0u64; 67];
+    let mut words = [0u64; 580];
     let w = &mut words[..];
     read_over(form, update, w, rows, ranges)
 }

@@ -10,7 +10,7 @@ use lib.Dec.{ltb, eqb}
 use borrow.Author.Tests.{ltb-true, ltb-false, eq-eqb, ne-eqb, eqb-true, eqb-false}
 use Rattle.tokens.specs.Tokens.{Token, field, text, texts, units, rest, whole, taken, inLine}
 use Rattle.tokens.specs.Lanes.{Lane, freshLane, ahead, laidAt, forward, laidBytes, pushedOn, laidValue, put, laid}
-use Rattle.tokens.specs.Desk.{putEach, laidEach, putTokens, laidTokens, laneIn, lanesIn, deskIn, Tidy, Wrote, Alone}
+use Rattle.tokens.specs.Desk.{putEach, laidEach, putTokens, laidTokens, laneIn, lanesIn, deskIn, Tidy, SameKeys, Wrote, Alone}
 use Rattle.tokens.proofs.Taking.{in-line, field-own, field-other, text-texts, text-units, text-other, takes-none, takes-bytes, takes-value}
 use Rattle.tokens.proofs.Places.{forward-ahead, laid-place}
 
@@ -36,6 +36,7 @@ module _ (form at : ℕ) (out w : List ℕ) (t : Token) where
         desk = rw (one, p) (ap (λ (e : Lane). e ∷ []) (line-put out whole at t b i h));
         bytes = q ∙ rw one (line-laid out whole at t b i h);
         tidy = d;
+        keys = λ p l. refl;
       }
 
   -- ---- form 2, lane by lane
@@ -54,7 +55,7 @@ module _ (form at : ℕ) (out w : List ℕ) (t : Token) where
   laid-step n = refl
 
   -- the lanes side by side, and then the rest
-  side-by-side : (w₁ : List ℕ) (e e₁ : Lane) → ((j : ℕ) → j < 8 → laneIn w₁ j ≡ put (laneIn w j) t) → e₁ ≡ put e t
+  side-by-side : (w₁ : List ℕ) (e e₁ : Lane) → ((j : ℕ) → j < 10 → laneIn w₁ j ≡ put (laneIn w j) t) → e₁ ≡ put e t
       → lanesIn w₁ ++ (e₁ ∷ []) ≡ putEach (lanesIn w ++ (e ∷ [])) t
   unfolding lanesIn putEach
   side-by-side w₁ e e₁ h g =
@@ -68,22 +69,25 @@ module _ (form at : ℕ) (out w : List ℕ) (t : Token) where
         h 5 (omega arith),
         h 6 (omega arith),
         h 7 (omega arith),
+        h 8 (omega arith),
+        h 9 (omega arith),
       )
 
-  laid-all : (e : Lane) → laidEach out (lanesIn w ++ (e ∷ [])) t ≡ laid (laidTo 8) e t
+  laid-all : (e : Lane) → laidEach out (lanesIn w ++ (e ∷ [])) t ≡ laid (laidTo 10) e t
   unfolding lanesIn laidEach laidTo
   laid-all e = refl
 
-  pub wrote-lanes : form ≢ 1 → (out₁ w₁ : List ℕ) → ((j : ℕ) → j < 8 → laneIn w₁ j ≡ put (laneIn w j) t) → taken rest t ≡ [] → out₁ ≡ laidTo 8 → Tidy w₁
+  pub wrote-lanes : form ≢ 1 → (out₁ w₁ : List ℕ) → ((j : ℕ) → j < 10 → laneIn w₁ j ≡ put (laneIn w j) t) → taken rest t ≡ [] → out₁ ≡ laidTo 10 → Tidy w₁ → SameKeys w w₁
       → Wrote form (t ∷ []) out w at out₁ w₁ at
   unfolding deskIn putTokens laidTokens
-  wrote-lanes f out₁ w₁ h n q d =
+  wrote-lanes f out₁ w₁ h n q d s =
       let two = ne-eqb form 1 f in
       let e = freshLane rest at in
       record {
         desk = rw two (side-by-side w₁ e e h (takes-none out e t n .0));
-        bytes = q ∙ takes-none (laidTo 8) e t n .1 ∙ rw two (sym (laid-all e));
+        bytes = q ∙ takes-none (laidTo 10) e t n .1 ∙ rw two (sym (laid-all e));
         tidy = d;
+        keys = s;
       }
 
   module _ (j : ℕ) (n : taken j t ≡ []) where
@@ -97,13 +101,13 @@ module _ (form at : ℕ) (out w : List ℕ) (t : Token) where
     idle-laid = laid-step j ∙ sym (takes-none (laidTo j) (laneIn w j) t n .1)
 
   -- one lane takes something
-  module _ (k : ℕ) (l : k < 8) (nothing : (j : ℕ) → j < 9 → j ≢ k → taken j t ≡ []) where
+  module _ (k : ℕ) (l : k < 10) (nothing : (j : ℕ) → j < 11 → j ≢ k → taken j t ≡ []) where
     below : (n : ℕ) → n ≤ k → laidTo n ≡ out
     unfolding laidTo
     below zero m = refl
     below (suc n) m = idle-laid n (nothing n (omega arith) (λ h. absurd (omega arith))) ∙ below n (omega arith)
 
-    past : (n : ℕ) → k < n → n < 9 → laidTo n ≡ laid out (laneIn w k) t
+    past : (n : ℕ) → k < n → n < 11 → laidTo n ≡ laid out (laneIn w k) t
     past zero m o = absurd (omega arith)
     past (suc n) m o = go (eqb n k) refl (λ h. past n h (omega arith))
       where
@@ -117,9 +121,9 @@ module _ (form at : ℕ) (out w : List ℕ) (t : Token) where
 
     pub wrote-alone : form ≢ 1 → (out₁ w₁ : List ℕ) → Alone k (put (laneIn w k) t) w w₁ → out₁ ≡ laid out (laneIn w k) t → Wrote form (t ∷ []) out w at out₁ w₁ at
     wrote-alone f out₁ w₁ a q =
-        wrote-lanes f out₁ w₁ each (nothing rest (omega arith) (λ h. absurd (omega arith))) (q ∙ sym (past 8 (omega arith) (omega arith))) (a .tidy)
+        wrote-lanes f out₁ w₁ each (nothing rest (omega arith) (λ h. absurd (omega arith))) (q ∙ sym (past 10 (omega arith) (omega arith))) (a .tidy) (a .keys)
       where
-        each : (j : ℕ) → j < 8 → laneIn w₁ j ≡ put (laneIn w j) t
+        each : (j : ℕ) → j < 10 → laneIn w₁ j ≡ put (laneIn w j) t
         each j m = go (eqb j k) refl
           where
             go : (b : Bool) → eqb j k ≡ b → laneIn w₁ j ≡ put (laneIn w j) t
@@ -129,7 +133,7 @@ module _ (form at : ℕ) (out w : List ℕ) (t : Token) where
 -- ---- a field, and a text
 
 module _ (form at : ℕ) (out w : List ℕ) (f : form ≢ 1) where
-  pub wrote-field : (k v : ℕ) → k < 8 → inLine k ≡ false → (out₁ w₁ : List ℕ) → Alone k (pushedOn (laneIn w k) v) w w₁ → out₁ ≡ laidValue out (laneIn w k) v
+  pub wrote-field : (k v : ℕ) → k < 10 → inLine k ≡ false → (out₁ w₁ : List ℕ) → Alone k (pushedOn (laneIn w k) v) w w₁ → out₁ ≡ laidValue out (laneIn w k) v
       → Wrote form (field k v ∷ []) out w at out₁ w₁ at
   unfolding laneIn
   wrote-field k v l i out₁ w₁ a q =
@@ -143,9 +147,9 @@ module _ (form at : ℕ) (out w : List ℕ) (f : form ≢ 1) where
       → Wrote form (text b n ∷ []) out w at out₂ w₂ at
   unfolding laneIn inLine
   wrote-text b n out₁ w₁ out₂ w₂ a p d q =
-      wrote-lanes form at out w (text b n) f out₂ w₂ each (none 8 (omega arith) (λ h. absurd (omega arith)) (λ h. absurd (omega arith))) bytes (d .tidy)
+      wrote-lanes form at out w (text b n) f out₂ w₂ each (none 10 (omega arith) (λ h. absurd (omega arith)) (λ h. absurd (omega arith))) bytes (d .tidy) (λ p l. d .keys p l ∙ a .keys p l)
     where
-      none : (j : ℕ) → j < 9 → j ≢ texts → j ≢ units → taken j (text b n) ≡ []
+      none : (j : ℕ) → j < 11 → j ≢ texts → j ≢ units → taken j (text b n) ≡ []
       none j m x y = text-other j b n (λ h. absurd (omega arith)) x y
 
       bytes-of : (forward (laneIn w texts) b ≡ put (laneIn w texts) (text b n)) × (laidBytes out (laneIn w texts) b ≡ laid out (laneIn w texts) (text b n))
@@ -157,7 +161,7 @@ module _ (form at : ℕ) (out w : List ℕ) (f : form ≢ 1) where
       same : laneIn w₁ units ≡ laneIn w units
       same = a .others units (omega arith) (λ h. absurd (omega arith))
 
-      each : (j : ℕ) → j < 8 → laneIn w₂ j ≡ put (laneIn w j) (text b n)
+      each : (j : ℕ) → j < 10 → laneIn w₂ j ≡ put (laneIn w j) (text b n)
       each j m = go (eqb j texts) (eqb j units) refl refl
         where
           go : (x y : Bool) → eqb j texts ≡ x → eqb j units ≡ y → laneIn w₂ j ≡ put (laneIn w j) (text b n)
@@ -168,21 +172,22 @@ module _ (form at : ℕ) (out w : List ℕ) (f : form ≢ 1) where
               let y = eqb-false j units h in
               d .others j m y ∙ a .others j m x ∙ idle-lane form at out w (text b n) j (none j (omega arith) x y)
 
-      idle : (j : ℕ) → j < 9 → j ≢ texts → j ≢ units → laidTo form at out w (text b n) (suc j) ≡ laidTo form at out w (text b n) j
+      idle : (j : ℕ) → j < 11 → j ≢ texts → j ≢ units → laidTo form at out w (text b n) (suc j) ≡ laidTo form at out w (text b n) j
       idle j m x y = idle-laid form at out w (text b n) j (none j m x y)
 
-      before-texts : laidTo form at out w (text b n) 4 ≡ out
+      before-texts : laidTo form at out w (text b n) 5 ≡ out
       before-texts =
-          idle 3 (omega arith) (λ h. absurd (omega arith)) (λ h. absurd (omega arith)) ∙ idle 2 (omega arith) (λ h. absurd (omega arith)) (λ h. absurd (omega arith))
+          idle 4 (omega arith) (λ h. absurd (omega arith)) (λ h. absurd (omega arith)) ∙ idle 3 (omega arith) (λ h. absurd (omega arith)) (λ h. absurd (omega arith)) ∙ idle 2 (omega arith) (λ h. absurd (omega arith)) (λ h. absurd (omega arith))
           ∙ idle 1 (omega arith) (λ h. absurd (omega arith)) (λ h. absurd (omega arith)) ∙ idle 0 (omega arith) (λ h. absurd (omega arith)) (λ h. absurd (omega arith)) ∙ laid-start form at out w (text b n)
 
-      after-texts : laidTo form at out w (text b n) 5 ≡ out₁
-      after-texts = laid-step form at out w (text b n) 4 ∙ rw before-texts (sym (p ∙ bytes-of .1))
+      after-texts : laidTo form at out w (text b n) 6 ≡ out₁
+      after-texts = laid-step form at out w (text b n) 5 ∙ rw before-texts (sym (p ∙ bytes-of .1))
 
-      after-units : laidTo form at out w (text b n) 6 ≡ out₂
-      after-units = laid-step form at out w (text b n) 5 ∙ rw after-texts (sym (q ∙ ap (λ (e : Lane). laidValue out₁ e n) same ∙ units-of out₁ .1))
+      after-units : laidTo form at out w (text b n) 7 ≡ out₂
+      after-units = laid-step form at out w (text b n) 6 ∙ rw after-texts (sym (q ∙ ap (λ (e : Lane). laidValue out₁ e n) same ∙ units-of out₁ .1))
 
-      bytes : out₂ ≡ laidTo form at out w (text b n) 8
+      bytes : out₂ ≡ laidTo form at out w (text b n) 10
       bytes =
-          sym (idle 7 (omega arith) (λ h. absurd (omega arith)) (λ h. absurd (omega arith)) ∙ idle 6 (omega arith) (λ h. absurd (omega arith)) (λ h. absurd (omega arith))
+          sym (idle 9 (omega arith) (λ h. absurd (omega arith)) (λ h. absurd (omega arith)) ∙ idle 8 (omega arith) (λ h. absurd (omega arith)) (λ h. absurd (omega arith))
+          ∙ idle 7 (omega arith) (λ h. absurd (omega arith)) (λ h. absurd (omega arith))
           ∙ after-units)

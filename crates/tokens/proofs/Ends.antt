@@ -25,7 +25,7 @@ use Rattle.tokens.proofs.Words.{alone-none, alone-is, moves}
 abbrev pub Closes : List ℕ → List ℕ → ℕ → List ℕ → List ℕ → Type 0
 Closes out w k w₁ out₁ = Alone k (closed (laneIn w k)) w w₁ × (out₁ ≡ laidEnd out (laneIn w k))
 
-module _ (out w : List ℕ) (k : ℕ) (t : Tidy w) (l : k < 8) where
+module _ (out w : List ℕ) (k : ℕ) (t : Tidy w) (l : k < 10) where
   stays : laneIn w k ≡ closed (laneIn w k) → out ≡ laidEnd out (laneIn w k) → Closes out w k w out
   stays p q = (alone-is k (laneIn w k) (closed (laneIn w k)) w w (alone-none k w t l) p, q)
 
@@ -78,7 +78,7 @@ endsTo out w (suc n) = laidEnd (endsTo out w n) (laneIn w n)
 
 -- the first n lanes are closed
 pub record Ended (n : ℕ) (out w out₁ w₁ : List ℕ) : Type 0 where
-  pub lanes : (j : ℕ) → j < 8 → laneIn w₁ j ≡ pick (ltb j n) (closed (laneIn w j)) (laneIn w j)
+  pub lanes : (j : ℕ) → j < 10 → laneIn w₁ j ≡ pick (ltb j n) (closed (laneIn w j)) (laneIn w j)
   pub bytes : out₁ ≡ endsTo out w n
   pub tidy : Tidy w₁
 
@@ -86,7 +86,7 @@ pub ended-none : (out w : List ℕ) → Tidy w → Ended 0 out w out w
 unfolding endsTo
 ended-none out w t = record { lanes = λ j l. rw (le-ltb j 0 (omega arith)); bytes = refl; tidy = t }
 
-module _ {n : ℕ} {out w out₁ w₁ : List ℕ} (d : Ended n out w out₁ w₁) (l : n < 8) where
+module _ {n : ℕ} {out w out₁ w₁ : List ℕ} (d : Ended n out w out₁ w₁) (l : n < 10) where
   next-lane : laneIn w₁ n ≡ laneIn w n
   next-lane = d .lanes n l ∙ rw (le-ltb n n (omega arith))
 
@@ -103,7 +103,7 @@ module _ {n : ℕ} {out w out₁ w₁ : List ℕ} (d : Ended n out w out₁ w₁
   unfolding endsTo
   ended-on out₂ w₂ a = record { lanes = λ j m. go j m (eqb j n) refl; bytes = a .1 ∙ rw (next-lane, d .bytes); tidy = a .0 .tidy }
     where
-      go : (j : ℕ) → j < 8 → (b : Bool) → eqb j n ≡ b → laneIn w₂ j ≡ pick (ltb j (suc n)) (closed (laneIn w j)) (laneIn w j)
+      go : (j : ℕ) → j < 10 → (b : Bool) → eqb j n ≡ b → laneIn w₂ j ≡ pick (ltb j (suc n)) (closed (laneIn w j)) (laneIn w j)
       go j m true e = rw (eqb-true j n e, lt-ltb n (suc n) (omega arith)) (a .0 .own ∙ ap (λ (x : Lane). closed x) next-lane)
       go j m false e = let x = eqb-false j n e in a .0 .others j m x ∙ d .lanes j m ∙ rw (apart j (ltb j n) refl x)
 
@@ -112,7 +112,7 @@ module _ {n : ℕ} {out w out₁ w₁ : List ℕ} (d : Ended n out w out₁ w₁
   unfolding laneIn
   ended-line i = let x = end-line out₁ (laneIn w₁ n) i in ended-on out₁ w₁ (stays out₁ w₁ n (d .tidy) l (x .0) (x .1))
 
-pub ended-all : (out w out₁ w₁ : List ℕ) → Ended 8 out w out₁ w₁ → (lanesIn w₁ ≡ closedEach (lanesIn w)) × (out₁ ≡ laidEnds out (lanesIn w)) × Tidy w₁
+pub ended-all : (out w out₁ w₁ : List ℕ) → Ended 10 out w out₁ w₁ → (lanesIn w₁ ≡ closedEach (lanesIn w)) × (out₁ ≡ laidEnds out (lanesIn w)) × Tidy w₁
 unfolding lanesIn closedEach laidEnds endsTo
 ended-all out w out₁ w₁ d = (
   rw (
@@ -124,6 +124,8 @@ ended-all out w out₁ w₁ d = (
     d .lanes 5 (omega arith),
     d .lanes 6 (omega arith),
     d .lanes 7 (omega arith),
+    d .lanes 8 (omega arith),
+    d .lanes 9 (omega arith),
   ),
   d .bytes,
   d .tidy,

@@ -11,7 +11,7 @@ use borrow.Author.Tests.{eqb-true}
 use Rattle.numbers.specs.Number.{pick, unsigned}
 use Rattle.numbers.proofs.Laws.{unsigned-le}
 use Rattle.runs.specs.Runs.{coding, within}
-use Rattle.tokens.specs.Tokens.{Token, field, text, var, buf, infos, texts, units, rest, whole, led, inlined, taken, takenAll, inLine, columnIn}
+use Rattle.tokens.specs.Tokens.{Token, field, text, var, buf, key, value, values, infos, texts, units, rest, whole, led, inlined, taken, takenAll, inLine, columnIn}
 use Rattle.parts.specs.Brim.{brim}
 use Rattle.tokens.proofs.Parts.{led-length}
 use Rattle.tokens.proofs.Taking.{in-line, in-texts, in-rest}
@@ -23,17 +23,23 @@ legal (field j v) = leb v (coding (columnIn j) .most)
 legal (text b n) = leb n (coding (columnIn units) .most)
 legal (var v) = true
 legal (buf b) = true
+legal (key b n) = leb n (coding (columnIn units) .most)
+legal (value b) = true
+legal (values b) = true
 
 unfoldable pub legalAll : List Token → Bool
 legalAll [] = true
 legalAll (t ∷ ts) = pick (legal t) (legalAll ts) false
 
--- no lane takes more of a token
+-- no lane takes more of a token; a key may be a number and a text
 unfoldable pub sizeOf : Token → ℕ
 sizeOf (field j v) = 10
 sizeOf (text b n) = 10 + length b
 sizeOf (var v) = 10
 sizeOf (buf b) = 10 + length b
+sizeOf (key b n) = 20 + length b
+sizeOf (value b) = 10 + length b
+sizeOf (values b) = 10 + length b
 
 unfoldable pub sizeAll : List Token → ℕ
 sizeAll [] = 0
@@ -92,6 +98,13 @@ taken-le k (var v) =
 taken-le k (buf b) =
     pick-le (eqb k whole) (led b) (pick (eqb k rest) (led b) []) (10 + length b) (led-le b)
     (pick-le (eqb k rest) (led b) [] (10 + length b) (led-le b) (omega arith))
+taken-le k (key b n) = pick-le (eqb k whole) (led b) [] (20 + length b) (omega (arith, led-le b)) (omega arith)
+taken-le k (value b) =
+    pick-le (eqb k whole) (led b) (pick (eqb k rest) b []) (10 + length b) (led-le b)
+    (pick-le (eqb k rest) b [] (10 + length b) (omega arith) (omega arith))
+taken-le k (values b) =
+    pick-le (eqb k whole) b (pick (eqb k rest) b []) (10 + length b) (omega arith)
+    (pick-le (eqb k rest) b [] (10 + length b) (omega arith) (omega arith))
 
 pub takenAll-le : (k : ℕ) (ts : List Token) → length (takenAll k ts) ≤ sizeAll ts
 unfolding takenAll sizeAll
@@ -144,6 +157,9 @@ module _ (k : ℕ) (i : inLine k ≡ false) where
       (only-line texts (in-texts k) b (pick (eqb k units) (n ∷ []) []) (own units n h))
   legal-taken (var v) h = only-line whole (in-line k) (unsigned v) (pick (eqb k rest) (unsigned v) []) (only-line rest (in-rest k) (unsigned v) [] none)
   legal-taken (buf b) h = only-line whole (in-line k) (led b) (pick (eqb k rest) (led b) []) (only-line rest (in-rest k) (led b) [] none)
+  legal-taken (key b n) h = only-line whole (in-line k) (led b) [] none
+  legal-taken (value b) h = only-line whole (in-line k) (led b) (pick (eqb k rest) b []) (only-line rest (in-rest k) b [] none)
+  legal-taken (values b) h = only-line whole (in-line k) b (pick (eqb k rest) b []) (only-line rest (in-rest k) b [] none)
 
   legal-within : (ts : List Token) → legalAll ts ≡ true → Fine (takenAll k ts)
   unfolding legalAll takenAll

@@ -47,7 +47,7 @@ laid-append out e (t ∷ a) b = laid-append (laid out e t) (put e t) a b
 
 -- ---- tokens of which a lane takes nothing
 
-no-bytes : (a b : List ℕ) → a ++ b ≡ [] → (a ≡ []) × (b ≡ [])
+pub no-bytes : (a b : List ℕ) → a ++ b ≡ [] → (a ≡ []) × (b ≡ [])
 no-bytes [] b h = (refl, h)
 no-bytes (x ∷ a) b h = absurd (omega (arith, ap length h))
 

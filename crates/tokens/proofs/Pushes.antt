@@ -87,7 +87,7 @@ module _ (out : List ℕ) (e : Lane) (v : ℕ) (t : takes (e .run) v ≡ true) w
 abbrev pub Pushes : List ℕ → List ℕ → ℕ → ℕ → List ℕ → List ℕ → Type 0
 Pushes out w k v w₁ out₁ = Alone k (pushedOn (laneIn w k) v) w w₁ × (out₁ ≡ laidValue out (laneIn w k) v)
 
-module _ (out w : List ℕ) (k v : ℕ) (t : Tidy w) (l : k < 8) where
+module _ (out w : List ℕ) (k v : ℕ) (t : Tidy w) (l : k < 10) where
   not-taken : takes (laneIn w k .run) v ≡ false → Pushes out w k v w out
   not-taken h = let x = value-left out (laneIn w k) v h in (alone-is k (laneIn w k) (pushedOn (laneIn w k) v) w w (alone-none k w t l) (x .0), x .1)
 
@@ -106,7 +106,7 @@ farNoted w k v = record { lane = k; run = laneIn w k .run; far = farWith (laneIn
 -- lane k takes v with this key, w₀ being the words with its far noted
 pub record Takes (w w₀ : List ℕ) (k v last key : ℕ) : Type 0 where
   pub tidy : Tidy w
-  pub lane : k < 8
+  pub lane : k < 10
   pub fits : fitted (getD w (5 * k) 0) (getD w (5 * k + 3) 0) ≡ true
   pub most : v ≤ coding (columnIn k) .most
   pub far : Alone k (farNoted w k v) w w₀
@@ -136,7 +136,7 @@ module _ {w w₀ : List ℕ} {k v last key : ℕ} (s : Takes w w₀ k v last key
   low = let x = takes-true (laneIn w k .run) v takes-it in (x .0, x .1)
 
   -- what noting it asks
-  pub may-note : Tidy w₀ × (k < 8) × (last ≤ coding (columnIn k) .most) × (key ≤ keyMost (columnIn k))
+  pub may-note : Tidy w₀ × (k < 10) × (last ≤ coding (columnIn k) .most) × (key ≤ keyMost (columnIn k))
   may-note = (s .far .tidy, s .lane, rw (s .newest) (s .most), rw (s .step) (key-most (columnIn k) (getD w (5 * k + 1) 0) v (s .most)))
 
   module _ (out : List ℕ) where
@@ -176,7 +176,7 @@ module _ {w w₀ : List ℕ} {k v last key : ℕ} (s : Takes w w₀ k v last key
 
 -- ---- the lane's far
 
-module _ (w : List ℕ) (k v : ℕ) (t : Tidy w) (l : k < 8) where
+module _ (w : List ℕ) (k v : ℕ) (t : Tidy w) (l : k < 10) where
   -- columns whose keys can all be spelled
   near-all : coding (columnIn k) .near (keyAfter (laneIn w k .run) v) ≡ true → Alone k (farNoted w k v) w w
   unfolding laneIn

@@ -8,7 +8,7 @@ use borrow.Author.Tests.{eq-eqb, ne-eqb}
 use Rattle.numbers.specs.Number.{pick, unsigned}
 use Rattle.runs.specs.Writer.{Sound}
 use Rattle.tokens.specs.Lanes.{Lane}
-use Rattle.tokens.specs.Tokens.{Token, field, text, var, buf, infos, texts, units, rest, whole, led, inlined, taken, inLine}
+use Rattle.tokens.specs.Tokens.{Token, field, text, var, buf, key, value, values, infos, texts, units, rest, whole, led, inlined, taken, inLine}
 use Rattle.tokens.specs.Lanes.{forward, laidBytes, pushedOn, laidValue, pushedAll, laidValues, put, laid}
 use Rattle.tokens.proofs.Laying.{forward-sound, forward-none, bytes-none, pushed-none, pushed-one, values-none, values-one, pushed-sound-all}
 
@@ -71,7 +71,41 @@ module _ (k : ℕ) (b : List ℕ) where
   unfolding taken
   buf-other n m = rw (ne-eqb k whole n, ne-eqb k rest m)
 
+  -- a mark's value, and plain values
+  pub value-line : k ≡ whole → taken k (value b) ≡ led b
+  unfolding taken
+  value-line e = rw (eq-eqb k whole e)
+
+  pub value-rest : k ≢ whole → k ≡ rest → taken k (value b) ≡ b
+  unfolding taken
+  value-rest n e = rw (ne-eqb k whole n, eq-eqb k rest e)
+
+  pub value-other : k ≢ whole → k ≢ rest → taken k (value b) ≡ []
+  unfolding taken
+  value-other n m = rw (ne-eqb k whole n, ne-eqb k rest m)
+
+  pub values-line : k ≡ whole → taken k (values b) ≡ b
+  unfolding taken
+  values-line e = rw (eq-eqb k whole e)
+
+  pub values-rest : k ≢ whole → k ≡ rest → taken k (values b) ≡ b
+  unfolding taken
+  values-rest n e = rw (ne-eqb k whole n, eq-eqb k rest e)
+
+  pub values-other : k ≢ whole → k ≢ rest → taken k (values b) ≡ []
+  unfolding taken
+  values-other n m = rw (ne-eqb k whole n, ne-eqb k rest m)
+
 module _ (k : ℕ) (b : List ℕ) (n : ℕ) where
+  -- a key: form 2 has its number
+  pub key-line : k ≡ whole → taken k (key b n) ≡ led b
+  unfolding taken
+  key-line e = rw (eq-eqb k whole e)
+
+  pub key-other : k ≢ whole → taken k (key b n) ≡ []
+  unfolding taken
+  key-other w = rw (ne-eqb k whole w)
+
   pub text-line : k ≡ whole → taken k (text b n) ≡ led b
   unfolding taken
   text-line e = rw (eq-eqb k whole e)

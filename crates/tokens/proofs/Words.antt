@@ -13,7 +13,8 @@ use Rattle.runs.specs.Runs.{coding, keyMost}
 use Rattle.runs.specs.Writer.{Sound}
 use Rattle.tokens.specs.Tokens.{columnIn}
 use Rattle.tokens.specs.Lanes.{Lane, movedTo}
-use Rattle.tokens.specs.Desk.{laneIn, Tidy, Alone}
+use Rattle.decoder.specs.States.{maxKeys}
+use Rattle.tokens.specs.Desk.{laneIn, keyCount, Tidy, SameKeys, Alone}
 
 -- stores to the words of lane k alone
 pub record Own (k : ℕ) (w w₁ : List ℕ) : Type 0 where
@@ -50,28 +51,41 @@ lane-other k w w₁ o j n =
 
 -- ---- lane k alone
 
-module _ (k : ℕ) (w : List ℕ) (t : Tidy w) where
+-- the words of keys stand behind those of lanes
+keys-other : (k : ℕ) → k < 10 → (w w₁ : List ℕ) → Own k w w₁ → SameKeys w w₁
+keys-other k l w w₁ o p h = o .others p (λ i m e. absurd (omega arith))
+
+module _ (k : ℕ) (w : List ℕ) (t : Tidy w) (l : k < 10) where
+  few-keys : (w₁ : List ℕ) → SameKeys w w₁ → keyCount w₁ ≤ maxKeys
+  unfolding keyCount
+  few-keys w₁ h = rw (h 50 (omega arith)) (t .keys)
+
   pub alone-own : (e : Lane) (w₁ : List ℕ) → Own k w w₁ → laneIn w₁ k ≡ e → Sound (e .run) → Alone k e w w₁
-  alone-own e w₁ o own s = record { own = own; others = λ j l n. lane-other k w w₁ o j n; tidy = record { size = o .size ∙ t .size; sound = sound } }
+  alone-own e w₁ o own s = record {
+    own = own;
+    others = λ j m n. lane-other k w w₁ o j n;
+    tidy = record { size = o .size ∙ t .size; sound = sound; keys = few-keys w₁ (keys-other k l w w₁ o) };
+    keys = keys-other k l w w₁ o;
+  }
     where
-      sound : (j : ℕ) → j < 8 → Sound (laneIn w₁ j .run)
-      sound j l = go (eqb j k) refl
+      sound : (j : ℕ) → j < 10 → Sound (laneIn w₁ j .run)
+      sound j m = go (eqb j k) refl
         where
           go : (b : Bool) → eqb j k ≡ b → Sound (laneIn w₁ j .run)
           go true h = subst (λ (x : Lane). Sound (x .run)) (sym (ap (laneIn w₁) (eqb-true j k h) ∙ own)) s
-          go false h = subst (λ (x : Lane). Sound (x .run)) (sym (lane-other k w w₁ o j (eqb-false j k h))) (t .sound j l)
+          go false h = subst (λ (x : Lane). Sound (x .run)) (sym (lane-other k w w₁ o j (eqb-false j k h))) (t .sound j m)
 
-  pub alone-none : k < 8 → Alone k (laneIn w k) w w
-  alone-none l = alone-own (laneIn w k) w (own-none k w) refl (t .sound k l)
+  pub alone-none : Alone k (laneIn w k) w w
+  alone-none = alone-own (laneIn w k) w (own-none k w) refl (t .sound k l)
 
 pub alone-then : (k : ℕ) (e e₁ : Lane) (w w₁ w₂ : List ℕ) → Alone k e w w₁ → Alone k e₁ w₁ w₂ → Alone k e₁ w w₂
-alone-then k e e₁ w w₁ w₂ a b = record { own = b .own; others = λ j l n. b .others j l n ∙ a .others j l n; tidy = b .tidy }
+alone-then k e e₁ w w₁ w₂ a b = record { own = b .own; others = λ j l n. b .others j l n ∙ a .others j l n; tidy = b .tidy; keys = λ p h. b .keys p h ∙ a .keys p h }
 
 pub alone-is : (k : ℕ) (e e₁ : Lane) (w w₁ : List ℕ) → Alone k e w w₁ → e ≡ e₁ → Alone k e₁ w w₁
 alone-is k e e₁ w w₁ a h = subst (λ (x : Lane). Alone k x w w₁) h a
 
 -- what a lane's last value and key have at all times
-module _ (w : List ℕ) (k : ℕ) (t : Tidy w) (l : k < 8) where
+module _ (w : List ℕ) (k : ℕ) (t : Tidy w) (l : k < 10) where
   pub last-low : getD w (5 * k + 1) 0 ≤ coding (columnIn k) .most
   unfolding laneIn
   last-low = t .sound k l .0
@@ -82,7 +96,7 @@ module _ (w : List ℕ) (k : ℕ) (t : Tidy w) (l : k < 8) where
 
 -- ---- stores
 
-module _ (k : ℕ) (w : List ℕ) (t : Tidy w) (l : k < 8) where
+module _ (k : ℕ) (w : List ℕ) (t : Tidy w) (l : k < 10) where
   -- place, last value, key and count
   abbrev pub noted : ℕ → ℕ → ℕ → ℕ → List ℕ
   noted at last key count = set (set (set (set w (5 * k) at) (5 * k + 1) last) (5 * k + 2) key) (5 * k + 3) count
@@ -139,7 +153,7 @@ module _ (k : ℕ) (w : List ℕ) (t : Tidy w) (l : k < 8) where
     }) w w₄
     unfolding laneIn
     notes a b =
-        alone-own k w t (record {
+        alone-own k w t l (record {
           lane = k;
           run = record { column = columnIn k; at = at; last = last; key = key; count = count };
           far = ltb 0 (getD w (5 * k + 4) 0);
@@ -155,7 +169,7 @@ module _ (k : ℕ) (w : List ℕ) (t : Tidy w) (l : k < 8) where
   pub moves : (at : ℕ) → Alone k (movedTo (laneIn w k) at) w (set w (5 * k) at)
   unfolding laneIn
   moves at =
-      alone-own k w t (movedTo (laneIn w k) at) (set w (5 * k) at) (own-store k w w 0 (5 * k) at (omega arith) (omega arith) (own-none k w)) (
+      alone-own k w t l (movedTo (laneIn w k) at) (set w (5 * k) at) (own-store k w w 0 (5 * k) at (omega arith) (omega arith) (own-none k w)) (
       rw (
         getD-set-same w (5 * k) at 0 (omega (arith, t .size)),
         other 1 (omega arith),
@@ -171,7 +185,7 @@ module _ (k : ℕ) (w : List ℕ) (t : Tidy w) (l : k < 8) where
   pub notes-far : Alone k (record { lane = k; run = laneIn w k .run; far = true }) w (set w (5 * k + 4) 1)
   unfolding laneIn
   notes-far =
-      alone-own k w t (record { lane = k; run = laneIn w k .run; far = true }) (set w (5 * k + 4) 1)
+      alone-own k w t l (record { lane = k; run = laneIn w k .run; far = true }) (set w (5 * k + 4) 1)
       (own-store k w w 4 (5 * k + 4) 1 (omega arith) refl (own-none k w)) (
       rw (
         getD-set-same w (5 * k + 4) 1 0 (omega (arith, t .size)),

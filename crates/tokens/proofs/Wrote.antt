@@ -1,17 +1,18 @@
 -- What is written composes: nothing, one after the other, and a token in line, which only one lane of a form takes.
 use Prim.Native.Nat.{ℕ, _<_}
 use mathlib.Core.Path.{_≡_, refl, sym, ap, subst, _∙_}
+use mathlib.Core.Logic.{_≢_}
 use mathlib.Core.Bool.{Bool, true, false}
 use mathlib.Core.List.{List, [], _∷_, _++_}
 use native.Mathlib.Omega.{arith}
 use lib.Dec.{ltb, eqb}
-use borrow.Author.Tests.{ltb-true}
+use borrow.Author.Tests.{ltb-true, ne-eqb}
 use Rattle.numbers.specs.Number.{pick, unsigned}
 use Rattle.readings.specs.Sound.{All}
-use Rattle.tokens.specs.Tokens.{Token, text, var, buf, led, rest, whole, taken, inLine}
+use Rattle.tokens.specs.Tokens.{Token, text, var, buf, value, values, led, rest, whole, taken, inLine}
 use Rattle.tokens.specs.Lanes.{Lane, freshLane, ahead, laidAt, put, laid, putAll, laidAll}
 use Rattle.tokens.specs.Desk.{putEach, laidEach, putTokens, laidTokens, laneIn, lanesIn, deskIn, Tidy, Wrote}
-use Rattle.tokens.proofs.Taking.{in-line, in-rest, takes-none, var-line, var-rest, var-other, buf-line, buf-rest, buf-other, text-line}
+use Rattle.tokens.proofs.Taking.{in-line, in-rest, takes-none, var-line, var-rest, var-other, buf-line, buf-rest, buf-other, value-rest, value-other, values-line, values-rest, values-other, text-line}
 use Rattle.tokens.proofs.Passes.{put-none}
 use Rattle.tokens.proofs.Deskwise.{line-put, line-laid, wrote-whole}
 
@@ -32,7 +33,7 @@ laid-each-append out es (t ∷ a) b = laid-each-append (laidEach out es t) (putE
 module _ {form : ℕ} {out w : List ℕ} {at : ℕ} where
   pub wrote-none : Tidy w → Wrote form [] out w at out w at
   unfolding putTokens laidTokens
-  wrote-none tidy = record { desk = refl; bytes = refl; tidy = tidy }
+  wrote-none tidy = record { desk = refl; bytes = refl; tidy = tidy; keys = λ p l. refl }
 
   pub wrote-then : {a b : List Token} {out₁ w₁ out₂ w₂ : List ℕ} {at₁ at₂ : ℕ} → Wrote form a out w at out₁ w₁ at₁ → Wrote form b out₁ w₁ at₁ out₂ w₂ at₂
       → Wrote form (a ++ b) out w at out₂ w₂ at₂
@@ -42,6 +43,7 @@ module _ {form : ℕ} {out w : List ℕ} {at : ℕ} where
         k .bytes ∙ ap (λ (es : List Lane). laidTokens out₁ es b) (h .desk)
         ∙ ap (λ (o : List ℕ). laidTokens o (putTokens (deskIn form w at) a) b) (h .bytes) ∙ sym (laid-each-append out (deskIn form w at) a b);
     tidy = k .tidy;
+    keys = λ p l. k .keys p l ∙ h .keys p l;
   }
 
   -- the tokens under another name
@@ -95,20 +97,20 @@ unfolding laidEach
 laid-idle out [] e t h = refl
 laid-idle out (f ∷ es) e t h = ap (λ (o : List ℕ). laidEach o (es ++ (e ∷ [])) t) (sym (takes-none out f t (h .0) .1)) ∙ laid-idle out es e t (h .1)
 
-idle-lanes : (w : List ℕ) (t : Token) → ((k : ℕ) → k < 8 → taken k t ≡ []) → Idle t (lanesIn w)
+idle-lanes : (w : List ℕ) (t : Token) → ((k : ℕ) → k < 10 → taken k t ≡ []) → Idle t (lanesIn w)
 unfolding lanesIn laneIn
 idle-lanes w t h =
-    let own : (k : ℕ) → ltb k 8 ≡ true → taken k t ≡ [] = λ k l. h k (ltb-true k 8 l) in
-    (own 0 refl, (own 1 refl, (own 2 refl, (own 3 refl, (own 4 refl, (own 5 refl, (own 6 refl, (own 7 refl, tt))))))))
+    let own : (k : ℕ) → ltb k 10 ≡ true → taken k t ≡ [] = λ k l. h k (ltb-true k 10 l) in
+    (own 0 refl, (own 1 refl, (own 2 refl, (own 3 refl, (own 4 refl, (own 5 refl, (own 6 refl, (own 7 refl, (own 8 refl, (own 9 refl, tt))))))))))
 
 -- ---- a token in line
 
 module _ {form : ℕ} {out w : List ℕ} {at : ℕ} where
   -- of form 2 only the rest takes it
-  pub wrote-line : (t : Token) (b : List ℕ) {out₁ : List ℕ} {r : ℕ} → taken whole t ≡ b → taken rest t ≡ b → ((k : ℕ) → k < 8 → taken k t ≡ []) → Tidy w
+  pub wrote-line : (t : Token) (b : List ℕ) {out₁ : List ℕ} {r : ℕ} → taken whole t ≡ b → taken rest t ≡ b → ((k : ℕ) → k < 10 → taken k t ≡ []) → Tidy w
       → r ≡ ahead at b → out₁ ≡ laidAt out at b → Wrote form (t ∷ []) out w at out₁ w r
   unfolding deskIn putTokens laidTokens putEach laidEach
-  wrote-line t b {out₁} {r} h l n tidy p q = record { desk = desk-is (eqb form 1); bytes = bytes-are (eqb form 1); tidy = tidy }
+  wrote-line t b {out₁} {r} h l n tidy p q = record { desk = desk-is (eqb form 1); bytes = bytes-are (eqb form 1); tidy = tidy; keys = λ p l. refl }
     where
       one : putEach (freshLane whole at ∷ []) t ≡ freshLane whole r ∷ []
       one = ap (λ (e : Lane). e ∷ []) (sym (line-put out whole at t b (in-line whole refl) h)) ∙ rw p
@@ -143,6 +145,30 @@ module _ {form : ℕ} {out w : List ℕ} {at : ℕ} where
   wrote-buf b tidy h =
       wrote-line (buf b) (led b) (buf-line whole b refl) (buf-rest rest b (λ e. omega arith) refl)
       (λ k l. buf-other k b (λ e. omega arith) (λ e. omega arith)) tidy (h .0) (h .1)
+
+  -- values as they stand
+  pub wrote-values : (b : List ℕ) {out₁ : List ℕ} {r : ℕ} → Tidy w → (r ≡ ahead at b) × (out₁ ≡ laidAt out at b)
+      → Wrote form (values b ∷ []) out w at out₁ w r
+  wrote-values b tidy h =
+      wrote-line (values b) b (values-line whole b refl) (values-rest rest b (λ e. omega arith) refl)
+      (λ k l. values-other k b (λ e. omega arith) (λ e. omega arith)) tidy (h .0) (h .1)
+
+  -- a mark's value in form 2
+  pub wrote-value-rest : (b : List ℕ) {out₁ : List ℕ} {r : ℕ} → form ≢ 1 → Tidy w → (r ≡ ahead at b) × (out₁ ≡ laidAt out at b)
+      → Wrote form (value b ∷ []) out w at out₁ w r
+  unfolding deskIn putTokens laidTokens
+  wrote-value-rest b {out₁} {r} f tidy h =
+      let t = value b in
+      let two = ne-eqb form 1 f in
+      let none : Idle t (lanesIn w) = idle-lanes w t (λ k l. value-other k b (λ e. omega arith) (λ e. omega arith)) in
+      let own = value-rest rest b (λ e. omega arith) refl in
+      let i = in-rest rest refl in
+      record {
+        desk = rw (two, h .0) (sym (put-idle (lanesIn w) (freshLane rest at) t none ∙ rw (← line-put out rest at t b i own)));
+        bytes = h .1 ∙ line-laid out rest at t b i own ∙ rw two (sym (laid-idle out (lanesIn w) (freshLane rest at) t none));
+        tidy = tidy;
+        keys = λ p l. refl;
+      }
 
   -- a text in form 1, whatever its units
   pub wrote-text-line : (b : List ℕ) (n : ℕ) {out₁ : List ℕ} {r : ℕ} → form ≡ 1 → Tidy w → (r ≡ ahead at (led b)) × (out₁ ≡ laidAt out at (led b))

@@ -1,5 +1,5 @@
 -- The bytes of tokens. Form 1 has all in line. Form 2 has a flag byte, nine columns, each led by its length, in the order key, client, left clock,
--- right clock, info, text, parent info, type, length, and then the rest; key and type column are empty.
+-- right clock, info, text, parent info, type, length, and then the rest.
 use Prim.Native.Nat.{ℕ}
 use mathlib.Core.Bool.{Bool, true, false}
 use mathlib.Core.List.{List, [], _∷_, _++_}
@@ -7,26 +7,27 @@ use lib.Dec.{eqb}
 use Rattle.numbers.specs.Number.{pick}
 use Rattle.runs.specs.declared.Column.the-variants.{Difference}
 use Rattle.runs.specs.Runs.{coding, spellable}
-use Rattle.tokens.specs.Tokens.{Token, led, takenAll, lane, clients, lefts, rights, infos, texts, units, parents, lens, rest, whole}
+use Rattle.tokens.specs.Tokens.{Token, led, takenAll, lane, keys, clients, lefts, rights, infos, texts, units, parents, types, lens, rest, whole}
+use Rattle.tokens.specs.Keys.{numbered}
 
 unfoldable pub form1 : List Token → List ℕ
 form1 ts = lane whole ts
 
 unfoldable pub form2 : List Token → List ℕ
 form2 ts =
-    0 ∷ (led []
+    0 ∷ (led (lane keys ts)
     ++ (led (lane clients ts)
     ++ (led (lane lefts ts)
     ++ (led (lane rights ts)
     ++ (led (lane infos ts)
     ++ (led (led (lane texts ts) ++ lane units ts)
     ++ (led (lane parents ts)
-    ++ (led []
+    ++ (led (lane types ts)
     ++ (led (lane lens ts)
     ++ lane rest ts)))))))))
 
 unfoldable pub bytesOf : ℕ → List Token → List ℕ
-bytesOf form ts = pick (eqb form 1) (form1 ts) (form2 ts)
+bytesOf form ts = pick (eqb form 1) (form1 ts) (form2 (numbered [] ts))
 
 -- whether the differences of a column can be spelled
 unfoldable pub nearIn : ℕ → List Token → Bool

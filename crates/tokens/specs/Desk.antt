@@ -1,15 +1,20 @@
--- The lanes of a form side by side, a token at a time: form 1 has one lane, form 2 nine, and each takes its own of every token. The states of the eight
--- lanes before the last are words, five a lane; the last lane, and form 1's only one, is all in line: its state is its place.
-use Prim.Native.Nat.{ℕ, _+_, _*_, _<_}
+-- The lanes of a form side by side, a token at a time: form 1 has one lane, form 2 eleven, and each takes its own of every token. The states of the ten
+-- lanes before the last are words, five a lane; behind them stand the keys known, two words a key. The last lane, and form 1's only one, is all in line:
+-- its state is its place.
+use Prim.Native.Nat.{ℕ, zero, suc, _+_, _*_, _≤_, _<_}
 use mathlib.Core.Path.{_≡_}
 use mathlib.Core.Logic.{_≢_}
-use mathlib.Core.Bool.{Bool}
+use mathlib.Core.Bool.{Bool, true, false}
 use mathlib.Core.List.{List, [], _∷_, _++_}
 use lib.Dec.{ltb, eqb}
 use lib.ListN.{length, getD}
 use Rattle.numbers.specs.Number.{pick}
+use Rattle.text.specs.declared.Part.{Part}
 use Rattle.runs.specs.Writer.{Sound}
+use Rattle.readings.specs.Sound.{bytesIn}
 use Rattle.tokens.specs.Tokens.{Token, columnIn, rest, whole}
+use Rattle.decoder.specs.States.{maxKeys}
+use Rattle.tokens.specs.Keys.{crowded, spelled, knownAfter}
 use Rattle.tokens.specs.Lanes.{Lane, freshLane, put, laid, pushedOn, laidValue, closed, laidEnd}
 
 -- ---- a token onto every lane
@@ -49,16 +54,41 @@ laneIn w k = record {
 }
 
 unfoldable pub lanesIn : List ℕ → List Lane
-lanesIn w = laneIn w 0 ∷ (laneIn w 1 ∷ (laneIn w 2 ∷ (laneIn w 3 ∷ (laneIn w 4 ∷ (laneIn w 5 ∷ (laneIn w 6 ∷ (laneIn w 7 ∷ [])))))))
+lanesIn w =
+    laneIn w 0 ∷ (laneIn w 1 ∷ (laneIn w 2 ∷ (laneIn w 3 ∷ (laneIn w 4
+    ∷ (laneIn w 5 ∷ (laneIn w 6 ∷ (laneIn w 7 ∷ (laneIn w 8 ∷ (laneIn w 9 ∷ [])))))))))
 
 -- the lanes of a form, the words being w and the place in line `at`
 unfoldable pub deskIn : ℕ → List ℕ → ℕ → List Lane
 deskIn form w at = pick (eqb form 1) (freshLane whole at ∷ []) (lanesIn w ++ (freshLane rest at ∷ []))
 
+-- ---- keys in words: how many there are (50), whether one found no room (51), and the places and bytes of their texts in u
+
+unfoldable pub keyCount : List ℕ → ℕ
+keyCount w = getD w 50 0
+
+unfoldable pub keyAt : List ℕ → ℕ → Part
+keyAt w i = record { place = getD w (52 + 2 * i) 0; bytes = record { 0 = getD w (53 + 2 * i) 0 } }
+
+unfoldable pub knownFrom : List ℕ → List ℕ → ℕ → ℕ → List (List ℕ)
+knownFrom u w i zero = []
+knownFrom u w i (suc n) = bytesIn u (keyAt w i) ∷ knownFrom u w (suc i) n
+
+unfoldable pub knownIn : List ℕ → List ℕ → List (List ℕ)
+knownIn u w = knownFrom u w 0 (keyCount w)
+
+unfoldable pub crowdedIn : List ℕ → Bool
+crowdedIn w = ltb 0 (getD w 51 0)
+
 -- what words have at all times
 pub record Tidy (w : List ℕ) : Type 0 where
-  pub size : length w ≡ 40
-  pub sound : (k : ℕ) → k < 8 → Sound (laneIn w k .run)
+  pub size : length w ≡ 564
+  pub sound : (k : ℕ) → k < 10 → Sound (laneIn w k .run)
+  pub keys : keyCount w ≤ maxKeys
+
+-- the keys are the same
+abbrev pub SameKeys : List ℕ → List ℕ → Type 0
+SameKeys w w₁ = (i : ℕ) → 50 ≤ i → getD w₁ i 0 ≡ getD w i 0
 
 -- ---- what a writer leaves: of bytes, words and a place, the same after the tokens ts
 
@@ -66,9 +96,19 @@ pub record Wrote (form : ℕ) (ts : List Token) (out w : List ℕ) (at : ℕ) (o
   pub desk : deskIn form w₁ at₁ ≡ putTokens (deskIn form w at) ts
   pub bytes : out₁ ≡ laidTokens out (deskIn form w at) ts
   pub tidy : Tidy w₁
+  pub keys : SameKeys w w₁
+
+-- the same where there are keys among the tokens: form 2 has them by number, and remembers them
+pub record WroteKeys (u : List ℕ) (form : ℕ) (ts : List Token) (out w : List ℕ) (at : ℕ) (out₁ w₁ : List ℕ) (at₁ : ℕ) : Type 0 where
+  pub desk : deskIn form w₁ at₁ ≡ putTokens (deskIn form w at) (spelled form (knownIn u w) ts)
+  pub bytes : out₁ ≡ laidTokens out (deskIn form w at) (spelled form (knownIn u w) ts)
+  pub tidy : Tidy w₁
+  pub known : knownIn u w₁ ≡ knownAfter form (knownIn u w) ts
+  pub crowd : crowdedIn w₁ ≡ pick (crowdedIn w) true (pick (eqb form 1) false (crowded (knownIn u w) ts))
 
 -- lane k alone goes on
 pub record Alone (k : ℕ) (e : Lane) (w w₁ : List ℕ) : Type 0 where
   pub own : laneIn w₁ k ≡ e
-  pub others : (j : ℕ) → j < 8 → j ≢ k → laneIn w₁ j ≡ laneIn w j
+  pub others : (j : ℕ) → j < 10 → j ≢ k → laneIn w₁ j ≡ laneIn w j
   pub tidy : Tidy w₁
+  pub keys : SameKeys w w₁

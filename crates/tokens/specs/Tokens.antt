@@ -12,35 +12,41 @@ use Rattle.runs.specs.Runs.{columnOf}
 
 -- ---- the lanes: of form 2, in the order in which they stand, and of form 1
 
+abbrev pub keys : ℕ
+keys = 0
+
 abbrev pub clients : ℕ
-clients = 0
+clients = 1
 
 abbrev pub lefts : ℕ
-lefts = 1
+lefts = 2
 
 abbrev pub rights : ℕ
-rights = 2
+rights = 3
 
 abbrev pub infos : ℕ
-infos = 3
+infos = 4
 
 abbrev pub texts : ℕ
-texts = 4
+texts = 5
 
 abbrev pub units : ℕ
-units = 5
+units = 6
 
 abbrev pub parents : ℕ
-parents = 6
+parents = 7
+
+abbrev pub types : ℕ
+types = 8
 
 abbrev pub lens : ℕ
-lens = 7
+lens = 9
 
 abbrev pub rest : ℕ
-rest = 8
+rest = 10
 
 abbrev pub whole : ℕ
-whole = 9
+whole = 11
 
 -- ---- tokens
 
@@ -49,6 +55,9 @@ pub data Token : Type 0 where
   text : List ℕ → ℕ → Token  -- a text's bytes, and how many units they have
   var : ℕ → Token  -- a number that has no column
   buf : List ℕ → Token  -- bytes that have no column
+  key : List ℕ → ℕ → Token  -- a key's bytes, and how many units they have
+  value : List ℕ → Token  -- a mark's value
+  values : List ℕ → Token  -- plain values, as they stand
 
 abbrev pub client : ℕ → Token
 client v = field clients v
@@ -69,6 +78,9 @@ parentInfo v = field parents v
 abbrev pub len : ℕ → Token
 len v = field lens v
 
+abbrev pub typeNumber : ℕ → Token
+typeNumber v = field types v
+
 -- bytes led by their length
 abbrev pub led : List ℕ → List ℕ
 led b = unsigned (length b) ++ b
@@ -77,13 +89,17 @@ led b = unsigned (length b) ++ b
 unfoldable pub inlined : ℕ → ℕ → List ℕ
 inlined k v = pick (eqb k infos) (v ∷ []) (unsigned v)
 
--- ---- what a lane takes of a token: bytes that stand as they are, or values of its column
+-- ---- what a lane takes of a token: bytes that stand as they are, or values of its column. Form 2 has keys by number (`numbered` in Keys), so no lane of
+-- it takes one; a mark's value is a text in form 1, and a plain value in form 2
 
 unfoldable pub taken : ℕ → Token → List ℕ
 taken k (field j v) = pick (eqb k whole) (inlined j v) (pick (eqb k j) (v ∷ []) [])
 taken k (text b n) = pick (eqb k whole) (led b) (pick (eqb k texts) b (pick (eqb k units) (n ∷ []) []))
 taken k (var v) = pick (eqb k whole) (unsigned v) (pick (eqb k rest) (unsigned v) [])
 taken k (buf b) = pick (eqb k whole) (led b) (pick (eqb k rest) (led b) [])
+taken k (key b n) = pick (eqb k whole) (led b) []
+taken k (value b) = pick (eqb k whole) (led b) (pick (eqb k rest) b [])
+taken k (values b) = pick (eqb k whole) b (pick (eqb k rest) b [])
 
 unfoldable pub takenAll : ℕ → List Token → List ℕ
 takenAll k [] = []
@@ -93,7 +109,7 @@ unfoldable pub inLine : ℕ → Bool
 inLine k = pick (eqb k texts) true (pick (eqb k rest) true (eqb k whole))
 
 unfoldable pub columnIn : ℕ → Column
-columnIn k = pick (eqb k lefts) Difference (pick (eqb k rights) Difference (pick (eqb k infos) Byte (pick (eqb k parents) Byte Number)))
+columnIn k = pick (eqb k keys) Difference (pick (eqb k lefts) Difference (pick (eqb k rights) Difference (pick (eqb k infos) Byte (pick (eqb k parents) Byte Number))))
 
 -- a lane's bytes
 unfoldable pub lane : ℕ → List Token → List ℕ

@@ -7,7 +7,7 @@ ghost use mathlib.Core.List.{[], _∷_};
 ghost use Prim.Native.Nat.{_<_};
 ghost use Rattle.readings.specs.Sound.{bytesIn};
 ghost use Rattle.runs.specs.declared.Column.the-variants.{Number, Difference, Byte};
-ghost use Rattle.tokens.specs.Tokens.{client, left, right, info, parentInfo, text, len};
+ghost use Rattle.tokens.specs.Tokens.{client, left, right, info, parentInfo, text, len, typeNumber, value};
 ghost use Rattle.tokens.specs.Desk.{Tidy, Wrote};
 
 pub fn write_client(out: &mut [u8], lanes: &mut [u64], form: u8, at: usize, v: u64) -> usize
@@ -77,6 +77,36 @@ pub fn write_len(out: &mut [u8], lanes: &mut [u64], form: u8, at: usize, v: u64)
     }
     crate::lanes::push_number(out, lanes, crate::lanes::LENS, v);
     at
+}
+
+pub fn write_type(out: &mut [u8], lanes: &mut [u64], form: u8, at: usize, v: u64) -> usize
+    requires { ⌜ Tidy (now lanes) ⌝ }
+    ensures { λ r. ⌜ Wrote form (typeNumber v ∷ []) (now (out .entry)) (now (lanes .entry)) at (now (out .exit)) (now (lanes .exit)) r ⌝ }
+{
+    if form == 1 {
+        return crate::line::number(out, at, v);
+    }
+    crate::lanes::push_number(out, lanes, crate::lanes::TYPES, v);
+    at
+}
+
+// A mark's value: a text in form 1, as it stands in form 2.
+pub fn write_value(
+    out: &mut [u8],
+    update: &[u8],
+    lanes: &mut [u64],
+    form: u8,
+    at: usize,
+    part: Part,
+) -> usize
+    requires { ⌜ Tidy (now lanes) ⌝ }
+    ensures { λ r. ⌜ Wrote form (value (bytesIn (now (update .entry)) part) ∷ [])
+        (now (out .entry)) (now (lanes .entry)) at (now (out .exit)) (now (lanes .exit)) r ⌝ }
+{
+    if form == 1 {
+        return crate::line::led_part(out, update, at, part);
+    }
+    crate::line::part(out, update, at, part)
 }
 
 // A text of so many units.

@@ -15,22 +15,26 @@ ghost use Rattle.tokens.specs.Tokens.{inLine, columnIn};
 ghost use Rattle.tokens.specs.Lanes.{lay, forward, laidBytes, pushedOn, laidValue, closed, laidEnd};
 ghost use Rattle.tokens.specs.Desk.{laneIn, lanesIn, Tidy, Alone, closedEach, laidEnds};
 
-// The lanes, in the order in which they stand; the rest is the ninth.
-pub const CLIENTS: usize = 0;
+// The lanes, in the order in which they stand; the rest is the eleventh.
+pub const KEYS: usize = 0;
 
-pub const LEFTS: usize = 1;
+pub const CLIENTS: usize = 1;
 
-pub const RIGHTS: usize = 2;
+pub const LEFTS: usize = 2;
 
-pub const INFOS: usize = 3;
+pub const RIGHTS: usize = 3;
 
-pub const TEXTS: usize = 4;
+pub const INFOS: usize = 4;
 
-pub const UNITS: usize = 5;
+pub const TEXTS: usize = 5;
 
-pub const PARENTS: usize = 6;
+pub const UNITS: usize = 6;
 
-pub const LENS: usize = 7;
+pub const PARENTS: usize = 7;
+
+pub const TYPES: usize = 8;
+
+pub const LENS: usize = 9;
 
 // Whether a column that has so many bytes, and so many values in its run, takes one more.
 fn is_open(at: usize, count: u64) -> bool
@@ -44,7 +48,7 @@ fn is_open(at: usize, count: u64) -> bool
 
 // Lane k with this place, last value, key and count.
 fn note(lanes: &mut [u64], k: usize, at: usize, last: u64, key: u64, count: u64)
-    requires { ⌜ Tidy (now lanes) × (k < 8) × (last ≤ coding (columnIn k) .most) × (key ≤ keyMost (columnIn k)) ⌝ }
+    requires { ⌜ Tidy (now lanes) × (k < 10) × (last ≤ coding (columnIn k) .most) × (key ≤ keyMost (columnIn k)) ⌝ }
     ensures { λ _. ⌜ Alone k (record {
       lane = k;
       run = record { column = columnIn k; at = at; last = last; key = key; count = count };
@@ -106,7 +110,7 @@ fn byte_run(out: &mut [u8], at: usize, key: u64, n: u64) -> usize
 // ---- a value onto its column
 
 pub fn push_number(out: &mut [u8], lanes: &mut [u64], k: usize, v: u64)
-    requires { ⌜ Tidy (now lanes) × (k < 8) × (columnIn k ≡ Number) ⌝ }
+    requires { ⌜ Tidy (now lanes) × (k < 10) × (columnIn k ≡ Number) ⌝ }
     ensures { λ _. ⌜ Alone k (pushedOn (laneIn (now (lanes .entry)) k) v) (now (lanes .entry)) (now (lanes .exit))
         × (now (out .exit) ≡ laidValue (now (out .entry)) (laneIn (now (lanes .entry)) k) v) ⌝ }
 {
@@ -144,7 +148,7 @@ fn is_far(key: u64) -> bool
 
 // Lane k remembers a difference that cannot be spelled.
 fn note_far(lanes: &mut [u64], k: usize, key: u64)
-    requires { ⌜ Tidy (now lanes) × (k < 8) ⌝ }
+    requires { ⌜ Tidy (now lanes) × (k < 10) ⌝ }
     ensures { λ _. ⌜ Alone k (record {
       lane = k;
       run = laneIn (now (lanes .entry)) k .run;
@@ -157,7 +161,7 @@ fn note_far(lanes: &mut [u64], k: usize, key: u64)
 }
 
 pub fn push_difference(out: &mut [u8], lanes: &mut [u64], k: usize, v: u64)
-    requires { ⌜ Tidy (now lanes) × (k < 8) × (columnIn k ≡ Difference) ⌝ }
+    requires { ⌜ Tidy (now lanes) × (k < 10) × (columnIn k ≡ Difference) ⌝ }
     ensures { λ _. ⌜ Alone k (pushedOn (laneIn (now (lanes .entry)) k) v) (now (lanes .entry)) (now (lanes .exit))
         × (now (out .exit) ≡ laidValue (now (out .entry)) (laneIn (now (lanes .entry)) k) v) ⌝ }
 {
@@ -187,7 +191,7 @@ pub fn push_difference(out: &mut [u8], lanes: &mut [u64], k: usize, v: u64)
 }
 
 pub fn push_byte(out: &mut [u8], lanes: &mut [u64], k: usize, v: u8)
-    requires { ⌜ Tidy (now lanes) × (k < 8) × (columnIn k ≡ Byte) ⌝ }
+    requires { ⌜ Tidy (now lanes) × (k < 10) × (columnIn k ≡ Byte) ⌝ }
     ensures { λ _. ⌜ Alone k (pushedOn (laneIn (now (lanes .entry)) k) v) (now (lanes .entry)) (now (lanes .exit))
         × (now (out .exit) ≡ laidValue (now (out .entry)) (laneIn (now (lanes .entry)) k) v) ⌝ }
 {
@@ -220,19 +224,19 @@ fn wide(v: u8) -> u64
 // The bytes of a text.
 pub fn put_text(out: &mut [u8], update: &[u8], lanes: &mut [u64], p: Part)
     requires { ⌜ Tidy (now lanes) ⌝ }
-    ensures { λ _. ⌜ Alone 4 (forward (laneIn (now (lanes .entry)) 4) (bytesIn (now (update .entry)) p)) (now (lanes .entry)) (now (lanes .exit))
-        × (now (out .exit) ≡ laidBytes (now (out .entry)) (laneIn (now (lanes .entry)) 4) (bytesIn (now (update .entry)) p)) ⌝ }
+    ensures { λ _. ⌜ Alone 5 (forward (laneIn (now (lanes .entry)) 5) (bytesIn (now (update .entry)) p)) (now (lanes .entry)) (now (lanes .exit))
+        × (now (out .exit) ≡ laidBytes (now (out .entry)) (laneIn (now (lanes .entry)) 5) (bytesIn (now (update .entry)) p)) ⌝ }
 {
-    let at = lanes[20] as usize;
+    let at = lanes[25] as usize;
     let next = crate::line::part(out, update, at, p);
-    lanes[20] = next as u64;
+    lanes[25] = next as u64;
 }
 
 // ---- the ends
 
 // The last run of a number column.
 fn close_number(out: &mut [u8], lanes: &mut [u64], k: usize)
-    requires { ⌜ Tidy (now lanes) × (k < 8) × (inLine k ≡ false) × (columnIn k ≡ Number) ⌝ }
+    requires { ⌜ Tidy (now lanes) × (k < 10) × (inLine k ≡ false) × (columnIn k ≡ Number) ⌝ }
     ensures { λ _. ⌜ Alone k (closed (laneIn (now (lanes .entry)) k)) (now (lanes .entry)) (now (lanes .exit))
         × (now (out .exit) ≡ laidEnd (now (out .entry)) (laneIn (now (lanes .entry)) k)) ⌝ }
 {
@@ -251,7 +255,7 @@ fn close_number(out: &mut [u8], lanes: &mut [u64], k: usize)
 }
 
 fn close_difference(out: &mut [u8], lanes: &mut [u64], k: usize)
-    requires { ⌜ Tidy (now lanes) × (k < 8) × (inLine k ≡ false) × (columnIn k ≡ Difference) ⌝ }
+    requires { ⌜ Tidy (now lanes) × (k < 10) × (inLine k ≡ false) × (columnIn k ≡ Difference) ⌝ }
     ensures { λ _. ⌜ Alone k (closed (laneIn (now (lanes .entry)) k)) (now (lanes .entry)) (now (lanes .exit))
         × (now (out .exit) ≡ laidEnd (now (out .entry)) (laneIn (now (lanes .entry)) k)) ⌝ }
 {
@@ -271,7 +275,7 @@ fn close_difference(out: &mut [u8], lanes: &mut [u64], k: usize)
 
 // The byte column's last run has no count.
 fn close_byte(out: &mut [u8], lanes: &mut [u64], k: usize)
-    requires { ⌜ Tidy (now lanes) × (k < 8) × (inLine k ≡ false) × (columnIn k ≡ Byte) ⌝ }
+    requires { ⌜ Tidy (now lanes) × (k < 10) × (inLine k ≡ false) × (columnIn k ≡ Byte) ⌝ }
     ensures { λ _. ⌜ Alone k (closed (laneIn (now (lanes .entry)) k)) (now (lanes .entry)) (now (lanes .exit))
         × (now (out .exit) ≡ laidEnd (now (out .entry)) (laneIn (now (lanes .entry)) k)) ⌝ }
 {
@@ -292,11 +296,13 @@ pub fn close(out: &mut [u8], lanes: &mut [u64])
     ensures { λ _. ⌜ (lanesIn (now (lanes .exit)) ≡ closedEach (lanesIn (now (lanes .entry))))
         × (now (out .exit) ≡ laidEnds (now (out .entry)) (lanesIn (now (lanes .entry)))) × Tidy (now (lanes .exit)) ⌝ }
 {
+    close_difference(out, lanes, KEYS);
     close_number(out, lanes, CLIENTS);
     close_difference(out, lanes, LEFTS);
     close_difference(out, lanes, RIGHTS);
     close_byte(out, lanes, INFOS);
     close_number(out, lanes, UNITS);
     close_byte(out, lanes, PARENTS);
+    close_number(out, lanes, TYPES);
     close_number(out, lanes, LENS);
 }

@@ -28,7 +28,7 @@ use Rattle.decoder.specs.Update.{placed, inColumns, blocksOf}
 use Rattle.decoder.proofs.Laws.{placed-line, run-columned, fields-up-to}
 use Rattle.cells.specs.declared.Drawn as cells-drawn
 use Rattle.cells.specs.declared.Drawn.the-variants as drawn
-use Rattle.cells.specs.Cells.{cell, atIn, placeIn, whyIn, stateIn, Small, given}
+use Rattle.cells.specs.Cells.{cell, atIn, placeIn, whyIn, stateIn, Small, given, keyCount}
 use Rattle.opening.specs.Opening.{openedIn}
 use Rattle.item.specs.Row.{rowIn, Narrow, blockOnto}
 use Rattle.update.specs.declared.Spot.{Spot}
@@ -242,9 +242,9 @@ module _ (form : ℕ) (u m w : List ℕ) (s : Spot) (some : 1 ≤ s .blocks) whe
 -- ---- the beginning
 
 -- words of which none is stored yet
-pub fresh : Small (replicate 67 0)
-unfolding cell
-fresh = record { size = refl; left = record { last = omega arith; key = omega arith }; right = record { last = omega arith; key = omega arith }; why = omega arith }
+pub fresh : Small (replicate 580 0)
+unfolding cell keyCount
+fresh = record { size = refl; keys = omega arith; key = record { last = omega arith; key = omega arith }; left = record { last = omega arith; key = omega arith }; right = record { last = omega arith; key = omega arith }; why = omega arith }
 
 abbrev first : ℕ → Spot
 first n = record { sections = n; blocks = 0; room = maxBlocks; seen = 0; client = 0; clock = 0 }

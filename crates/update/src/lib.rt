@@ -77,7 +77,7 @@ fn read_block(
     memory: &mut [u64],
     s: Spot,
 ) -> Step
-    requires { ⌜ Small (now w) × (length (now r) ≡ 21) × Fine (now memory) s × (1 ≤ s .blocks) ⌝ }
+    requires { ⌜ Small (now w) × (length (now r) ≡ 24) × Fine (now memory) s × (1 ≤ s .blocks) ⌝ }
     ensures { λ x. ⌜ Stepped form (now (update .entry)) (now (memory .entry)) (now (w .entry)) (now (r .entry)) s
         (now (memory .exit)) (now (w .exit)) (now (r .exit)) x ⌝ }
 {
@@ -111,7 +111,7 @@ pub fn next(
     memory: &mut [u64],
     s: Spot,
 ) -> Step
-    requires { ⌜ Small (now w) × (length (now r) ≡ 21) × Fine (now memory) s ⌝ }
+    requires { ⌜ Small (now w) × (length (now r) ≡ 24) × Fine (now memory) s ⌝ }
     ensures { λ x. ⌜ Stepped form (now (update .entry)) (now (memory .entry)) (now (w .entry)) (now (r .entry)) s
         (now (memory .exit)) (now (w .exit)) (now (r .exit)) x ⌝ }
 {

@@ -43,6 +43,9 @@ fn kind(sink: &mut [u8], used: usize, kind: u8) -> usize {
         block::DELETED => line::text(sink, used, b".deleted"),
         block::BINARY => line::text(sink, used, b".binary"),
         block::TEXT => line::text(sink, used, b".text"),
+        block::FORMAT => line::text(sink, used, b".format"),
+        block::TYPE => line::text(sink, used, b".type"),
+        block::ANY => line::text(sink, used, b".any"),
         _ => line::text(sink, used, b".?"),
     }
 }
@@ -66,12 +69,31 @@ fn place(sink: &mut [u8], used: usize, b: Block) -> usize {
     dotted_part(sink, parent, b.has_key, b.key)
 }
 
+// The type number of a type with the dot before it, `-` for any other kind.
+fn dotted_type(sink: &mut [u8], used: usize, kind: u8, number: u8) -> usize {
+    if kind == block::TYPE {
+        return dotted(sink, used, number as u64);
+    }
+    line::text(sink, used, b".-")
+}
+
+fn contents(sink: &mut [u8], used: usize, b: Block) -> usize {
+    let stored = dotted_part(sink, used, block::has_part(b.kind), b.part);
+    let marked = dotted_part(
+        sink,
+        stored,
+        block::is_marked(b.kind, b.type_number),
+        b.mark,
+    );
+    dotted_type(sink, marked, b.kind, b.type_number)
+}
+
 // A row with the space before it.
 pub fn row(sink: &mut [u8], used: usize, b: Block) -> usize {
     let begun = head(sink, used, b);
     let linked = origins(sink, begun, b);
     let placed = place(sink, linked, b);
-    dotted_part(sink, placed, block::has_part(b.kind), b.part)
+    contents(sink, placed, b)
 }
 
 // What was printed of lent words: how much of the output's buffer is used, and where the printed words end.

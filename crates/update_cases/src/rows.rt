@@ -41,6 +41,8 @@ pub fn full() -> Block {
         has_key: true,
         key: part,
         part,
+        mark: part,
+        type_number: 0xA5,
     }
 }
 
@@ -70,6 +72,8 @@ fn is_none(b: Block) -> bool {
         && is_no_part(b.name)
         && is_no_part(b.key)
         && is_no_part(b.part)
+        && is_no_part(b.mark)
+        && b.type_number == 0
 }
 
 // Row i: one of the first n is printed, any other looked at.

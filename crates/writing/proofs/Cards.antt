@@ -13,18 +13,23 @@ use contract.Monad.{Fun, fact, factI}
 use denote.Triple.Statement.{Contract, Triple}
 use denote.Triple.Spec.{tripleOf}
 use denote.Triple.Clauses.{atExit}
-use Rattle.walks.proofs.Rows.{Has, byte, word, bool-kind}
+use Rattle.walks.proofs.Rows.{Has, byte, word}
 use Rattle.walks.proofs.Refs.{Seat, val, mut, read, pass, Card, since}
 use Rattle.block.specs.declared.Block.{Block}
+use Rattle.encoder.specs.declared.steps.Outcome.{Outcome}
+use Rattle.passes.specs.declared.Measured.{Measured}
 use Rattle.encoder.specs.Passes.{outcomeFor, plannedTokens, wordsFor}
 use Rattle.kept.specs.Plan.{entriesOf}
 use Rattle.numbers.specs.Output.{done, padded, refusal}
-use Rattle.passes.specs.Forms.{endFor, farFor, outFor, sizesFor}
+use Rattle.passes.specs.Forms.{endFor, outFor, sizesFor}
+use Rattle.passes.specs.Measures.{measuredFor}
 use Rattle.ranges.specs.Table.{rowsFrom}
 use Rattle.records.specs.Records.{deleteTokens}
+use Rattle.tokens.specs.Keys.{spelled}
 use Rattle.tokens.specs.Tokens.{var}
-use Rattle.writing.specs.Writing.{job, keptAnswer, keptOut, plannedAnswer, plannedOut}
+use Rattle.writing.specs.Writing.{job, keptAnswer, keptOut, plannedAnswer, plannedOut, sizesIn, whyFor}
 use Rattle.encoder.proofs.Sorts.{outcome}
+use Rattle.passes.proofs.Sorts.{measured}
 use Rattle.table.proofs.Sorts.{block}
 use Rattle.writing.proofs.Sorts.{written}
 use Rattle.passes.proofs.measure as passes·measure-fn
@@ -37,6 +42,8 @@ use Rattle.numbers.proofs.finish as numbers·finish-fn
 use Rattle.numbers.proofs.finish.Symbol.{name as #numbers·finish}
 use Rattle.encoder.proofs.plan_rows as encoder·plan-rows-fn
 use Rattle.encoder.proofs.plan_rows.Symbol.{name as #encoder·plan-rows}
+use Rattle.writing.proofs.why_not as writing·why-not-fn
+use Rattle.writing.proofs.why_not.Symbol.{name as #writing·why-not}
 use Rattle.writing.proofs.encode_planned as writing·encode-planned-fn
 use Rattle.writing.proofs.encode_planned.Symbol.{name as #writing·encode-planned}
 use Rattle.writing.proofs.encode_kept as writing·encode-kept-fn
@@ -58,6 +65,9 @@ module _ {M : Type 1} (𝓤 : URA M) (H : Heap 𝓤) (A : Atoms 𝓤) (mem : Mem
   abbrev pub Encoder·plan-rows : Contract 𝓤
   Encoder·plan-rows = tripleOf 𝓤 H A encoder·plan-rows-fn.signature (encoder·plan-rows-fn.spec 𝓤 H A mem run)
 
+  abbrev pub Writing·why-not : Contract 𝓤
+  Writing·why-not = tripleOf 𝓤 H A writing·why-not-fn.signature (writing·why-not-fn.spec 𝓤 H A mem run)
+
   abbrev pub Writing·encode-planned : Contract 𝓤
   Writing·encode-planned = tripleOf 𝓤 H A writing·encode-planned-fn.signature (writing·encode-planned-fn.spec 𝓤 H A mem run)
 
@@ -65,14 +75,14 @@ module _ {M : Type 1} (𝓤 : URA M) (H : Heap 𝓤) (A : Atoms 𝓤) (mem : Mem
   Writing·encode-kept = tripleOf 𝓤 H A writing·encode-kept-fn.signature (writing·encode-kept-fn.spec 𝓤 H A mem run)
 
   module _ (C : Calls 𝓤 H) where
-    pub passes·measure! : Triple 𝓤 (C #passes·measure) Passes·measure → (at-sizes : Seat) (sizes₀ : List ℕ) (at-update : Seat) (update₀ : List ℕ) (at-rows : Seat) (rows₀ : List Block) (at-plan : Seat) (plan₀ : List ℕ) (sections₀ : ℕ) (g-sections : Has word sections₀) (form₀ : ℕ) (g-form : Has byte form₀) → ((length sizes₀ ≡ 8) × (5 * sections₀ ≤ length plan₀)) → Card 𝓤 H A C #passes·measure (mut word at-sizes sizes₀ (sizesFor form₀ (plannedTokens update₀ rows₀ plan₀ sections₀) sizes₀) ∷ pass byte at-update update₀ ∷ pass block at-rows rows₀ ∷ pass word at-plan plan₀ ∷ val word sections₀ g-sections ∷ val byte form₀ g-form ∷ []) bool-kind (farFor form₀ (plannedTokens update₀ rows₀ plan₀ sections₀))
-    passes·measure! known at-sizes sizes₀ at-update update₀ at-rows rows₀ at-plan plan₀ sections₀ g-sections form₀ g-form h = record {
+    pub passes·measure-plan! : Triple 𝓤 (C #passes·measure) Passes·measure → (at-sizes : Seat) (sizes₀ : List ℕ) (at-update : Seat) (update₀ : List ℕ) (at-rows : Seat) (rows₀ : List Block) (at-plan : Seat) (plan₀ : List ℕ) (sections₀ : ℕ) (g-sections : Has word sections₀) (form₀ : ℕ) (g-form : Has byte form₀) → ((length sizes₀ ≡ 10) × (5 * sections₀ ≤ length plan₀)) → Card 𝓤 H A C #passes·measure (mut word at-sizes sizes₀ (sizesFor form₀ (spelled form₀ [] (plannedTokens update₀ rows₀ plan₀ sections₀)) sizes₀) ∷ pass byte at-update update₀ ∷ pass block at-rows rows₀ ∷ read word at-plan plan₀ ∷ val word sections₀ g-sections ∷ val byte form₀ g-form ∷ []) measured (measuredFor form₀ (plannedTokens update₀ rows₀ plan₀ sections₀))
+    passes·measure-plan! known at-sizes sizes₀ at-update update₀ at-rows rows₀ at-plan plan₀ sections₀ g-sections form₀ g-form h = record {
       contract = Passes·measure;
       known = known;
       ghost = λ x. (x, tt);
       args = λ ns. refl;
-      asked = fact 𝓤 ((length sizes₀ ≡ 8) × (5 * sections₀ ≤ length plan₀));
-      asks = factI 𝓤 ((length sizes₀ ≡ 8) × (5 * sections₀ ≤ length plan₀)) (emp 𝓤) h;
+      asked = fact 𝓤 ((length sizes₀ ≡ 10) × (5 * sections₀ ≤ length plan₀));
+      asks = factI 𝓤 ((length sizes₀ ≡ 10) × (5 * sections₀ ≤ length plan₀)) (emp 𝓤) h;
       into = λ ns. id⊢ 𝓤 _;
       ensured = λ x r ws. passes·measure-fn.clauses 𝓤 H A mem run (x .0) (x .3) .ensures tt r (atExit passes·measure-fn.ended (x .0) (x .3) ws);
       out = λ ns v. id⊢ 𝓤 _;
@@ -93,14 +103,14 @@ module _ {M : Type 1} (𝓤 : URA M) (H : Heap 𝓤) (A : Atoms 𝓤) (mem : Mem
       said = λ ns r ws. since 𝓤 (λ e. (e .0, (e .1, tt)));
     }
 
-    pub passes·write-sizes! : Triple 𝓤 (C #passes·write) Passes·write → (at-out : Seat) (out₀ : List ℕ) (at-sizes : Seat) (sizes₀ : List ℕ) (at-update : Seat) (update₀ : List ℕ) (at-rows : Seat) (rows₀ : List Block) (at-plan : Seat) (plan₀ : List ℕ) (sections₀ : ℕ) (g-sections : Has word sections₀) (at-ranges : Seat) (ranges₀ : List ℕ) (n₀ : ℕ) (g-n : Has word n₀) (form₀ : ℕ) (g-form : Has byte form₀) → ((length sizes₀ ≡ 8) × (3 * n₀ ≤ length ranges₀) × (5 * sections₀ ≤ length plan₀)) → Card 𝓤 H A C #passes·write (mut byte at-out out₀ (outFor form₀ sizes₀ (var sections₀ ∷ plannedTokens update₀ rows₀ plan₀ sections₀) (deleteTokens form₀ (rowsFrom ranges₀ 0 n₀)) out₀) ∷ read word at-sizes sizes₀ ∷ pass byte at-update update₀ ∷ pass block at-rows rows₀ ∷ pass word at-plan plan₀ ∷ val word sections₀ g-sections ∷ pass word at-ranges ranges₀ ∷ val word n₀ g-n ∷ val byte form₀ g-form ∷ []) word (endFor form₀ sizes₀ (var sections₀ ∷ plannedTokens update₀ rows₀ plan₀ sections₀) (deleteTokens form₀ (rowsFrom ranges₀ 0 n₀)))
-    passes·write-sizes! known at-out out₀ at-sizes sizes₀ at-update update₀ at-rows rows₀ at-plan plan₀ sections₀ g-sections at-ranges ranges₀ n₀ g-n form₀ g-form h = record {
+    pub passes·write! : Triple 𝓤 (C #passes·write) Passes·write → (at-out : Seat) (out₀ : List ℕ) (at-sizes : Seat) (sizes₀ : List ℕ) (at-update : Seat) (update₀ : List ℕ) (at-rows : Seat) (rows₀ : List Block) (at-plan : Seat) (plan₀ : List ℕ) (sections₀ : ℕ) (g-sections : Has word sections₀) (at-ranges : Seat) (ranges₀ : List ℕ) (n₀ : ℕ) (g-n : Has word n₀) (form₀ : ℕ) (g-form : Has byte form₀) → ((length sizes₀ ≡ 10) × (3 * n₀ ≤ length ranges₀) × (5 * sections₀ ≤ length plan₀)) → Card 𝓤 H A C #passes·write (mut byte at-out out₀ (outFor form₀ sizes₀ (var sections₀ ∷ spelled form₀ [] (plannedTokens update₀ rows₀ plan₀ sections₀)) (deleteTokens form₀ (rowsFrom ranges₀ 0 n₀)) out₀) ∷ pass word at-sizes sizes₀ ∷ pass byte at-update update₀ ∷ pass block at-rows rows₀ ∷ pass word at-plan plan₀ ∷ val word sections₀ g-sections ∷ pass word at-ranges ranges₀ ∷ val word n₀ g-n ∷ val byte form₀ g-form ∷ []) word (endFor form₀ sizes₀ (var sections₀ ∷ spelled form₀ [] (plannedTokens update₀ rows₀ plan₀ sections₀)) (deleteTokens form₀ (rowsFrom ranges₀ 0 n₀)))
+    passes·write! known at-out out₀ at-sizes sizes₀ at-update update₀ at-rows rows₀ at-plan plan₀ sections₀ g-sections at-ranges ranges₀ n₀ g-n form₀ g-form h = record {
       contract = Passes·write;
       known = known;
       ghost = λ x. (x, tt);
       args = λ ns. refl;
-      asked = fact 𝓤 ((length sizes₀ ≡ 8) × (3 * n₀ ≤ length ranges₀) × (5 * sections₀ ≤ length plan₀));
-      asks = factI 𝓤 ((length sizes₀ ≡ 8) × (3 * n₀ ≤ length ranges₀) × (5 * sections₀ ≤ length plan₀)) (emp 𝓤) h;
+      asked = fact 𝓤 ((length sizes₀ ≡ 10) × (3 * n₀ ≤ length ranges₀) × (5 * sections₀ ≤ length plan₀));
+      asks = factI 𝓤 ((length sizes₀ ≡ 10) × (3 * n₀ ≤ length ranges₀) × (5 * sections₀ ≤ length plan₀)) (emp 𝓤) h;
       into = λ ns. id⊢ 𝓤 _;
       ensured = λ x r ws. passes·write-fn.clauses 𝓤 H A mem run (x .0) (x .3) .ensures tt r (atExit passes·write-fn.ended (x .0) (x .3) ws);
       out = λ ns v. id⊢ 𝓤 _;
@@ -135,22 +145,36 @@ module _ {M : Type 1} (𝓤 : URA M) (H : Heap 𝓤) (A : Atoms 𝓤) (mem : Mem
       said = λ ns r ws. since 𝓤 (λ e. (e .0, (e .1, tt)));
     }
 
-    pub writing·encode-planned-plan! : Triple 𝓤 (C #writing·encode-planned) Writing·encode-planned → (at-update : Seat) (update₀ : List ℕ) (form₀ : ℕ) (g-form : Has byte form₀) (at-rows : Seat) (rows₀ : List Block) (at-plan : Seat) (plan₀ : List ℕ) (sections₀ : ℕ) (g-sections : Has word sections₀) (at-ranges : Seat) (ranges₀ : List ℕ) (n₀ : ℕ) (g-n : Has word n₀) (at-out : Seat) (out₀ : List ℕ) → ((3 * n₀ ≤ length ranges₀) × (5 * sections₀ ≤ length plan₀)) → Card 𝓤 H A C #writing·encode-planned (pass byte at-update update₀ ∷ val byte form₀ g-form ∷ pass block at-rows rows₀ ∷ read word at-plan plan₀ ∷ val word sections₀ g-sections ∷ pass word at-ranges ranges₀ ∷ val word n₀ g-n ∷ mut byte at-out out₀ (plannedOut (job update₀ rows₀ plan₀ sections₀ (rowsFrom ranges₀ 0 n₀)) form₀ out₀) ∷ []) written (plannedAnswer (job update₀ rows₀ plan₀ sections₀ (rowsFrom ranges₀ 0 n₀)) form₀ (length out₀))
-    writing·encode-planned-plan! known at-update update₀ form₀ g-form at-rows rows₀ at-plan plan₀ sections₀ g-sections at-ranges ranges₀ n₀ g-n at-out out₀ h = record {
+    pub writing·why-not! : Triple 𝓤 (C #writing·why-not) Writing·why-not → (from₀ : ℕ) (g-from : Has byte from₀) (form₀ : ℕ) (g-form : Has byte form₀) (planned₀ : Outcome) (g-planned : Has outcome planned₀) (measured₀ : Measured) (g-measured : Has measured measured₀) → Card 𝓤 H A C #writing·why-not (val byte from₀ g-from ∷ val byte form₀ g-form ∷ val outcome planned₀ g-planned ∷ val measured measured₀ g-measured ∷ []) byte (whyFor from₀ form₀ planned₀ measured₀)
+    writing·why-not! known from₀ g-from form₀ g-form planned₀ g-planned measured₀ g-measured = record {
+      contract = Writing·why-not;
+      known = known;
+      ghost = λ x. (x, tt);
+      args = λ ns. refl;
+      asked = emp 𝓤;
+      asks = id⊢ 𝓤 _;
+      into = λ ns. id⊢ 𝓤 _;
+      ensured = λ x r ws. writing·why-not-fn.clauses 𝓤 H A mem run (x .0) (x .3) .ensures tt r (atExit writing·why-not-fn.ended (x .0) (x .3) ws);
+      out = λ ns v. id⊢ 𝓤 _;
+      said = λ ns r ws. since 𝓤 (λ e. (e, tt));
+    }
+
+    pub writing·encode-planned-sizes-plan! : Triple 𝓤 (C #writing·encode-planned) Writing·encode-planned → (at-update : Seat) (update₀ : List ℕ) (form₀ : ℕ) (g-form : Has byte form₀) (at-sizes : Seat) (sizes₀ : List ℕ) (at-rows : Seat) (rows₀ : List Block) (at-plan : Seat) (plan₀ : List ℕ) (sections₀ : ℕ) (g-sections : Has word sections₀) (at-ranges : Seat) (ranges₀ : List ℕ) (n₀ : ℕ) (g-n : Has word n₀) (at-out : Seat) (out₀ : List ℕ) → ((sizes₀ ≡ sizesIn (job update₀ rows₀ plan₀ sections₀ (rowsFrom ranges₀ 0 n₀)) form₀) × (length sizes₀ ≡ 10) × (3 * n₀ ≤ length ranges₀) × (5 * sections₀ ≤ length plan₀)) → Card 𝓤 H A C #writing·encode-planned (pass byte at-update update₀ ∷ val byte form₀ g-form ∷ read word at-sizes sizes₀ ∷ pass block at-rows rows₀ ∷ read word at-plan plan₀ ∷ val word sections₀ g-sections ∷ pass word at-ranges ranges₀ ∷ val word n₀ g-n ∷ mut byte at-out out₀ (plannedOut (job update₀ rows₀ plan₀ sections₀ (rowsFrom ranges₀ 0 n₀)) form₀ out₀) ∷ []) written (plannedAnswer (job update₀ rows₀ plan₀ sections₀ (rowsFrom ranges₀ 0 n₀)) form₀ (length out₀))
+    writing·encode-planned-sizes-plan! known at-update update₀ form₀ g-form at-sizes sizes₀ at-rows rows₀ at-plan plan₀ sections₀ g-sections at-ranges ranges₀ n₀ g-n at-out out₀ h = record {
       contract = Writing·encode-planned;
       known = known;
       ghost = λ x. (x, tt);
       args = λ ns. refl;
-      asked = fact 𝓤 ((3 * n₀ ≤ length ranges₀) × (5 * sections₀ ≤ length plan₀));
-      asks = factI 𝓤 ((3 * n₀ ≤ length ranges₀) × (5 * sections₀ ≤ length plan₀)) (emp 𝓤) h;
+      asked = fact 𝓤 ((sizes₀ ≡ sizesIn (job update₀ rows₀ plan₀ sections₀ (rowsFrom ranges₀ 0 n₀)) form₀) × (length sizes₀ ≡ 10) × (3 * n₀ ≤ length ranges₀) × (5 * sections₀ ≤ length plan₀));
+      asks = factI 𝓤 ((sizes₀ ≡ sizesIn (job update₀ rows₀ plan₀ sections₀ (rowsFrom ranges₀ 0 n₀)) form₀) × (length sizes₀ ≡ 10) × (3 * n₀ ≤ length ranges₀) × (5 * sections₀ ≤ length plan₀)) (emp 𝓤) h;
       into = λ ns. id⊢ 𝓤 _;
       ensured = λ x r ws. writing·encode-planned-fn.clauses 𝓤 H A mem run (x .0) (x .3) .ensures tt r (atExit writing·encode-planned-fn.ended (x .0) (x .3) ws);
       out = λ ns v. id⊢ 𝓤 _;
       said = λ ns r ws. since 𝓤 (λ e. (e .0, (e .1, tt)));
     }
 
-    pub writing·encode-kept-clients-clocks! : Triple 𝓤 (C #writing·encode-kept) Writing·encode-kept → (at-update : Seat) (update₀ : List ℕ) (at-clients : Seat) (clients₀ : List ℕ) (at-clocks : Seat) (clocks₀ : List ℕ) (m₀ : ℕ) (g-m : Has word m₀) (form₀ : ℕ) (g-form : Has byte form₀) (at-rows : Seat) (rows₀ : List Block) (blocks₀ : ℕ) (g-blocks : Has word blocks₀) (at-ranges : Seat) (ranges₀ : List ℕ) (n₀ : ℕ) (g-n : Has word n₀) (at-out : Seat) (out₀ : List ℕ) → ((blocks₀ ≤ length rows₀) × (3 * n₀ ≤ length ranges₀)) → Card 𝓤 H A C #writing·encode-kept (pass byte at-update update₀ ∷ read word at-clients clients₀ ∷ read word at-clocks clocks₀ ∷ val word m₀ g-m ∷ val byte form₀ g-form ∷ pass block at-rows rows₀ ∷ val word blocks₀ g-blocks ∷ pass word at-ranges ranges₀ ∷ val word n₀ g-n ∷ mut byte at-out out₀ (keptOut update₀ (entriesOf m₀ clients₀ clocks₀) form₀ rows₀ blocks₀ (rowsFrom ranges₀ 0 n₀) out₀) ∷ []) written (keptAnswer update₀ (entriesOf m₀ clients₀ clocks₀) form₀ rows₀ blocks₀ (rowsFrom ranges₀ 0 n₀) (length out₀))
-    writing·encode-kept-clients-clocks! known at-update update₀ at-clients clients₀ at-clocks clocks₀ m₀ g-m form₀ g-form at-rows rows₀ blocks₀ g-blocks at-ranges ranges₀ n₀ g-n at-out out₀ h = record {
+    pub writing·encode-kept-clients-clocks! : Triple 𝓤 (C #writing·encode-kept) Writing·encode-kept → (at-update : Seat) (update₀ : List ℕ) (at-clients : Seat) (clients₀ : List ℕ) (at-clocks : Seat) (clocks₀ : List ℕ) (m₀ : ℕ) (g-m : Has word m₀) (from₀ : ℕ) (g-from : Has byte from₀) (form₀ : ℕ) (g-form : Has byte form₀) (at-rows : Seat) (rows₀ : List Block) (blocks₀ : ℕ) (g-blocks : Has word blocks₀) (at-ranges : Seat) (ranges₀ : List ℕ) (n₀ : ℕ) (g-n : Has word n₀) (at-out : Seat) (out₀ : List ℕ) → ((blocks₀ ≤ length rows₀) × (3 * n₀ ≤ length ranges₀)) → Card 𝓤 H A C #writing·encode-kept (pass byte at-update update₀ ∷ read word at-clients clients₀ ∷ read word at-clocks clocks₀ ∷ val word m₀ g-m ∷ val byte from₀ g-from ∷ val byte form₀ g-form ∷ pass block at-rows rows₀ ∷ val word blocks₀ g-blocks ∷ pass word at-ranges ranges₀ ∷ val word n₀ g-n ∷ mut byte at-out out₀ (keptOut update₀ (entriesOf m₀ clients₀ clocks₀) from₀ form₀ rows₀ blocks₀ (rowsFrom ranges₀ 0 n₀) out₀) ∷ []) written (keptAnswer update₀ (entriesOf m₀ clients₀ clocks₀) from₀ form₀ rows₀ blocks₀ (rowsFrom ranges₀ 0 n₀) (length out₀))
+    writing·encode-kept-clients-clocks! known at-update update₀ at-clients clients₀ at-clocks clocks₀ m₀ g-m from₀ g-from form₀ g-form at-rows rows₀ blocks₀ g-blocks at-ranges ranges₀ n₀ g-n at-out out₀ h = record {
       contract = Writing·encode-kept;
       known = known;
       ghost = λ x. (x, tt);

@@ -16,20 +16,20 @@ use Rattle.kept.specs.Plan.{entriesOf}
 use Rattle.kept.proofs.VectorRead.{was-read, was-refused}
 use Rattle.writing.specs.Writing.{keptAnswer, keptOut, readAnswer, readOut}
 
-module _ (u : List ℕ) (c : Course Entry) (form : ℕ) (rows : List Block) (n : ℕ) (rs : List Range) (out : List ℕ) where
+module _ (u : List ℕ) (c : Course Entry) (from form : ℕ) (rows : List Block) (n : ℕ) (rs : List Range) (out : List ℕ) where
   abbrev Right : Written → List ℕ → Type 0
-  Right r out₁ = (r ≡ readAnswer u c form rows n rs (length out)) × (out₁ ≡ readOut u c form rows n rs out)
+  Right r out₁ = (r ≡ readAnswer u c from form rows n rs (length out)) × (out₁ ≡ readOut u c from form rows n rs out)
 
   abbrev with-entries : ℕ → ℕ → ℕ → List Entry
   with-entries m k l = entriesOf m (padded k (clientsIn (kept c))) (padded l (clocksIn (kept c)))
 
   pub exit-read : (m k l : ℕ) → vector.entriesOf c ≡ Read m
-      → Right (keptAnswer u (with-entries m k l) form rows n rs (length out)) (keptOut u (with-entries m k l) form rows n rs out)
+      → Right (keptAnswer u (with-entries m k l) from form rows n rs (length out)) (keptOut u (with-entries m k l) from form rows n rs out)
   unfolding readAnswer readOut
   exit-read m k l e =
       let r = was-read c m e in (
-        ap (λ (v : List Entry). keptAnswer u v form rows n rs (length out)) (r .entries k l) ∙ sym (r .ends-so _ _),
-        ap (λ (v : List Entry). keptOut u v form rows n rs out) (r .entries k l) ∙ sym (r .ends-so _ _),
+        ap (λ (v : List Entry). keptAnswer u v from form rows n rs (length out)) (r .entries k l) ∙ sym (r .ends-so _ _),
+        ap (λ (v : List Entry). keptOut u v from form rows n rs out) (r .entries k l) ∙ sym (r .ends-so _ _),
       )
 
   pub exit-refused : (why : Refusal) → vector.entriesOf c ≡ Refused why → Right (refusal (why .number)) (padded (length out) [])

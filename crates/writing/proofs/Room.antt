@@ -58,7 +58,7 @@ module _ (u : List ℕ) (v : List Entry) where
   unfolding grown
   grown-sections s i b = go (eqb (s .count) 0) (falls (s .remote) b) (ltb (s .count) brim)
     where
-      go : (x y z : Bool) → pick x (pick y s (firstPiece u s i b)) (pick z (onePieceMore s) s) .sections ≡ s .sections
+      go : (x y z : Bool) → pick x (pick y s (firstPiece u s i b)) (pick z (onePieceMore s b) s) .sections ≡ s .sections
       go true true z = refl
       go true false z = refl
       go false y true = refl
@@ -77,7 +77,7 @@ module _ (u : List ℕ) (v : List Entry) where
   row-room w s i b h = go (continues s b)
     where
       next : Planning
-      next = begun (endedCount w s) (s .torn) (b .client) (remote v (b .client))
+      next = begun (endedCount w s) (s .torn) (s .formats) (b .client) (remote v (b .client))
 
       go : (t : Bool) → 5 * pick t (grown u s i b) (grown u next i b) .sections ≤ length (planWords w s b)
       go true = omega (arith, grown-sections s i b, words-length w s b)

@@ -101,13 +101,18 @@ module _ (u : List ℕ) (v : List Entry) (w : List ℕ) (bs : List Block) (short
   unfolding outcomeFor outcomeOf wordsFor
   plan-is = plan-kept u v w bs short ordered sound brimmed room
 
+  pub planned-are : (rows : List Block) → take (length bs) rows ≡ bs → length bs ≤ length rows → anyTorn u (sectionsOf v bs) ≡ false
+      → plannedTokens u rows (wordsFor u v w bs) (outcomeFor u v w bs .sections) ≡ sectionsTokens u (sectionsOf v bs)
+  unfolding plannedTokens
+  planned-are rows same fits untorn =
+      let n = outcomeFor u v w bs .sections in
+      let ss = sectionsOf v bs in
+      stops-written u bs rows same fits (stopsOf (plannedFrom (wordsFor u v w bs) 0 n)) ss (sections-sound v bs ordered u sound) (plan-is .goes untorn)
+
   pub tokens-are : (rows : List Block) (t : ℕ) (rs : List Range) → take (length bs) rows ≡ bs → length bs ≤ length rows
       → anyTorn u (sectionsOf v bs) ≡ false
       → var (outcomeFor u v w bs .sections) ∷ (plannedTokens u rows (wordsFor u v w bs) (outcomeFor u v w bs .sections) ++ deleteTokens t rs)
       ≡ updateTokens t u (sectionsOf v bs) rs
-  unfolding plannedTokens updateTokens
+  unfolding updateTokens
   tokens-are rows t rs same fits untorn =
-      let n = outcomeFor u v w bs .sections in
-      let ss = sectionsOf v bs in
-      ap₂ (λ (k : ℕ) (ts : List Token). var k ∷ (ts ++ deleteTokens t rs)) (plan-is .count)
-      (stops-written u bs rows same fits (stopsOf (plannedFrom (wordsFor u v w bs) 0 n)) ss (sections-sound v bs ordered u sound) (plan-is .goes untorn))
+      ap₂ (λ (k : ℕ) (ts : List Token). var k ∷ (ts ++ deleteTokens t rs)) (plan-is .count) (planned-are rows same fits untorn)

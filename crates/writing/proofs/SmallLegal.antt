@@ -6,7 +6,7 @@ use mathlib.Core.List.{List, [], _∷_}
 use native.Mathlib.Omega.{arith}
 use lib.Dec.{eqb}
 use lib.ListN.{length, take, length-take, length-drop}
-use borrow.Author.Tests.{le-leb}
+use borrow.Author.Tests.{le-leb, eqb-true}
 use Rattle.numbers.specs.Number.{pick}
 use Rattle.numbers.specs.Limits.{maxClock, maxValue, maxUpdate}
 use Rattle.text.specs.declared.Part.{Part}
@@ -15,19 +15,19 @@ use Rattle.text.proofs.Laws.{units-le-bytes}
 use Rattle.runs.specs.Runs.{coding}
 use Rattle.block.specs.declared.Id.{Id}
 use Rattle.block.specs.declared.Block.{Block}
-use Rattle.block.specs.Kinds.{isGc, isSkip, isDeleted, isBinary, isText, isItem}
+use Rattle.block.specs.Kinds.{TYPE, isGc, isSkip, isDeleted, isBinary, isText, isFormat, isType, isAny, isItem, isNamed}
 use Rattle.block.specs.Row.{noId}
 use Rattle.vector.specs.Vector.{Entry}
 use Rattle.ranges.specs.Ranges.{Range}
 use Rattle.readings.specs.Sound.{bytesIn, linked, Sound, SoundId, All, Ordered}
 use Rattle.readings.specs.Groups.{groups}
 use Rattle.readings.proofs.Columns.{chosen}
-use Rattle.tokens.specs.Tokens.{Token, columnIn, client, left, right, info, parentInfo, text, len, var, buf}
+use Rattle.tokens.specs.Tokens.{Token, columnIn, client, left, right, info, parentInfo, text, len, typeNumber, var, buf, key, value, values}
 use Rattle.tokens.proofs.Fitting.{legal, legalAll, legal-append}
 use Rattle.kept.specs.Kept.{Piece, Section, sectionsOf, rowsOf, Whole, Pieces, SoundSection}
 use Rattle.kept.specs.Cut.{isWhole, shortened, idBefore, begunLater, cutRow}
 use Rattle.kept.proofs.SectionsKept.{sections-sound}
-use Rattle.records.specs.Records.{contentNumber, infoByte, bit, name, leftTokens, rightTokens, parentTokens, keyTokens, placeTokens, contentTokens, blockTokens, piecesTokens, startOf, sectionTokens, sectionsTokens, clockFrom, lengthOf, rangesTokens, clientTokens, ownerOf, deleteTokens, updateTokens}
+use Rattle.records.specs.Records.{contentNumber, infoByte, bit, name, leftTokens, rightTokens, parentTokens, keyTokens, placeTokens, mark, formatTokens, typeTokens, markedTokens, contentTokens, blockTokens, piecesTokens, startOf, sectionTokens, sectionsTokens, clockFrom, lengthOf, rangesTokens, clientTokens, ownerOf, deleteTokens, updateTokens}
 
 -- ---- tokens
 
@@ -70,6 +70,22 @@ text-legal : (b : List ℕ) (n : ℕ) → n ≤ maxValue → legal (text b n) �
 unfolding legal columnIn coding
 text-legal b n h = le-leb n maxValue h
 
+key-legal : (b : List ℕ) (n : ℕ) → n ≤ maxValue → legal (key b n) ≡ true
+unfolding legal columnIn coding
+key-legal b n h = le-leb n maxValue h
+
+type-legal : (v : ℕ) → v ≤ maxValue → legal (typeNumber v) ≡ true
+unfolding legal columnIn coding
+type-legal v h = le-leb v maxValue h
+
+value-legal : (b : List ℕ) → legal (value b) ≡ true
+unfolding legal
+value-legal b = refl
+
+values-legal : (b : List ℕ) → legal (values b) ≡ true
+unfolding legal
+values-legal b = refl
+
 var-legal : (v : ℕ) (ts : List Token) → Legals ts → Legals (var v ∷ ts)
 unfolding legal
 var-legal v ts h = more-legal (var v) ts refl h
@@ -95,6 +111,9 @@ counted-le s = go (wellFormed s)
 name-legal : (u : List ℕ) → length u ≤ maxUpdate → (p : Part) → legal (name u p) ≡ true
 name-legal u few p = text-legal (bytesIn u p) _ (omega (arith, few, part-length u p, counted-le (bytesIn u p)))
 
+mark-legal : (u : List ℕ) → length u ≤ maxUpdate → (p : Part) → legal (mark u p) ≡ true
+mark-legal u few p = key-legal (bytesIn u p) _ (omega (arith, few, part-length u p, counted-le (bytesIn u p)))
+
 -- ---- a record
 
 pub record ModestId (i : Id) : Type 0 where
@@ -107,20 +126,24 @@ pub record Modest (b : Block) : Type 0 where
   pub right : ModestId (b .right)
   pub parent : ModestId (b .parent)
   pub length : b .length .0 ≤ maxClock
+  pub type : b .«type_number» ≤ maxValue
 
 bit-le : (t : Bool) (n : ℕ) → bit t n ≤ n
 bit-le true n = omega arith
 bit-le false n = omega arith
 
-content-number : (kind : ℕ) → contentNumber kind ≤ 4
+content-number : (kind : ℕ) → contentNumber kind ≤ 8
 unfolding contentNumber
-content-number kind = go (isDeleted kind) (isBinary kind) (isText kind)
+content-number kind = go (isDeleted kind) (isBinary kind) (isText kind) (isFormat kind) (isType kind) (isAny kind)
   where
-    go : (x y z : Bool) → cond x 1 (cond y 3 (cond z 4 0)) ≤ 4
-    go true y z = omega arith
-    go false true z = omega arith
-    go false false true = omega arith
-    go false false false = omega arith
+    go : (x y z f t a : Bool) → cond x 1 (cond y 3 (cond z 4 (cond f 6 (cond t 7 (cond a 8 0))))) ≤ 8
+    go true y z f t a = omega arith
+    go false true z f t a = omega arith
+    go false false true f t a = omega arith
+    go false false false true t a = omega arith
+    go false false false false true a = omega arith
+    go false false false false false true = omega arith
+    go false false false false false false = omega arith
 
 info-byte : (b : Block) → infoByte b ≤ 255
 unfolding infoByte
@@ -162,12 +185,30 @@ module _ (u : List ℕ) (few : length u ≤ maxUpdate) (b : Block) (m : Modest b
   length-fits : b .length .0 ≤ maxValue
   length-fits = omega (arith, m .length)
 
+  format-legal : Legals (formatTokens u b)
+  unfolding formatTokens
+  format-legal = more-legal _ _ (mark-legal u few (b .mark)) (more-legal _ _ (value-legal (bytesIn u (b .part))) none-legal)
+
+  typed-legal : Legals (typeTokens u b)
+  unfolding typeTokens
+  typed-legal =
+      more-legal _ _ (type-legal (b .«type_number») (m .type))
+      (chosen Legals (isNamed (b .«type_number»)) (λ _. more-legal _ _ (mark-legal u few (b .mark)) none-legal) (λ _. none-legal))
+
+  marked-legal : Legals (markedTokens u b)
+  unfolding markedTokens
+  marked-legal =
+      chosen Legals (isFormat (b .kind)) (λ _. format-legal)
+      (λ _. chosen Legals (isType (b .kind)) (λ _. typed-legal)
+      (λ _. chosen Legals (isAny (b .kind))
+      (λ _. more-legal _ _ (len-legal (b .length .0) length-fits) (more-legal _ _ (values-legal (bytesIn u (b .part))) none-legal)) (λ _. none-legal)))
+
   content-legal : Legals (contentTokens u b)
   unfolding contentTokens
   content-legal =
       chosen Legals (isDeleted (b .kind)) (λ _. more-legal _ _ (len-legal (b .length .0) length-fits) none-legal)
       (λ _. chosen Legals (isBinary (b .kind)) (λ _. buf-legal (bytesIn u (b .part)))
-      (λ _. chosen Legals (isText (b .kind)) (λ _. more-legal _ _ (text-legal (bytesIn u (b .part)) (b .length .0) length-fits) none-legal) (λ _. none-legal)))
+      (λ _. chosen Legals (isText (b .kind)) (λ _. more-legal _ _ (text-legal (bytesIn u (b .part)) (b .length .0) length-fits) none-legal) (λ _. marked-legal)))
 
   pub block-legal : Legals (blockTokens u b)
   unfolding blockTokens
@@ -198,6 +239,13 @@ module _ (u : List ℕ) (p : Piece) (sound : Sound u (p .row)) (lies : Lies p) w
       (λ _. record { client = sound .client; clock = omega (arith, sound .end, lies .from) })
       (λ _. no-id)
 
+  row-type : p .row .«type_number» ≤ maxValue
+  row-type = go (isType (p .row .kind)) refl
+    where
+      go : (t : Bool) → isType (p .row .kind) ≡ t → p .row .«type_number» ≤ maxValue
+      go true e = omega (arith, sound .stored .type (eqb-true (p .row .kind) TYPE e) .1)
+      go false e = omega (arith, sound .stored .untyped e)
+
   row-modest : Modest (p .row)
   row-modest =
       record {
@@ -205,13 +253,14 @@ module _ (u : List ℕ) (p : Piece) (sound : Sound u (p .row)) (lies : Lies p) w
         right = modest-id _ _ (sound .right);
         parent = modest-id _ _ (sound .parent);
         length = omega (arith, sound .end);
+        type = row-type;
       }
 
   short-modest : Modest (shortened u p)
-  short-modest = record { left = row-modest .left; right = row-modest .right; parent = row-modest .parent; length = omega (arith, sound .end, lies .to) }
+  short-modest = record { left = row-modest .left; right = row-modest .right; parent = row-modest .parent; length = omega (arith, sound .end, lies .to); type = row-type }
 
   later-modest : Modest (begunLater u p)
-  later-modest = record { left = before-modest; right = row-modest .right; parent = no-id; length = omega (arith, sound .end, lies .to) }
+  later-modest = record { left = before-modest; right = row-modest .right; parent = no-id; length = omega (arith, sound .end, lies .to); type = row-type }
 
   pub cut-modest : Modest (cutRow u p)
   unfolding cutRow

@@ -6,7 +6,7 @@ use native.Mathlib.Omega.{arith}
 use lib.ListN.{length, length-append}
 use Rattle.numbers.specs.Limits.{maxUpdate, maxClients, maxBlocks}
 use Rattle.block.specs.declared.Block.{Block}
-use Rattle.block.specs.Kinds.{isGc, isSkip, isDeleted, isBinary, isText, isItem}
+use Rattle.block.specs.Kinds.{isGc, isSkip, isDeleted, isBinary, isText, isFormat, isType, isAny, isItem, isNamed}
 use Rattle.vector.specs.Vector.{Entry}
 use Rattle.ranges.specs.Ranges.{Range}
 use Rattle.readings.specs.Sound.{linked}
@@ -18,7 +18,7 @@ use Rattle.tokens.proofs.Fitting.{sizeOf, sizeAll, size-append}
 use Rattle.kept.specs.Kept.{Piece, Section, clientOf, sectionsOf, pieceCount}
 use Rattle.kept.specs.Cut.{cutRow}
 use Rattle.kept.proofs.SectionsKept.{sections-length, sections-count}
-use Rattle.records.specs.Records.{leftTokens, rightTokens, parentTokens, keyTokens, placeTokens, contentTokens, blockTokens, piecesTokens, sectionTokens, sectionsTokens, rangesTokens, clientTokens, ownerOf, deleteTokens, updateTokens}
+use Rattle.records.specs.Records.{leftTokens, rightTokens, parentTokens, keyTokens, placeTokens, formatTokens, typeTokens, markedTokens, contentTokens, blockTokens, piecesTokens, sectionTokens, sectionsTokens, rangesTokens, clientTokens, ownerOf, deleteTokens, updateTokens}
 use Rattle.writing.proofs.SmallLegal.{part-length}
 
 -- ---- a record
@@ -50,35 +50,53 @@ module _ (u : List ℕ) (b : Block) where
       (λ _. omega (arith, size-append (leftTokens b) (rightTokens b), left-size, right-size))
       (λ _. omega (arith, size-append (parentTokens u b) (keyTokens u b), parent-size, key-size))
 
-  content-size : sizeAll (contentTokens u b) ≤ 10 + length u
+  format-size : sizeAll (formatTokens u b) ≤ 30 + 2 * length u
+  unfolding formatTokens sizeAll sizeOf
+  format-size = omega (arith, part-length u (b .mark), part-length u (b .part))
+
+  type-size : sizeAll (typeTokens u b) ≤ 30 + length u
+  unfolding typeTokens sizeAll sizeOf
+  type-size = chosen (λ (ts : List Token). 10 + sizeAll ts ≤ 30 + length u) (isNamed (b .«type_number»)) (λ _. omega (arith, part-length u (b .mark))) (λ _. omega arith)
+
+  abbrev Content : List Token → Type 0
+  Content = Below (30 + 2 * length u)
+
+  marked-size : sizeAll (markedTokens u b) ≤ 30 + 2 * length u
+  unfolding markedTokens sizeAll sizeOf
+  marked-size =
+      chosen Content (isFormat (b .kind)) (λ _. format-size)
+      (λ _. chosen Content (isType (b .kind)) (λ _. omega (arith, type-size))
+      (λ _. chosen Content (isAny (b .kind)) (λ _. omega (arith, part-length u (b .part))) (λ _. omega arith)))
+
+  content-size : sizeAll (contentTokens u b) ≤ 30 + 2 * length u
   unfolding contentTokens sizeAll sizeOf
   content-size =
-      chosen (Below (10 + length u)) (isDeleted (b .kind)) (λ _. omega arith)
-      (λ _. chosen (Below (10 + length u)) (isBinary (b .kind)) (λ _. omega (arith, part-length u (b .part)))
-      (λ _. chosen (Below (10 + length u)) (isText (b .kind)) (λ _. omega (arith, part-length u (b .part))) (λ _. omega arith)))
+      chosen Content (isDeleted (b .kind)) (λ _. omega arith)
+      (λ _. chosen Content (isBinary (b .kind)) (λ _. omega (arith, part-length u (b .part)))
+      (λ _. chosen Content (isText (b .kind)) (λ _. omega (arith, part-length u (b .part))) (λ _. marked-size)))
 
-  pub block-size : sizeAll (blockTokens u b) ≤ 60 + 3 * length u
+  pub block-size : sizeAll (blockTokens u b) ≤ 80 + 4 * length u
   unfolding blockTokens sizeAll sizeOf
   block-size =
-      chosen (Below (60 + 3 * length u)) (isGc (b .kind)) (λ _. omega arith)
-      (λ _. chosen (Below (60 + 3 * length u)) (isSkip (b .kind)) (λ _. omega arith)
-      (λ _. chosen (Below (60 + 3 * length u)) (isItem (b .kind))
+      chosen (Below (80 + 4 * length u)) (isGc (b .kind)) (λ _. omega arith)
+      (λ _. chosen (Below (80 + 4 * length u)) (isSkip (b .kind)) (λ _. omega arith)
+      (λ _. chosen (Below (80 + 4 * length u)) (isItem (b .kind))
       (λ _. omega (arith, size-append (placeTokens u b) (contentTokens u b), place-size, content-size)) (λ _. omega arith)))
 
 -- ---- sections
 
 module _ (u : List ℕ) (few : length u ≤ maxUpdate) where
-  pieces-size : (ps : List Piece) → sizeAll (piecesTokens u ps) ≤ 50331705 * length ps
+  pieces-size : (ps : List Piece) → sizeAll (piecesTokens u ps) ≤ 67108940 * length ps
   unfolding piecesTokens sizeAll
   pieces-size [] = omega arith
   pieces-size (p ∷ ps) =
       omega (arith, size-append (blockTokens u (cutRow u p)) (piecesTokens u ps), few, block-size u (cutRow u p), pieces-size ps)
 
-  section-size : (s : Section) → sizeAll (sectionTokens u s) ≤ 30 + 50331705 * length (s .pieces)
+  section-size : (s : Section) → sizeAll (sectionTokens u s) ≤ 30 + 67108940 * length (s .pieces)
   unfolding sectionTokens sizeAll sizeOf
   section-size s = omega (arith, pieces-size (s .pieces))
 
-  pub sections-size : (ss : List Section) → sizeAll (sectionsTokens u ss) ≤ 30 * length ss + 50331705 * pieceCount ss
+  pub sections-size : (ss : List Section) → sizeAll (sectionsTokens u ss) ≤ 30 * length ss + 67108940 * pieceCount ss
   unfolding sectionsTokens sizeAll pieceCount
   sections-size [] = omega arith
   sections-size (s ∷ ss) = omega (arith, size-append (sectionTokens u s) (sectionsTokens u ss), section-size s, sections-size ss)

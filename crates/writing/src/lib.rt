@@ -1,6 +1,8 @@
 // What is written of an update that was read: planned, measured, then written.
 use block::Block;
+use encoder::steps::Outcome;
 use numbers::Written;
+use passes::Measured;
 use vector::Entries;
 ghost use mathlib.Core.Path.{_≡_};
 ghost use Prim.Native.Nat.{_*_, _≤_};
@@ -8,12 +10,13 @@ ghost use lib.ListN.{length};
 ghost use Rattle.ranges.specs.Table.{rowsFrom};
 ghost use Rattle.vector.specs.Vector.{vectorOf};
 ghost use Rattle.kept.specs.Plan.{entriesOf};
-ghost use Rattle.writing.specs.Writing.{job, plannedAnswer, plannedOut, keptAnswer, keptOut, readAnswer, readOut};
+ghost use Rattle.writing.specs.Writing.{job, sizesIn, plannedAnswer, plannedOut, turned, whyFor, keptAnswer, keptOut, readAnswer, readOut};
 
-// Planned rows and the first n ranges, in a form: 13, or 10, or all of it.
+// Planned rows and the first n ranges, in a form, the sizes of its lanes being known: 10, or all of it.
 fn encode_planned(
     update: &[u8],
     form: u8,
+    sizes: &[u64],
     rows: &[Block],
     plan: &[u64],
     sections: usize,
@@ -21,18 +24,13 @@ fn encode_planned(
     n: usize,
     out: &mut [u8],
 ) -> Written
-    requires { ⌜ (3 * n ≤ length (now ranges)) × (5 * sections ≤ length (now plan)) ⌝ }
+    requires { ⌜ (now sizes ≡ sizesIn (job (now update) (now rows) (now plan) sections (rowsFrom (now ranges) 0 n)) form)
+        × (length (now sizes) ≡ 10) × (3 * n ≤ length (now ranges)) × (5 * sections ≤ length (now plan)) ⌝ }
     ensures { λ r. ⌜ (r ≡ plannedAnswer (job (now (update .entry)) (now (rows .entry)) (now (plan .entry)) sections (rowsFrom (now (ranges .entry)) 0 n))
         form (length (now (out .entry))))
         × (now (out .exit) ≡ plannedOut (job (now (update .entry)) (now (rows .entry)) (now (plan .entry)) sections (rowsFrom (now (ranges .entry)) 0 n))
         form (now (out .entry))) ⌝ }
 {
-    let mut table = [0u64; 8];
-    let sizes = &mut table[..];
-    let far = passes::measure(sizes, update, rows, plan, sections, form);
-    if far {
-        return numbers::refuse(out, 13);
-    }
     let used = passes::write(out, sizes, update, rows, plan, sections, ranges, n, form);
     if out.len() < used {
         return numbers::refuse(out, 10);
@@ -40,12 +38,43 @@ fn encode_planned(
     numbers::finish(out, used)
 }
 
-// The first rows, as many as are blocks, kept against m entries: 9 first.
+// Whether a format would change its form.
+fn is_turned(from: u8, form: u8, formats: bool) -> bool
+    ensures { λ r. ⌜ r ≡ turned from form formats ⌝ }
+{
+    if from == form {
+        return false;
+    }
+    formats
+}
+
+// Why nothing is written of what was planned and measured, or 0: too many keys, a cut inside a pair, a format that would change its form, a difference that
+// cannot be spelled.
+fn why_not(from: u8, form: u8, planned: Outcome, measured: Measured) -> u8
+    ensures { λ r. ⌜ r ≡ whyFor from form planned measured ⌝ }
+{
+    if measured.crowded {
+        return 3;
+    }
+    if planned.torn {
+        return 9;
+    }
+    if is_turned(from, form, planned.formats) {
+        return 19;
+    }
+    if measured.far {
+        return 13;
+    }
+    0
+}
+
+// The first rows, as many as are blocks, kept against m entries.
 fn encode_kept(
     update: &[u8],
     clients: &[u64],
     clocks: &[u64],
     m: usize,
+    from: u8,
     form: u8,
     rows: &[Block],
     blocks: usize,
@@ -55,23 +84,38 @@ fn encode_kept(
 ) -> Written
     requires { ⌜ (blocks ≤ length (now rows)) × (3 * n ≤ length (now ranges)) ⌝ }
     ensures { λ r. ⌜ (r ≡ keptAnswer (now (update .entry)) (entriesOf m (now (clients .entry)) (now (clocks .entry)))
-        form (now (rows .entry)) blocks (rowsFrom (now (ranges .entry)) 0 n) (length (now (out .entry))))
+        from form (now (rows .entry)) blocks (rowsFrom (now (ranges .entry)) 0 n) (length (now (out .entry))))
         × (now (out .exit) ≡ keptOut (now (update .entry)) (entriesOf m (now (clients .entry)) (now (clocks .entry)))
-        form (now (rows .entry)) blocks (rowsFrom (now (ranges .entry)) 0 n) (now (out .entry))) ⌝ }
+        from form (now (rows .entry)) blocks (rowsFrom (now (ranges .entry)) 0 n) (now (out .entry))) ⌝ }
 {
     let mut words = [0u64; 320];
     let plan = &mut words[..];
+    let mut table = [0u64; 10];
+    let sizes = &mut table[..];
     let planned = encoder::plan_rows(update, rows, blocks, clients, clocks, m, plan);
-    if planned.torn {
-        return numbers::refuse(out, 9);
+    let measured = passes::measure(sizes, update, rows, plan, planned.sections, form);
+    let number = why_not(from, form, planned, measured);
+    if number != 0 {
+        return numbers::refuse(out, number);
     }
-    encode_planned(update, form, rows, plan, planned.sections, ranges, n, out)
+    encode_planned(
+        update,
+        form,
+        sizes,
+        rows,
+        plan,
+        planned.sections,
+        ranges,
+        n,
+        out,
+    )
 }
 
 // The same against a vector.
 pub fn encode_read(
     update: &[u8],
     vector: &[u8],
+    from: u8,
     form: u8,
     rows: &[Block],
     blocks: usize,
@@ -81,9 +125,9 @@ pub fn encode_read(
 ) -> Written
     requires { ⌜ (blocks ≤ length (now rows)) × (3 * n ≤ length (now ranges)) ⌝ }
     ensures { λ r. ⌜ (r ≡ readAnswer (now (update .entry)) (vectorOf (now (vector .entry)))
-        form (now (rows .entry)) blocks (rowsFrom (now (ranges .entry)) 0 n) (length (now (out .entry))))
+        from form (now (rows .entry)) blocks (rowsFrom (now (ranges .entry)) 0 n) (length (now (out .entry))))
         × (now (out .exit) ≡ readOut (now (update .entry)) (vectorOf (now (vector .entry)))
-        form (now (rows .entry)) blocks (rowsFrom (now (ranges .entry)) 0 n) (now (out .entry))) ⌝ }
+        from form (now (rows .entry)) blocks (rowsFrom (now (ranges .entry)) 0 n) (now (out .entry))) ⌝ }
 {
     let mut first = [0u64; 64];
     let clients = &mut first[..];
@@ -95,6 +139,7 @@ pub fn encode_read(
             clients,
             clocks,
             m,
+            from,
             form,
             rows,
             blocks,

@@ -15,7 +15,7 @@ use Rattle.grammar.specs.Grammar as grammar
 use Rattle.grammar.specs.Course.{got, Reader, over, run}
 use Rattle.grammar.specs.Blocks as blocks
 use Rattle.grammar.specs.Blocks.{anItem, body}
-use Rattle.readings.specs.Sound.{linked, Stored, Sound}
+use Rattle.readings.specs.Sound.{linked, Sound}
 use Rattle.tokens.specs.Tokens.{Token, info, len, var}
 use Rattle.draws.specs.Draws.{laneField, Draws, Lined}
 use Rattle.draws.proofs.Splits.{split}
@@ -24,8 +24,9 @@ use Rattle.written.specs.Written.{Alike, keyless, reread, Writable}
 use Rattle.written.proofs.Infos.{info-says}
 use Rattle.written.proofs.Courses.{draw-on, then-on, within-on}
 use Rattle.written.proofs.Ids.{Finds}
-use Rattle.written.proofs.Contents.{content-read}
-use Rattle.written.proofs.Places.{filled, Placed, linked-place, rooted-place, bare-alike}
+use Rattle.written.proofs.Holdings.{Holding, sound-holds, keyless-holds}
+use Rattle.written.proofs.Contents.{filled, content-read}
+use Rattle.written.proofs.Places.{Placed, linked-place, rooted-place, bare-alike}
 
 module _ {S : Type 0} {form : ℕ} {r : Reader S} {at : S → ℕ} {d : List ℕ} (lined : Lined form d r at) (u : List ℕ) (b : Block) where
   -- from s to t: c is found, in d
@@ -59,30 +60,27 @@ module _ {S : Type 0} {form : ℕ} {r : Reader S} {at : S → ℕ} {d : List ℕ
         rw (bare-gc (b .kind) none, bare-skip (b .kind) none, l)
 
     -- an item is its place and its content
-    item-read : (c : Block) → isItem (b .kind) ≡ true → Stored u b → ((m x : S) → Draws r d m (placeTokens u b) x → Placed r d u b c m x)
+    item-read : (c : Block) → isItem (b .kind) ≡ true → Holding u b → ((m x : S) → Draws r d m (placeTokens u b) x → Placed r d u b c m x)
         → Draws r d s (blockTokens u b) t → BlockRead s t c
     unfolding body anItem Draws laneField
-    item-read c l stored place h =
+    item-read c l holds place h =
         let k = subst (λ (ts : List Token). Draws r d s ts t) (item-tokens l) h in
         let two = split r d (placeTokens u b) (contentTokens u b) (k .1) t (k .3) in
         let m = two .between in
         let x = place (k .1) m (two .first) in
-        let found = content-read r d u b (infoByte b) (k .0) (x .block) m t (info-says b l .low) stored l (two .then) in
+        let found = content-read r d u b (infoByte b) (k .0) (x .block) m t (info-says b l .low) holds (x .new) l (two .then) in
         body-block (infoByte b) (k .0) s (k .1) t c (k .2)
         (record {
-          block = filled b (found .part) (x .block);
+          block = filled b (found .part) (found .mark) (x .block);
           is = rw (info-says b l .skip, info-says b l .gc) (then-on r _ (x .block) (k .1) m _ (x .is) ∙ found .is);
-          alike = x .alike (found .part) (found .same);
+          alike = x .alike (found .part) (found .mark) (found .same) (found .marked);
         })
 
     linked-read : linked b ≡ true → Sound u (keyless b) → isItem (b .kind) ≡ true → Draws r d s (blockTokens u b) t → BlockRead s t (keyless b)
-    linked-read some sound l h =
-        let x = sound .stored in
-        let stored : Stored u b = record { lies = x .lies; nothing = x .nothing; binary = x .binary; text = x .text; some = x .some } in
-        item-read (keyless b) l stored (linked-place r d u b some sound l) h
+    linked-read some sound l h = item-read (keyless b) l (keyless-holds u b sound) (linked-place r d u b some sound l) h
 
     rooted-read : linked b ≡ false → Sound u b → isItem (b .kind) ≡ true → Draws r d s (blockTokens u b) t → BlockRead s t b
-    rooted-read none sound l h = item-read b l (sound .stored) (rooted-place r d u b none sound l) h
+    rooted-read none sound l h = item-read b l (sound-holds u b sound) (rooted-place r d u b none sound l) h
 
     -- GC is 0 and its length a field; Skip is 10 and its length in line
     bare-read : (kind n : ℕ) (x : grammar.Number) → b .kind ≡ kind → isItem (b .kind) ≡ false → linked b ≡ false → Sound u b
@@ -134,10 +132,10 @@ module _ {S : Type 0} {form : ℕ} {r : Reader S} {at : S → ℕ} {d : List ℕ
             let none : linked b ≡ false = sound .shape .bare e .0 in
             absurd (let z : _≡_ {A = ℕ} 0 1 = cc in omega arith)
 
-    pub block-read : Writable u b → Draws r d s (blockTokens u b) t → BlockRead s t (reread b)
+    pub block-read : Writable form u b → Draws r d s (blockTokens u b) t → BlockRead s t (reread b)
     unfolding reread
-    block-read sound h = go (linked b) refl sound
+    block-read w h = go (linked b) refl (w .0)
       where
         go : (x : Bool) → linked b ≡ x → Sound u (pick x (keyless b) b) → BlockRead s t (pick x (keyless b) b)
-        go true e w = linked-read e w (linked-item e w) h
-        go false e w = plain-read e w h
+        go true e sound = linked-read e sound (linked-item e sound) h
+        go false e sound = plain-read e sound h

@@ -1,4 +1,4 @@
--- What is cut out of a sound row, at either end, can be written: a part of a text is a text and has so many units.
+-- What is cut out of a sound row, at either end, can be written: a part of a text is a text and has so many units, and one of a list so many values.
 use Prim.Native.Nat.{ℕ, _+_, _-_}
 use mathlib.Core.Path.{_≡_, refl, sym, ap, subst, _∙_}
 use mathlib.Core.Bool.{Bool, true, false}
@@ -12,13 +12,14 @@ use Rattle.columns.proofs.Back.{both}
 use Rattle.text.specs.Utf8.{wellFormed, after, settled}
 use Rattle.block.specs.declared.Block.{Block}
 use Rattle.block.specs.Row.{noId, noPart}
-use Rattle.block.specs.Kinds.{BINARY, TEXT, isText, isItem, hasPart}
-use Rattle.block.proofs.OfKinds.{part-text}
+use Rattle.block.specs.Kinds.{TEXT, ANY, isText, isAny, isItem, hasPart}
+use Rattle.block.proofs.OfKinds.{part-text, part-any}
 use Rattle.block.proofs.Rows.{same-key}
-use Rattle.readings.specs.Sound.{bytesIn, Lies, SoundId, SoundText, linked, Stored, Sound}
+use Rattle.readings.specs.Sound.{bytesIn, Lies, SoundId, SoundText, linked, Stored, Sound, Valued}
 use Rattle.readings.proofs.Columns.{chosen}
 use Rattle.kept.specs.Kept.{Piece, Whole, Inside}
 use Rattle.kept.specs.Cut.{cutPart, isWhole, partOf, shortened, idBefore, begunLater, cutRow, torn}
+use Rattle.kept.proofs.Lists.{IsList, list-part, list-piece}
 use Rattle.written.specs.Written.{keyless, reread, Writable}
 use Rattle.written.specs.Kept.{KeptPiece}
 use Rattle.written.proofs.Texts.{clash, IsText, later-text}
@@ -48,21 +49,34 @@ sound-keyless u b s =
       parent = s .parent;
       name = s .name;
       key = unnamed u;
+      mark = s .mark;
       shape = record {
         bare = λ l. let x = shape .bare l in (x .0, x .1, x .2, refl);
         rootless = λ l e. let x = shape .rootless l e in (x .0, x .1, refl);
         rooted = shape .rooted;
       };
-      stored = record { lies = stored .lies; nothing = stored .nothing; binary = stored .binary; text = stored .text; some = stored .some };
+      stored = record {
+        lies = stored .lies;
+        nothing = stored .nothing;
+        binary = stored .binary;
+        format = stored .format;
+        type = stored .type;
+        untyped = stored .untyped;
+        any = stored .any;
+        text = stored .text;
+        some = stored .some;
+      };
     }
 
-pub sound-writable : (u : List ℕ) (b : Block) → Sound u b → Writable u b
+pub sound-writable : (form : ℕ) (u : List ℕ) (b : Block) → Sound u b → Valued form u b → Writable form u b
 unfolding reread
-sound-writable u b s = chosen (Sound u) (linked b) (λ _. sound-keyless u b s) (λ _. s)
+sound-writable form u b s v = (chosen (Sound u) (linked b) (λ _. sound-keyless u b s) (λ _. s), v)
 
-keyless-writable : (u : List ℕ) (b : Block) → Sound u (keyless b) → (linked b ≡ false → (b .«has_key» ≡ false) × (b .key ≡ noPart)) → Writable u b
+keyless-writable : (form : ℕ) (u : List ℕ) (b : Block) → Sound u (keyless b) → (linked b ≡ false → (b .«has_key» ≡ false) × (b .key ≡ noPart))
+    → Valued form u b → Writable form u b
 unfolding reread
-keyless-writable u b s none = chosen (Sound u) (linked b) (λ _. s) (λ e. subst (Sound u) (same-key b false noPart (sym (none e .0)) (sym (none e .1))) s)
+keyless-writable form u b s none v =
+    (chosen (Sound u) (linked b) (λ _. s) (λ e. subst (Sound u) (same-key b false noPart (sym (none e .0)) (sym (none e .1))) s), v)
 
 -- ---- a piece that is not all of its row
 
@@ -76,7 +90,7 @@ whole-ends p h =
     let x = both (eqb (p .from) 0) (eqb (p .to) (p .row .length .0)) h in
     (eqb-true (p .from) 0 (x .0), eqb-true (p .to) (p .row .length .0) (x .1))
 
-module _ (u : List ℕ) (p : Piece) (kept : KeptPiece u p) (part : isWhole p ≡ false) (inside : Inside p) where
+module _ (form : ℕ) (u : List ℕ) (p : Piece) (kept : KeptPiece form u p) (part : isWhole p ≡ false) (inside : Inside p) where
   abbrev row : Block
   row = p .row
 
@@ -94,37 +108,48 @@ module _ (u : List ℕ) (p : Piece) (kept : KeptPiece u p) (part : isWhole p ≡
   unfolding partOf
   part-is e = rw (eq-eqb (row .kind) TEXT e)
 
-  same-part : isText (row .kind) ≡ false → partOf u p ≡ row .part
+  list-is : row .kind ≡ ANY → IsList u (partOf u p) left
+  list-is e = list-piece u p e sound (omega (arith, inside .some)) (inside .most)
+
+  same-part : isText (row .kind) ≡ false → isAny (row .kind) ≡ false → partOf u p ≡ row .part
   unfolding partOf
-  same-part e = rw e
+  same-part e f = rw (e, f)
 
   part-lies : Lies u (partOf u p)
   unfolding partOf
-  part-lies = chosen (Lies u) (isText (row .kind)) (λ e. text-is (eqb-true (row .kind) TEXT e) .lies) (λ _. sound .stored .lies)
+  part-lies =
+      chosen (Lies u) (isText (row .kind)) (λ e. text-is (eqb-true (row .kind) TEXT e) .lies)
+      (λ _. chosen (Lies u) (isAny (row .kind))
+      (λ e. let a = eqb-true (row .kind) ANY e in subst (Lies u) (list-part u p a) (list-is a .lies)) (λ _. sound .stored .lies))
 
-  -- a binary has one unit
-  no-binary : row .kind ≡ BINARY → ⊥
-  no-binary e =
-      let one = sound .stored .binary e in
-      clash (sym (whole-test p (omega (arith, inside .some, inside .most)) (omega (arith, inside .some, inside .most))) ∙ part)
+  -- what has one unit is not cut: a binary, a format, a type
+  no-one : {A : Type 0} → row .length .0 ≡ 1 → A
+  no-one one = clash (sym (whole-test p (omega (arith, inside .some, inside .most)) (omega (arith, inside .some, inside .most))) ∙ part)
 
-  part-stored : (b : Block) → b .kind ≡ row .kind → b .part ≡ partOf u p → b .length .0 ≡ left → Stored u b
-  part-stored b k q n =
+  part-stored : (b : Block) → b .kind ≡ row .kind → b .part ≡ partOf u p → b .«type_number» ≡ row .«type_number» → b .length .0 ≡ left → Stored u b
+  part-stored b k q t n =
       let same : hasPart (b .kind) ≡ false → hasPart (row .kind) ≡ false = λ l. sym (ap hasPart k) ∙ l in
       record {
         lies = subst (Lies u) (sym q) part-lies;
-        nothing = λ l. q ∙ same-part (part-text (row .kind) (same l)) ∙ sound .stored .nothing (same l);
-        binary = λ e. absurd (no-binary (sym k ∙ e));
+        nothing = λ l. q ∙ same-part (part-text (row .kind) (same l)) (part-any (row .kind) (same l)) ∙ sound .stored .nothing (same l);
+        binary = λ e. no-one (sound .stored .binary (sym k ∙ e));
+        format = λ e. no-one (sound .stored .format (sym k ∙ e));
+        type = λ e. no-one (sound .stored .type (sym k ∙ e) .0);
+        untyped = λ l. t ∙ sound .stored .untyped (rw k at l);
+        any = λ e. rw (q, n) (list-is (sym k ∙ e) .values);
         text = λ e. let x = text-is (sym k ∙ e) in rw (q, part-is (sym k ∙ e), n) (x .formed, x .units);
         some = λ l. omega (arith, inside .some);
       }
 
+  part-valued : (b : Block) → b .kind ≡ row .kind → Valued form u b
+  part-valued b k = record { text = λ e _. no-one (sound .stored .format (sym k ∙ e)); value = λ e _. no-one (sound .stored .format (sym k ∙ e)) }
+
   -- ---- it begins with its row
 
-  front-writable : p .from ≡ 0 → Writable u (shortened u p)
+  front-writable : p .from ≡ 0 → Writable form u (shortened u p)
   unfolding linked
   front-writable e =
-      sound-writable u (shortened u p)
+      sound-writable form u (shortened u p)
       (record {
         client = sound .client;
         end = omega (arith, sound .end, inside .most);
@@ -134,14 +159,16 @@ module _ (u : List ℕ) (p : Piece) (kept : KeptPiece u p) (part : isWhole p ≡
         parent = sound .parent;
         name = sound .name;
         key = sound .key;
+        mark = sound .mark;
         shape = record { bare = sound .shape .bare; rootless = sound .shape .rootless; rooted = sound .shape .rooted };
-        stored = part-stored (shortened u p) refl refl (omega arith);
+        stored = part-stored (shortened u p) refl refl refl (omega arith);
       })
+      (part-valued (shortened u p) refl)
 
   -- ---- it begins later
 
   later-stored : Stored u (keyless (begunLater u p))
-  later-stored = part-stored (keyless (begunLater u p)) refl refl refl
+  later-stored = part-stored (keyless (begunLater u p)) refl refl refl refl
 
   item-id : isItem (row .kind) ≡ true → SoundId (isItem (row .kind)) (idBefore p)
   item-id l = rw l (record { client = sound .client; clock = omega (arith, sound .end, inside .some, inside .most); absent = λ e. clash e })
@@ -162,6 +189,7 @@ module _ (u : List ℕ) (p : Piece) (kept : KeptPiece u p) (part : isWhole p ≡
         parent = no-id;
         name = unnamed u;
         key = unnamed u;
+        mark = sound .mark;
         shape = record { bare = λ m. clash (sym l ∙ m); rootless = λ m e. (refl, refl, refl); rooted = λ m e. clash (sym (item-linked l) ∙ e) };
         stored = later-stored;
       }
@@ -195,6 +223,7 @@ module _ (u : List ℕ) (p : Piece) (kept : KeptPiece u p) (part : isWhole p ≡
         parent = no-id;
         name = unnamed u;
         key = unnamed u;
+        mark = sound .mark;
         shape = record {
           bare = λ m. (bare-unlinked l, refl, refl, refl);
           rootless = λ m e. clash (sym m ∙ l);
@@ -203,21 +232,24 @@ module _ (u : List ℕ) (p : Piece) (kept : KeptPiece u p) (part : isWhole p ≡
         stored = later-stored;
       }
 
-  later-writable : Writable u (begunLater u p)
+  later-writable : Writable form u (begunLater u p)
   later-writable = go (isItem (row .kind)) refl
     where
-      go : (x : Bool) → isItem (row .kind) ≡ x → Writable u (begunLater u p)
-      go true e = keyless-writable u (begunLater u p) (later-item e) (λ f. clash (sym (item-linked e) ∙ f))
+      valued : Valued form u (begunLater u p)
+      valued = part-valued (begunLater u p) refl
+
+      go : (x : Bool) → isItem (row .kind) ≡ x → Writable form u (begunLater u p)
+      go true e = keyless-writable form u (begunLater u p) (later-item e) (λ f. clash (sym (item-linked e) ∙ f)) valued
       go false e =
           let none = sound .shape .bare e .3 in
-          keyless-writable u (begunLater u p) (later-bare e) (λ f. (none, sound .key .absent none))
+          keyless-writable form u (begunLater u p) (later-bare e) (λ f. (none, sound .key .absent none)) valued
 
 -- ---- any piece that is kept
 
-module _ (u : List ℕ) (p : Piece) (kept : KeptPiece u p) where
+module _ (form : ℕ) (u : List ℕ) (p : Piece) (kept : KeptPiece form u p) where
   -- what is left of it can be written, has the row's client, and lies between its ends
   pub record CutOut (b : Block) : Type 0 where
-    pub writable : Writable u b
+    pub writable : Writable form u b
     pub client : b .client ≡ p .row .client
     pub clock : b .clock ≡ p .row .clock + p .from
     pub end : p .row .clock + p .from + b .length .0 ≡ p .row .clock + p .to
@@ -235,11 +267,12 @@ module _ (u : List ℕ) (p : Piece) (kept : KeptPiece u p) where
       chosen CutOut (isWhole p)
       (λ w.
       let e = whole-ends p w in
-      record { writable = sound-writable u (p .row) (kept .sound); client = refl; clock = omega (arith, e .0); end = omega (arith, e .0, e .1) })
+      let out = sound-writable form u (p .row) (kept .sound) (kept .valued) in
+      record { writable = out; client = refl; clock = omega (arith, e .0); end = omega (arith, e .0, e .1) })
       (λ h.
       let i = not-whole h in
       chosen CutOut (eqb (p .from) 0)
       (λ x.
       let e = eqb-true (p .from) 0 x in
-      record { writable = front-writable u p kept h i e; client = refl; clock = omega (arith, e); end = omega (arith, e) })
-      (λ _. record { writable = later-writable u p kept h i; client = refl; clock = refl; end = omega (arith, i .some) }))
+      record { writable = front-writable form u p kept h i e; client = refl; clock = omega (arith, e); end = omega (arith, e) })
+      (λ _. record { writable = later-writable form u p kept h i; client = refl; clock = refl; end = omega (arith, i .some) }))

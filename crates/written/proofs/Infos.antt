@@ -43,7 +43,7 @@ decided x m false p q = lt-ltb x m (q refl)
 
 -- ---- the flags l, r and k beside the number n
 
-module _ (n : ℕ) (some : 1 ≤ n) (few : n ≤ 4) (l r k : Bool) (x : ℕ) (is : x ≡ n + 128 * one l + 64 * one r + 32 * one k) where
+module _ (n : ℕ) (some : 1 ≤ n) (few : n ≤ 8) (l r k : Bool) (x : ℕ) (is : x ≡ n + 128 * one l + 64 * one r + 32 * one k) where
   ids-said : ltb x 64 ≡ not (pick l true r)
   ids-said = go l r is
     where

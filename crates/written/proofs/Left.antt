@@ -6,7 +6,7 @@ use Rattle.grammar.specs.Grammar as grammar
 use Rattle.grammar.specs.Course.{got, Reader}
 use Rattle.ranges.specs.Ranges.{Range}
 use Rattle.readings.specs.Groups.{groups}
-use Rattle.tokens.specs.Tokens.{Token, field, text, var, buf}
+use Rattle.tokens.specs.Tokens.{Token, field, text, var, buf, key, value, values}
 use Rattle.draws.specs.Draws.{Draws}
 use Rattle.records.specs.Records.{rangesTokens, clientTokens, ownerOf, deleteTokens}
 
@@ -17,6 +17,9 @@ Vars (var v ∷ ts) = Vars ts
 Vars (field k v ∷ ts) = ⊥
 Vars (text b n ∷ ts) = ⊥
 Vars (buf b ∷ ts) = ⊥
+Vars (key b n ∷ ts) = ⊥
+Vars (value b ∷ ts) = ⊥
+Vars (values b ∷ ts) = ⊥
 
 vars-append : (xs ys : List Token) → Vars xs → Vars ys → Vars (xs ++ ys)
 unfolding Vars
@@ -25,6 +28,9 @@ vars-append (var v ∷ xs) ys h k = vars-append xs ys h k
 vars-append (field j v ∷ xs) ys h k = absurd h
 vars-append (text b n ∷ xs) ys h k = absurd h
 vars-append (buf b ∷ xs) ys h k = absurd h
+vars-append (key b n ∷ xs) ys h k = absurd h
+vars-append (value b ∷ xs) ys h k = absurd h
+vars-append (values b ∷ xs) ys h k = absurd h
 
 ranges-vars : (form end : ℕ) (rs : List Range) → Vars (rangesTokens form end rs)
 unfolding Vars rangesTokens
@@ -45,6 +51,9 @@ module _ {S X : Type 0} (r : Reader S) (d : List ℕ) (left : S → X) (stays : 
   vars-stay (field k x ∷ ts) v s t h = absurd v
   vars-stay (text b n ∷ ts) v s t h = absurd v
   vars-stay (buf b ∷ ts) v s t h = absurd v
+  vars-stay (key b n ∷ ts) v s t h = absurd v
+  vars-stay (value b ∷ ts) v s t h = absurd v
+  vars-stay (values b ∷ ts) v s t h = absurd v
 
   pub deletes-stay : (form : ℕ) (rs : List Range) (s t : S) → Draws r d s (deleteTokens form rs) t → left t ≡ left s
   unfolding deleteTokens Vars

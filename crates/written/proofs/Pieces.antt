@@ -71,7 +71,7 @@ runs (p ∷ ps) h = (refl, later-runs p ps h)
 
 module _ {S : Type 0} {form : ℕ} {r : Reader S} {place : S → ℕ} {d : List ℕ} (lined : Lined form d r place) (u : List ℕ) (client : ℕ) where
   -- one block more
-  step : (c : Block) (clock : ℕ) (s t : S) → Writable u c → c .client ≡ client → c .clock ≡ clock → (k : ℕ) → Draws r d s (blockTokens u c) t
+  step : (c : Block) (clock : ℕ) (s t : S) → Writable form u c → c .client ≡ client → c .clock ≡ clock → (k : ℕ) → Draws r d s (blockTokens u c) t
       → (b : Block) × (p : ℕ) × (run r (blocks (suc k) client clock) s ≡ item b p (run r (blocks k client (clock + c .length .0)) t)) × AlikeIn d u b (reread c)
   unfolding blocks kept run
   step c clock s t w e f k h =
@@ -80,11 +80,11 @@ module _ {S : Type 0} {form : ℕ} {r : Reader S} {place : S → ℕ} {d : List 
       let size : x .block .length .0 ≡ c .length .0 = ap (λ (n : Units). n .0) (ap (λ (b : Block). b .length) (x .alike .same) ∙ stays .length) in
       let is : run {E = Block} r (block client clock) s ≡ over (x .block, x .place) t = rw (← e, ← f) (x .is) in
       let end : ℕ = clock + x .block .length .0 in
-      let fits : ltb maxClock end ≡ false = le-ltb maxClock end (omega (arith, w .end, stays .clock, f, ap (λ (n : Units). n .0) (stays .length))) in (
+      let fits : ltb maxClock end ≡ false = le-ltb maxClock end (omega (arith, w .0 .end, stays .clock, f, ap (λ (n : Units). n .0) (stays .length))) in (
         x .block,
         x .place,
         then-on r (block client clock) (x .block, x .place) s t _ is
-            ∙ rw (fits, not-dropped u (reread c) w (x .block) (ap (λ (b : Block). b .length) (x .alike .same)) (ap (λ (b : Block). b .kind) (x .alike .same)), size),
+            ∙ rw (fits, not-dropped u (reread c) (w .0) (x .block) (ap (λ (b : Block). b .length) (x .alike .same)) (ap (λ (b : Block). b .kind) (x .alike .same)), size),
         x .alike,
       )
 
@@ -92,13 +92,13 @@ module _ {S : Type 0} {form : ℕ} {r : Reader S} {place : S → ℕ} {d : List 
   unfolding blocks run
   none-left clock s m e = ap (over tt) e
 
-  pub pieces-read : (ps : List Piece) (clock : ℕ) (s m : S) → All (KeptPiece u) ps → All (λ (p : Piece). p .row .client ≡ client) ps → Runs clock ps
+  pub pieces-read : (ps : List Piece) (clock : ℕ) (s m : S) → All (KeptPiece form u) ps → All (λ (p : Piece). p .row .client ≡ client) ps → Runs clock ps
       → Draws r d s (piecesTokens u ps) m → Goes (AlikeIn d u) (piecesRead u ps) (run r (blocks (length ps) client clock) s) (over tt m)
   unfolding Runs piecesTokens Draws piecesRead Goes
   pieces-read [] clock s m k c x h = none-left clock s m h
   pieces-read (p ∷ ps) clock s m k c x h =
       let two = split r d (blockTokens u (cutRow u p)) (piecesTokens u ps) s m h in
-      let out = cut-out u p (k .0) in
+      let out = cut-out form u p (k .0) in
       let one = step (cutRow u p) clock s (two .between) (out .writable) (out .client ∙ c .0) (out .clock ∙ x .0) (length ps) (two .first) in
       let end : clock + cutRow u p .length .0 ≡ p .row .clock + p .to = ap (λ (n : ℕ). n + cutRow u p .length .0) (sym (x .0)) ∙ out .end in
       let more = pieces-read ps (p .row .clock + p .to) (two .between) m (k .1) (c .1) (x .1) (two .then) in (

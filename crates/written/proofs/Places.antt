@@ -1,20 +1,20 @@
 -- What stands beside an item's content, read again: its ids, or a parent and perhaps a key.
 use Prim.Native.Nat.{ℕ}
 use mathlib.Core.Path.{_≡_, refl, sym, ap, subst, _∙_}
-use mathlib.Core.Bool.{Bool, true, false}
+use mathlib.Core.Bool.{Bool, true, false, _||_}
 use mathlib.Core.List.{List, _++_}
-use native.Mathlib.Omega.{arith}
 use lib.Dec.{ltb}
 use Rattle.numbers.specs.Number.{pick}
 use Rattle.text.specs.declared.Part.{Part}
 use Rattle.block.specs.declared.Block.{Block}
 use Rattle.block.specs.Row.{noPart}
-use Rattle.block.specs.Rows.{plain, withContent}
-use Rattle.block.specs.Kinds.{isItem}
+use Rattle.block.specs.Rows.{plain}
+use Rattle.block.specs.Kinds.{isDeleted, isBinary, isText, isFormat, isType, isAny, isItem, isMarked}
 use Rattle.block.proofs.OfKinds.{item-part}
 use Rattle.grammar.specs.Course.{Reader}
 use Rattle.grammar.specs.Blocks.{place}
 use Rattle.readings.specs.Sound.{bytesIn, linked, Sound}
+use Rattle.readings.proofs.Columns.{clash}
 use Rattle.draws.specs.Draws.{Draws}
 use Rattle.draws.proofs.Splits.{split}
 use Rattle.records.specs.Records.{infoByte, leftTokens, rightTokens, parentTokens, keyTokens, placeTokens}
@@ -23,10 +23,24 @@ use Rattle.written.proofs.Infos.{info-says}
 use Rattle.written.proofs.Courses.{then-on}
 use Rattle.written.proofs.Ids.{beside, Finds, left-read, right-read}
 use Rattle.written.proofs.Roots.{rooted, nothing-in, parent-read, key-read}
+use Rattle.written.proofs.Contents.{filled, Unfilled}
 
--- an item is made up of its place and its content
-abbrev pub filled : Block → Part → Block → Block
-filled b p c = withContent (b .kind) (b .length) p c
+-- what is no item has no type and no mark
+no-marks : (k : ℕ) → isItem k ≡ false → (isFormat k ≡ false) × (isType k ≡ false)
+unfolding isItem
+no-marks k = go (isDeleted k) (isBinary k) (isText k) (isFormat k) (isType k) (isAny k)
+  where
+    go : (x y z f t a : Bool) → (x || y || z || f || t || a) ≡ false → (f ≡ false) × (t ≡ false)
+    go true y z f t a h = clash h
+    go false true z f t a h = clash h
+    go false false true f t a h = clash h
+    go false false false true t a h = clash h
+    go false false false false true a h = clash h
+    go false false false false false a h = (refl, refl)
+
+no-mark : (k type : ℕ) → isItem k ≡ false → isMarked k type ≡ false
+unfolding isMarked
+no-mark k type l = rw (no-marks k l .0, no-marks k l .1)
 
 -- b before anything of it is read, with its ids, and with a parent's name and a key that lie in the new update
 abbrev pub bare : Block → Block
@@ -43,20 +57,22 @@ module _ {S : Type 0} (r : Reader S) (d u : List ℕ) (b : Block) where
   pub record Placed (c : Block) (s m : S) : Type 0 where
     pub block : Block
     pub is : Finds r (place (infoByte b) (bare b)) s block m
-    pub alike : (p : Part) → bytesIn d p ≡ bytesIn u (b .part) → Alike d (filled b p block) u c
+    pub new : Unfilled block
+    pub alike : (p q : Part) → bytesIn d p ≡ bytesIn u (b .part) → bytesIn d q ≡ bytesIn u (b .mark) → Alike d (filled b p q block) u c
 
   -- ---- ids beside it
 
   module _ (some : linked b ≡ true) (sound : Sound u (keyless b)) (l : isItem (b .kind) ≡ true) where
-    linked-alike : (p : Part) → bytesIn d p ≡ bytesIn u (b .part) → Alike d (filled b p (withIds b)) u (keyless b)
+    linked-alike : (p q : Part) → bytesIn d p ≡ bytesIn u (b .part) → bytesIn d q ≡ bytesIn u (b .mark) → Alike d (filled b p q (withIds b)) u (keyless b)
     unfolding linked
-    linked-alike p e =
+    linked-alike p q e f =
         let none = sound .shape .rootless l some in
         record {
           same = rw (none .0, sound .parent .absent (none .0), none .1);
           name = nothing-in d u ∙ ap (bytesIn u) (sym (sound .name .absent (none .1)));
           key = nothing-in d u;
           part = e;
+          mark = f;
         }
 
     pub linked-place : (s m : S) → Draws r d s (placeTokens u b) m → Placed (keyless b) s m
@@ -69,7 +85,12 @@ module _ {S : Type 0} (r : Reader S) (d u : List ℕ) (b : Block) where
         let v = infoByte b in
         let left = left-read r d (b .client) (b .clock) v (b .«has_left») (b .left) (sound .left .absent) (says .left) s (two .between) (two .first) in
         let right = right-read r d (b .client) (b .clock) v (b .«has_left») (b .left) (b .«has_right») (b .right) (sound .right .absent) (says .right) in
-        record { block = withIds b; is = rw ids (then-on r _ _ s (two .between) _ left ∙ right (two .between) m (two .then)); alike = linked-alike }
+        record {
+          block = withIds b;
+          is = rw ids (then-on r _ _ s (two .between) _ left ∙ right (two .between) m (two .then));
+          new = record { mark = refl; type = refl };
+          alike = linked-alike;
+        }
 
   -- ---- a parent, and perhaps a key
 
@@ -79,17 +100,18 @@ module _ {S : Type 0} (r : Reader S) (d u : List ℕ) (b : Block) where
     no-ids = go (b .«has_left») none
       where
         go : (x : Bool) → pick x true (b .«has_right») ≡ false → (x ≡ false) × (b .«has_right» ≡ false)
-        go true e = absurd (let z : _≡_ {A = ℕ} 0 1 = cc in omega arith)
+        go true e = clash e
         go false e = (refl, e)
 
-    rooted-alike : (n k p : Part) → bytesIn d n ≡ bytesIn u (b .name) → bytesIn d k ≡ bytesIn u (b .key) → bytesIn d p ≡ bytesIn u (b .part)
-        → Alike d (filled b p (withRoot b n k)) u b
-    rooted-alike n k p named keyed e =
+    rooted-alike : (n k p q : Part) → bytesIn d n ≡ bytesIn u (b .name) → bytesIn d k ≡ bytesIn u (b .key) → bytesIn d p ≡ bytesIn u (b .part)
+        → bytesIn d q ≡ bytesIn u (b .mark) → Alike d (filled b p q (withRoot b n k)) u b
+    rooted-alike n k p q named keyed e f =
         record {
           same = rw (no-ids .0, no-ids .1, sound .left .absent (no-ids .0), sound .right .absent (no-ids .1));
           name = named;
           key = keyed;
           part = e;
+          mark = f;
         }
 
     pub rooted-place : isItem (b .kind) ≡ true → (s m : S) → Draws r d s (placeTokens u b) m → Placed b s m
@@ -106,7 +128,8 @@ module _ {S : Type 0} (r : Reader S) (d u : List ℕ) (b : Block) where
         record {
           block = withRoot b (root .0) (key .0);
           is = rw ids (then-on r _ _ s (two .between) _ (root .1) ∙ key .1);
-          alike = λ p e. rooted-alike (root .0) (key .0) p (root .2) (key .2) e;
+          new = record { mark = refl; type = refl };
+          alike = λ p q e f. rooted-alike (root .0) (key .0) p q (root .2) (key .2) e f;
         }
 
     -- ---- GC and Skip have only a length
@@ -115,8 +138,8 @@ module _ {S : Type 0} (r : Reader S) (d u : List ℕ) (b : Block) where
     bare-alike l =
         let none = sound .shape .bare l in
         let absent : (p : Part) → p ≡ noPart → bytesIn d noPart ≡ bytesIn u p = λ p e. rw e (nothing-in d u) in
-        let same : filled b noPart (withRoot b noPart noPart) ≡ plain (b .client) (b .clock) (b .length .0) (b .kind) =
-        rw (none .1, none .2, none .3, sound .parent .absent (none .1)) in
+        let same : filled b noPart noPart (withRoot b noPart noPart) ≡ plain (b .client) (b .clock) (b .length .0) (b .kind) =
+        rw (none .1, none .2, none .3, sound .parent .absent (none .1), sound .stored .untyped (no-marks (b .kind) l .1)) in
         subst (λ (x : Block). Alike d x u b) same
-        (rooted-alike noPart noPart noPart (absent (b .name) (sound .name .absent (none .2))) (absent (b .key) (sound .key .absent (none .3)))
-        (absent (b .part) (sound .stored .nothing (item-part (b .kind) l))))
+        (rooted-alike noPart noPart noPart noPart (absent (b .name) (sound .name .absent (none .2))) (absent (b .key) (sound .key .absent (none .3)))
+        (absent (b .part) (sound .stored .nothing (item-part (b .kind) l))) (absent (b .mark) (sound .mark .absent (no-mark (b .kind) (b .«type_number») l))))

@@ -54,10 +54,10 @@ all-new (c ∷ cs) = (refl, all-new cs)
 -- ---- a section
 
 -- its first clock is a clock
-pub start-fits : (u : List ℕ) (ps : List Piece) → All (KeptPiece u) ps → startOf ps ≤ maxClock
+pub start-fits : (form : ℕ) (u : List ℕ) (ps : List Piece) → All (KeptPiece form u) ps → startOf ps ≤ maxClock
 unfolding startOf
-start-fits u [] k = omega arith
-start-fits u (p ∷ ps) k = go (k .0 .ends)
+start-fits form u [] k = omega arith
+start-fits form u (p ∷ ps) k = go (k .0 .ends)
   where
     go : Whole p ⊎ Inside p → p .row .clock + p .from ≤ maxClock
     go (inl w) = omega (arith, k .0 .sound .end, w .from)
@@ -71,14 +71,14 @@ module _ {S : Type 0} {form : ℕ} {r : Reader S} {place : S → ℕ} {d : List 
         ≡ run r (blocks (length (x .pieces)) (x .client) (startOf (x .pieces)) >>= λ _. sections n (seen ++ (x .client ∷ [])) (room - length (x .pieces))) from
     drawn : Draws r d from (piecesTokens u (x .pieces)) m
 
-  head-read : (n : ℕ) (seen : List ℕ) (room : ℕ) (x : Section) (s m : S) → KeptSection u x → length (x .pieces) ≤ room → among (x .client) seen ≡ false
+  head-read : (n : ℕ) (seen : List ℕ) (room : ℕ) (x : Section) (s m : S) → KeptSection form u x → length (x .pieces) ≤ room → among (x .client) seen ≡ false
       → Draws r d s (sectionTokens u x) m → Head n seen room x s m
   unfolding sectionTokens sections laneField Draws
   head-read n seen room x s m k l new h =
       let a = h .3 in
       let b = a .3 in
       let count = within-on r lined room (length (x .pieces)) (h .0) s (h .1) (h .2) l in
-      let clock = within-on r lined maxClock (startOf (x .pieces)) (b .0) (a .1) (b .1) (b .2) (start-fits u (x .pieces) (k .each)) in
+      let clock = within-on r lined maxClock (startOf (x .pieces)) (b .0) (a .1) (b .1) (b .2) (start-fits form u (x .pieces) (k .each)) in
       record {
         from = b .1;
         is = draw-on r (grammar.number (grammar.upTo room)) (length (x .pieces), h .0) s (h .1) _ count
@@ -91,7 +91,7 @@ module _ {S : Type 0} {form : ℕ} {r : Reader S} {place : S → ℕ} {d : List 
   unfolding sections run Draws Goes
   ended seen room s m h = ap (over tt) h
 
-  pub sections-read : (ss : List Section) (seen : List ℕ) (room : ℕ) (s m : S) → All (KeptSection u) ss → Distinct (map clientIn ss)
+  pub sections-read : (ss : List Section) (seen : List ℕ) (room : ℕ) (s m : S) → All (KeptSection form u) ss → Distinct (map clientIn ss)
       → New seen (map clientIn ss) → pieceCount ss ≤ room → Draws r d s (sectionsTokens u ss) m
       → Goes (AlikeIn d u) (sectionsRead u ss) (run r (sections (length ss) seen room) s) (over tt m)
   unfolding sectionsTokens sectionsRead pieceCount Distinct

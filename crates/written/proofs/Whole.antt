@@ -24,7 +24,7 @@ use Rattle.written.proofs.Sections.{all-new, sections-read}
 use Rattle.written.proofs.Deletes.{deletes-read, normal-same}
 use Rattle.written.proofs.Left.{deletes-stay}
 
-pub written-reads : (form : ℕ) (d u : List ℕ) (ss : List Section) (rs : List Range) (x : DrawnAgain form d (updateTokens form u ss rs)) → Kept u ss → KeptRanges rs
+pub written-reads : (form : ℕ) (d u : List ℕ) (ss : List Section) (rs : List Range) (x : DrawnAgain form d (updateTokens form u ss rs)) → Kept form u ss → KeptRanges rs
     → WrittenReads form d u ss rs (x .place (x .last))
 unfolding updateTokens Draws allBlocks
 written-reads form d u ss rs x k kept =

@@ -1,4 +1,4 @@
--- Which sections and which delete ranges are written and read again: what a diff keeps of an update u, where it cuts inside no pair.
+-- Which sections and which delete ranges are written in a form and read again: what a diff keeps of an update u, where it cuts inside no pair.
 use Prim.Native.Nat.{ℕ, _+_, _≤_, _<_}
 use mathlib.Core.Path.{_≡_}
 use mathlib.Core.Logic.{_⊎_}
@@ -8,7 +8,7 @@ use lib.ListN.{length}
 use Rattle.numbers.specs.Limits.{maxClients, maxBlocks}
 use Rattle.ranges.specs.Ranges.{Range, Normal}
 use Rattle.ranges.specs.Table.{Fine}
-use Rattle.readings.specs.Sound.{Sound, All}
+use Rattle.readings.specs.Sound.{Sound, Valued, All}
 use Rattle.readings.specs.Groups.{groups, Distinct}
 use Rattle.kept.specs.Kept.{Piece, Section, Whole, Inside, pieceCount}
 use Rattle.kept.specs.Cut.{torn}
@@ -16,9 +16,10 @@ use Rattle.records.specs.Records.{ownerOf}
 
 -- ---- sections
 
--- all of a sound row, or some of its units; neither end lies inside a pair
-pub record KeptPiece (u : List ℕ) (p : Piece) : Type 0 where
+-- all of a sound row, or some of its units; neither end lies inside a pair, and a format has its value as the form has it
+pub record KeptPiece (form : ℕ) (u : List ℕ) (p : Piece) : Type 0 where
   pub sound : Sound u (p .row)
+  pub valued : Valued form u (p .row)
   pub ends : Whole p ⊎ Inside p
   pub clean : torn u p ≡ false
 
@@ -35,16 +36,16 @@ abbrev pub clientIn : Section → ℕ
 clientIn s = s .client
 
 -- pieces of the section's client, each starting where the one before ended
-pub record KeptSection (u : List ℕ) (s : Section) : Type 0 where
+pub record KeptSection (form : ℕ) (u : List ℕ) (s : Section) : Type 0 where
   pub some : 0 < length (s .pieces)
-  pub each : All (KeptPiece u) (s .pieces)
+  pub each : All (KeptPiece form u) (s .pieces)
   pub client : All (λ (p : Piece). p .row .client ≡ s .client) (s .pieces)
   pub joined : Joined (s .pieces)
 
-pub record Kept (u : List ℕ) (ss : List Section) : Type 0 where
+pub record Kept (form : ℕ) (u : List ℕ) (ss : List Section) : Type 0 where
   pub count : length ss ≤ maxClients
   pub clients : Distinct (map clientIn ss)
-  pub each : All (KeptSection u) ss
+  pub each : All (KeptSection form u) ss
   pub pieces : pieceCount ss ≤ maxBlocks
 
 -- no piece is torn

@@ -1,4 +1,4 @@
--- What a reader finds in records that were written: the same records. Their names, keys and stored parts lie elsewhere and have the same bytes; a key
+-- What a reader finds in records that were written: the same records. Their names, keys, marks and stored parts lie elsewhere and have the same bytes; a key
 -- beside a left or a right id is gone, for nothing of it was spelled.
 use Prim.Native.Nat.{ℕ}
 use mathlib.Core.Path.{_≡_}
@@ -6,12 +6,12 @@ use mathlib.Core.List.{List, [], _∷_, _++_}
 use Rattle.numbers.specs.Number.{pick}
 use Rattle.block.specs.declared.Block.{Block}
 use Rattle.block.specs.Row.{noPart}
-use Rattle.block.specs.Rows.{nameIs, keyIs, withPart, withoutKey}
+use Rattle.block.specs.Rows.{nameIs, keyIs, withMark, withPart, withoutKey}
 use Rattle.ranges.specs.Ranges.{Range}
 use Rattle.grammar.specs.Course.{Run, item, over}
 use Rattle.decoder.specs.Update.{blocksOf, deleteSet}
 use Rattle.leftover.specs.Leftover.{columnsLeft, Spent}
-use Rattle.readings.specs.Sound.{bytesIn, linked, Sound}
+use Rattle.readings.specs.Sound.{bytesIn, linked, Sound, Valued}
 use Rattle.kept.specs.Kept.{Piece, Section}
 use Rattle.kept.specs.Cut.{cutRow}
 
@@ -19,7 +19,7 @@ use Rattle.kept.specs.Cut.{cutRow}
 
 -- a record without where its parts lie
 abbrev pub unplaced : Block → Block
-unplaced b = nameIs (b .«has_name») noPart (keyIs (b .«has_key») noPart (withPart noPart b))
+unplaced b = nameIs (b .«has_name») noPart (keyIs (b .«has_key») noPart (withMark noPart (withPart noPart b)))
 
 -- b, whose parts lie in d, and c, whose parts lie in u, differ at most in where these lie
 pub record Alike (d : List ℕ) (b : Block) (u : List ℕ) (c : Block) : Type 0 where
@@ -27,6 +27,7 @@ pub record Alike (d : List ℕ) (b : Block) (u : List ℕ) (c : Block) : Type 0 
   pub name : bytesIn d (b .name) ≡ bytesIn u (c .name)
   pub key : bytesIn d (b .key) ≡ bytesIn u (c .key)
   pub part : bytesIn d (b .part) ≡ bytesIn u (c .part)
+  pub mark : bytesIn d (b .mark) ≡ bytesIn u (c .mark)
 
 -- one by one
 unfoldable pub AllAlike : List ℕ → List Block → List ℕ → List Block → Type 0
@@ -43,9 +44,9 @@ keyless b = withoutKey b
 unfoldable pub reread : Block → Block
 reread b = pick (linked b) (keyless b) b
 
--- it can be written if it is sound without the key that is not spelled
-abbrev pub Writable : List ℕ → Block → Type 0
-Writable u b = Sound u (reread b)
+-- it can be written in a form if it is sound without the key that is not spelled, and a format has its value as the form has it
+abbrev pub Writable : ℕ → List ℕ → Block → Type 0
+Writable form u b = Sound u (reread b) × Valued form u b
 
 -- the records of pieces and of sections, one after the other, as they are read again
 unfoldable pub piecesRead : List ℕ → List Piece → List Block

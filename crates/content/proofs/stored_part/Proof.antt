@@ -7,11 +7,11 @@ use Rattle.content.proofs.stored_part.Tie as tie
 
 returns : tie.Need-returns
 unfolding stored
-returns c = rw (sym (c .before .before .has-part .ensures) ∙ c .before .if1 .taken)
+returns c = rw (sym (c .before .before .is-given .ensures) ∙ c .before .if1 .taken)
 
 returns-2 : tie.Need-returns-2
 unfolding stored
-returns-2 c = rw (sym (c .before .has-part .ensures) ∙ c .if1 .left)
+returns-2 c = rw (sym (c .before .is-given .ensures) ∙ c .if1 .left)
 
 pub stored-part-spec : {M : Type 1} → statement M
 stored-part-spec = tie.close (tie.spec (λ c κs. search needs) returns returns-2)

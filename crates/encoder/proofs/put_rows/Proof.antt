@@ -42,7 +42,7 @@ use Rattle.kept.specs.declared.cursor.Cursor.{Cursor}
 use Rattle.block.specs.Row.{noBlock}
 use Rattle.encoder.specs.Passes.{plannedTokens}
 use Rattle.kept.specs.Plan.{advanced, openedAt}
-use Rattle.tokens.specs.Desk.{Tidy, Wrote}
+use Rattle.tokens.specs.Desk.{Tidy, WroteKeys}
 use Rattle.encoder.proofs.Sorts.{cursor, cursor-row}
 use Rattle.table.proofs.Sorts.{block}
 use Rattle.encoder.proofs.Cards.{Kept·cursor·open, Records·write-row, Kept·cursor·advance, kept·cursor·open!, records·write-row!, kept·cursor·advance! }
@@ -140,7 +140,7 @@ module _ {M : Type 1} (𝓤 : URA M) (H : Heap 𝓤) (A : Atoms 𝓤) (W : Given
 
   -- the contract
   abbrev Right : ℕ → List ℕ → List ℕ → Type 0
-  Right r out₁ lanes₁ = Wrote form₀ (plannedTokens update₀ rows₀ plan₀ sections₀) out₀ lanes₀ at₀ out₁ lanes₁ r
+  Right r out₁ lanes₁ = WroteKeys update₀ form₀ (plannedTokens update₀ rows₀ plan₀ sections₀) out₀ lanes₀ at₀ out₁ lanes₁ r
 
   exits : (r : ℕ) (out₁ : List ℕ) (lanes₁ : List ℕ) → Has word r → Right r out₁ lanes₁ → ent 𝓤 (sem 𝓤 H A (refs (hs out₁ lanes₁))) (Post (word .val r))
   exits r out₁ lanes₁ g e = leaves 𝓤 H A W (ps out₁ lanes₁) (refl, (refl, tt)) word r g (Right r out₁ lanes₁) e (Post (word .val r)) (λ fit. ends-at 𝓤 H A f.ended (stays fs) (f.clauses 𝓤 H A mem run) W ((κs, qs, bounds, a, at-entry), tt) (word .val r) r (ends (ps out₁ lanes₁)) fit)

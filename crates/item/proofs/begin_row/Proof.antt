@@ -66,6 +66,15 @@ slice-write-r-20 c = simp length-set (omega arith)
 slice-write-r-21 : tie.Need-slice-write-r-21
 slice-write-r-21 c = simp length-set (omega arith)
 
+slice-write-r-22 : tie.Need-slice-write-r-22
+slice-write-r-22 c = simp length-set (omega arith)
+
+slice-write-r-23 : tie.Need-slice-write-r-23
+slice-write-r-23 c = simp length-set (omega arith)
+
+slice-write-r-24 : tie.Need-slice-write-r-24
+slice-write-r-24 c = simp length-set (omega arith)
+
 same-length : tie.Need-same-length
 same-length c = simp length-set
 
@@ -82,4 +91,4 @@ begin-row-spec =
     slice-write-r-7 slice-write-r-8 slice-write-r-9 (λ c. search needs) (λ c. search needs) slice-write-r-10 slice-write-r-11 slice-write-r-12
     (λ c. search needs) (λ c. search needs) slice-write-r-13 slice-write-r-14 slice-write-r-15 (λ c. search needs) (λ c. search needs)
     slice-write-r-16 slice-write-r-17 slice-write-r-18 (λ c. search needs) (λ c. search needs) slice-write-r-19 slice-write-r-20 (λ c. search needs)
-    (λ c. search needs) slice-write-r-21 same-length returns)
+    (λ c. search needs) slice-write-r-21 slice-write-r-22 (λ c. search needs) (λ c. search needs) slice-write-r-23 slice-write-r-24 same-length returns)

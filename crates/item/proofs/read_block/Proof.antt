@@ -8,7 +8,7 @@ use Rattle.decoder.specs.Columned.{fields}
 use Rattle.cells.specs.Cells.{stateIn, placeIn, given}
 use Rattle.item.specs.Row.{rowIn, onto, blockOnto, Reads}
 use Rattle.item.proofs.Rows.{begun-is}
-use Rattle.item.proofs.Laws.{done-is, number-then, number-stopped, row-then, row-stopped}
+use Rattle.held.proofs.Laws.{done-is, number-then, number-stopped, row-then, row-stopped}
 use borrow.Author.Needs.{needs}
 use Rattle.item.proofs.read_block.Statement.{statement}
 use Rattle.item.proofs.read_block.Tie as tie

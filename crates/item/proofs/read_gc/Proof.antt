@@ -8,7 +8,7 @@ use Rattle.grammar.specs.Blocks.{bare}
 use Rattle.cells.specs.Cells.{given}
 use Rattle.item.specs.Row.{rowIn, onto}
 use Rattle.item.proofs.Rows.{bare-put}
-use Rattle.item.proofs.Laws.{row-done, number-then, number-stopped}
+use Rattle.held.proofs.Laws.{row-done, number-then, number-stopped}
 use lib.ListN.{length-set}
 use borrow.Author.Needs.{needs}
 use Rattle.item.proofs.read_gc.Statement.{statement}

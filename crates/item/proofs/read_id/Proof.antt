@@ -8,7 +8,8 @@ use Rattle.cells.proofs.States.{beside-none, beside-put, row-second}
 use Rattle.fields.specs.Fields.{clockAt}
 use Rattle.item.specs.Row.{idOnto}
 use Rattle.item.proofs.Clocks.{clock-fits}
-use Rattle.item.proofs.Laws.{id-done, number-then, number-stopped}
+use Rattle.held.proofs.Laws.{number-then, number-stopped}
+use Rattle.item.proofs.Laws.{id-done}
 use borrow.Author.Needs.{needs}
 use Rattle.item.proofs.read_id.Statement.{statement}
 use Rattle.item.proofs.read_id.Tie as tie

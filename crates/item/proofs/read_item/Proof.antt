@@ -2,7 +2,7 @@
 use mathlib.Core.Path.{sym, ap, _∙_}
 use Rattle.grammar.specs.Blocks.{place, content, anItem}
 use Rattle.item.specs.Row.{rowIn, onto}
-use Rattle.item.proofs.Laws.{row-then, row-stopped}
+use Rattle.held.proofs.Laws.{row-then, row-stopped}
 use borrow.Author.Needs.{needs}
 use Rattle.item.proofs.read_item.Statement.{statement}
 use Rattle.item.proofs.read_item.Tie as tie

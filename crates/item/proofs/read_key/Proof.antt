@@ -8,7 +8,7 @@ use Rattle.grammar.specs.Blocks.{key}
 use Rattle.fields.specs.Fields.{textGiven}
 use Rattle.item.specs.Row.{rowIn, onto}
 use Rattle.item.proofs.Rows.{key-put}
-use Rattle.item.proofs.Laws.{row-done, text-then, text-stopped}
+use Rattle.held.proofs.Laws.{row-done, text-then, text-stopped}
 use borrow.Author.Needs.{needs}
 use Rattle.item.proofs.read_key.Statement.{statement}
 use Rattle.item.proofs.read_key.Tie as tie

@@ -4,7 +4,7 @@ use Rattle.grammar.specs.Grammar.{parentInfo}
 use Rattle.grammar.specs.Blocks.{parentAfter, parent}
 use Rattle.cells.specs.Cells.{given}
 use Rattle.item.specs.Row.{rowIn, onto}
-use Rattle.item.proofs.Laws.{number-then, number-stopped}
+use Rattle.held.proofs.Laws.{number-then, number-stopped}
 use borrow.Author.Needs.{needs}
 use Rattle.item.proofs.read_parent.Statement.{statement}
 use Rattle.item.proofs.read_parent.Tie as tie

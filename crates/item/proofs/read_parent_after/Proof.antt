@@ -8,7 +8,8 @@ use Rattle.grammar.specs.Blocks.{anId, parentAfter}
 use Rattle.fields.specs.Fields.{clockAt, textGiven}
 use Rattle.item.specs.Row.{rowIn, onto, idOnto}
 use Rattle.item.proofs.Rows.{name-put, parent-put}
-use Rattle.item.proofs.Laws.{row-done, text-then, text-stopped, id-then, id-stopped}
+use Rattle.held.proofs.Laws.{row-done, text-then, text-stopped}
+use Rattle.item.proofs.Laws.{id-then, id-stopped}
 use borrow.Author.Needs.{needs}
 use Rattle.item.proofs.read_parent_after.Statement.{statement}
 use Rattle.item.proofs.read_parent_after.Tie as tie

@@ -3,7 +3,7 @@ use mathlib.Core.Path.{sym, ap, _∙_}
 use borrow.Author.Tests.{lt-ltb, le-ltb}
 use Rattle.grammar.specs.Blocks.{left, right, parent, key, place}
 use Rattle.item.specs.Row.{rowIn, onto}
-use Rattle.item.proofs.Laws.{row-then, row-stopped}
+use Rattle.held.proofs.Laws.{row-then, row-stopped}
 use borrow.Author.Needs.{needs}
 use Rattle.item.proofs.read_place.Statement.{statement}
 use Rattle.item.proofs.read_place.Tie as tie

@@ -9,7 +9,8 @@ use Rattle.grammar.specs.Blocks.{anId, right}
 use Rattle.fields.specs.Fields.{clockAt}
 use Rattle.item.specs.Row.{rowIn, onto, idOnto}
 use Rattle.item.proofs.Rows.{right-put}
-use Rattle.item.proofs.Laws.{row-done, id-then, id-stopped}
+use Rattle.held.proofs.Laws.{row-done}
+use Rattle.item.proofs.Laws.{id-then, id-stopped}
 use borrow.Author.Needs.{needs}
 use Rattle.item.proofs.read_right.Statement.{statement}
 use Rattle.item.proofs.read_right.Tie as tie

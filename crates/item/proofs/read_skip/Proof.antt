@@ -8,7 +8,7 @@ use Rattle.grammar.specs.Blocks.{bare}
 use Rattle.cells.specs.Cells.{given, stateIn}
 use Rattle.item.specs.Row.{rowIn, onto}
 use Rattle.item.proofs.Rows.{bare-put}
-use Rattle.item.proofs.Laws.{row-done, number-then, number-stopped}
+use Rattle.held.proofs.Laws.{row-done, number-then, number-stopped}
 use Rattle.numbers.specs.Limits.{maxClock}
 use Rattle.decoder.proofs.Laws.{fields-up-to}
 use lib.ListN.{length-set}

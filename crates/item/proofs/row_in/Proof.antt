@@ -20,12 +20,23 @@ id-in-requires-3 c κs = (omega (arith, c .before .before .before .pre .size), c
 
 returns : tie.Need-returns
 unfolding rowIn
-returns c = rw (c .before .before .before .before .before .before .before .before .before .before .before .before .before .before .id-in .ensures, c .before .before .before .before .before .before .before .before .before .before .before .before .before .id-in2 .ensures, c .before .before .before .before .before .before .before .before .before .before .before .before .id-in3 .ensures, c .before .before .before .before .before .before .before .before .before .before .before .part-in .ensures, c .before .before .before .before .before .before .before .before .before .before .part-in2 .ensures, c .before .before .before .before .before .before .before .before .before .part-in3 .ensures) refl
+returns c =
+    rw (
+      c .before .before .before .before .before .before .before .before .before .before .before .before .before .before .before .before .id-in .ensures,
+      c .before .before .before .before .before .before .before .before .before .before .before .before .before .before .before .id-in2 .ensures,
+      c .before .before .before .before .before .before .before .before .before .before .before .before .before .before .id-in3 .ensures,
+      c .before .before .before .before .before .before .before .before .before .before .before .before .before .part-in .ensures,
+      c .before .before .before .before .before .before .before .before .before .before .before .before .part-in2 .ensures,
+      c .before .before .before .before .before .before .before .before .before .before .before .part-in3 .ensures,
+      c .before .before .before .before .before .before .before .before .before .before .part-in4 .ensures,
+    ) refl
 
 pub row-in-spec : {M : Type 1} → statement M
 row-in-spec =
     tie.close
     (tie.spec
-    id-in-requires id-in-requires-2 id-in-requires-3 (λ c κs. search needs) (λ c κs. search needs) (λ c κs. search needs) (λ c. search needs)
+    id-in-requires id-in-requires-2 id-in-requires-3 (λ c κs. search needs) (λ c κs. search needs) (λ c κs. search needs) (λ c κs. search needs)
     (λ c. search needs) (λ c. search needs) (λ c. search needs) (λ c. search needs) (λ c. search needs) (λ c. search needs) (λ c. search needs)
-    (λ c. search needs) (λ c. search needs) (λ c. search needs) returns)
+    (λ c. search needs) (λ c. search needs) (λ c. search needs) (λ c. search needs)
+    (λ c. omega (arith, c .before .before .before .before .before .before .before .before .before .before .before .before .before .before .before .before .before .before .pre .size))
+    (λ c. omega (arith, c .before .before .before .before .before .before .before .before .before .before .before .before .before .before .before .before .before .before .pre .type)) returns)

@@ -30,12 +30,21 @@ returns-5 c = rw (ne-eqb (c .before .before .before .before .before .before .bef
 
 returns-6 : tie.Need-returns-6
 unfolding kindName
-returns-6 c = rw (ne-eqb (c .before .before .before .before .before .before .args .kind) 1 (c .before .before .before .before .if1 .left), ne-eqb (c .before .before .before .before .before .before .args .kind) 2 (c .before .before .before .if2 .left), ne-eqb (c .before .before .before .before .before .before .args .kind) 3 (c .before .before .if3 .left), ne-eqb (c .before .before .before .before .before .before .args .kind) 4 (c .before .if4 .left), ne-eqb (c .before .before .before .before .before .before .args .kind) 5 (c .if5 .left)) (omega arith, sym (overlay-nil (c .before .before .before .before .before .before .args .out .now) (c .before .before .before .before .before .before .args .used)))
+returns-6 c = rw (ne-eqb (c .before .before .before .before .before .before .before .before .before .before .before .before .args .kind) 1 (c .before .before .before .before .before .before .before .before .before .before .if1 .left), ne-eqb (c .before .before .before .before .before .before .before .before .before .before .before .before .args .kind) 2 (c .before .before .before .before .before .before .before .before .before .if2 .left), ne-eqb (c .before .before .before .before .before .before .before .before .before .before .before .before .args .kind) 3 (c .before .before .before .before .before .before .before .before .if3 .left), ne-eqb (c .before .before .before .before .before .before .before .before .before .before .before .before .args .kind) 4 (c .before .before .before .before .before .before .before .if4 .left), ne-eqb (c .before .before .before .before .before .before .before .before .before .before .before .before .args .kind) 5 (c .before .before .before .before .before .before .if5 .left), eq-eqb (c .before .before .before .before .before .before .before .before .before .before .before .before .args .kind) 6 (c .before .before .before .before .before .if6 .taken)) (c .before .before .put-text6 .ensures)
+
+returns-7 : tie.Need-returns-7
+unfolding kindName
+returns-7 c = rw (ne-eqb (c .before .before .before .before .before .before .before .before .before .before .before .before .before .args .kind) 1 (c .before .before .before .before .before .before .before .before .before .before .before .if1 .left), ne-eqb (c .before .before .before .before .before .before .before .before .before .before .before .before .before .args .kind) 2 (c .before .before .before .before .before .before .before .before .before .before .if2 .left), ne-eqb (c .before .before .before .before .before .before .before .before .before .before .before .before .before .args .kind) 3 (c .before .before .before .before .before .before .before .before .before .if3 .left), ne-eqb (c .before .before .before .before .before .before .before .before .before .before .before .before .before .args .kind) 4 (c .before .before .before .before .before .before .before .before .if4 .left), ne-eqb (c .before .before .before .before .before .before .before .before .before .before .before .before .before .args .kind) 5 (c .before .before .before .before .before .before .before .if5 .left), ne-eqb (c .before .before .before .before .before .before .before .before .before .before .before .before .before .args .kind) 6 (c .before .before .before .before .before .before .if6 .left), eq-eqb (c .before .before .before .before .before .before .before .before .before .before .before .before .before .args .kind) 7 (c .before .before .before .before .before .if7 .taken)) (c .before .before .put-text7 .ensures)
+
+returns-8 : tie.Need-returns-8
+unfolding kindName
+returns-8 c = rw (ne-eqb (c .before .before .before .before .before .before .before .before .before .before .before .before .before .before .args .kind) 1 (c .before .before .before .before .before .before .before .before .before .before .before .before .if1 .left), ne-eqb (c .before .before .before .before .before .before .before .before .before .before .before .before .before .before .args .kind) 2 (c .before .before .before .before .before .before .before .before .before .before .before .if2 .left), ne-eqb (c .before .before .before .before .before .before .before .before .before .before .before .before .before .before .args .kind) 3 (c .before .before .before .before .before .before .before .before .before .before .if3 .left), ne-eqb (c .before .before .before .before .before .before .before .before .before .before .before .before .before .before .args .kind) 4 (c .before .before .before .before .before .before .before .before .before .if4 .left), ne-eqb (c .before .before .before .before .before .before .before .before .before .before .before .before .before .before .args .kind) 5 (c .before .before .before .before .before .before .before .before .if5 .left), ne-eqb (c .before .before .before .before .before .before .before .before .before .before .before .before .before .before .args .kind) 6 (c .before .before .before .before .before .before .before .if6 .left), ne-eqb (c .before .before .before .before .before .before .before .before .before .before .before .before .before .before .args .kind) 7 (c .before .before .before .before .before .before .if7 .left), eq-eqb (c .before .before .before .before .before .before .before .before .before .before .before .before .before .before .args .kind) 8 (c .before .before .before .before .before .if8 .taken)) (c .before .before .put-text8 .ensures)
+
+returns-9 : tie.Need-returns-9
+unfolding kindName
+returns-9 c = rw (ne-eqb (c .before .before .before .before .before .before .before .before .before .args .kind) 1 (c .before .before .before .before .before .before .before .if1 .left), ne-eqb (c .before .before .before .before .before .before .before .before .before .args .kind) 2 (c .before .before .before .before .before .before .if2 .left), ne-eqb (c .before .before .before .before .before .before .before .before .before .args .kind) 3 (c .before .before .before .before .before .if3 .left), ne-eqb (c .before .before .before .before .before .before .before .before .before .args .kind) 4 (c .before .before .before .before .if4 .left), ne-eqb (c .before .before .before .before .before .before .before .before .before .args .kind) 5 (c .before .before .before .if5 .left), ne-eqb (c .before .before .before .before .before .before .before .before .before .args .kind) 6 (c .before .before .if6 .left), ne-eqb (c .before .before .before .before .before .before .before .before .before .args .kind) 7 (c .before .if7 .left), ne-eqb (c .before .before .before .before .before .before .before .before .before .args .kind) 8 (c .if8 .left)) (omega arith, sym (overlay-nil (c .before .before .before .before .before .before .before .before .before .args .out .now) (c .before .before .before .before .before .before .before .before .before .args .used)))
 
 pub put-kind-spec : {M : Type 1} → statement M
 put-kind-spec =
     tie.close
-    (tie.spec
-    (λ c. search needs) (λ c κs. search needs) (λ c. search needs) returns (λ c. search needs) (λ c κs. search needs) (λ c. search needs) returns-2
-    (λ c. search needs) (λ c κs. search needs) (λ c. search needs) returns-3 (λ c. search needs) (λ c κs. search needs) (λ c. search needs) returns-4
-    (λ c. search needs) (λ c κs. search needs) (λ c. search needs) returns-5 returns-6)
+    (tie.spec (λ c. search needs) (λ c κs. search needs) (λ c. search needs) returns (λ c. search needs) (λ c κs. search needs) (λ c. search needs) returns-2 (λ c. search needs) (λ c κs. search needs) (λ c. search needs) returns-3 (λ c. search needs) (λ c κs. search needs) (λ c. search needs) returns-4 (λ c. search needs) (λ c κs. search needs) (λ c. search needs) returns-5 (λ c. search needs) (λ c κs. search needs) (λ c. search needs) returns-6 (λ c. search needs) (λ c κs. search needs) (λ c. search needs) returns-7 (λ c. search needs) (λ c κs. search needs) (λ c. search needs) returns-8 returns-9)

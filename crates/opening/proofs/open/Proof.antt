@@ -3,12 +3,12 @@ use Prim.Native.Nat.{_-_, _≤_}
 use mathlib.Core.Path.{_≡_, sym, ap, _∙_, subst}
 use native.Mathlib.Omega.{arith}
 use denote.Ref.{now}
-use lib.ListN.{length}
+use lib.ListN.{length, set, length-set}
 use Rattle.numbers.specs.declared.Read.the-variants.{Refused}
 use Rattle.numbers.specs.Number.{whyRead}
 use Rattle.string.proofs.Texts.{read-ends}
 use Rattle.cells.specs.Cells.{Small}
-use Rattle.cells.proofs.States.{small-at}
+use Rattle.cells.proofs.States.{small-at, small-unkeyed}
 use Rattle.opening.proofs.Opening.{Cutting, cutting-empty, cutting-none, cutting-stops, cutting-goes, cutting-over, open-refused, column-refused, column-short, column-there}
 use borrow.Author.Needs.{needs}
 use Rattle.opening.proofs.open.Statement.{statement}
@@ -82,10 +82,13 @@ loop-again c =
           (column-there (a .update .now) (l .at) (g .0 .0) (g .0 .1 .0) (sym (c .before .before .before .before .before .before .before .before .read-unsigned .ensures) ∙ g .1) (c .before .before .before .before .if2 .left)) p,
     )
 
+slice-write-w-2 : tie.Need-slice-write-w-2 Inv μ
+slice-write-w-2 c = simp length-set (omega arith)
+
 open-text-requires : tie.Need-open-text-requires Inv μ
 open-text-requires c κs =
     let l = c .before .before .loop in
-    small-at (l .w) (l .inv .0) (l .at)
+    small-unkeyed (set (l .w) 63 (l .at)) (small-at (l .w) (l .inv .0) (l .at))
 
 returns-4 : tie.Need-returns-4 Inv μ
 returns-4 c =
@@ -101,4 +104,4 @@ open-spec =
     (tie.spec
     Inv μ (λ c κs. search needs) (λ c. search needs) returns loop-holds (λ c κs. search needs) (λ c. search needs) (λ c. search needs)
     (λ c κs. search needs) (λ c κs. search needs) (λ c. search needs) returns-2 sub-left (λ c κs. search needs) (λ c. search needs) returns-3 add-to
-    (λ c κs. search needs) (λ c. search needs) loop-less loop-again (λ c. search needs) open-text-requires (λ c. search needs) returns-4)
+    (λ c κs. search needs) (λ c. search needs) loop-less loop-again (λ c. search needs) slice-write-w-2 open-text-requires (λ c. search needs) returns-4)

@@ -103,18 +103,18 @@ module _ {M : Type 1} (𝓤 : URA M) (H : Heap 𝓤) (A : Atoms 𝓤) (W : Given
         alloc-all ! (fn .locals) (λ l₀ l₁ l₂ l₃ l₄ l₅ l₆ l₇ l₈ l₉ l₁₀. let ls : List ℕ = l₀ ∷ l₁ ∷ l₂ ∷ l₃ ∷ l₄ ∷ l₅ ∷ l₆ ∷ l₇ ∷ l₈ ∷ l₉ ∷ l₁₀ ∷ [] in let En : Envs = envOf (fn .locals) ls in
         params1 ! $ pass1 ! (init ! 18 refl (byte .lawful M 𝓤 H A W .typed form₀ _ (are .0) .0)) $ pass1 ! (init ! 16 refl (tt, (tt, (record { fits = are .1 .0 .0 .1 .0 }, tt)))) $ pass1 ! (init ! 14 refl (tt, (tt, (record { fits = are .1 .1 .0 .0 .1 .0 }, tt)))) $ pass0 ! $ move ! (22 ∷ []) $
         -- [the references; _10 at 1; _9 at 3; _8 at 5; _7 at 7; _6 at 9; _5 at 11; _4 at 13; _3 at 15; _2 at 17; _1 at 19; _0 at 21]
-        array-typed ! word 67 0 (refl, lit< tt) (λ ty₄.
-        assigns ! (rep ! 67 (lit ! tt)) (from ! (stop !)) (init ! 13 refl (ty₄ .0)) $
+        array-typed ! word 580 0 (refl, lit< tt) (λ ty₄.
+        assigns ! (rep ! 580 (lit ! tt)) (from ! (stop !)) (init ! 13 refl (ty₄ .0)) $
         assigns ! (addr ! (from ! (stop !))) (from ! (stop !)) (init ! 9 refl (tt, tt)) $
         assigns ! (agg ! (and-then ! (load ! (from ! (stop !)) (look ! 9 refl)) (and-then ! (lit ! tt) (no-more !)))) (from ! (stop !)) (init ! 11 refl (tt, (tt, (record { fits = lit< tt }, tt)))) $
-        move ! (0 ∷ 13 ∷ []) $ own-lends ! tt word tt 67 67 (omega (arith)) 0 l₄ (refl, lit< tt) (lit< tt, lit< tt) (hs rows₀) (λ ν₄ δ₄. move ! (0 ∷ 2 ∷ 3 ∷ 4 ∷ 5 ∷ 6 ∷ 7 ∷ 8 ∷ 9 ∷ 10 ∷ 11 ∷ 12 ∷ 13 ∷ 1 ∷ []) $
+        move ! (0 ∷ 13 ∷ []) $ own-lends ! tt word tt 580 580 (omega (arith)) 0 l₄ (refl, lit< tt) (lit< tt, lit< tt) (hs rows₀) (λ ν₄ δ₄. move ! (0 ∷ 2 ∷ 3 ∷ 4 ∷ 5 ∷ 6 ∷ 7 ∷ 8 ∷ 9 ∷ 10 ∷ 11 ∷ 12 ∷ 13 ∷ 1 ∷ []) $
         assigns ! (addr ! (from ! (fld ! refl (hop ! (look-in ! 11 (sub ! 0 refl (whole !))) (stop !))))) (from ! (stop !)) (init ! 7 refl (tt, tt)) $
         assigns ! (agg ! (and-then ! (load ! (from ! (stop !)) (look ! 7 refl)) (and-then ! (load ! (from ! (fld ! refl (stop !))) (look-in ! 11 (sub ! 1 refl (whole !)))) (no-more !)))) (from ! (stop !)) (init ! 5 refl (tt, (tt, (record { fits = lit< tt }, tt)))) $
         assigns ! (addr ! (from ! (fld ! refl (hop ! (look-in ! 15 (sub ! 0 refl (whole !))) (stop !))))) (from ! (stop !)) (init ! 3 refl (tt, tt)) $
         assigns ! (agg ! (and-then ! (load ! (from ! (stop !)) (look ! 3 refl)) (and-then ! (load ! (from ! (fld ! refl (stop !))) (look-in ! 15 (sub ! 1 refl (whole !)))) (no-more !)))) (from ! (stop !)) (init ! 1 refl (tt, (tt, (record { fits = are .1 .1 .0 .0 .1 .0 }, tt)))) $
-        calls-knowing ! (fmOf 𝓤 H (W .laws) 𝓣) (1 ∷ 0 ∷ 2 ∷ []) (tab word (own-seat l₄ 67 ν₄ δ₄) (replicate 67 0) ∷ hs rows₀) (reader·read-blocks-over! 𝓤 H A mem run (𝓣 .C) known-reader·read-blocks-over form₀ (are .0) at-update update₀ (own-seat l₄ 67 ν₄ δ₄) (replicate 67 0) at-rows rows₀ fresh) refl (λ P. and-then ! (load ! (from ! (stop !)) (look ! 19 refl)) (and-then ! (load ! (from ! (stop !)) (look ! 17 refl)) (and-then ! (load ! (from ! (stop !)) (look ! 5 refl)) (and-then ! (load ! (from ! (stop !)) (look ! 1 refl)) (no-more !))))) (λ r₁ w₁ g₁ read.
+        calls-knowing ! (fmOf 𝓤 H (W .laws) 𝓣) (1 ∷ 0 ∷ 2 ∷ []) (tab word (own-seat l₄ 580 ν₄ δ₄) (replicate 580 0) ∷ hs rows₀) (reader·read-blocks-over! 𝓤 H A mem run (𝓣 .C) known-reader·read-blocks-over form₀ (are .0) at-update update₀ (own-seat l₄ 580 ν₄ δ₄) (replicate 580 0) at-rows rows₀ fresh) refl (λ P. and-then ! (load ! (from ! (stop !)) (look ! 19 refl)) (and-then ! (load ! (from ! (stop !)) (look ! 17 refl)) (and-then ! (load ! (from ! (stop !)) (look ! 5 refl)) (and-then ! (load ! (from ! (stop !)) (look ! 1 refl)) (no-more !))))) (λ r₁ w₁ g₁ read.
         land ! (from ! (stop !)) (init ! 21 refl (g₁ .1 .0)) $
-        move ! (0 ∷ 13 ∷ []) $ own-back ! tt word 67 67 (omega (arith)) 0 (w₁ .1 .1 .0) l₄ ν₄ δ₄ (hs (w₁ .1 .1 .1 .0)) $ move ! (0 ∷ 2 ∷ 3 ∷ 4 ∷ 5 ∷ 6 ∷ 7 ∷ 8 ∷ 9 ∷ 10 ∷ 11 ∷ 12 ∷ 13 ∷ 1 ∷ []) $
+        move ! (0 ∷ 13 ∷ []) $ own-back ! tt word 580 580 (omega (arith)) 0 (w₁ .1 .1 .0) l₄ ν₄ δ₄ (hs (w₁ .1 .1 .1 .0)) $ move ! (0 ∷ 2 ∷ 3 ∷ 4 ∷ 5 ∷ 6 ∷ 7 ∷ 8 ∷ 9 ∷ 10 ∷ 11 ∷ 12 ∷ 13 ∷ 1 ∷ []) $
         returns-within ! Post refl (look ! 21 refl) $
         free-all ! (_ ∷ []) En (has _ ∷ has _ ∷ has _ ∷ has _ ∷ has _ ∷ has _ ∷ has _ ∷ has _ ∷ has _ ∷ has _ ∷ has _ ∷ []) [] $ by ! (exits r₁ (w₁ .1 .1 .1 .0) (g₁ .0) (read .0, read .1))))))
 

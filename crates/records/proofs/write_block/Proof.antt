@@ -1,8 +1,13 @@
 -- `write_block` meets its contract: a GC, a Skip, or an item.
 use mathlib.Core.Path.{sym, _∙_}
 use borrow.Author.Tests.{not-true, not-false}
-use Rattle.tokens.proofs.Wrote.{wrote-none, wrote-then, wrote-var, wrote-is}
+use Rattle.tokens.specs.Tokens.{infos, lens}
+use Rattle.tokens.proofs.Wrote.{wrote-then, wrote-var}
+use Rattle.tokens.proofs.Keyed.{wrote-keys, wrote-keys-then, wrote-keys-is, wrote-keys-none}
+use Rattle.marked.proofs.Marked.{one-field, field-field, field-var}
+use Rattle.records.specs.Records.{infoByte}
 use Rattle.records.proofs.Writes.{block-gc, block-skip, block-item, block-none}
+use Rattle.records.proofs.Keyless.{place-keyless}
 use borrow.Author.Needs.{needs}
 use Rattle.records.proofs.write_block.Statement.{statement}
 use Rattle.records.proofs.write_block.Tie as tie
@@ -14,7 +19,8 @@ returns c =
     let p14 = p11 .before .before .before in
     let p20 = p14 .before .before .before .before .before .before in
     let a = p20 .args in
-    wrote-is (block-gc (a .update .now) (a .b) (p14 .if1 .taken)) (wrote-then (p11 .write-info .ensures) (p4 .write-len .ensures))
+    wrote-keys-is (block-gc (a .update .now) (a .b) (p14 .if1 .taken))
+    (wrote-keys (field-field infos 0 lens (a .b .length .0)) (wrote-then (p11 .write-info .ensures) (p4 .write-len .ensures)))
 
 returns-2 : tie.Need-returns-2
 returns-2 c =
@@ -24,8 +30,9 @@ returns-2 c =
     let p13 = p11 .before .before in
     let p19 = p13 .before .before .before .before .before .before in
     let a = p19 .args in
-    wrote-is (block-skip (a .update .now) (a .b) (p13 .if1 .left) (p11 .if2 .taken))
-    (wrote-then (p8 .write-info2 .ensures) (wrote-var (a .b .length .0) (p8 .write-info2 .ensures .tidy) (p2 .number .ensures)))
+    wrote-keys-is (block-skip (a .update .now) (a .b) (p13 .if1 .left) (p11 .if2 .taken))
+    (wrote-keys (field-var infos 10 (a .b .length .0))
+    (wrote-then (p8 .write-info2 .ensures) (wrote-var (a .b .length .0) (p8 .write-info2 .ensures .tidy) (p2 .number .ensures))))
 
 returns-3 : tie.Need-returns-3
 returns-3 c =
@@ -35,7 +42,7 @@ returns-3 c =
     let p10 = p4 .before .before .before .before .before .before in
     let a = p10 .args in
     let h = sym (p1 .is-item .ensures) ∙ not-true (p1 .is-item .result) (c .if3 .taken) in
-    wrote-is (block-none (a .update .now) (a .b) (p4 .if1 .left) (p2 .if2 .left) h) (wrote-none (p10 .pre))
+    wrote-keys-is (block-none (a .update .now) (a .b) (p4 .if1 .left) (p2 .if2 .left) h) (wrote-keys-none (p10 .pre))
 
 returns-4 : tie.Need-returns-4
 returns-4 c =
@@ -50,8 +57,9 @@ returns-4 c =
     let p32 = p26 .before .before .before .before .before .before in
     let a = p32 .args in
     let h = sym (p23 .is-item .ensures) ∙ not-false (p23 .is-item .result) (p22 .if3 .left) in
-    wrote-is (block-item (a .update .now) (a .b) (p26 .if1 .left) (p24 .if2 .left) h)
-    (wrote-then (rw (p19 .info-byte .ensures) at (p18 .write-info3 .ensures)) (wrote-then (p11 .write-place .ensures) (p4 .write-content .ensures)))
+    wrote-keys-is (block-item (a .update .now) (a .b) (p26 .if1 .left) (p24 .if2 .left) h)
+    (wrote-keys-then (wrote-keys (one-field infos (infoByte (a .b))) (rw (p19 .info-byte .ensures) at (p18 .write-info3 .ensures)))
+    (wrote-keys-then (wrote-keys (place-keyless (a .update .now) (a .b)) (p11 .write-place .ensures)) (p4 .write-content .ensures)))
 
 pub write-block-spec : {M : Type 1} → statement M
 write-block-spec =

@@ -1,8 +1,9 @@
 -- `write_row` meets its contract: a row whose cut lies within it, its head before it.
 use mathlib.Core.Path.{sym, _∙_}
 use borrow.Author.Tests.{not-true, not-false}
-use Rattle.tokens.proofs.Wrote.{wrote-none, wrote-then, wrote-is}
+use Rattle.tokens.proofs.Keyed.{wrote-keys, wrote-keys-then, wrote-keys-is, wrote-keys-none}
 use Rattle.records.proofs.Writes.{row-none, row-some}
+use Rattle.records.proofs.Keyless.{head-keyless}
 use Rattle.records.proofs.Sane.{sane-limits}
 use borrow.Author.Needs.{needs}
 use Rattle.records.proofs.write_row.Statement.{statement}
@@ -16,8 +17,8 @@ returns c =
     let a = p8 .args in
     let e = rw (p2 .rest .ensures) at (p1 .is-sane .ensures) in
     let h = sym e ∙ not-true (p1 .is-sane .result) (c .if1 .taken) in
-    wrote-is (row-none (a .update .now) (a .b) (a .c .head) (a .c .from .0) (a .c .skip .0) h)
-    (wrote-none (p8 .pre))
+    wrote-keys-is (row-none (a .update .now) (a .b) (a .c .head) (a .c .from .0) (a .c .skip .0) h)
+    (wrote-keys-none (p8 .pre))
 
 write-head-requires : tie.Need-write-head-requires
 write-head-requires c κs =
@@ -48,8 +49,8 @@ returns-2 c =
     let e = rw (p17 .rest .ensures) at (p16 .is-sane .ensures) in
     let h = sym e ∙ not-false (p16 .is-sane .result) (p15 .if1 .left) in
     let piece = rw (p17 .rest .ensures) at (p7 .cut .ensures) in
-    wrote-is (row-some (a .update .now) (a .b) (a .c .head) (a .c .from .0) (a .c .skip .0) h)
-    (wrote-then (p12 .write-head .ensures) (rw piece at (p4 .write-block .ensures)))
+    wrote-keys-is (row-some (a .update .now) (a .b) (a .c .head) (a .c .from .0) (a .c .skip .0) h)
+    (wrote-keys-then (wrote-keys (head-keyless (a .c .head) (a .c .from .0) (a .b)) (p12 .write-head .ensures)) (rw piece at (p4 .write-block .ensures)))
 
 pub write-row-spec : {M : Type 1} → statement M
 write-row-spec =

@@ -140,20 +140,20 @@ module _ {M : Type 1} (𝓤 : URA M) (H : Heap 𝓤) (A : Atoms 𝓤) (W : Given
         free-all ! (_ ∷ []) En (has _ ∷ has _ ∷ has _ ∷ has _ ∷ has _ ∷ has _ ∷ has _ ∷ bare ∷ bare ∷ has _ ∷ has _ ∷ has _ ∷ has _ ∷ has _ ∷ []) [] $ by ! (exits (answer (refused (record { number = beforehand form₀ update₀; place = 0 }))) (rowsOf (length rows₀) (refused (record { number = beforehand form₀ update₀; place = 0 }))) (wordsOf (length ranges₀) (refused (record { number = beforehand form₀ update₀; place = 0 }))) (g₃ .0) (on-first form₀ update₀ rows₀ ranges₀ (not-true (eqb (beforehand form₀ update₀) 0) y₂)))))
         (λ y₂.
         skip-on ! $
-        array-typed ! word 67 0 (refl, lit< tt) (λ ty₇.
-        assigns ! (rep ! 67 (lit ! tt)) (from ! (stop !)) (init ! 27 refl (ty₇ .0)) $
+        array-typed ! word 580 0 (refl, lit< tt) (λ ty₇.
+        assigns ! (rep ! 580 (lit ! tt)) (from ! (stop !)) (init ! 27 refl (ty₇ .0)) $
         assigns ! (addr ! (from ! (stop !))) (from ! (stop !)) (init ! 13 refl (tt, tt)) $
         assigns ! (agg ! (and-then ! (load ! (from ! (stop !)) (look ! 13 refl)) (and-then ! (lit ! tt) (no-more !)))) (from ! (stop !)) (init ! 25 refl (tt, (tt, (record { fits = lit< tt }, tt)))) $
-        move ! (0 ∷ 27 ∷ []) $ own-lends ! tt word tt 67 67 (omega (arith)) 0 l₇ (refl, lit< tt) (lit< tt, lit< tt) (hs rows₀ ranges₀) (λ ν₇ δ₇. move ! (0 ∷ 2 ∷ 3 ∷ 4 ∷ 5 ∷ 6 ∷ 7 ∷ 8 ∷ 9 ∷ 10 ∷ 11 ∷ 12 ∷ 13 ∷ 14 ∷ 15 ∷ 16 ∷ 17 ∷ 18 ∷ 19 ∷ 20 ∷ 21 ∷ 22 ∷ 23 ∷ 24 ∷ 25 ∷ 26 ∷ 27 ∷ 1 ∷ []) $
+        move ! (0 ∷ 27 ∷ []) $ own-lends ! tt word tt 580 580 (omega (arith)) 0 l₇ (refl, lit< tt) (lit< tt, lit< tt) (hs rows₀ ranges₀) (λ ν₇ δ₇. move ! (0 ∷ 2 ∷ 3 ∷ 4 ∷ 5 ∷ 6 ∷ 7 ∷ 8 ∷ 9 ∷ 10 ∷ 11 ∷ 12 ∷ 13 ∷ 14 ∷ 15 ∷ 16 ∷ 17 ∷ 18 ∷ 19 ∷ 20 ∷ 21 ∷ 22 ∷ 23 ∷ 24 ∷ 25 ∷ 26 ∷ 27 ∷ 1 ∷ []) $
         assigns ! (addr ! (from ! (fld ! refl (hop ! (look-in ! 25 (sub ! 0 refl (whole !))) (stop !))))) (from ! (stop !)) (init ! 11 refl (tt, tt)) $
         assigns ! (agg ! (and-then ! (load ! (from ! (stop !)) (look ! 11 refl)) (and-then ! (load ! (from ! (fld ! refl (stop !))) (look-in ! 25 (sub ! 1 refl (whole !)))) (no-more !)))) (from ! (stop !)) (init ! 9 refl (tt, (tt, (record { fits = lit< tt }, tt)))) $
         assigns ! (addr ! (from ! (fld ! refl (hop ! (look-in ! 35 (sub ! 0 refl (whole !))) (stop !))))) (from ! (stop !)) (init ! 7 refl (tt, tt)) $
         assigns ! (agg ! (and-then ! (load ! (from ! (stop !)) (look ! 7 refl)) (and-then ! (load ! (from ! (fld ! refl (stop !))) (look-in ! 35 (sub ! 1 refl (whole !)))) (no-more !)))) (from ! (stop !)) (init ! 5 refl (tt, (tt, (record { fits = are .1 .1 .0 .0 .1 .0 }, tt)))) $
         assigns ! (addr ! (from ! (fld ! refl (hop ! (look-in ! 33 (sub ! 0 refl (whole !))) (stop !))))) (from ! (stop !)) (init ! 3 refl (tt, tt)) $
         assigns ! (agg ! (and-then ! (load ! (from ! (stop !)) (look ! 3 refl)) (and-then ! (load ! (from ! (fld ! refl (stop !))) (look-in ! 33 (sub ! 1 refl (whole !)))) (no-more !)))) (from ! (stop !)) (init ! 1 refl (tt, (tt, (record { fits = are .1 .1 .1 .0 .0 .1 .0 }, tt)))) $
-        calls-knowing ! (fmOf 𝓤 H (W .laws) 𝓣) (1 ∷ 0 ∷ 2 ∷ 3 ∷ []) (tab word (own-seat l₇ 67 ν₇ δ₇) (replicate 67 0) ∷ hs rows₀ ranges₀) (strict·read-over! 𝓤 H A mem run (𝓣 .C) known-strict·read-over form₀ (are .0) at-update update₀ (own-seat l₇ 67 ν₇ δ₇) (replicate 67 0) at-rows rows₀ at-ranges ranges₀ (fresh, eqb-true (beforehand form₀ update₀) 0 (not-false (eqb (beforehand form₀ update₀) 0) y₂))) refl (λ P. and-then ! (load ! (from ! (stop !)) (look ! 39 refl)) (and-then ! (load ! (from ! (stop !)) (look ! 37 refl)) (and-then ! (load ! (from ! (stop !)) (look ! 9 refl)) (and-then ! (load ! (from ! (stop !)) (look ! 5 refl)) (and-then ! (load ! (from ! (stop !)) (look ! 1 refl)) (no-more !)))))) (λ r₄ w₄ g₄ read.
+        calls-knowing ! (fmOf 𝓤 H (W .laws) 𝓣) (1 ∷ 0 ∷ 2 ∷ 3 ∷ []) (tab word (own-seat l₇ 580 ν₇ δ₇) (replicate 580 0) ∷ hs rows₀ ranges₀) (strict·read-over! 𝓤 H A mem run (𝓣 .C) known-strict·read-over form₀ (are .0) at-update update₀ (own-seat l₇ 580 ν₇ δ₇) (replicate 580 0) at-rows rows₀ at-ranges ranges₀ (fresh, eqb-true (beforehand form₀ update₀) 0 (not-false (eqb (beforehand form₀ update₀) 0) y₂))) refl (λ P. and-then ! (load ! (from ! (stop !)) (look ! 39 refl)) (and-then ! (load ! (from ! (stop !)) (look ! 37 refl)) (and-then ! (load ! (from ! (stop !)) (look ! 9 refl)) (and-then ! (load ! (from ! (stop !)) (look ! 5 refl)) (and-then ! (load ! (from ! (stop !)) (look ! 1 refl)) (no-more !)))))) (λ r₄ w₄ g₄ read.
         land ! (from ! (stop !)) (init ! 41 refl (g₄ .1 .0)) $
-        move ! (0 ∷ 27 ∷ []) $ own-back ! tt word 67 67 (omega (arith)) 0 (w₄ .1 .1 .0) l₇ ν₇ δ₇ (hs (w₄ .1 .1 .1 .0) (w₄ .1 .1 .1 .1 .0)) $ move ! (0 ∷ 2 ∷ 3 ∷ 4 ∷ 5 ∷ 6 ∷ 7 ∷ 8 ∷ 9 ∷ 10 ∷ 11 ∷ 12 ∷ 13 ∷ 14 ∷ 15 ∷ 16 ∷ 17 ∷ 18 ∷ 19 ∷ 20 ∷ 21 ∷ 22 ∷ 23 ∷ 24 ∷ 25 ∷ 26 ∷ 27 ∷ 1 ∷ []) $
+        move ! (0 ∷ 27 ∷ []) $ own-back ! tt word 580 580 (omega (arith)) 0 (w₄ .1 .1 .0) l₇ ν₇ δ₇ (hs (w₄ .1 .1 .1 .0) (w₄ .1 .1 .1 .1 .0)) $ move ! (0 ∷ 2 ∷ 3 ∷ 4 ∷ 5 ∷ 6 ∷ 7 ∷ 8 ∷ 9 ∷ 10 ∷ 11 ∷ 12 ∷ 13 ∷ 14 ∷ 15 ∷ 16 ∷ 17 ∷ 18 ∷ 19 ∷ 20 ∷ 21 ∷ 22 ∷ 23 ∷ 24 ∷ 25 ∷ 26 ∷ 27 ∷ 1 ∷ []) $
         returns-within ! Post refl (look ! 41 refl) $
         free-all ! (_ ∷ []) En (has _ ∷ has _ ∷ has _ ∷ has _ ∷ has _ ∷ has _ ∷ bare ∷ has _ ∷ has _ ∷ has _ ∷ bare ∷ bare ∷ bare ∷ bare ∷ has _ ∷ has _ ∷ has _ ∷ has _ ∷ has _ ∷ has _ ∷ has _ ∷ []) [] $ by ! (exits r₄ (w₄ .1 .1 .1 .0) (w₄ .1 .1 .1 .1 .0) (g₄ .0) read)))))))
 

@@ -12,6 +12,11 @@ left-of-requires c κs =
     let w = sane-within (s .args .b) (s .args .e) (s .pre .0) in
     (omega (arith, w .some, w .units, w .end), s .pre .1)
 
+cast-start : tie.Need-cast-start
+cast-start c =
+    let s = c .before .before .before .before .before .before .before in
+    omega (arith, sane-within (s .args .b) (s .args .e) (s .pre .0) .end)
+
 add-start : tie.Need-add-start
 add-start c =
     let s = c .before .before .before .before .before .before .before .before in
@@ -37,4 +42,6 @@ returns c =
     rw (p6 .left-of .ensures, p6 .before .no-id .ensures, p5 .part-at .ensures, p4 .is-item .ensures) refl
 
 pub cut-behind-spec : {M : Type 1} → statement M
-cut-behind-spec = tie.close (tie.spec (λ c κs. search needs) left-of-requires (λ c κs. search needs) (λ c κs. search needs) (λ c. search needs) add-start cast-clock sub-rest returns)
+cut-behind-spec =
+    tie.close
+    (tie.spec (λ c κs. search needs) left-of-requires (λ c κs. search needs) (λ c κs. search needs) cast-start add-start cast-clock sub-rest returns)

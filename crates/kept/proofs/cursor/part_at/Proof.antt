@@ -1,9 +1,9 @@
--- `kept::part_at` meets its contract: only a text is cut.
-use mathlib.Core.Path.{refl}
+-- `kept::part_at` meets its contract: only a text or a list is cut.
+use mathlib.Core.Path.{refl, sym, _∙_}
 use native.Mathlib.Omega.{arith}
-use borrow.Author.Tests.{eq-eqb, ne-eqb}
 use Rattle.kept.specs.Plan.{partAt}
 use Rattle.kept.proofs.Sane.{sane-within}
+use borrow.Author.Needs.{needs}
 use Rattle.kept.proofs.cursor.part_at.Statement.{statement}
 use Rattle.kept.proofs.cursor.part_at.Tie as tie
 
@@ -15,11 +15,11 @@ add-place c =
 
 returns : tie.Need-returns
 unfolding partAt
-returns c = rw (eq-eqb (c .before .before .before .before .before .before .before .args .b .kind) 5 (c .before .before .before .if1 .taken)) refl
+returns c = rw (sym (c .before .before .before .before .is-cut .ensures) ∙ c .before .before .before .if1 .taken) refl
 
 returns-2 : tie.Need-returns-2
 unfolding partAt
-returns-2 c = rw (ne-eqb (c .before .before .before .before .args .b .kind) 5 (c .if1 .left)) refl
+returns-2 c = rw (sym (c .before .is-cut .ensures) ∙ c .if1 .left) refl
 
 pub part-at-spec : {M : Type 1} → statement M
-part-at-spec = tie.close (tie.spec add-place returns returns-2)
+part-at-spec = tie.close (tie.spec (λ c κs. search needs) add-place returns returns-2)

@@ -11,7 +11,7 @@ abbrev Inv-loop : tie.InvT-loop
 Inv-loop sizes₀ lanes far₀ k₀ sizes far k = Noted lanes sizes far k
 
 abbrev μ-loop : tie.MeasureT-loop
-μ-loop sizes₀ lanes far₀ k₀ sizes far k = 8 - k
+μ-loop sizes₀ lanes far₀ k₀ sizes far k = 10 - k
 
 loop-holds : tie.Need-loop-holds Inv-loop μ-loop
 loop-holds c = notes (c .args .lanes .now) (c .pre .0)

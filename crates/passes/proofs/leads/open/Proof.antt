@@ -12,7 +12,7 @@ abbrev Inv-loop : tie.InvT-loop
 Inv-loop out₀ lanes₀ sizes form at₀ k₀ out lanes at k = Opening out₀ sizes out lanes at k × (length out ≡ length out₀)
 
 abbrev μ-loop : tie.MeasureT-loop
-μ-loop out₀ lanes₀ sizes form at₀ k₀ out lanes at k = 8 - k
+μ-loop out₀ lanes₀ sizes form at₀ k₀ out lanes at k = 10 - k
 
 returns : tie.Need-returns Inv-loop μ-loop
 returns c = let s = c .before .before .before .before in opened-line (s .args .out .now) (s .args .sizes .now) (c .if1 .taken) (s .pre .1)

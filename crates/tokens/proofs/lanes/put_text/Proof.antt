@@ -24,9 +24,9 @@ returns c =
     let a = start .args in
     let w = a .lanes .now in
     let b = bytesIn (a .update .now) (a .p) in
-    let e = laneIn w 4 in
+    let e = laneIn w 5 in
     let p = c .before .before .part in (
-      alone-is 4 (movedTo e (p .result)) (forward e b) w (set w 20 (p .result)) (moves 4 w (start .pre) (omega arith) (p .result))
+      alone-is 5 (movedTo e (p .result)) (forward e b) w (set w 25 (p .result)) (moves 5 w (start .pre) (omega arith) (p .result))
           (rw (p .ensures .0) (forward-ahead (a .out .now) e b)),
       p .ensures .1 ∙ laid-place (a .out .now) e b,
     )

@@ -1,0 +1,3 @@
+-- What holds of keys, values and type numbers over words.
+pub mod Laws
+pub mod Types

@@ -1,0 +1,3 @@
+-- The laws of marked contents that are written: units of texts (Units), tokens by the kind (Marked).
+pub mod Units
+pub mod Marked

@@ -1,0 +1,35 @@
+-- `write_type` meets its contract: a type number, and the node name of a type that has one.
+use mathlib.Core.Path.{sym, _∙_}
+use Rattle.tokens.specs.Tokens.{types}
+use Rattle.tokens.proofs.Keyed.{wrote-keys, wrote-keys-then, wrote-keys-is}
+use Rattle.marked.proofs.Marked.{type-named, type-plain, one-field}
+use borrow.Author.Needs.{needs}
+use Rattle.marked.proofs.write_type.Statement.{statement}
+use Rattle.marked.proofs.write_type.Tie as tie
+
+returns : tie.Need-returns
+returns c =
+    let p4 = c .before .before .before .before in
+    let p7 = p4 .before .before .before in
+    let p8 = p7 .before in
+    let p13 = p8 .before .before .before .before .before in
+    let p20 = p13 .before .before .before .before .before .before .before in
+    let a = p20 .args in
+    wrote-keys-is (type-named (a .update .now) (a .b) (sym (p8 .is-named .ensures) ∙ p7 .if1 .taken))
+    (wrote-keys-then (wrote-keys (one-field types (a .b .«type_number»)) (p13 .write-type .ensures)) (p4 .write-mark .ensures))
+
+returns-2 : tie.Need-returns-2
+returns-2 c =
+    let p1 = c .before in
+    let p6 = p1 .before .before .before .before .before in
+    let p13 = p6 .before .before .before .before .before .before .before in
+    let a = p13 .args in
+    wrote-keys-is (type-plain (a .update .now) (a .b) (sym (p1 .is-named .ensures) ∙ c .if1 .left))
+    (wrote-keys (one-field types (a .b .«type_number»)) (p6 .write-type .ensures))
+
+pub write-type-spec : {M : Type 1} → statement M
+write-type-spec =
+    tie.close
+    (tie.spec
+    (λ c. search needs) (λ c κs. search needs) (λ c κs. search needs) (λ c κs. search needs) (λ c. search needs) (λ c. search needs)
+    returns (λ c. search needs) (λ c. search needs) returns-2)

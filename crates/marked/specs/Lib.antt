@@ -1,0 +1,2 @@
+-- What the writers of marked contents promise.
+pub mod Marked

@@ -1,0 +1,2 @@
+-- What it is to remember a key.
+pub mod Numbering
