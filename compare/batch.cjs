@@ -69,9 +69,9 @@ const compared = batch => {
     count('how', x.how, x.form)
     count('number', r.number)
     judge.ours('read', x, ours[k], j.readLine(x.bytes, r), r)
-    const seen = judge.readYjs(x, ours[k])
+    judge.readYjs(x, ours[k])
     builds.forEach(([checked], n) => judge.readYrs(x, checked, ours[k], yrs[n][k]))
-    if (r.number === 0) readable.push({ ...x, emptyRange: seen?.emptyRange ?? false })
+    if (r.number === 0) readable.push({ ...x, emptyRange: r.emptyRange })
     else if (k % 20 === 0) refused.push(x)
   })
   // Diffs and sorts; of updates that are refused too, now and then, to see that the refusal is the same.

@@ -207,9 +207,9 @@ const joined = ranges => {
 
 const NO_LIMIT = Infinity
 // The information beside the answer is for whoever compares: `masked` says that an info byte had content number 0 and other bits, `longType` that form 1 spelt
-// a type number in more than a byte; `deleteClients` has the delete-set clients as they were named. Strictly (W-205) the flag is 0, and every byte is marked as read in the end.
+// a type number in more than a byte, `emptyRange` that a delete range was empty; `deleteClients` has the delete-set clients as they were named. Strictly (W-205) the flag is 0, and every byte is marked as read in the end.
 const readUpdate = (form, update, blockRows = NO_LIMIT, rangeRows = NO_LIMIT, strict = false) => {
-  const noted = { masked: false, longType: false }
+  const noted = { masked: false, longType: false, emptyRange: false }
   const unread = strict ? new Set(update.keys()) : null
   const mark = (from, to) => {
     if (strict) for (let k = from; k < to; k++) unread.delete(k)
@@ -249,7 +249,10 @@ const readUpdate = (form, update, blockRows = NO_LIMIT, rangeRows = NO_LIMIT, st
       for (let count = rest.unsigned(); count > 0n; count--) {
         const { clock, length, place } = f.range()
         within(clock + length, CLOCK, place, 'delete end')
-        if (length === 0n) continue
+        if (length === 0n) {
+          noted.emptyRange = true
+          continue
+        }
         if (ranges.length >= rangeRows) refuse(8, place)
         ranges.push({ client, clock, length })
       }
