@@ -44,34 +44,177 @@ pub record State : Type 0 where
 -- ---- a state with one field put
 
 abbrev pub movedTo : State → ℕ → State
-movedTo s e = record { at = e; key = s .key; client = s .client; left = s .left; right = s .right; info = s .info; text = s .text; parent = s .parent; types = s .types; len = s .len; keys = s .keys }
+movedTo s e =
+    record {
+      at = e;
+      key = s .key;
+      client = s .client;
+      left = s .left;
+      right = s .right;
+      info = s .info;
+      text = s .text;
+      parent = s .parent;
+      types = s .types;
+      len = s .len;
+      keys = s .keys;
+    }
 
 abbrev pub withKey : Differences → State → State
-withKey c s = record { at = s .at; key = c; client = s .client; left = s .left; right = s .right; info = s .info; text = s .text; parent = s .parent; types = s .types; len = s .len; keys = s .keys }
+withKey c s =
+    record {
+      at = s .at;
+      key = c;
+      client = s .client;
+      left = s .left;
+      right = s .right;
+      info = s .info;
+      text = s .text;
+      parent = s .parent;
+      types = s .types;
+      len = s .len;
+      keys = s .keys;
+    }
 
 abbrev pub withClient : Numbers → State → State
-withClient c s = record { at = s .at; key = s .key; client = c; left = s .left; right = s .right; info = s .info; text = s .text; parent = s .parent; types = s .types; len = s .len; keys = s .keys }
+withClient c s =
+    record {
+      at = s .at;
+      key = s .key;
+      client = c;
+      left = s .left;
+      right = s .right;
+      info = s .info;
+      text = s .text;
+      parent = s .parent;
+      types = s .types;
+      len = s .len;
+      keys = s .keys;
+    }
 
 abbrev pub withLeft : Differences → State → State
-withLeft c s = record { at = s .at; key = s .key; client = s .client; left = c; right = s .right; info = s .info; text = s .text; parent = s .parent; types = s .types; len = s .len; keys = s .keys }
+withLeft c s =
+    record {
+      at = s .at;
+      key = s .key;
+      client = s .client;
+      left = c;
+      right = s .right;
+      info = s .info;
+      text = s .text;
+      parent = s .parent;
+      types = s .types;
+      len = s .len;
+      keys = s .keys;
+    }
 
 abbrev pub withRight : Differences → State → State
-withRight c s = record { at = s .at; key = s .key; client = s .client; left = s .left; right = c; info = s .info; text = s .text; parent = s .parent; types = s .types; len = s .len; keys = s .keys }
+withRight c s =
+    record {
+      at = s .at;
+      key = s .key;
+      client = s .client;
+      left = s .left;
+      right = c;
+      info = s .info;
+      text = s .text;
+      parent = s .parent;
+      types = s .types;
+      len = s .len;
+      keys = s .keys;
+    }
 
 abbrev pub withInfo : Bytes → State → State
-withInfo c s = record { at = s .at; key = s .key; client = s .client; left = s .left; right = s .right; info = c; text = s .text; parent = s .parent; types = s .types; len = s .len; keys = s .keys }
+withInfo c s =
+    record {
+      at = s .at;
+      key = s .key;
+      client = s .client;
+      left = s .left;
+      right = s .right;
+      info = c;
+      text = s .text;
+      parent = s .parent;
+      types = s .types;
+      len = s .len;
+      keys = s .keys;
+    }
 
 abbrev pub withText : Texts → State → State
-withText c s = record { at = s .at; key = s .key; client = s .client; left = s .left; right = s .right; info = s .info; text = c; parent = s .parent; types = s .types; len = s .len; keys = s .keys }
+withText c s =
+    record {
+      at = s .at;
+      key = s .key;
+      client = s .client;
+      left = s .left;
+      right = s .right;
+      info = s .info;
+      text = c;
+      parent = s .parent;
+      types = s .types;
+      len = s .len;
+      keys = s .keys;
+    }
 
 abbrev pub withParent : Bytes → State → State
-withParent c s = record { at = s .at; key = s .key; client = s .client; left = s .left; right = s .right; info = s .info; text = s .text; parent = c; types = s .types; len = s .len; keys = s .keys }
+withParent c s =
+    record {
+      at = s .at;
+      key = s .key;
+      client = s .client;
+      left = s .left;
+      right = s .right;
+      info = s .info;
+      text = s .text;
+      parent = c;
+      types = s .types;
+      len = s .len;
+      keys = s .keys;
+    }
 
 abbrev pub withLen : Numbers → State → State
-withLen c s = record { at = s .at; key = s .key; client = s .client; left = s .left; right = s .right; info = s .info; text = s .text; parent = s .parent; types = s .types; len = c; keys = s .keys }
+withLen c s =
+    record {
+      at = s .at;
+      key = s .key;
+      client = s .client;
+      left = s .left;
+      right = s .right;
+      info = s .info;
+      text = s .text;
+      parent = s .parent;
+      types = s .types;
+      len = c;
+      keys = s .keys;
+    }
 
 abbrev pub withTypes : Numbers → State → State
-withTypes c s = record { at = s .at; key = s .key; client = s .client; left = s .left; right = s .right; info = s .info; text = s .text; parent = s .parent; types = c; len = s .len; keys = s .keys }
+withTypes c s =
+    record {
+      at = s .at;
+      key = s .key;
+      client = s .client;
+      left = s .left;
+      right = s .right;
+      info = s .info;
+      text = s .text;
+      parent = s .parent;
+      types = c;
+      len = s .len;
+      keys = s .keys;
+    }
 
 abbrev pub withKeys : List Part → State → State
-withKeys ps s = record { at = s .at; key = s .key; client = s .client; left = s .left; right = s .right; info = s .info; text = s .text; parent = s .parent; types = s .types; len = s .len; keys = ps }
+withKeys ps s =
+    record {
+      at = s .at;
+      key = s .key;
+      client = s .client;
+      left = s .left;
+      right = s .right;
+      info = s .info;
+      text = s .text;
+      parent = s .parent;
+      types = s .types;
+      len = s .len;
+      keys = ps;
+    }

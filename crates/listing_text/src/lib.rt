@@ -4,7 +4,8 @@ ghost use Prim.Native.Nat.{_+_, _*_, _^_, _≤_, _<_};
 ghost use lib.ListN.{length, take};
 ghost use Rattle.ranges.specs.Table.{range, rowsFrom};
 ghost use Rattle.lines.specs.Lines.{overlay};
-ghost use Rattle.listing_text.specs.Listing.{number, named, kindName, blockLine, blockLines, rangeLine, rangeLines, header, endLine, emptyLine, refusedLine};
+ghost use Rattle.listing_text.specs.Listing.{number, named, kindName, blockLine, blockLines, rangeLine, rangeLines};
+ghost use Rattle.listing_text.specs.Listing.{header, endLine, emptyLine, refusedLine};
 use block::Block;
 use lines::put_byte;
 use lines::put_decimal;
@@ -23,7 +24,8 @@ fn put_number(out: &mut [u8], used: usize, v: u64, end: u8) -> usize
 // A word before it.
 fn put_named(out: &mut [u8], used: usize, word: &[u8], v: u64, end: u8) -> usize
     requires { ⌜ used + length (now word) + 21 < 2 ^ 63 ⌝ }
-    ensures { λ r. ⌜ (r ≡ used + length (named (now (word .entry)) v end)) × (now (out .exit) ≡ overlay (now (out .entry)) used (named (now (word .entry)) v end)) ⌝ }
+    ensures { λ r. ⌜ (r ≡ used + length (named (now (word .entry)) v end))
+        × (now (out .exit) ≡ overlay (now (out .entry)) used (named (now (word .entry)) v end)) ⌝ }
 {
     let at = put_text(out, used, word);
     put_number(out, at, v, end)
@@ -74,7 +76,8 @@ pub fn put_block(out: &mut [u8], used: usize, b: Block) -> usize
 
 pub fn put_range(out: &mut [u8], used: usize, client: u64, clock: u64, len: u64) -> usize
     requires { ⌜ used + 63 < 2 ^ 63 ⌝ }
-    ensures { λ r. ⌜ (r ≡ used + length (rangeLine (range client clock len))) × (now (out .exit) ≡ overlay (now (out .entry)) used (rangeLine (range client clock len))) ⌝ }
+    ensures { λ r. ⌜ (r ≡ used + length (rangeLine (range client clock len)))
+        × (now (out .exit) ≡ overlay (now (out .entry)) used (rangeLine (range client clock len))) ⌝ }
 {
     let past_client = put_number(out, used, client, b' ');
     let past_clock = put_number(out, past_client, clock, b' ');
@@ -84,7 +87,8 @@ pub fn put_range(out: &mut [u8], used: usize, client: u64, clock: u64, len: u64)
 // The first n of ranges that are lent as words, three a row.
 pub fn put_ranges(out: &mut [u8], used: usize, words: &[u64], n: usize) -> usize
     requires { ⌜ (used + 63 * n < 2 ^ 63) × (3 * n ≤ length (now words)) ⌝ }
-    ensures { λ r. ⌜ (r ≡ used + length (rangeLines (rowsFrom (now (words .entry)) 0 n))) × (now (out .exit) ≡ overlay (now (out .entry)) used (rangeLines (rowsFrom (now (words .entry)) 0 n))) ⌝ }
+    ensures { λ r. ⌜ (r ≡ used + length (rangeLines (rowsFrom (now (words .entry)) 0 n)))
+        × (now (out .exit) ≡ overlay (now (out .entry)) used (rangeLines (rowsFrom (now (words .entry)) 0 n))) ⌝ }
 {
     let mut at = used;
     let mut i = 0;
@@ -134,7 +138,8 @@ pub fn put_refused(out: &mut [u8], used: usize, why: Refusal) -> usize
 // The first n rows.
 pub fn put_blocks(out: &mut [u8], used: usize, rows: &[Block], n: usize) -> usize
     requires { ⌜ (used + 71 * n < 2 ^ 63) × (n ≤ length (now rows)) ⌝ }
-    ensures { λ r. ⌜ (r ≡ used + length (blockLines (take n (now (rows .entry))))) × (now (out .exit) ≡ overlay (now (out .entry)) used (blockLines (take n (now (rows .entry))))) ⌝ }
+    ensures { λ r. ⌜ (r ≡ used + length (blockLines (take n (now (rows .entry)))))
+        × (now (out .exit) ≡ overlay (now (out .entry)) used (blockLines (take n (now (rows .entry))))) ⌝ }
 {
     let mut at = used;
     let mut i: usize = 0;

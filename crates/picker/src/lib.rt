@@ -228,9 +228,12 @@ pub fn offer(
 ) -> Look
     requires { ⌜ (3 * n ≤ length (now slots)) × Falling (slotsFrom (now slots) 0 n) ⌝ }
     ensures { λ r. ⌜ (r ≡ offered rule (slotsFrom (now (slots .entry)) 0 n) (desk p (now (reach .entry)) (now (fronts .entry)) (now (order .entry))) b .at)
-        × (now (reach .exit) ≡ offered rule (slotsFrom (now (slots .entry)) 0 n) (desk p (now (reach .entry)) (now (fronts .entry)) (now (order .entry))) b .reach)
-        × (now (fronts .exit) ≡ offered rule (slotsFrom (now (slots .entry)) 0 n) (desk p (now (reach .entry)) (now (fronts .entry)) (now (order .entry))) b .fronts)
-        × (now (order .exit) ≡ offered rule (slotsFrom (now (slots .entry)) 0 n) (desk p (now (reach .entry)) (now (fronts .entry)) (now (order .entry))) b .order) ⌝ }
+        × (now (reach .exit) ≡ offered rule (slotsFrom (now (slots .entry)) 0 n)
+        (desk p (now (reach .entry)) (now (fronts .entry)) (now (order .entry))) b .reach)
+        × (now (fronts .exit) ≡ offered rule (slotsFrom (now (slots .entry)) 0 n)
+        (desk p (now (reach .entry)) (now (fronts .entry)) (now (order .entry))) b .fronts)
+        × (now (order .exit) ≡ offered rule (slotsFrom (now (slots .entry)) 0 n)
+        (desk p (now (reach .entry)) (now (fronts .entry)) (now (order .entry))) b .order) ⌝ }
 {
     let f = fronts::front_at(fronts, p.slot);
     let left = numbers::words::less(p.left as u64, 1) as usize;
