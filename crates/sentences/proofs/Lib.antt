@@ -1,0 +1,2 @@
+-- Document 01's sentences on columns hold of the definitions.
+pub mod Said

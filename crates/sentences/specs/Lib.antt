@@ -1,0 +1,2 @@
+-- Document 01's sentences on columns.
+pub mod Sentences
