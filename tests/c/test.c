@@ -1,10 +1,11 @@
 // Links the proved library by its header and holds it to document 01's cases C, D, E and M, to a mark, a type and an any-list in both forms, to refusals and
-// the places that they blame, and each other call to one worked case.
+// the places that they blame, and each other call to one worked case; and one diff to its time.
 // What it shows is that C and the library agree on names, parameters and layouts; what the calls answer is proved.
 #include "wairokabi.h"
 
 #include <stdio.h>
 #include <string.h>
+#include <time.h>
 
 #define ROWS 4
 #define WORDS 9
@@ -490,6 +491,30 @@ static void column_places(void) {
     EXPECT(refused(t.refusal, 7, 2) && same_part(t.part, 0, 0));
 }
 
+// A key's bytes are not gone through at each block that names it: 10,000 XML elements in form 2, all but the first named by the second of two equal texts
+// of 500,000 bytes, written in form 2 again, where the text stands once. That takes milliseconds; 10,000 comparisons of the texts take seconds.
+static void long_names(void) {
+    enum { BLOCKS = 10000, NAME = 500000 };
+    static const uint8_t head[] = {0x00, 0x05, 0x00, 0x02, 0x01, 0x8c, 0x4e, 0x03, 0x41, 0x8f, 0x4e, 0x03, 0x03,
+                                   0x8e, 0x4e, 0x00, 0x01, 0x87, 0xc7, 0x84, 0x3d, 0xc0, 0x84, 0x3d};
+    static const uint8_t tail[] = {0xe0, 0x84, 0x3d, 0x00, 0x00, 0x03, 0x43, 0x8e, 0x4e, 0x00, 0x01, 0x90, 0x4e, 0x00, 0x00};
+    static const uint8_t head_once[] = {0x00, 0x03, 0x01, 0x8e, 0x4e, 0x03, 0x41, 0x8f, 0x4e, 0x03, 0x03,
+                                        0x8e, 0x4e, 0x00, 0x01, 0x87, 0xa6, 0xc2, 0x1e, 0xa0, 0xc2, 0x1e};
+    static const uint8_t tail_once[] = {0xa0, 0x84, 0x3d, 0x00, 0x03, 0x43, 0x8e, 0x4e, 0x00, 0x01, 0x90, 0x4e, 0x00, 0x00};
+    static uint8_t update[sizeof head + 2 * NAME + sizeof tail], once[sizeof head_once + NAME + sizeof tail_once], diff[sizeof once];
+    static wairokabi_block table[BLOCKS];
+    memset(update, 'p', sizeof update);
+    memcpy(update, head, sizeof head);
+    memcpy(update + sizeof head + 2 * NAME, tail, sizeof tail);
+    memset(once, 'p', sizeof once);
+    memcpy(once, head_once, sizeof head_once);
+    memcpy(once + sizeof head_once + NAME, tail_once, sizeof tail_once);
+    const clock_t begun = clock();
+    const wairokabi_diff d = wairokabi_encode_update(2, update, sizeof update, 2, table, BLOCKS, words, 0, diff, sizeof diff);
+    EXPECT(clock() - begun < CLOCKS_PER_SEC);
+    EXPECT(done(d.refusal) && d.blocks == BLOCKS && d.bytes == sizeof once && memcmp(diff, once, sizeof once) == 0);
+}
+
 int main(void) {
     reads();
     diffs();
@@ -503,6 +528,7 @@ int main(void) {
     texts();
     columns();
     column_places();
+    long_names();
     printf("c test: %d held, %d not\n", tried - failed, failed);
     return failed != 0;
 }

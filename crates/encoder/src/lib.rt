@@ -7,7 +7,7 @@ ghost use mathlib.Core.Path.{_≡_};
 ghost use Prim.Native.Nat.{_*_, _≤_};
 ghost use lib.ListN.{length, take};
 ghost use Rattle.kept.specs.Plan.{entriesOf};
-ghost use Rattle.tokens.specs.Desk.{Tidy, WroteKeys};
+ghost use Rattle.tokens.specs.Desk.{Aliased, WroteKeys};
 ghost use Rattle.encoder.specs.Passes.{outcomeFor, wordsFor, plannedTokens};
 
 // The first n rows planned, the other side having m entries.
@@ -47,7 +47,7 @@ pub fn put_rows(
     form: u8,
     at: usize,
 ) -> usize
-    requires { ⌜ Tidy (now lanes) × (5 * sections ≤ length (now plan)) ⌝ }
+    requires { ⌜ Aliased (now update) (now lanes) × (5 * sections ≤ length (now plan)) ⌝ }
     ensures { λ r. ⌜ WroteKeys (now (update .entry)) form (plannedTokens (now (update .entry)) (now (rows .entry)) (now (plan .entry)) sections)
         (now (out .entry)) (now (lanes .entry)) at (now (out .exit)) (now (lanes .exit)) r ⌝ }
 {

@@ -1,3 +1,2 @@
--- The laws of marked contents that are written: units of texts (Units), tokens by the kind (Marked).
-pub mod Units
+-- The laws of marked contents that are written: tokens by the kind (Marked).
 pub mod Marked

@@ -1,46 +1,7 @@
 // The contents that have a mark, a type number or plain values, written token by token in either form.
 use block::Block;
-use text::Part;
-use text::Units;
-ghost use mathlib.Core.Path.{_≡_};
-ghost use mathlib.Core.List.{[], _∷_};
-ghost use Rattle.text.specs.Utf8.{countedIn};
-ghost use Rattle.readings.specs.Sound.{bytesIn};
-ghost use Rattle.tokens.specs.Desk.{Tidy, WroteKeys};
-ghost use Rattle.marked.specs.Marked.{mark, formatTokens, typeTokens, markedTokens};
-
-// The units of a part's text.
-pub fn count_units(update: &[u8], part: Part) -> Units
-    ensures { λ r. ⌜ r ≡ countedIn (bytesIn (now (update .entry)) part) .units ⌝ }
-{
-    let size = parts::bytes_inside(update, part);
-    if size == 0 {
-        return Units(0);
-    }
-    let from = part.place;
-    let counted = text::count_units(update, from, from + size);
-    counted.units
-}
-
-// A mark's key, or a node name: as a name, but form 2 has it by number.
-fn write_mark(
-    out: &mut [u8],
-    update: &[u8],
-    lanes: &mut [u64],
-    form: u8,
-    at: usize,
-    part: Part,
-) -> usize
-    requires { ⌜ Tidy (now lanes) ⌝ }
-    ensures { λ r. ⌜ WroteKeys (now (update .entry)) form (mark (now (update .entry)) part ∷ [])
-        (now (out .entry)) (now (lanes .entry)) at (now (out .exit)) (now (lanes .exit)) r ⌝ }
-{
-    if form == 1 {
-        return tokens::line::led_part(out, update, at, part);
-    }
-    let units = count_units(update, part);
-    numbering::write_key(out, update, lanes, form, at, part, units)
-}
+ghost use Rattle.tokens.specs.Desk.{Aliased, WroteKeys};
+ghost use Rattle.marked.specs.Marked.{formatTokens, typeTokens, markedTokens};
 
 // A key and its value.
 fn write_format(
@@ -51,11 +12,11 @@ fn write_format(
     at: usize,
     b: Block,
 ) -> usize
-    requires { ⌜ Tidy (now lanes) ⌝ }
+    requires { ⌜ Aliased (now update) (now lanes) ⌝ }
     ensures { λ r. ⌜ WroteKeys (now (update .entry)) form (formatTokens (now (update .entry)) b)
         (now (out .entry)) (now (lanes .entry)) at (now (out .exit)) (now (lanes .exit)) r ⌝ }
 {
-    let marked = write_mark(out, update, lanes, form, at, b.mark);
+    let marked = numbering::write_key(out, update, lanes, form, at, b.mark);
     tokens::fields::write_value(out, update, lanes, form, marked, b.part)
 }
 
@@ -68,13 +29,13 @@ fn write_type(
     at: usize,
     b: Block,
 ) -> usize
-    requires { ⌜ Tidy (now lanes) ⌝ }
+    requires { ⌜ Aliased (now update) (now lanes) ⌝ }
     ensures { λ r. ⌜ WroteKeys (now (update .entry)) form (typeTokens (now (update .entry)) b)
         (now (out .entry)) (now (lanes .entry)) at (now (out .exit)) (now (lanes .exit)) r ⌝ }
 {
     let typed = tokens::fields::write_type(out, lanes, form, at, b.type_number as u64);
     if block::is_named(b.type_number) {
-        return write_mark(out, update, lanes, form, typed, b.mark);
+        return numbering::write_key(out, update, lanes, form, typed, b.mark);
     }
     typed
 }
@@ -88,7 +49,7 @@ pub fn write_marked(
     at: usize,
     b: Block,
 ) -> usize
-    requires { ⌜ Tidy (now lanes) ⌝ }
+    requires { ⌜ Aliased (now update) (now lanes) ⌝ }
     ensures { λ r. ⌜ WroteKeys (now (update .entry)) form (markedTokens (now (update .entry)) b)
         (now (out .entry)) (now (lanes .entry)) at (now (out .exit)) (now (lanes .exit)) r ⌝ }
 {

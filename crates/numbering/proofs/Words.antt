@@ -54,7 +54,7 @@ module _ (w w₁ : List ℕ) (h : (i : ℕ) → i < 50 → getD w₁ i 0 ≡ get
   unfolding laneIn
   lane-same k l = rw (h (5 * k) (omega arith), h (5 * k + 1) (omega arith), h (5 * k + 2) (omega arith), h (5 * k + 3) (omega arith), h (5 * k + 4) (omega arith))
 
-  lanes-same : lanesIn w₁ ≡ lanesIn w
+  pub lanes-same : lanesIn w₁ ≡ lanesIn w
   unfolding lanesIn
   lanes-same =
       rw (
@@ -70,7 +70,7 @@ module _ (w w₁ : List ℕ) (h : (i : ℕ) → i < 50 → getD w₁ i 0 ≡ get
         lane-same 9 (omega arith),
       )
 
-  still-tidy : Tidy w → length w₁ ≡ length w → keyCount w₁ ≤ maxKeys → Tidy w₁
+  pub still-tidy : Tidy w → length w₁ ≡ length w → keyCount w₁ ≤ maxKeys → Tidy w₁
   still-tidy t s m = record {
     size = s ∙ t .size;
     sound = λ k l. subst (λ (e : Lane). Sound (e .run)) (sym (lane-same k l)) (t .sound k l);
@@ -78,7 +78,7 @@ module _ (w w₁ : List ℕ) (h : (i : ℕ) → i < 50 → getD w₁ i 0 ≡ get
   }
 
 -- the same keys below a number
-from-below : (u w w₁ : List ℕ) (i n : ℕ) → ((j : ℕ) → j < i + n → keyAt w₁ j ≡ keyAt w j) → knownFrom u w₁ i n ≡ knownFrom u w i n
+pub from-below : (u w w₁ : List ℕ) (i n : ℕ) → ((j : ℕ) → j < i + n → keyAt w₁ j ≡ keyAt w j) → knownFrom u w₁ i n ≡ knownFrom u w i n
 unfolding knownFrom
 from-below u w w₁ i zero h = refl
 from-below u w w₁ i (suc n) h = rw (h i (omega arith), from-below u w w₁ (suc i) n (λ j l. h j (omega arith)))
@@ -123,6 +123,7 @@ module _ (w : List ℕ) (t : Tidy w) (count : ℕ) (e : count ≡ keyCount w) (p
         tidy = still-tidy w said low t (length-set w 51 1) (rw said-count (t .keys));
         known = λ u. rw full (said-known u);
         crowd = rw full said-crowd;
+        aliases = λ i l. said-other i (λ h. absurd (omega arith));
       }
 
   -- there is
@@ -140,13 +141,13 @@ module _ (w : List ℕ) (t : Tidy w) (count : ℕ) (e : count ≡ keyCount w) (p
       getD-set-other w₂ 50 i (count + 1) 0 c ∙ getD-set-other w₁ (52 + 2 * count + 1) i (p .bytes .0) 0 b ∙ getD-set-other w (52 + 2 * count) i (p .place) 0 a
 
   module _ (l : count < maxKeys) where
-    size₁ : length w₁ ≡ 564
+    size₁ : length w₁ ≡ 1333
     size₁ = length-set w (52 + 2 * count) (p .place) ∙ t .size
 
-    size₂ : length w₂ ≡ 564
+    size₂ : length w₂ ≡ 1333
     size₂ = length-set w₁ (52 + 2 * count + 1) (p .bytes .0) ∙ size₁
 
-    size₃ : length w₃ ≡ 564
+    size₃ : length w₃ ≡ 1333
     size₃ = length-set w₂ 50 (count + 1) ∙ size₂
 
     stored-count : keyCount w₃ ≡ suc count
@@ -200,4 +201,5 @@ module _ (w : List ℕ) (t : Tidy w) (count : ℕ) (e : count ≡ keyCount w) (p
           tidy = still-tidy w w₃ low t (size₃ ∙ sym (t .size)) (omega (arith, stored-count));
           known = λ u. rw room (stored-known u);
           crowd = rw room stored-crowd;
+          aliases = λ i m. stored-other i (λ h. absurd (omega arith)) (λ h. absurd (omega arith)) (λ h. absurd (omega arith));
         }

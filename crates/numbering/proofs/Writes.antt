@@ -17,8 +17,9 @@ use Rattle.tokens.specs.Keys.{numberOf, isKnown, isFull, remembered, keysAfter,
 use Rattle.tokens.specs.Lanes.{Lane}
 use Rattle.tokens.specs.Desk.{putTokens, laidTokens, deskIn, keyCount, knownIn, crowdedIn, Wrote, WroteKeys}
 use Rattle.tokens.proofs.Wrote.{each-append, laid-each-append}
-use Rattle.tokens.proofs.Keyed.{known-length, known-same, crowd-same}
+use Rattle.tokens.proofs.Keyed.{known-length, known-same, crowd-same, aliased-same}
 use Rattle.numbering.specs.Numbering.{Remembers}
+use Rattle.numbering.proofs.Noted.{remembers-aliased}
 
 -- ---- a key alone
 
@@ -65,6 +66,7 @@ module _ (u : List ℕ) {form : ℕ} (f : form ≢ 1) (b : List ℕ) (n : ℕ) {
         tidy = first .tidy;
         known = same-known ∙ rw (known-key form f ks b n, h);
         crowd = same-crowd ∙ sym (crowd-key form f ks b n (crowdedIn w) ∙ rw h (same-as (crowdedIn w)));
+        aliased = aliased-same u w w₁ (first .keys) (first .tidy);
       }
 
   module _ (l : getD w 50 0 ≤ v) (p : Part) (e : bytesIn u p ≡ b) {w₂ : List ℕ} (r : Remembers p w₁ w₂) {out₃ w₃ : List ℕ} {at₃ : ℕ}
@@ -114,4 +116,5 @@ module _ (u : List ℕ) {form : ℕ} (f : form ≢ 1) (b : List ℕ) (n : ℕ) {
           tidy = last .tidy;
           known = known-same u w₂ w₃ (last .keys) ∙ known-is ∙ sym (known-key form f ks b n);
           crowd = crowd-same u w₂ w₃ (last .keys) ∙ crowd-is ∙ sym (crowd-key form f ks b n (crowdedIn w) ∙ rw new);
+          aliased = λ a. aliased-same u w₂ w₃ (last .keys) (last .tidy) (remembers-aliased u r (aliased-same u w w₁ (first .keys) (first .tidy) a));
         }

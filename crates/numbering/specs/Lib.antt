@@ -1,2 +1,2 @@
--- What it is to remember a key.
+-- What it is to remember a key, and to note a part.
 pub mod Numbering

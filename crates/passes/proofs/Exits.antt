@@ -11,7 +11,7 @@ use Rattle.numbers.specs.Number.{pick, unsigned}
 use Rattle.tokens.specs.Tokens.{Token, var, keys, rest, whole}
 use Rattle.tokens.specs.Keys.{spelled, manyKeys, crowded}
 use Rattle.tokens.specs.Lanes.{Lane, freshLane, ahead, laidAt, putAll, laidAll}
-use Rattle.tokens.specs.Desk.{putTokens, laidTokens, laneIn, lanesIn, deskIn, keyCount, knownIn, crowdedIn, Tidy, closedEach, laidEnds, WroteKeys}
+use Rattle.tokens.specs.Desk.{putTokens, laidTokens, laneIn, lanesIn, deskIn, keyCount, knownIn, crowdedIn, aliasCount, Tidy, closedEach, laidEnds, WroteKeys}
 use Rattle.tokens.proofs.Wrote.{wrote-var}
 use Rattle.tokens.proofs.Keys.{isKey, keyless}
 use Rattle.tokens.proofs.Keyed.{known-none, zeros-known, zeros-crowd, wrote-keys, wrote-keys-then}
@@ -34,7 +34,7 @@ all-many : (es : List Lane) (ts : List Token) → length (putTokens es ts) ≡ l
 all-many [] ts = rw (none-put ts)
 all-many (e ∷ es) ts = rw (lanes-put ts e es, all-many es ts)
 
-fresh-lanes : lanesIn (replicate {A = ℕ} 564 0) ≡ freshFrom keys 10
+fresh-lanes : lanesIn (replicate {A = ℕ} 1333 0) ≡ freshFrom keys 10
 unfolding lanesIn laneIn freshFrom
 fresh-lanes = refl
 
@@ -48,9 +48,9 @@ module _ (form : ℕ) (ts : List Token) where
   unfolding measuredFor farFor manyKeys sizesFor
   measured-line z f = rw f (refl, refl)
 
-  module _ {u out out₁ w₁ : List ℕ} {r : ℕ} (f : eqb form 1 ≡ false) (wrote : WroteKeys u form ts out (replicate {A = ℕ} 564 0) 0 out₁ w₁ r) where
+  module _ {u out out₁ w₁ : List ℕ} {r : ℕ} (f : eqb form 1 ≡ false) (wrote : WroteKeys u form ts out (replicate {A = ℕ} 1333 0) 0 out₁ w₁ r) where
     abbrev zeros : List ℕ
-    zeros = replicate {A = ℕ} 564 0
+    zeros = replicate {A = ℕ} 1333 0
 
     abbrev ps : List Token
     ps = spelled form [] ts
@@ -106,7 +106,7 @@ ends-there form out w at = go (eqb form 1) refl
     go false e = sym (ends-lanes out w 0 (eqb-false form 1 e)) ∙ ends-lanes out w at (eqb-false form 1 e)
 
 module _ (u : List ℕ) (form : ℕ) (z out₀ : List ℕ) (n : ℕ) (ts ds : List Token) (out₁ w₁ : List ℕ) (at₁ : ℕ)
-    (opened : (deskIn form w₁ at₁ ≡ begun form z) × (out₁ ≡ ledBytes form z out₀) × Tidy w₁ × (keyCount w₁ ≡ 0)) (out₃ w₃ : List ℕ) (end : ℕ)
+    (opened : (deskIn form w₁ at₁ ≡ begun form z) × (out₁ ≡ ledBytes form z out₀) × Tidy w₁ × (keyCount w₁ ≡ 0) × (aliasCount w₁ ≡ 0)) (out₃ w₃ : List ℕ) (end : ℕ)
     (rows : WroteKeys u form ts (laidAt out₁ at₁ (unsigned n)) w₁ (ahead at₁ (unsigned n)) out₃ w₃ end) where
   abbrev us : List Token
   us = var n ∷ spelled form [] ts

@@ -15,7 +15,8 @@ use Rattle.runs.specs.Writer.{Sound}
 use Rattle.parts.specs.Brim.{brim}
 use Rattle.tokens.specs.Tokens.{Token, var, keys, texts, units, rest, whole, inLine}
 use Rattle.tokens.specs.Lanes.{Lane, freshLane, movedTo, lay, laidBytes, lastRun, laidEnd}
-use Rattle.tokens.specs.Desk.{laneIn, lanesIn, deskIn, keyCount, Tidy, laidEnds}
+use Rattle.tokens.specs.Desk.{laneIn, lanesIn, deskIn, keyCount, aliasCount, Tidy, Aliased, laidEnds}
+use Rattle.tokens.proofs.Keyed.{aliased-none}
 use Rattle.records.specs.DeleteRows.{InLine}
 use Rattle.records.proofs.Lines.{line-none, line-is}
 use Rattle.passes.specs.Forms.{firstLane, lanesOf, placesOf, anyFar, textSize, isBare, leadTokens, leadEnd, leadBytes, onTo, begunFrom, ledFrom, begun, ledBytes}
@@ -74,7 +75,7 @@ first-same w w′ (suc n) h = rw (first-same w w′ n (λ j l. h j (omega (arith
 
 -- ---- a place noted
 
-module _ (w : List ℕ) (size : length w ≡ 564) (k : ℕ) (l : k < 10) (at : ℕ) where
+module _ (w : List ℕ) (size : length w ≡ 1333) (k : ℕ) (l : k < 10) (at : ℕ) where
   pub own-place : laneIn (set w (5 * k) at) k ≡ movedTo (laneIn w k) at
   unfolding laneIn
   own-place =
@@ -100,10 +101,14 @@ module _ (w : List ℕ) (size : length w ≡ 564) (k : ℕ) (l : k < 10) (at : �
         getD-set-other w (5 * k) (5 * j + 4) at 0 (no 4 (omega arith)),
       )
 
--- it is none of the keys' words
+-- it is none of the keys' words, and none of the aliases'
 other-keys : (w : List ℕ) (k : ℕ) → k < 10 → (at : ℕ) → keyCount (set w (5 * k) at) ≡ keyCount w
 unfolding keyCount
 other-keys w k l at = getD-set-other w (5 * k) 50 at 0 (λ q. absurd (omega (arith, l, q)))
+
+other-aliases : (w : List ℕ) (k : ℕ) → k < 10 → (at : ℕ) → aliasCount (set w (5 * k) at) ≡ aliasCount w
+unfolding aliasCount
+other-aliases w k l at = getD-set-other w (5 * k) 564 at 0 (λ q. absurd (omega (arith, l, q)))
 
 -- ---- the lanes at their beginnings, the first k of them noted
 
@@ -111,7 +116,7 @@ other-keys w k l at = getD-set-other w (5 * k) 50 at 0 (λ q. absurd (omega (ari
 abbrev pub Fresh : List ℕ → Type 0
 Fresh w = (j : ℕ) → j < 10 → laneIn w j ≡ freshLane j (laneIn w j .run .at)
 
-pub fresh-words : Fresh (replicate {A = ℕ} 564 0)
+pub fresh-words : Fresh (replicate {A = ℕ} 1333 0)
 unfolding laneIn
 fresh-words zero l = refl
 fresh-words (suc zero) l = refl
@@ -125,27 +130,35 @@ fresh-words (suc (suc (suc (suc (suc (suc (suc (suc zero)))))))) l = refl
 fresh-words (suc (suc (suc (suc (suc (suc (suc (suc (suc zero))))))))) l = refl
 fresh-words (suc (suc (suc (suc (suc (suc (suc (suc (suc (suc j)))))))))) l = absurd (omega (arith, l))
 
--- and no key is known
-pub no-keys : keyCount (replicate {A = ℕ} 564 0) ≡ 0
+-- no key is known, and none has an alias
+pub no-keys : keyCount (replicate {A = ℕ} 1333 0) ≡ 0
 unfolding keyCount
-no-keys = getD-replicate {A = ℕ} 564 50 0 0 (omega arith)
+no-keys = getD-replicate {A = ℕ} 1333 50 0 0 (omega arith)
 
-pub fresh-tidy : (w : List ℕ) → length w ≡ 564 → Fresh w → keyCount w ≡ 0 → Tidy w
+no-aliases : aliasCount (replicate {A = ℕ} 1333 0) ≡ 0
+unfolding aliasCount
+no-aliases = getD-replicate {A = ℕ} 1333 564 0 0 (omega arith)
+
+pub fresh-tidy : (w : List ℕ) → length w ≡ 1333 → Fresh w → keyCount w ≡ 0 → Tidy w
 fresh-tidy w size h none = record {
   size = size;
   sound = λ k l. subst (λ (e : Lane). Sound (e .run)) (sym (h k l)) (omega arith, omega arith);
   keys = omega (arith, none);
 }
 
-pub tidy-words : Tidy (replicate {A = ℕ} 564 0)
-tidy-words = fresh-tidy (replicate {A = ℕ} 564 0) (length-replicate {A = ℕ} 564 0) fresh-words no-keys
+tidy-words : Tidy (replicate {A = ℕ} 1333 0)
+tidy-words = fresh-tidy (replicate {A = ℕ} 1333 0) (length-replicate {A = ℕ} 1333 0) fresh-words no-keys
+
+pub aliased-words : (u : List ℕ) → Aliased u (replicate {A = ℕ} 1333 0)
+aliased-words u = aliased-none u (replicate {A = ℕ} 1333 0) tidy-words no-aliases
 
 -- what leads the lanes from lane k on, and where they begin, are what they are from the first on
 pub record Opening (out₀ z out w : List ℕ) (at k : ℕ) : Type 0 where
   pub below : k ≤ 10
-  pub size : length w ≡ 564
+  pub size : length w ≡ 1333
   pub fresh : Fresh w
   pub keys : keyCount w ≡ 0
+  pub aliases : aliasCount w ≡ 0
   pub lanes : firstIn w k ++ begunFrom z k (11 - k) at ≡ begunFrom z 0 11 0
   pub bytes : ledFrom out z k (11 - k) at ≡ ledFrom out₀ z 0 11 0
 
@@ -163,9 +176,9 @@ unfolding ledFrom
 led-one out o z k at r l h h′ = rw (one-more k l, h, h′)
 
 module _ (out₀ z : List ℕ) where
-  pub opens : (w : List ℕ) → w ≡ replicate {A = ℕ} 564 0 → Opening out₀ z out₀ w 0 0
+  pub opens : (w : List ℕ) → w ≡ replicate {A = ℕ} 1333 0 → Opening out₀ z out₀ w 0 0
   unfolding firstIn
-  opens w h = rw h (record { below = omega arith; size = length-replicate {A = ℕ} 564 0; fresh = fresh-words; keys = no-keys; lanes = refl; bytes = refl })
+  opens w h = rw h (record { below = omega arith; size = length-replicate {A = ℕ} 1333 0; fresh = fresh-words; keys = no-keys; aliases = no-aliases; lanes = refl; bytes = refl })
 
   pub opens-on : {out o w : List ℕ} {at k r : ℕ} → Opening out₀ z out w at k → k < 10 → (r ≡ leadEnd z k at) × (o ≡ leadBytes out z k at)
       → Opening out₀ z o (set w (5 * k) r) (onTo r (getD z k 0)) (k + 1)
@@ -174,6 +187,7 @@ module _ (out₀ z : List ℕ) where
     size = length-set w (5 * k) r ∙ g .size;
     fresh = λ j b. still j b (eqb j k) refl;
     keys = other-keys w k l r ∙ g .keys;
+    aliases = other-aliases w k l r ∙ g .aliases;
     lanes =
         ap (λ (es : List Lane). es ++ begunFrom z (k + 1) (11 - (k + 1)) (onTo r (getD z k 0))) noted
         ∙ append-assoc (firstIn w k) (freshLane k r ∷ []) (begunFrom z (k + 1) (11 - (k + 1)) (onTo r (getD z k 0)))
@@ -204,7 +218,7 @@ module _ (out₀ z : List ℕ) where
   rest-led out at = sym (lead-is z 10 {at = at} (rest-tokens z 10 refl) line-none .1)
 
   abbrev Opened : ℕ → List ℕ → List ℕ → ℕ → Type 0
-  Opened form out w at = (deskIn form w at ≡ begun form z) × (out ≡ ledBytes form z out₀) × Tidy w × (keyCount w ≡ 0)
+  Opened form out w at = (deskIn form w at ≡ begun form z) × (out ≡ ledBytes form z out₀) × Tidy w × (keyCount w ≡ 0) × (aliasCount w ≡ 0)
 
   pub opened : {form : ℕ} {out w : List ℕ} {at k : ℕ} → form ≢ 1 → Opening out₀ z out w at k → 10 ≤ k → Opened form out w at
   unfolding deskIn firstLane lanesOf
@@ -217,13 +231,14 @@ module _ (out₀ z : List ℕ) where
         sym (rest-led out at) ∙ b,
         fresh-tidy w (g .size) (g .fresh) (g .keys),
         g .keys,
+        g .aliases,
       )
 
-  pub opened-line : {form : ℕ} {w : List ℕ} → form ≡ 1 → w ≡ replicate {A = ℕ} 564 0 → Opened form out₀ w 0
+  pub opened-line : {form : ℕ} {w : List ℕ} → form ≡ 1 → w ≡ replicate {A = ℕ} 1333 0 → Opened form out₀ w 0
   unfolding deskIn firstLane lanesOf begunFrom ledFrom
   opened-line {form} {w} f h =
       let n = lead-is z whole {out = out₀} {at = 0} (whole-tokens z whole refl) line-none in
-      rw (eq-eqb form 1 f) (ap (λ (a : ℕ). freshLane whole a ∷ []) (n .0), n .1, fresh-tidy w (rw h (length-replicate {A = ℕ} 564 0)) (rw h fresh-words) (rw h no-keys), rw h no-keys)
+      rw (eq-eqb form 1 f) (ap (λ (a : ℕ). freshLane whole a ∷ []) (n .0), n .1, fresh-tidy w (rw h (length-replicate {A = ℕ} 1333 0)) (rw h fresh-words) (rw h no-keys), rw h no-keys, rw h no-aliases)
 
 -- ---- ends: a lane in line has none
 

@@ -2,7 +2,7 @@
 ghost use mathlib.Core.Path.{_≡_};
 ghost use Prim.Native.Nat.{ℕ, _<_};
 ghost use lib.ListN.{length, replicate};
-ghost use Rattle.tokens.specs.Desk.{deskIn, lanesIn, keyCount, crowdedIn, Tidy, laidEnds};
+ghost use Rattle.tokens.specs.Desk.{deskIn, lanesIn, keyCount, crowdedIn, aliasCount, Tidy, laidEnds};
 ghost use Rattle.passes.specs.Forms.{placesOf, anyFar, textSize, isBare, leadEnd, leadBytes, onTo, begun, ledBytes};
 
 // The text column has its texts, led by their length, and their units.
@@ -58,9 +58,10 @@ fn on_to(at: usize, size: u64) -> usize
 
 // The lanes of a form at their beginnings, what leads them written; the place in line.
 pub fn open(out: &mut [u8], lanes: &mut [u64], sizes: &[u64], form: u8) -> usize
-    requires { ⌜ (length (now sizes) ≡ 10) × (now lanes ≡ replicate {A = ℕ} 564 0) ⌝ }
+    requires { ⌜ (length (now sizes) ≡ 10) × (now lanes ≡ replicate {A = ℕ} 1333 0) ⌝ }
     ensures { λ r. ⌜ (deskIn form (now (lanes .exit)) r ≡ begun form (now (sizes .entry)))
-        × (now (out .exit) ≡ ledBytes form (now (sizes .entry)) (now (out .entry))) × Tidy (now (lanes .exit)) × (keyCount (now (lanes .exit)) ≡ 0) ⌝ }
+        × (now (out .exit) ≡ ledBytes form (now (sizes .entry)) (now (out .entry)))
+        × Tidy (now (lanes .exit)) × (keyCount (now (lanes .exit)) ≡ 0) × (aliasCount (now (lanes .exit)) ≡ 0) ⌝ }
 {
     if form == 1 {
         return 0;

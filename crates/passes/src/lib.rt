@@ -40,7 +40,7 @@ pub fn measure(
             crowded: false,
         };
     }
-    let mut table = [0u64; 564];
+    let mut table = [0u64; 1333];
     let lanes = &mut table[..];
     let mut room = [0u8; 16];
     let nothing = &mut room[..];
@@ -71,7 +71,7 @@ pub fn write(
         (var sections ∷ spelled form [] (plannedTokens (now (update .entry)) (now (rows .entry)) (now (plan .entry)) sections))
         (deleteTokens form (rowsFrom (now (ranges .entry)) 0 n)) (now (out .entry))) ⌝ }
 {
-    let mut table = [0u64; 564];
+    let mut table = [0u64; 1333];
     let lanes = &mut table[..];
     let at = leads::open(out, lanes, sizes, form);
     let counted = tokens::line::number(out, at, sections as u64);

@@ -11,7 +11,7 @@ ghost use Prim.Native.Nat.{_+_, _≤_};
 ghost use Rattle.numbers.specs.Number.{pick};
 ghost use Rattle.numbers.specs.Limits.{maxClock};
 ghost use Rattle.readings.specs.Sound.{linked};
-ghost use Rattle.tokens.specs.Desk.{Tidy, Wrote, WroteKeys};
+ghost use Rattle.tokens.specs.Desk.{Tidy, Aliased, Wrote, WroteKeys};
 ghost use Rattle.records.specs.Records.{infoByte, name, leftTokens, rightTokens, parentTokens, keyTokens};
 ghost use Rattle.records.specs.Records.{placeTokens, contentTokens, blockTokens};
 ghost use Rattle.records.specs.Stops.{headTokens, rowTokens};
@@ -58,7 +58,7 @@ fn write_name(
     if form == 1 {
         return tokens::line::led_part(out, update, at, part);
     }
-    let units = marked::count_units(update, part);
+    let units = numbering::count_units(update, part);
     tokens::fields::write_string(out, update, lanes, form, at, part, units)
 }
 
@@ -158,7 +158,7 @@ fn write_content(
     at: usize,
     b: Block,
 ) -> usize
-    requires { ⌜ Tidy (now lanes) ⌝ }
+    requires { ⌜ Aliased (now update) (now lanes) ⌝ }
     ensures { λ r. ⌜ WroteKeys (now (update .entry)) form (contentTokens (now (update .entry)) b)
         (now (out .entry)) (now (lanes .entry)) at (now (out .exit)) (now (lanes .exit)) r ⌝ }
 {
@@ -185,7 +185,7 @@ pub fn write_block(
     at: usize,
     b: Block,
 ) -> usize
-    requires { ⌜ Tidy (now lanes) ⌝ }
+    requires { ⌜ Aliased (now update) (now lanes) ⌝ }
     ensures { λ r. ⌜ WroteKeys (now (update .entry)) form (blockTokens (now (update .entry)) b)
         (now (out .entry)) (now (lanes .entry)) at (now (out .exit)) (now (lanes .exit)) r ⌝ }
 {
@@ -238,7 +238,7 @@ pub fn write_row(
     c: Cursor,
     b: Block,
 ) -> usize
-    requires { ⌜ Tidy (now lanes) ⌝ }
+    requires { ⌜ Aliased (now update) (now lanes) ⌝ }
     ensures { λ r. ⌜ WroteKeys (now (update .entry)) form (rowTokens (now (update .entry)) (c .head) (c .from .0) (c .skip .0) b)
         (now (out .entry)) (now (lanes .entry)) at (now (out .exit)) (now (lanes .exit)) r ⌝ }
 {

@@ -11,7 +11,7 @@ use Rattle.tokens.specs.Tokens.{Token}
 use Rattle.decoder.specs.States.{maxKeys}
 use Rattle.tokens.specs.Keys.{spelled, knownAfter}
 use Rattle.tokens.specs.Lanes.{Lane}
-use Rattle.tokens.specs.Desk.{putTokens, laidTokens, deskIn, keyCount, keyAt, knownFrom, knownIn, crowdedIn, Tidy, SameKeys, Wrote, WroteKeys}
+use Rattle.tokens.specs.Desk.{putTokens, laidTokens, deskIn, keyCount, keyAt, knownFrom, knownIn, crowdedIn, aliasCount, aliasAt, aliasNumber, Tidy, Aliased, SameKeys, Wrote, WroteKeys}
 use Rattle.tokens.proofs.Wrote.{each-append, laid-each-append, wrote-none}
 use Rattle.tokens.proofs.Keys.{spelled-append, known-append, crowd-append, keyless, keyless-spelled, keyless-known, keyless-crowd}
 
@@ -44,6 +44,18 @@ module _ (u w w₁ : List ℕ) (s : SameKeys w w₁) where
   unfolding crowdedIn
   crowd-same = rw (s 51 (omega arith))
 
+  pub aliased-same : Tidy w₁ → Aliased u w → Aliased u w₁
+  unfolding keyCount aliasCount aliasAt aliasNumber
+  aliased-same t a =
+      let many = s 564 (omega arith) in
+      record {
+        tidy = t;
+        few = rw many (a .few);
+        known = λ i l. rw (s (567 + 3 * i) (omega arith), s 50 (omega arith)) (a .known i (rw many at l));
+        right = λ i l.
+            rw (s (565 + 3 * i) (omega arith), s (566 + 3 * i) (omega arith), s (567 + 3 * i) (omega arith), known-same) (a .right i (rw many at l));
+      }
+
 -- words that have none
 pub known-none : (u w : List ℕ) → keyCount w ≡ 0 → knownIn u w ≡ []
 unfolding knownIn knownFrom
@@ -53,12 +65,15 @@ pub crowd-none : (w : List ℕ) → getD w 51 0 ≡ 0 → crowdedIn w ≡ false
 unfolding crowdedIn
 crowd-none w h = rw h
 
-pub zeros-known : (u : List ℕ) → knownIn u (replicate {A = ℕ} 564 0) ≡ []
+pub zeros-known : (u : List ℕ) → knownIn u (replicate {A = ℕ} 1333 0) ≡ []
 unfolding keyCount
-zeros-known u = known-none u (replicate {A = ℕ} 564 0) (getD-replicate {A = ℕ} 564 50 0 0 (omega arith))
+zeros-known u = known-none u (replicate {A = ℕ} 1333 0) (getD-replicate {A = ℕ} 1333 50 0 0 (omega arith))
 
-pub zeros-crowd : crowdedIn (replicate {A = ℕ} 564 0) ≡ false
-zeros-crowd = crowd-none (replicate {A = ℕ} 564 0) (getD-replicate {A = ℕ} 564 51 0 0 (omega arith))
+pub zeros-crowd : crowdedIn (replicate {A = ℕ} 1333 0) ≡ false
+zeros-crowd = crowd-none (replicate {A = ℕ} 1333 0) (getD-replicate {A = ℕ} 1333 51 0 0 (omega arith))
+
+pub aliased-none : (u w : List ℕ) → Tidy w → aliasCount w ≡ 0 → Aliased u w
+aliased-none u w t h = record { tidy = t; few = omega (arith, h); known = λ i l. absurd (omega (arith, h)); right = λ i l. absurd (omega (arith, h)) }
 
 same-crowd : (was : Bool) → pick was true false ≡ was
 same-crowd true = refl
@@ -86,6 +101,7 @@ module _ {u : List ℕ} {form : ℕ} {out w : List ℕ} {at : ℕ} where
         tidy = k .tidy;
         known = known-same u w w₁ (k .keys) ∙ sym (keyless-known form ks ts h);
         crowd = crowd-same u w w₁ (k .keys) ∙ sym (keyless-crowd form ks ts h (crowdedIn w));
+        aliased = aliased-same u w w₁ (k .keys) (k .tidy);
       }
 
   -- form 1 has keys in line
@@ -98,6 +114,7 @@ module _ {u : List ℕ} {form : ℕ} {out w : List ℕ} {at : ℕ} where
         tidy = k .tidy;
         known = known-same u w w₁ (k .keys) ∙ sym (line-known form ks ts f);
         crowd = crowd-same u w w₁ (k .keys) ∙ rw (eq-eqb form 1 f) (sym (same-crowd (crowdedIn w)));
+        aliased = aliased-same u w w₁ (k .keys) (k .tidy);
       }
 
   pub wrote-keys-then : {a b : List Token} {out₁ w₁ out₂ w₂ : List ℕ} {at₁ at₂ : ℕ} → WroteKeys u form a out w at out₁ w₁ at₁
@@ -120,6 +137,7 @@ module _ {u : List ℕ} {form : ℕ} {out w : List ℕ} {at : ℕ} where
         tidy = k .tidy;
         known = k .known ∙ ap (λ (l : List (List ℕ)). knownAfter form l b) (h .known) ∙ sym (known-append form ks a b);
         crowd = k .crowd ∙ rw (h .crowd, h .known) (sym (crowd-append form ks a b (crowdedIn w)));
+        aliased = λ a. k .aliased (h .aliased a);
       }
 
   -- the tokens under another name

@@ -1,6 +1,6 @@
 -- The lanes of a form side by side, a token at a time: form 1 has one lane, form 2 eleven, and each takes its own of every token. The states of the ten
--- lanes before the last are words, five a lane; behind them stand the keys known, two words a key. The last lane, and form 1's only one, is all in line:
--- its state is its place.
+-- lanes before the last are words, five a lane; behind them stand the keys known, two words a key, and their aliases, three words each. The last lane,
+-- and form 1's only one, is all in line: its state is its place.
 use Prim.Native.Nat.{ℕ, zero, suc, _+_, _*_, _≤_, _<_}
 use mathlib.Core.Path.{_≡_}
 use mathlib.Core.Logic.{_≢_}
@@ -14,7 +14,7 @@ use Rattle.runs.specs.Writer.{Sound}
 use Rattle.readings.specs.Sound.{bytesIn}
 use Rattle.tokens.specs.Tokens.{Token, columnIn, rest, whole}
 use Rattle.decoder.specs.States.{maxKeys}
-use Rattle.tokens.specs.Keys.{crowded, spelled, knownAfter}
+use Rattle.tokens.specs.Keys.{numberOf, crowded, spelled, knownAfter}
 use Rattle.tokens.specs.Lanes.{Lane, freshLane, put, laid, pushedOn, laidValue, closed, laidEnd}
 
 -- ---- a token onto every lane
@@ -80,13 +80,31 @@ knownIn u w = knownFrom u w 0 (keyCount w)
 unfoldable pub crowdedIn : List ℕ → Bool
 crowdedIn w = ltb 0 (getD w 51 0)
 
+-- ---- aliases in words: how many there are (564); of each the place and the bytes of a part of u that was seen as a key, and the number it has
+
+unfoldable pub aliasCount : List ℕ → ℕ
+aliasCount w = getD w 564 0
+
+unfoldable pub aliasAt : List ℕ → ℕ → Part
+aliasAt w i = record { place = getD w (565 + 3 * i) 0; bytes = record { 0 = getD w (566 + 3 * i) 0 } }
+
+unfoldable pub aliasNumber : List ℕ → ℕ → ℕ
+aliasNumber w i = getD w (567 + 3 * i) 0
+
 -- what words have at all times
 pub record Tidy (w : List ℕ) : Type 0 where
-  pub size : length w ≡ 564
+  pub size : length w ≡ 1333
   pub sound : (k : ℕ) → k < 10 → Sound (laneIn w k .run)
   pub keys : keyCount w ≤ maxKeys
 
--- the keys are the same
+-- what they have besides, where keys of u are written: an alias has the number of its key, and that is known
+pub record Aliased (u w : List ℕ) : Type 0 where
+  pub tidy : Tidy w
+  pub few : aliasCount w ≤ maxKeys
+  pub known : (i : ℕ) → i < aliasCount w → aliasNumber w i < keyCount w
+  pub right : (i : ℕ) → i < aliasCount w → aliasNumber w i ≡ numberOf (bytesIn u (aliasAt w i)) (knownIn u w)
+
+-- the keys are the same, and their aliases
 abbrev pub SameKeys : List ℕ → List ℕ → Type 0
 SameKeys w w₁ = (i : ℕ) → 50 ≤ i → getD w₁ i 0 ≡ getD w i 0
 
@@ -105,6 +123,7 @@ pub record WroteKeys (u : List ℕ) (form : ℕ) (ts : List Token) (out w : List
   pub tidy : Tidy w₁
   pub known : knownIn u w₁ ≡ knownAfter form (knownIn u w) ts
   pub crowd : crowdedIn w₁ ≡ pick (crowdedIn w) true (pick (eqb form 1) false (crowded (knownIn u w) ts))
+  pub aliased : Aliased u w → Aliased u w₁
 
 -- lane k alone goes on
 pub record Alone (k : ℕ) (e : Lane) (w w₁ : List ℕ) : Type 0 where

@@ -13,7 +13,7 @@ returns c =
     let p17 = p11 .before .before .before .before .before .before in
     let a = p17 .args in
     wrote-keys-is (format-is (a .update .now) (a .b))
-    (wrote-keys-then (p11 .write-mark .ensures) (wrote-keys (one-value (bytesIn (a .update .now) (a .b .part))) (p4 .write-value .ensures)))
+    (wrote-keys-then (p11 .write-key .ensures) (wrote-keys (one-value (bytesIn (a .update .now) (a .b .part))) (p4 .write-value .ensures)))
 
 pub write-format-spec : {M : Type 1} → statement M
 write-format-spec =

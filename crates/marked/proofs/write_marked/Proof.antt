@@ -45,7 +45,7 @@ returns-4 c =
     let p4 = p2 .before .before in
     let p9 = p4 .before .before .before .before .before in
     let a = p9 .args in
-    wrote-keys-is (marked-none (a .update .now) (a .b) (p4 .if1 .left) (p2 .if2 .left) (c .if3 .left)) (wrote-keys-none (p9 .pre))
+    wrote-keys-is (marked-none (a .update .now) (a .b) (p4 .if1 .left) (p2 .if2 .left) (c .if3 .left)) (wrote-keys-none (p9 .pre .tidy))
 
 pub write-marked-spec : {M : Type 1} → statement M
 write-marked-spec =

@@ -1,11 +1,19 @@
 -- `write_type` meets its contract: a type number, and the node name of a type that has one.
 use mathlib.Core.Path.{sym, _∙_}
 use Rattle.tokens.specs.Tokens.{types}
-use Rattle.tokens.proofs.Keyed.{wrote-keys, wrote-keys-then, wrote-keys-is}
+use Rattle.tokens.proofs.Keyed.{aliased-same, wrote-keys, wrote-keys-then, wrote-keys-is}
 use Rattle.marked.proofs.Marked.{type-named, type-plain, one-field}
 use borrow.Author.Needs.{needs}
 use Rattle.marked.proofs.write_type.Statement.{statement}
 use Rattle.marked.proofs.write_type.Tie as tie
+
+write-key-requires : tie.Need-write-key-requires
+write-key-requires c κs =
+    let p8 = c .before .before .before .before .before .before .before .before in
+    let p15 = p8 .before .before .before .before .before .before .before in
+    let a = p15 .args in
+    let typed = p8 .write-type in
+    aliased-same (a .update .now) (a .lanes .now) (typed .last .1 .0) (typed .ensures .keys) (typed .ensures .tidy) (p15 .pre)
 
 returns : tie.Need-returns
 returns c =
@@ -16,7 +24,7 @@ returns c =
     let p20 = p13 .before .before .before .before .before .before .before in
     let a = p20 .args in
     wrote-keys-is (type-named (a .update .now) (a .b) (sym (p8 .is-named .ensures) ∙ p7 .if1 .taken))
-    (wrote-keys-then (wrote-keys (one-field types (a .b .«type_number»)) (p13 .write-type .ensures)) (p4 .write-mark .ensures))
+    (wrote-keys-then (wrote-keys (one-field types (a .b .«type_number»)) (p13 .write-type .ensures)) (p4 .write-key .ensures))
 
 returns-2 : tie.Need-returns-2
 returns-2 c =
@@ -31,5 +39,5 @@ pub write-type-spec : {M : Type 1} → statement M
 write-type-spec =
     tie.close
     (tie.spec
-    (λ c. search needs) (λ c κs. search needs) (λ c κs. search needs) (λ c κs. search needs) (λ c. search needs) (λ c. search needs)
+    (λ c. search (needs, c .struct-known .given .1 .1 .1 .1 .1 .1 .1 .1 .1 .1 .1 .1 .1 .1 .1 .1 .0)) (λ c κs. search needs) (λ c κs. search needs) write-key-requires (λ c. search needs) (λ c. search needs)
     returns (λ c. search needs) (λ c. search needs) returns-2)

@@ -37,7 +37,7 @@ use Rattle.walks.proofs.Refs.{Seat, seatOf, Arg, val, mut, pass, Held, tab, ref
 use Rattle.walks.proofs.Params.{Form, by-value, by-mut, by-ref, stays, goes, spells, tells}
 use Rattle.walks.proofs.Own.{own-seat, array-typed, own-lends, own-back}
 use Rattle.walks.proofs.Walk.{has, bare, retyped, Envs, envOf, locals, alloc-all, free-all, meets}
-use Rattle.walks.proofs.Flow.{flat, tests, skip-on, return-on}
+use Rattle.walks.proofs.Flow.{flat, tests, skip-on, return-on, big-lit}
 use Rattle.block.specs.declared.Block.{Block}
 use Rattle.passes.specs.declared.Measured.{Measured}
 use Rattle.encoder.specs.Passes.{plannedTokens}
@@ -60,7 +60,7 @@ use Rattle.tokens.proofs.lanes.close.Met as tokens·lanes·close-thm
 use Rattle.passes.proofs.leads.note.Symbol as passes·leads·note-def
 use Rattle.passes.proofs.leads.note.Symbol.{name as #passes·leads·note}
 use Rattle.passes.proofs.leads.note.Met as passes·leads·note-thm
-use Rattle.passes.proofs.Places.{tidy-words}
+use Rattle.passes.proofs.Places.{aliased-words}
 use Rattle.passes.proofs.Exits.{measured-line, measured-lanes}
 use Rattle.passes.proofs.measure.Key.{name as #it}
 use Rattle.passes.proofs.measure as f
@@ -142,41 +142,41 @@ module _ {M : Type 1} (𝓤 : URA M) (H : Heap 𝓤) (A : Atoms 𝓤) (W : Given
         free-all ! (_ ∷ []) En (has _ ∷ has _ ∷ has _ ∷ has _ ∷ has _ ∷ has _ ∷ has _ ∷ bare ∷ bare ∷ bare ∷ bare ∷ bare ∷ bare ∷ has _ ∷ []) [] $ by ! (exits (record { far = false; crowded = false }) sizes₀ (measured-has false refl false refl) (measured-line form₀ (plannedTokens update₀ rows₀ plan₀ sections₀) sizes₀ y₁)))
         (λ y₁.
         skip-on ! $
-        array-typed ! word 564 0 (refl, lit< tt) (λ ty₇.
-        assigns ! (rep ! 564 (lit ! tt)) (from ! (stop !)) (init ! 49 refl (ty₇ .0)) $
+        array-typed ! word 1333 0 (refl, lit< tt) (λ ty₇.
+        assigns ! (rep ! 1333 (lit ! tt)) (from ! (stop !)) (init ! 49 refl (ty₇ .0)) $
         assigns ! (addr ! (from ! (stop !))) (from ! (stop !)) (init ! 35 refl (tt, tt)) $
-        assigns ! (agg ! (and-then ! (load ! (from ! (stop !)) (look ! 35 refl)) (and-then ! (lit ! tt) (no-more !)))) (from ! (stop !)) (init ! 47 refl (tt, (tt, (record { fits = lit< tt }, tt)))) $
-        move ! (0 ∷ 49 ∷ []) $ own-lends ! tt word tt 564 564 (omega (arith)) 0 l₇ (refl, lit< tt) (lit< tt, lit< tt) (hs sizes₀) (λ ν₇ δ₇. move ! (0 ∷ 2 ∷ 3 ∷ 4 ∷ 5 ∷ 6 ∷ 7 ∷ 8 ∷ 9 ∷ 10 ∷ 11 ∷ 12 ∷ 13 ∷ 14 ∷ 15 ∷ 16 ∷ 17 ∷ 18 ∷ 19 ∷ 20 ∷ 21 ∷ 22 ∷ 23 ∷ 24 ∷ 25 ∷ 26 ∷ 27 ∷ 28 ∷ 29 ∷ 30 ∷ 31 ∷ 32 ∷ 33 ∷ 34 ∷ 35 ∷ 36 ∷ 37 ∷ 38 ∷ 39 ∷ 40 ∷ 41 ∷ 42 ∷ 43 ∷ 44 ∷ 45 ∷ 46 ∷ 47 ∷ 48 ∷ 49 ∷ 1 ∷ []) $
+        assigns ! (agg ! (and-then ! (load ! (from ! (stop !)) (look ! 35 refl)) (and-then ! (big-lit ! (record { fits = lit< tt })) (no-more !)))) (from ! (stop !)) (init ! 47 refl (tt, (tt, (record { fits = lit< tt }, tt)))) $
+        move ! (0 ∷ 49 ∷ []) $ own-lends ! tt word tt 1333 1333 (omega (arith)) 0 l₇ (refl, lit< tt) (lit< tt, lit< tt) (hs sizes₀) (λ ν₇ δ₇. move ! (0 ∷ 2 ∷ 3 ∷ 4 ∷ 5 ∷ 6 ∷ 7 ∷ 8 ∷ 9 ∷ 10 ∷ 11 ∷ 12 ∷ 13 ∷ 14 ∷ 15 ∷ 16 ∷ 17 ∷ 18 ∷ 19 ∷ 20 ∷ 21 ∷ 22 ∷ 23 ∷ 24 ∷ 25 ∷ 26 ∷ 27 ∷ 28 ∷ 29 ∷ 30 ∷ 31 ∷ 32 ∷ 33 ∷ 34 ∷ 35 ∷ 36 ∷ 37 ∷ 38 ∷ 39 ∷ 40 ∷ 41 ∷ 42 ∷ 43 ∷ 44 ∷ 45 ∷ 46 ∷ 47 ∷ 48 ∷ 49 ∷ 1 ∷ []) $
         array-typed ! byte 16 0 (refl, lit< tt) (λ ty₉.
         assigns ! (rep ! 16 (lit ! tt)) (from ! (stop !)) (init ! 45 refl (ty₉ .0)) $
         assigns ! (addr ! (from ! (stop !))) (from ! (stop !)) (init ! 33 refl (tt, tt)) $
         assigns ! (agg ! (and-then ! (load ! (from ! (stop !)) (look ! 33 refl)) (and-then ! (lit ! tt) (no-more !)))) (from ! (stop !)) (init ! 43 refl (tt, (tt, (record { fits = lit< tt }, tt)))) $
-        move ! (0 ∷ 45 ∷ []) $ own-lends ! tt byte tt 16 16 (omega (arith)) 0 l₉ (refl, lit< tt) (lit< tt, lit< tt) (tab word (own-seat l₇ 564 ν₇ δ₇) (replicate 564 0) ∷ hs sizes₀) (λ ν₉ δ₉. move ! (0 ∷ 2 ∷ 3 ∷ 4 ∷ 5 ∷ 6 ∷ 7 ∷ 8 ∷ 9 ∷ 10 ∷ 11 ∷ 12 ∷ 13 ∷ 14 ∷ 15 ∷ 16 ∷ 17 ∷ 18 ∷ 19 ∷ 20 ∷ 21 ∷ 22 ∷ 23 ∷ 24 ∷ 25 ∷ 26 ∷ 27 ∷ 28 ∷ 29 ∷ 30 ∷ 31 ∷ 32 ∷ 33 ∷ 34 ∷ 35 ∷ 36 ∷ 37 ∷ 38 ∷ 39 ∷ 40 ∷ 41 ∷ 42 ∷ 43 ∷ 44 ∷ 45 ∷ 1 ∷ []) $
+        move ! (0 ∷ 45 ∷ []) $ own-lends ! tt byte tt 16 16 (omega (arith)) 0 l₉ (refl, lit< tt) (lit< tt, lit< tt) (tab word (own-seat l₇ 1333 ν₇ δ₇) (replicate 1333 0) ∷ hs sizes₀) (λ ν₉ δ₉. move ! (0 ∷ 2 ∷ 3 ∷ 4 ∷ 5 ∷ 6 ∷ 7 ∷ 8 ∷ 9 ∷ 10 ∷ 11 ∷ 12 ∷ 13 ∷ 14 ∷ 15 ∷ 16 ∷ 17 ∷ 18 ∷ 19 ∷ 20 ∷ 21 ∷ 22 ∷ 23 ∷ 24 ∷ 25 ∷ 26 ∷ 27 ∷ 28 ∷ 29 ∷ 30 ∷ 31 ∷ 32 ∷ 33 ∷ 34 ∷ 35 ∷ 36 ∷ 37 ∷ 38 ∷ 39 ∷ 40 ∷ 41 ∷ 42 ∷ 43 ∷ 44 ∷ 45 ∷ 1 ∷ []) $
         assigns ! (addr ! (from ! (fld ! refl (hop ! (look-in ! 43 (sub ! 0 refl (whole !))) (stop !))))) (from ! (stop !)) (init ! 29 refl (tt, tt)) $
         assigns ! (agg ! (and-then ! (load ! (from ! (stop !)) (look ! 29 refl)) (and-then ! (load ! (from ! (fld ! refl (stop !))) (look-in ! 43 (sub ! 1 refl (whole !)))) (no-more !)))) (from ! (stop !)) (init ! 27 refl (tt, (tt, (record { fits = lit< tt }, tt)))) $
         assigns ! (addr ! (from ! (fld ! refl (hop ! (look-in ! 47 (sub ! 0 refl (whole !))) (stop !))))) (from ! (stop !)) (init ! 25 refl (tt, tt)) $
         assigns ! (agg ! (and-then ! (load ! (from ! (stop !)) (look ! 25 refl)) (and-then ! (load ! (from ! (fld ! refl (stop !))) (look-in ! 47 (sub ! 1 refl (whole !)))) (no-more !)))) (from ! (stop !)) (init ! 23 refl (tt, (tt, (record { fits = lit< tt }, tt)))) $
-        calls-knowing ! (fmOf 𝓤 H (W .laws) 𝓣) (0 ∷ 1 ∷ 3 ∷ 4 ∷ 5 ∷ []) (tab byte (own-seat l₉ 16 ν₉ δ₉) (replicate 16 0) ∷ tab word (own-seat l₇ 564 ν₇ δ₇) (replicate 564 0) ∷ hs sizes₀) (encoder·put-rows! 𝓤 H A mem run (𝓣 .C) known-encoder·put-rows (own-seat l₉ 16 ν₉ δ₉) (replicate 16 0) (own-seat l₇ 564 ν₇ δ₇) (replicate 564 0) at-update update₀ at-rows rows₀ at-plan plan₀ sections₀ (are .1 .1 .1 .1 .0) form₀ (are .1 .1 .1 .1 .1 .0) 0 (refl, lit< tt) (tidy-words, req .1)) refl (λ P. and-then ! (load ! (from ! (stop !)) (look ! 27 refl)) (and-then ! (load ! (from ! (stop !)) (look ! 23 refl)) (and-then ! (load ! (from ! (stop !)) (look ! 59 refl)) (and-then ! (load ! (from ! (stop !)) (look ! 57 refl)) (and-then ! (load ! (from ! (stop !)) (look ! 55 refl)) (and-then ! (load ! (from ! (stop !)) (look ! 53 refl)) (and-then ! (load ! (from ! (stop !)) (look ! 51 refl)) (and-then ! (lit ! tt) (no-more !))))))))) (λ r₂ w₂ g₂ e₂.
+        calls-knowing ! (fmOf 𝓤 H (W .laws) 𝓣) (0 ∷ 1 ∷ 3 ∷ 4 ∷ 5 ∷ []) (tab byte (own-seat l₉ 16 ν₉ δ₉) (replicate 16 0) ∷ tab word (own-seat l₇ 1333 ν₇ δ₇) (replicate 1333 0) ∷ hs sizes₀) (encoder·put-rows! 𝓤 H A mem run (𝓣 .C) known-encoder·put-rows (own-seat l₉ 16 ν₉ δ₉) (replicate 16 0) (own-seat l₇ 1333 ν₇ δ₇) (replicate 1333 0) at-update update₀ at-rows rows₀ at-plan plan₀ sections₀ (are .1 .1 .1 .1 .0) form₀ (are .1 .1 .1 .1 .1 .0) 0 (refl, lit< tt) (aliased-words update₀, req .1)) refl (λ P. and-then ! (load ! (from ! (stop !)) (look ! 27 refl)) (and-then ! (load ! (from ! (stop !)) (look ! 23 refl)) (and-then ! (load ! (from ! (stop !)) (look ! 59 refl)) (and-then ! (load ! (from ! (stop !)) (look ! 57 refl)) (and-then ! (load ! (from ! (stop !)) (look ! 55 refl)) (and-then ! (load ! (from ! (stop !)) (look ! 53 refl)) (and-then ! (load ! (from ! (stop !)) (look ! 51 refl)) (and-then ! (lit ! tt) (no-more !))))))))) (λ r₂ w₂ g₂ e₂.
         land ! (from ! (stop !)) (init ! 31 refl (g₂ .1 .0)) $
         assigns ! (addr ! (from ! (fld ! refl (hop ! (look-in ! 47 (sub ! 0 refl (whole !))) (stop !))))) (from ! (stop !)) (init ! 21 refl (tt, tt)) $
         assigns ! (agg ! (and-then ! (load ! (from ! (stop !)) (look ! 21 refl)) (and-then ! (load ! (from ! (fld ! refl (stop !))) (look-in ! 47 (sub ! 1 refl (whole !)))) (no-more !)))) (from ! (stop !)) (init ! 19 refl (tt, (tt, (record { fits = lit< tt }, tt)))) $
-        calls-by ! (fmOf 𝓤 H (W .laws) 𝓣) (1 ∷ []) (tab byte (own-seat l₉ 16 ν₉ δ₉) (w₂ .0) ∷ tab word (own-seat l₇ 564 ν₇ δ₇) (w₂ .1 .0) ∷ hs sizes₀) (passes·leads·is-crowded-lanes! 𝓤 H A mem run (𝓣 .C) known-passes·leads·is-crowded (own-seat l₇ 564 ν₇ δ₇) (w₂ .1 .0) (e₂ .tidy)) refl (λ P. and-then ! (load ! (from ! (stop !)) (look ! 19 refl)) (no-more !)) (λ g₃.
+        calls-by ! (fmOf 𝓤 H (W .laws) 𝓣) (1 ∷ []) (tab byte (own-seat l₉ 16 ν₉ δ₉) (w₂ .0) ∷ tab word (own-seat l₇ 1333 ν₇ δ₇) (w₂ .1 .0) ∷ hs sizes₀) (passes·leads·is-crowded-lanes! 𝓤 H A mem run (𝓣 .C) known-passes·leads·is-crowded (own-seat l₇ 1333 ν₇ δ₇) (w₂ .1 .0) (e₂ .tidy)) refl (λ P. and-then ! (load ! (from ! (stop !)) (look ! 19 refl)) (no-more !)) (λ g₃.
         land ! (from ! (stop !)) (init ! 41 refl (g₃ .1 .0)) $
         assigns ! (addr ! (from ! (fld ! refl (hop ! (look-in ! 43 (sub ! 0 refl (whole !))) (stop !))))) (from ! (stop !)) (init ! 15 refl (tt, tt)) $
         assigns ! (agg ! (and-then ! (load ! (from ! (stop !)) (look ! 15 refl)) (and-then ! (load ! (from ! (fld ! refl (stop !))) (look-in ! 43 (sub ! 1 refl (whole !)))) (no-more !)))) (from ! (stop !)) (init ! 13 refl (tt, (tt, (record { fits = lit< tt }, tt)))) $
         assigns ! (addr ! (from ! (fld ! refl (hop ! (look-in ! 47 (sub ! 0 refl (whole !))) (stop !))))) (from ! (stop !)) (init ! 11 refl (tt, tt)) $
         assigns ! (agg ! (and-then ! (load ! (from ! (stop !)) (look ! 11 refl)) (and-then ! (load ! (from ! (fld ! refl (stop !))) (look-in ! 47 (sub ! 1 refl (whole !)))) (no-more !)))) (from ! (stop !)) (init ! 9 refl (tt, (tt, (record { fits = lit< tt }, tt)))) $
-        calls-knowing ! (fmOf 𝓤 H (W .laws) 𝓣) (0 ∷ 1 ∷ []) (tab byte (own-seat l₉ 16 ν₉ δ₉) (w₂ .0) ∷ tab word (own-seat l₇ 564 ν₇ δ₇) (w₂ .1 .0) ∷ hs sizes₀) (tokens·lanes·close! 𝓤 H A mem run (𝓣 .C) known-tokens·lanes·close (own-seat l₉ 16 ν₉ δ₉) (w₂ .0) (own-seat l₇ 564 ν₇ δ₇) (w₂ .1 .0) (e₂ .tidy)) refl (λ P. and-then ! (load ! (from ! (stop !)) (look ! 13 refl)) (and-then ! (load ! (from ! (stop !)) (look ! 9 refl)) (no-more !))) (λ r₄ w₄ g₄ e₄.
+        calls-knowing ! (fmOf 𝓤 H (W .laws) 𝓣) (0 ∷ 1 ∷ []) (tab byte (own-seat l₉ 16 ν₉ δ₉) (w₂ .0) ∷ tab word (own-seat l₇ 1333 ν₇ δ₇) (w₂ .1 .0) ∷ hs sizes₀) (tokens·lanes·close! 𝓤 H A mem run (𝓣 .C) known-tokens·lanes·close (own-seat l₉ 16 ν₉ δ₉) (w₂ .0) (own-seat l₇ 1333 ν₇ δ₇) (w₂ .1 .0) (e₂ .tidy)) refl (λ P. and-then ! (load ! (from ! (stop !)) (look ! 13 refl)) (and-then ! (load ! (from ! (stop !)) (look ! 9 refl)) (no-more !))) (λ r₄ w₄ g₄ e₄.
         land ! (from ! (stop !)) (init ! 17 refl (g₄ .1 .0)) $
         assigns ! (addr ! (from ! (fld ! refl (hop ! (look-in ! 61 (sub ! 0 refl (whole !))) (stop !))))) (from ! (stop !)) (init ! 7 refl (tt, tt)) $
         assigns ! (agg ! (and-then ! (load ! (from ! (stop !)) (look ! 7 refl)) (and-then ! (load ! (from ! (fld ! refl (stop !))) (look-in ! 61 (sub ! 1 refl (whole !)))) (no-more !)))) (from ! (stop !)) (init ! 5 refl (tt, (tt, (record { fits = are .0 .0 .1 .0 }, tt)))) $
         assigns ! (addr ! (from ! (fld ! refl (hop ! (look-in ! 47 (sub ! 0 refl (whole !))) (stop !))))) (from ! (stop !)) (init ! 3 refl (tt, tt)) $
         assigns ! (agg ! (and-then ! (load ! (from ! (stop !)) (look ! 3 refl)) (and-then ! (load ! (from ! (fld ! refl (stop !))) (look-in ! 47 (sub ! 1 refl (whole !)))) (no-more !)))) (from ! (stop !)) (init ! 1 refl (tt, (tt, (record { fits = lit< tt }, tt)))) $
-        calls-by ! (fmOf 𝓤 H (W .laws) 𝓣) (2 ∷ 1 ∷ []) (tab byte (own-seat l₉ 16 ν₉ δ₉) (w₄ .0) ∷ tab word (own-seat l₇ 564 ν₇ δ₇) (w₄ .1 .0) ∷ hs sizes₀) (passes·leads·note-lanes! 𝓤 H A mem run (𝓣 .C) known-passes·leads·note at-sizes sizes₀ (own-seat l₇ 564 ν₇ δ₇) (w₄ .1 .0) (req .0, e₄ .2)) refl (λ P. and-then ! (load ! (from ! (stop !)) (look ! 5 refl)) (and-then ! (load ! (from ! (stop !)) (look ! 1 refl)) (no-more !))) (λ g₅.
+        calls-by ! (fmOf 𝓤 H (W .laws) 𝓣) (2 ∷ 1 ∷ []) (tab byte (own-seat l₉ 16 ν₉ δ₉) (w₄ .0) ∷ tab word (own-seat l₇ 1333 ν₇ δ₇) (w₄ .1 .0) ∷ hs sizes₀) (passes·leads·note-lanes! 𝓤 H A mem run (𝓣 .C) known-passes·leads·note at-sizes sizes₀ (own-seat l₇ 1333 ν₇ δ₇) (w₄ .1 .0) (req .0, e₄ .2)) refl (λ P. and-then ! (load ! (from ! (stop !)) (look ! 5 refl)) (and-then ! (load ! (from ! (stop !)) (look ! 1 refl)) (no-more !))) (λ g₅.
         land ! (from ! (stop !)) (init ! 39 refl (g₅ .1 .0)) $
         assigns ! (agg ! (and-then ! (load ! (from ! (stop !)) (look ! 39 refl)) (and-then ! (load ! (from ! (stop !)) (look ! 41 refl)) (no-more !)))) (from ! (stop !)) (init ! 63 refl (measured .lawful M 𝓤 H A W .typed (record { far = anyFar (lanesIn (w₄ .1 .0)); crowded = crowdedIn (w₂ .1 .0) }) _ (measured-has (anyFar (lanesIn (w₄ .1 .0))) (g₅ .0) (crowdedIn (w₂ .1 .0)) (g₃ .0)) .0)) $
-        move ! (0 ∷ 45 ∷ []) $ own-back ! tt byte 16 16 (omega (arith)) 0 (w₄ .0) l₉ ν₉ δ₉ (tab word (own-seat l₇ 564 ν₇ δ₇) (w₄ .1 .0) ∷ hs (placesOf (lanesIn (w₄ .1 .0)))) $ move ! (0 ∷ 2 ∷ 3 ∷ 4 ∷ 5 ∷ 6 ∷ 7 ∷ 8 ∷ 9 ∷ 10 ∷ 11 ∷ 12 ∷ 13 ∷ 14 ∷ 15 ∷ 16 ∷ 17 ∷ 18 ∷ 19 ∷ 20 ∷ 21 ∷ 22 ∷ 23 ∷ 24 ∷ 25 ∷ 26 ∷ 27 ∷ 28 ∷ 29 ∷ 30 ∷ 31 ∷ 32 ∷ 33 ∷ 34 ∷ 35 ∷ 36 ∷ 37 ∷ 38 ∷ 39 ∷ 40 ∷ 41 ∷ 42 ∷ 43 ∷ 44 ∷ 45 ∷ 1 ∷ []) $
-        move ! (0 ∷ 49 ∷ []) $ own-back ! tt word 564 564 (omega (arith)) 0 (w₄ .1 .0) l₇ ν₇ δ₇ (hs (placesOf (lanesIn (w₄ .1 .0)))) $ move ! (0 ∷ 2 ∷ 3 ∷ 4 ∷ 5 ∷ 6 ∷ 7 ∷ 8 ∷ 9 ∷ 10 ∷ 11 ∷ 12 ∷ 13 ∷ 14 ∷ 15 ∷ 16 ∷ 17 ∷ 18 ∷ 19 ∷ 20 ∷ 21 ∷ 22 ∷ 23 ∷ 24 ∷ 25 ∷ 26 ∷ 27 ∷ 28 ∷ 29 ∷ 30 ∷ 31 ∷ 32 ∷ 33 ∷ 34 ∷ 35 ∷ 36 ∷ 37 ∷ 38 ∷ 39 ∷ 40 ∷ 41 ∷ 42 ∷ 43 ∷ 44 ∷ 45 ∷ 46 ∷ 47 ∷ 48 ∷ 49 ∷ 1 ∷ []) $
+        move ! (0 ∷ 45 ∷ []) $ own-back ! tt byte 16 16 (omega (arith)) 0 (w₄ .0) l₉ ν₉ δ₉ (tab word (own-seat l₇ 1333 ν₇ δ₇) (w₄ .1 .0) ∷ hs (placesOf (lanesIn (w₄ .1 .0)))) $ move ! (0 ∷ 2 ∷ 3 ∷ 4 ∷ 5 ∷ 6 ∷ 7 ∷ 8 ∷ 9 ∷ 10 ∷ 11 ∷ 12 ∷ 13 ∷ 14 ∷ 15 ∷ 16 ∷ 17 ∷ 18 ∷ 19 ∷ 20 ∷ 21 ∷ 22 ∷ 23 ∷ 24 ∷ 25 ∷ 26 ∷ 27 ∷ 28 ∷ 29 ∷ 30 ∷ 31 ∷ 32 ∷ 33 ∷ 34 ∷ 35 ∷ 36 ∷ 37 ∷ 38 ∷ 39 ∷ 40 ∷ 41 ∷ 42 ∷ 43 ∷ 44 ∷ 45 ∷ 1 ∷ []) $
+        move ! (0 ∷ 49 ∷ []) $ own-back ! tt word 1333 1333 (omega (arith)) 0 (w₄ .1 .0) l₇ ν₇ δ₇ (hs (placesOf (lanesIn (w₄ .1 .0)))) $ move ! (0 ∷ 2 ∷ 3 ∷ 4 ∷ 5 ∷ 6 ∷ 7 ∷ 8 ∷ 9 ∷ 10 ∷ 11 ∷ 12 ∷ 13 ∷ 14 ∷ 15 ∷ 16 ∷ 17 ∷ 18 ∷ 19 ∷ 20 ∷ 21 ∷ 22 ∷ 23 ∷ 24 ∷ 25 ∷ 26 ∷ 27 ∷ 28 ∷ 29 ∷ 30 ∷ 31 ∷ 32 ∷ 33 ∷ 34 ∷ 35 ∷ 36 ∷ 37 ∷ 38 ∷ 39 ∷ 40 ∷ 41 ∷ 42 ∷ 43 ∷ 44 ∷ 45 ∷ 46 ∷ 47 ∷ 48 ∷ 49 ∷ 1 ∷ []) $
         returns-within ! Post refl (look ! 63 refl) $
         free-all ! (_ ∷ []) En (has _ ∷ has _ ∷ has _ ∷ has _ ∷ has _ ∷ has _ ∷ has _ ∷ has _ ∷ has _ ∷ has _ ∷ has _ ∷ has _ ∷ has _ ∷ has _ ∷ has _ ∷ has _ ∷ has _ ∷ has _ ∷ has _ ∷ has _ ∷ has _ ∷ has _ ∷ has _ ∷ has _ ∷ has _ ∷ has _ ∷ has _ ∷ has _ ∷ has _ ∷ has _ ∷ has _ ∷ has _ ∷ []) [] $ by ! (exits (record { far = anyFar (lanesIn (w₄ .1 .0)); crowded = crowdedIn (w₂ .1 .0) }) (placesOf (lanesIn (w₄ .1 .0))) (measured-has (anyFar (lanesIn (w₄ .1 .0))) (g₅ .0) (crowdedIn (w₂ .1 .0)) (g₃ .0)) (measured-lanes form₀ (plannedTokens update₀ rows₀ plan₀ sections₀) y₁ e₂ (w₄ .1 .0) (e₄ .0) sizes₀))))))))))))
 

@@ -33,6 +33,7 @@ use Rattle.walks.proofs.Refs.{Seat, seatOf, Arg, val, mut, pass, Held, tab, ref
 use Rattle.walks.proofs.Params.{Form, by-value, by-mut, by-ref, stays, goes, spells, tells}
 use Rattle.walks.proofs.Own.{own-seat, array-typed, own-lends, own-back}
 use Rattle.walks.proofs.Walk.{has, Envs, envOf, locals, alloc-all, free-all, meets}
+use Rattle.walks.proofs.Flow.{big-lit}
 use Rattle.block.specs.declared.Block.{Block}
 use Rattle.encoder.specs.Passes.{plannedTokens}
 use Rattle.numbers.specs.Number.{unsigned}
@@ -59,6 +60,7 @@ use Rattle.passes.proofs.leads.close.Met as passes·leads·close-thm
 use Rattle.records.proofs.delete_set.write_delete_set.Symbol as records·delete-set·write-delete-set-def
 use Rattle.records.proofs.delete_set.write_delete_set.Symbol.{name as #records·delete-set·write-delete-set}
 use Rattle.records.proofs.delete_set.write_delete_set.Met as records·delete-set·write-delete-set-thm
+use Rattle.tokens.proofs.Keyed.{aliased-none}
 use Rattle.passes.proofs.Exits.{written}
 use Rattle.passes.proofs.write.Key.{name as #it}
 use Rattle.passes.proofs.write as f
@@ -142,39 +144,39 @@ module _ {M : Type 1} (𝓤 : URA M) (H : Heap 𝓤) (A : Atoms 𝓤) (W : Given
         alloc-all ! (code.function .locals) (λ l₀ l₁ l₂ l₃ l₄ l₅ l₆ l₇ l₈ l₉ l₁₀ l₁₁ l₁₂ l₁₃ l₁₄ l₁₅ l₁₆ l₁₇ l₁₈ l₁₉ l₂₀ l₂₁ l₂₂ l₂₃ l₂₄ l₂₅ l₂₆ l₂₇ l₂₈ l₂₉ l₃₀ l₃₁ l₃₂ l₃₃. let ls : List ℕ = l₀ ∷ l₁ ∷ l₂ ∷ l₃ ∷ l₄ ∷ l₅ ∷ l₆ ∷ l₇ ∷ l₈ ∷ l₉ ∷ l₁₀ ∷ l₁₁ ∷ l₁₂ ∷ l₁₃ ∷ l₁₄ ∷ l₁₅ ∷ l₁₆ ∷ l₁₇ ∷ l₁₈ ∷ l₁₉ ∷ l₂₀ ∷ l₂₁ ∷ l₂₂ ∷ l₂₃ ∷ l₂₄ ∷ l₂₅ ∷ l₂₆ ∷ l₂₇ ∷ l₂₈ ∷ l₂₉ ∷ l₃₀ ∷ l₃₁ ∷ l₃₂ ∷ l₃₃ ∷ [] in let En : Envs = envOf (code.function .locals) ls in
         params1 ! $ pass1 ! (init ! 64 refl (tt, (tt, (record { fits = are .0 .0 .1 .0 }, tt)))) $ pass1 ! (init ! 62 refl (tt, (tt, (record { fits = are .1 .0 .0 .1 .0 }, tt)))) $ pass1 ! (init ! 60 refl (tt, (tt, (record { fits = are .1 .1 .0 .0 .1 .0 }, tt)))) $ pass1 ! (init ! 58 refl (tt, (tt, (record { fits = are .1 .1 .1 .0 .0 .1 .0 }, tt)))) $ pass1 ! (init ! 56 refl (tt, (tt, (record { fits = are .1 .1 .1 .1 .0 .0 .1 .0 }, tt)))) $ pass1 ! (init ! 54 refl (word .lawful M 𝓤 H A W .typed sections₀ _ (are .1 .1 .1 .1 .1 .0) .0)) $ pass1 ! (init ! 52 refl (tt, (tt, (record { fits = are .1 .1 .1 .1 .1 .1 .0 .0 .1 .0 }, tt)))) $ pass1 ! (init ! 50 refl (word .lawful M 𝓤 H A W .typed n₀ _ (are .1 .1 .1 .1 .1 .1 .1 .0) .0)) $ pass1 ! (init ! 48 refl (byte .lawful M 𝓤 H A W .typed form₀ _ (are .1 .1 .1 .1 .1 .1 .1 .1 .0) .0)) $ pass0 ! $ move ! (68 ∷ []) $
         -- [the references; _33 at 1; _32 at 3; _31 at 5; _30 at 7; _29 at 9; _28 at 11; _27 at 13; _26 at 15; _25 at 17; _24 at 19; _23 at 21; _22 at 23; _21 at 25; _20 at 27; _19 at 29; _18 at 31; _17 at 33; _16 at 35; _15 at 37; _14 at 39; _13 at 41; _12 at 43; _11 at 45; _10 at 47; _9 at 49; _8 at 51; _7 at 53; _6 at 55; _5 at 57; _4 at 59; _3 at 61; _2 at 63; _1 at 65; _0 at 67]
-        array-typed ! word 564 0 (refl, lit< tt) (λ ty₁₀.
-        assigns ! (rep ! 564 (lit ! tt)) (from ! (stop !)) (init ! 47 refl (ty₁₀ .0)) $
+        array-typed ! word 1333 0 (refl, lit< tt) (λ ty₁₀.
+        assigns ! (rep ! 1333 (lit ! tt)) (from ! (stop !)) (init ! 47 refl (ty₁₀ .0)) $
         assigns ! (addr ! (from ! (stop !))) (from ! (stop !)) (init ! 37 refl (tt, tt)) $
-        assigns ! (agg ! (and-then ! (load ! (from ! (stop !)) (look ! 37 refl)) (and-then ! (lit ! tt) (no-more !)))) (from ! (stop !)) (init ! 45 refl (tt, (tt, (record { fits = lit< tt }, tt)))) $
-        move ! (0 ∷ 47 ∷ []) $ own-lends ! tt word tt 564 564 (omega (arith)) 0 l₁₀ (refl, lit< tt) (lit< tt, lit< tt) (hs out₀) (λ ν₁₀ δ₁₀. move ! (0 ∷ 2 ∷ 3 ∷ 4 ∷ 5 ∷ 6 ∷ 7 ∷ 8 ∷ 9 ∷ 10 ∷ 11 ∷ 12 ∷ 13 ∷ 14 ∷ 15 ∷ 16 ∷ 17 ∷ 18 ∷ 19 ∷ 20 ∷ 21 ∷ 22 ∷ 23 ∷ 24 ∷ 25 ∷ 26 ∷ 27 ∷ 28 ∷ 29 ∷ 30 ∷ 31 ∷ 32 ∷ 33 ∷ 34 ∷ 35 ∷ 36 ∷ 37 ∷ 38 ∷ 39 ∷ 40 ∷ 41 ∷ 42 ∷ 43 ∷ 44 ∷ 45 ∷ 46 ∷ 47 ∷ 1 ∷ []) $
+        assigns ! (agg ! (and-then ! (load ! (from ! (stop !)) (look ! 37 refl)) (and-then ! (big-lit ! (record { fits = lit< tt })) (no-more !)))) (from ! (stop !)) (init ! 45 refl (tt, (tt, (record { fits = lit< tt }, tt)))) $
+        move ! (0 ∷ 47 ∷ []) $ own-lends ! tt word tt 1333 1333 (omega (arith)) 0 l₁₀ (refl, lit< tt) (lit< tt, lit< tt) (hs out₀) (λ ν₁₀ δ₁₀. move ! (0 ∷ 2 ∷ 3 ∷ 4 ∷ 5 ∷ 6 ∷ 7 ∷ 8 ∷ 9 ∷ 10 ∷ 11 ∷ 12 ∷ 13 ∷ 14 ∷ 15 ∷ 16 ∷ 17 ∷ 18 ∷ 19 ∷ 20 ∷ 21 ∷ 22 ∷ 23 ∷ 24 ∷ 25 ∷ 26 ∷ 27 ∷ 28 ∷ 29 ∷ 30 ∷ 31 ∷ 32 ∷ 33 ∷ 34 ∷ 35 ∷ 36 ∷ 37 ∷ 38 ∷ 39 ∷ 40 ∷ 41 ∷ 42 ∷ 43 ∷ 44 ∷ 45 ∷ 46 ∷ 47 ∷ 1 ∷ []) $
         assigns ! (addr ! (from ! (fld ! refl (hop ! (look-in ! 65 (sub ! 0 refl (whole !))) (stop !))))) (from ! (stop !)) (init ! 35 refl (tt, tt)) $
         assigns ! (agg ! (and-then ! (load ! (from ! (stop !)) (look ! 35 refl)) (and-then ! (load ! (from ! (fld ! refl (stop !))) (look-in ! 65 (sub ! 1 refl (whole !)))) (no-more !)))) (from ! (stop !)) (init ! 33 refl (tt, (tt, (record { fits = are .0 .0 .1 .0 }, tt)))) $
         assigns ! (addr ! (from ! (fld ! refl (hop ! (look-in ! 45 (sub ! 0 refl (whole !))) (stop !))))) (from ! (stop !)) (init ! 31 refl (tt, tt)) $
         assigns ! (agg ! (and-then ! (load ! (from ! (stop !)) (look ! 31 refl)) (and-then ! (load ! (from ! (fld ! refl (stop !))) (look-in ! 45 (sub ! 1 refl (whole !)))) (no-more !)))) (from ! (stop !)) (init ! 29 refl (tt, (tt, (record { fits = lit< tt }, tt)))) $
-        calls-knowing ! (fmOf 𝓤 H (W .laws) 𝓣) (1 ∷ 0 ∷ 2 ∷ []) (tab word (own-seat l₁₀ 564 ν₁₀ δ₁₀) (replicate 564 0) ∷ hs out₀) (passes·leads·open! 𝓤 H A mem run (𝓣 .C) known-passes·leads·open at-out out₀ (own-seat l₁₀ 564 ν₁₀ δ₁₀) (replicate 564 0) at-sizes sizes₀ form₀ (are .1 .1 .1 .1 .1 .1 .1 .1 .0) (req .0, refl)) refl (λ P. and-then ! (load ! (from ! (stop !)) (look ! 33 refl)) (and-then ! (load ! (from ! (stop !)) (look ! 29 refl)) (and-then ! (load ! (from ! (stop !)) (look ! 63 refl)) (and-then ! (load ! (from ! (stop !)) (look ! 49 refl)) (no-more !))))) (λ r₁ w₁ g₁ e₁.
+        calls-knowing ! (fmOf 𝓤 H (W .laws) 𝓣) (1 ∷ 0 ∷ 2 ∷ []) (tab word (own-seat l₁₀ 1333 ν₁₀ δ₁₀) (replicate 1333 0) ∷ hs out₀) (passes·leads·open! 𝓤 H A mem run (𝓣 .C) known-passes·leads·open at-out out₀ (own-seat l₁₀ 1333 ν₁₀ δ₁₀) (replicate 1333 0) at-sizes sizes₀ form₀ (are .1 .1 .1 .1 .1 .1 .1 .1 .0) (req .0, refl)) refl (λ P. and-then ! (load ! (from ! (stop !)) (look ! 33 refl)) (and-then ! (load ! (from ! (stop !)) (look ! 29 refl)) (and-then ! (load ! (from ! (stop !)) (look ! 63 refl)) (and-then ! (load ! (from ! (stop !)) (look ! 49 refl)) (no-more !))))) (λ r₁ w₁ g₁ e₁.
         land ! (from ! (stop !)) (init ! 43 refl (g₁ .1 .0)) $
         assigns ! (addr ! (from ! (fld ! refl (hop ! (look-in ! 65 (sub ! 0 refl (whole !))) (stop !))))) (from ! (stop !)) (init ! 27 refl (tt, tt)) $
         assigns ! (agg ! (and-then ! (load ! (from ! (stop !)) (look ! 27 refl)) (and-then ! (load ! (from ! (fld ! refl (stop !))) (look-in ! 65 (sub ! 1 refl (whole !)))) (no-more !)))) (from ! (stop !)) (init ! 25 refl (tt, (tt, (record { fits = are .0 .0 .1 .0 }, tt)))) $
         assigns ! (of-opd ! (load ! (from ! (stop !)) (look ! 55 refl))) (from ! (stop !)) (init ! 23 refl (word .lawful M 𝓤 H A W .typed sections₀ _ (are .1 .1 .1 .1 .1 .0) .0)) $
-        calls-by ! (fmOf 𝓤 H (W .laws) 𝓣) (1 ∷ []) (tab word (own-seat l₁₀ 564 ν₁₀ δ₁₀) (w₁ .1 .0) ∷ hs (w₁ .0)) (tokens·line·number! 𝓤 H A mem run (𝓣 .C) known-tokens·line·number at-out (w₁ .0) r₁ (g₁ .0) sections₀ (are .1 .1 .1 .1 .1 .0)) refl (λ P. and-then ! (load ! (from ! (stop !)) (look ! 25 refl)) (and-then ! (load ! (from ! (stop !)) (look ! 43 refl)) (and-then ! (load ! (from ! (stop !)) (look ! 23 refl)) (no-more !)))) (λ g₂.
+        calls-by ! (fmOf 𝓤 H (W .laws) 𝓣) (1 ∷ []) (tab word (own-seat l₁₀ 1333 ν₁₀ δ₁₀) (w₁ .1 .0) ∷ hs (w₁ .0)) (tokens·line·number! 𝓤 H A mem run (𝓣 .C) known-tokens·line·number at-out (w₁ .0) r₁ (g₁ .0) sections₀ (are .1 .1 .1 .1 .1 .0)) refl (λ P. and-then ! (load ! (from ! (stop !)) (look ! 25 refl)) (and-then ! (load ! (from ! (stop !)) (look ! 43 refl)) (and-then ! (load ! (from ! (stop !)) (look ! 23 refl)) (no-more !)))) (λ g₂.
         land ! (from ! (stop !)) (init ! 41 refl (g₂ .1 .0)) $
         assigns ! (addr ! (from ! (fld ! refl (hop ! (look-in ! 65 (sub ! 0 refl (whole !))) (stop !))))) (from ! (stop !)) (init ! 21 refl (tt, tt)) $
         assigns ! (agg ! (and-then ! (load ! (from ! (stop !)) (look ! 21 refl)) (and-then ! (load ! (from ! (fld ! refl (stop !))) (look-in ! 65 (sub ! 1 refl (whole !)))) (no-more !)))) (from ! (stop !)) (init ! 19 refl (tt, (tt, (record { fits = are .0 .0 .1 .0 }, tt)))) $
         assigns ! (addr ! (from ! (fld ! refl (hop ! (look-in ! 45 (sub ! 0 refl (whole !))) (stop !))))) (from ! (stop !)) (init ! 17 refl (tt, tt)) $
         assigns ! (agg ! (and-then ! (load ! (from ! (stop !)) (look ! 17 refl)) (and-then ! (load ! (from ! (fld ! refl (stop !))) (look-in ! 45 (sub ! 1 refl (whole !)))) (no-more !)))) (from ! (stop !)) (init ! 15 refl (tt, (tt, (record { fits = lit< tt }, tt)))) $
-        calls-knowing ! (fmOf 𝓤 H (W .laws) 𝓣) (1 ∷ 0 ∷ 3 ∷ 4 ∷ 5 ∷ []) (tab word (own-seat l₁₀ 564 ν₁₀ δ₁₀) (w₁ .1 .0) ∷ hs (laidAt (w₁ .0) r₁ (unsigned sections₀))) (encoder·put-rows! 𝓤 H A mem run (𝓣 .C) known-encoder·put-rows at-out (laidAt (w₁ .0) r₁ (unsigned sections₀)) (own-seat l₁₀ 564 ν₁₀ δ₁₀) (w₁ .1 .0) at-update update₀ at-rows rows₀ at-plan plan₀ sections₀ (are .1 .1 .1 .1 .1 .0) form₀ (are .1 .1 .1 .1 .1 .1 .1 .1 .0) (ahead r₁ (unsigned sections₀)) (g₂ .0) (e₁ .2, req .2)) refl (λ P. and-then ! (load ! (from ! (stop !)) (look ! 19 refl)) (and-then ! (load ! (from ! (stop !)) (look ! 15 refl)) (and-then ! (load ! (from ! (stop !)) (look ! 61 refl)) (and-then ! (load ! (from ! (stop !)) (look ! 59 refl)) (and-then ! (load ! (from ! (stop !)) (look ! 57 refl)) (and-then ! (load ! (from ! (stop !)) (look ! 55 refl)) (and-then ! (load ! (from ! (stop !)) (look ! 49 refl)) (and-then ! (load ! (from ! (stop !)) (look ! 41 refl)) (no-more !))))))))) (λ r₃ w₃ g₃ e₃.
+        calls-knowing ! (fmOf 𝓤 H (W .laws) 𝓣) (1 ∷ 0 ∷ 3 ∷ 4 ∷ 5 ∷ []) (tab word (own-seat l₁₀ 1333 ν₁₀ δ₁₀) (w₁ .1 .0) ∷ hs (laidAt (w₁ .0) r₁ (unsigned sections₀))) (encoder·put-rows! 𝓤 H A mem run (𝓣 .C) known-encoder·put-rows at-out (laidAt (w₁ .0) r₁ (unsigned sections₀)) (own-seat l₁₀ 1333 ν₁₀ δ₁₀) (w₁ .1 .0) at-update update₀ at-rows rows₀ at-plan plan₀ sections₀ (are .1 .1 .1 .1 .1 .0) form₀ (are .1 .1 .1 .1 .1 .1 .1 .1 .0) (ahead r₁ (unsigned sections₀)) (g₂ .0) (aliased-none update₀ (w₁ .1 .0) (e₁ .2) (e₁ .4), req .2)) refl (λ P. and-then ! (load ! (from ! (stop !)) (look ! 19 refl)) (and-then ! (load ! (from ! (stop !)) (look ! 15 refl)) (and-then ! (load ! (from ! (stop !)) (look ! 61 refl)) (and-then ! (load ! (from ! (stop !)) (look ! 59 refl)) (and-then ! (load ! (from ! (stop !)) (look ! 57 refl)) (and-then ! (load ! (from ! (stop !)) (look ! 55 refl)) (and-then ! (load ! (from ! (stop !)) (look ! 49 refl)) (and-then ! (load ! (from ! (stop !)) (look ! 41 refl)) (no-more !))))))))) (λ r₃ w₃ g₃ e₃.
         land ! (from ! (stop !)) (init ! 39 refl (g₃ .1 .0)) $
         assigns ! (addr ! (from ! (fld ! refl (hop ! (look-in ! 65 (sub ! 0 refl (whole !))) (stop !))))) (from ! (stop !)) (init ! 11 refl (tt, tt)) $
         assigns ! (agg ! (and-then ! (load ! (from ! (stop !)) (look ! 11 refl)) (and-then ! (load ! (from ! (fld ! refl (stop !))) (look-in ! 65 (sub ! 1 refl (whole !)))) (no-more !)))) (from ! (stop !)) (init ! 9 refl (tt, (tt, (record { fits = are .0 .0 .1 .0 }, tt)))) $
         assigns ! (addr ! (from ! (fld ! refl (hop ! (look-in ! 45 (sub ! 0 refl (whole !))) (stop !))))) (from ! (stop !)) (init ! 7 refl (tt, tt)) $
         assigns ! (agg ! (and-then ! (load ! (from ! (stop !)) (look ! 7 refl)) (and-then ! (load ! (from ! (fld ! refl (stop !))) (look-in ! 45 (sub ! 1 refl (whole !)))) (no-more !)))) (from ! (stop !)) (init ! 5 refl (tt, (tt, (record { fits = lit< tt }, tt)))) $
-        calls-knowing ! (fmOf 𝓤 H (W .laws) 𝓣) (1 ∷ 0 ∷ []) (tab word (own-seat l₁₀ 564 ν₁₀ δ₁₀) (w₃ .1 .0) ∷ hs (w₃ .0)) (passes·leads·close! 𝓤 H A mem run (𝓣 .C) known-passes·leads·close at-out (w₃ .0) (own-seat l₁₀ 564 ν₁₀ δ₁₀) (w₃ .1 .0) form₀ (are .1 .1 .1 .1 .1 .1 .1 .1 .0) (e₃ .tidy)) refl (λ P. and-then ! (load ! (from ! (stop !)) (look ! 9 refl)) (and-then ! (load ! (from ! (stop !)) (look ! 5 refl)) (and-then ! (load ! (from ! (stop !)) (look ! 49 refl)) (no-more !)))) (λ r₄ w₄ g₄ e₄.
+        calls-knowing ! (fmOf 𝓤 H (W .laws) 𝓣) (1 ∷ 0 ∷ []) (tab word (own-seat l₁₀ 1333 ν₁₀ δ₁₀) (w₃ .1 .0) ∷ hs (w₃ .0)) (passes·leads·close! 𝓤 H A mem run (𝓣 .C) known-passes·leads·close at-out (w₃ .0) (own-seat l₁₀ 1333 ν₁₀ δ₁₀) (w₃ .1 .0) form₀ (are .1 .1 .1 .1 .1 .1 .1 .1 .0) (e₃ .tidy)) refl (λ P. and-then ! (load ! (from ! (stop !)) (look ! 9 refl)) (and-then ! (load ! (from ! (stop !)) (look ! 5 refl)) (and-then ! (load ! (from ! (stop !)) (look ! 49 refl)) (no-more !)))) (λ r₄ w₄ g₄ e₄.
         land ! (from ! (stop !)) (init ! 13 refl (g₄ .1 .0)) $
         assigns ! (addr ! (from ! (fld ! refl (hop ! (look-in ! 65 (sub ! 0 refl (whole !))) (stop !))))) (from ! (stop !)) (init ! 3 refl (tt, tt)) $
         assigns ! (agg ! (and-then ! (load ! (from ! (stop !)) (look ! 3 refl)) (and-then ! (load ! (from ! (fld ! refl (stop !))) (look-in ! 65 (sub ! 1 refl (whole !)))) (no-more !)))) (from ! (stop !)) (init ! 1 refl (tt, (tt, (record { fits = are .0 .0 .1 .0 }, tt)))) $
-        calls-knowing ! (fmOf 𝓤 H (W .laws) 𝓣) (1 ∷ 6 ∷ []) (tab word (own-seat l₁₀ 564 ν₁₀ δ₁₀) (w₄ .1 .0) ∷ hs (w₄ .0)) (records·delete-set·write-delete-set! 𝓤 H A mem run (𝓣 .C) known-records·delete-set·write-delete-set at-out (w₄ .0) form₀ (are .1 .1 .1 .1 .1 .1 .1 .1 .0) r₃ (g₃ .0) at-ranges ranges₀ n₀ (are .1 .1 .1 .1 .1 .1 .1 .0) (req .1)) refl (λ P. and-then ! (load ! (from ! (stop !)) (look ! 1 refl)) (and-then ! (load ! (from ! (stop !)) (look ! 49 refl)) (and-then ! (load ! (from ! (stop !)) (look ! 39 refl)) (and-then ! (load ! (from ! (stop !)) (look ! 53 refl)) (and-then ! (load ! (from ! (stop !)) (look ! 51 refl)) (no-more !)))))) (λ r₅ w₅ g₅ e₅.
+        calls-knowing ! (fmOf 𝓤 H (W .laws) 𝓣) (1 ∷ 6 ∷ []) (tab word (own-seat l₁₀ 1333 ν₁₀ δ₁₀) (w₄ .1 .0) ∷ hs (w₄ .0)) (records·delete-set·write-delete-set! 𝓤 H A mem run (𝓣 .C) known-records·delete-set·write-delete-set at-out (w₄ .0) form₀ (are .1 .1 .1 .1 .1 .1 .1 .1 .0) r₃ (g₃ .0) at-ranges ranges₀ n₀ (are .1 .1 .1 .1 .1 .1 .1 .0) (req .1)) refl (λ P. and-then ! (load ! (from ! (stop !)) (look ! 1 refl)) (and-then ! (load ! (from ! (stop !)) (look ! 49 refl)) (and-then ! (load ! (from ! (stop !)) (look ! 39 refl)) (and-then ! (load ! (from ! (stop !)) (look ! 53 refl)) (and-then ! (load ! (from ! (stop !)) (look ! 51 refl)) (no-more !)))))) (λ r₅ w₅ g₅ e₅.
         land ! (from ! (stop !)) (init ! 67 refl (g₅ .1 .0)) $
-        move ! (0 ∷ 47 ∷ []) $ own-back ! tt word 564 564 (omega (arith)) 0 (w₄ .1 .0) l₁₀ ν₁₀ δ₁₀ (hs (w₅ .0)) $ move ! (0 ∷ 2 ∷ 3 ∷ 4 ∷ 5 ∷ 6 ∷ 7 ∷ 8 ∷ 9 ∷ 10 ∷ 11 ∷ 12 ∷ 13 ∷ 14 ∷ 15 ∷ 16 ∷ 17 ∷ 18 ∷ 19 ∷ 20 ∷ 21 ∷ 22 ∷ 23 ∷ 24 ∷ 25 ∷ 26 ∷ 27 ∷ 28 ∷ 29 ∷ 30 ∷ 31 ∷ 32 ∷ 33 ∷ 34 ∷ 35 ∷ 36 ∷ 37 ∷ 38 ∷ 39 ∷ 40 ∷ 41 ∷ 42 ∷ 43 ∷ 44 ∷ 45 ∷ 46 ∷ 47 ∷ 1 ∷ []) $
+        move ! (0 ∷ 47 ∷ []) $ own-back ! tt word 1333 1333 (omega (arith)) 0 (w₄ .1 .0) l₁₀ ν₁₀ δ₁₀ (hs (w₅ .0)) $ move ! (0 ∷ 2 ∷ 3 ∷ 4 ∷ 5 ∷ 6 ∷ 7 ∷ 8 ∷ 9 ∷ 10 ∷ 11 ∷ 12 ∷ 13 ∷ 14 ∷ 15 ∷ 16 ∷ 17 ∷ 18 ∷ 19 ∷ 20 ∷ 21 ∷ 22 ∷ 23 ∷ 24 ∷ 25 ∷ 26 ∷ 27 ∷ 28 ∷ 29 ∷ 30 ∷ 31 ∷ 32 ∷ 33 ∷ 34 ∷ 35 ∷ 36 ∷ 37 ∷ 38 ∷ 39 ∷ 40 ∷ 41 ∷ 42 ∷ 43 ∷ 44 ∷ 45 ∷ 46 ∷ 47 ∷ 1 ∷ []) $
         returns-within ! Post refl (look ! 67 refl) $
         free-all ! (_ ∷ []) En (has _ ∷ has _ ∷ has _ ∷ has _ ∷ has _ ∷ has _ ∷ has _ ∷ has _ ∷ has _ ∷ has _ ∷ has _ ∷ has _ ∷ has _ ∷ has _ ∷ has _ ∷ has _ ∷ has _ ∷ has _ ∷ has _ ∷ has _ ∷ has _ ∷ has _ ∷ has _ ∷ has _ ∷ has _ ∷ has _ ∷ has _ ∷ has _ ∷ has _ ∷ has _ ∷ has _ ∷ has _ ∷ has _ ∷ has _ ∷ []) [] $ by ! (exits r₅ (w₅ .0) (g₅ .0) (written update₀ form₀ sizes₀ out₀ sections₀ (plannedTokens update₀ rows₀ plan₀ sections₀) (deleteTokens form₀ (rowsFrom ranges₀ 0 n₀)) (w₁ .0) (w₁ .1 .0) r₁ e₁ (w₃ .0) (w₃ .1 .0) r₃ e₃ e₄ e₅))))))))))
 

@@ -3,7 +3,7 @@ use mathlib.Core.Path.{sym, _∙_}
 use borrow.Author.Tests.{not-true, not-false}
 use Rattle.tokens.specs.Tokens.{infos, lens}
 use Rattle.tokens.proofs.Wrote.{wrote-then, wrote-var}
-use Rattle.tokens.proofs.Keyed.{wrote-keys, wrote-keys-then, wrote-keys-is, wrote-keys-none}
+use Rattle.tokens.proofs.Keyed.{aliased-same, wrote-keys, wrote-keys-then, wrote-keys-is, wrote-keys-none}
 use Rattle.marked.proofs.Marked.{one-field, field-field, field-var}
 use Rattle.records.specs.Records.{infoByte}
 use Rattle.records.proofs.Writes.{block-gc, block-skip, block-item, block-none}
@@ -42,7 +42,18 @@ returns-3 c =
     let p10 = p4 .before .before .before .before .before .before in
     let a = p10 .args in
     let h = sym (p1 .is-item .ensures) ∙ not-true (p1 .is-item .result) (c .if3 .taken) in
-    wrote-keys-is (block-none (a .update .now) (a .b) (p4 .if1 .left) (p2 .if2 .left) h) (wrote-keys-none (p10 .pre))
+    wrote-keys-is (block-none (a .update .now) (a .b) (p4 .if1 .left) (p2 .if2 .left) h) (wrote-keys-none (p10 .pre .tidy))
+
+write-content-requires : tie.Need-write-content-requires
+write-content-requires c κs =
+    let p6 = c .before .before .before .before .before .before in
+    let p13 = p6 .before .before .before .before .before .before .before in
+    let p27 = p13 .before .before .before .before .before .before .before .before .before .before .before .before .before .before in
+    let u = p27 .args .update .now in
+    let begun = p13 .write-info3 in
+    let placed = p6 .write-place in
+    aliased-same u (begun .last .1 .0) (placed .last .1 .1 .0) (placed .ensures .keys) (placed .ensures .tidy)
+    (aliased-same u (p27 .args .lanes .now) (begun .last .1 .0) (begun .ensures .keys) (begun .ensures .tidy) (p27 .pre))
 
 returns-4 : tie.Need-returns-4
 returns-4 c =
@@ -67,4 +78,4 @@ write-block-spec =
     (tie.spec
     (λ c κs. search needs) (λ c κs. search needs) (λ c. search needs) (λ c. search needs) returns (λ c κs. search needs) (λ c κs. search needs)
     (λ c. search needs) (λ c. search needs) returns-2 (λ c κs. search needs) returns-3 (λ c κs. search needs) (λ c κs. search needs) (λ c κs. search needs)
-    (λ c κs. search needs) (λ c. search needs) (λ c. search needs) returns-4)
+    write-content-requires (λ c. search needs) (λ c. search needs) returns-4)

@@ -26,7 +26,7 @@ returns-2 c =
     let a = p13 .args in
     let b = bytesIn (a .update .now) (a .b .part) in
     wrote-keys-is (content-binary (a .update .now) (a .b) (p6 .if1 .left) (p4 .if2 .taken))
-    (wrote-keys (one-buf b) (wrote-buf b (p13 .pre) (p2 .led-part .ensures)))
+    (wrote-keys (one-buf b) (wrote-buf b (p13 .pre .tidy) (p2 .led-part .ensures)))
 
 returns-3 : tie.Need-returns-3
 returns-3 c =

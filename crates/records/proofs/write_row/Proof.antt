@@ -1,7 +1,7 @@
 -- `write_row` meets its contract: a row whose cut lies within it, its head before it.
 use mathlib.Core.Path.{sym, _∙_}
 use borrow.Author.Tests.{not-true, not-false}
-use Rattle.tokens.proofs.Keyed.{wrote-keys, wrote-keys-then, wrote-keys-is, wrote-keys-none}
+use Rattle.tokens.proofs.Keyed.{aliased-same, wrote-keys, wrote-keys-then, wrote-keys-is, wrote-keys-none}
 use Rattle.records.proofs.Writes.{row-none, row-some}
 use Rattle.records.proofs.Keyless.{head-keyless}
 use Rattle.records.proofs.Sane.{sane-limits}
@@ -18,7 +18,7 @@ returns c =
     let e = rw (p2 .rest .ensures) at (p1 .is-sane .ensures) in
     let h = sym e ∙ not-true (p1 .is-sane .result) (c .if1 .taken) in
     wrote-keys-is (row-none (a .update .now) (a .b) (a .c .head) (a .c .from .0) (a .c .skip .0) h)
-    (wrote-keys-none (p8 .pre))
+    (wrote-keys-none (p8 .pre .tidy))
 
 write-head-requires : tie.Need-write-head-requires
 write-head-requires c κs =
@@ -28,13 +28,21 @@ write-head-requires c κs =
     let p10 = p4 .before .before .before .before .before .before in
     let a = p10 .args in
     let e = rw (p4 .rest .ensures) at (p3 .is-sane .ensures) in
-    (p10 .pre, sane-limits (a .b) (a .c .from .0) (a .c .skip .0) (sym e ∙ not-false (p3 .is-sane .result) (p2 .if1 .left)))
+    (p10 .pre .tidy, sane-limits (a .b) (a .c .from .0) (a .c .skip .0) (sym e ∙ not-false (p3 .is-sane .result) (p2 .if1 .left)))
 
 cut-requires : tie.Need-cut-requires
 cut-requires c κs =
     let p7 = c .before .before .before .before .before .before .before in
     let p8 = p7 .before in
     sym (p8 .is-sane .ensures) ∙ not-false (p8 .is-sane .result) (p7 .if1 .left)
+
+write-block-requires : tie.Need-write-block-requires
+write-block-requires c κs =
+    let p7 = c .before .before .before .before .before .before .before in
+    let p18 = p7 .before .before .before .before .before .before .before .before .before .before .before in
+    let a = p18 .args in
+    let headed = p7 .write-head in
+    aliased-same (a .update .now) (a .lanes .now) (headed .last .1 .0) (headed .ensures .keys) (headed .ensures .tidy) (p18 .pre)
 
 returns-2 : tie.Need-returns-2
 returns-2 c =
@@ -56,4 +64,4 @@ pub write-row-spec : {M : Type 1} → statement M
 write-row-spec =
     tie.close
     (tie.spec
-    (λ c κs. search needs) (λ c κs. search needs) returns write-head-requires cut-requires (λ c κs. search needs) (λ c. search needs) (λ c. search needs) returns-2)
+    (λ c κs. search needs) (λ c κs. search needs) returns write-head-requires cut-requires write-block-requires (λ c. search needs) (λ c. search needs) returns-2)

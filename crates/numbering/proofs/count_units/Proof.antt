@@ -6,10 +6,10 @@ use Rattle.text.specs.Utf8.{countedIn}
 use Rattle.text.specs.declared.Counted.{Counted}
 use Rattle.readings.specs.Sound.{bytesIn}
 use Rattle.tokens.proofs.Parts.{part-slice}
-use Rattle.marked.proofs.Units.{units-none}
+use Rattle.numbering.proofs.Units.{units-none}
 use borrow.Author.Needs.{needs}
-use Rattle.marked.proofs.count_units.Statement.{statement}
-use Rattle.marked.proofs.count_units.Tie as tie
+use Rattle.numbering.proofs.count_units.Statement.{statement}
+use Rattle.numbering.proofs.count_units.Tie as tie
 
 returns : tie.Need-returns
 returns c =
