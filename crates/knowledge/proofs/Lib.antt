@@ -1,0 +1,3 @@
+-- More knowledge holds no block back, by any rule under which what is met stays met (More); and what a diff has left of the blocks comes as far as all of them (Diffs).
+pub mod More
+pub mod Diffs
