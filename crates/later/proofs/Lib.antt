@@ -1,0 +1,2 @@
+-- Asking later never makes things worse.
+pub mod Queues
