@@ -1,0 +1,26 @@
+-- What is asked of a sorter: where it is done, its words are those of a run that goes on until no step is possible. Which run is its own affair.
+use Prim.Native.Nat.{ℕ}
+use mathlib.Core.Path.{_≡_}
+use mathlib.Core.List.{List}
+use Rattle.block.specs.declared.Block.{Block}
+use Rattle.vector.specs.Vector.{Entry}
+use Rattle.kept.specs.Kept.{remote}
+use Rattle.sorting.specs.Steps.{start, after, Ends}
+use Rattle.sorting.specs.Rules.{Rule}
+use Rattle.sorting.specs.Sorted.{clients, steps, numbersBy, reachesIn}
+use Rattle.updates.specs.Promises.{reading}
+use Rattle.sort_answers.specs.Answers.{Sort, Room}
+use Rattle.rereading.specs.Vectors.{entriesIn}
+
+-- the sort s of the blocks bs by R, from the remote clocks of the entries v
+pub record Ran (R : Rule ℕ) (bs : List Block) (v : List Entry) (s : Sort) : Type 0 where
+  pub run : List ℕ
+  pub whole : Ends (steps R bs) (start (remote v)) run
+  pub order : s .order ≡ numbersBy R bs (start (remote v)) run
+  pub reaches : s .reaches ≡ reachesIn (after (steps R bs) (start (remote v)) run) (clients bs v)
+
+-- `sort` sorts the update u, of a form, against the vector v by R: if it is done, u was read and sorted
+abbrev pub Sorter : Rule ℕ → ℕ → List ℕ → List ℕ → (ℕ → ℕ → Room → Sort) → Type 0
+Sorter R form u v sort =
+    (m n : ℕ) (room : Room) → sort m n room .refusal .number ≡ 0
+    → (reading form u m n .refusal .number ≡ 0) × Ran R (reading form u m n .blocks) (entriesIn v) (sort m n room)
