@@ -45,7 +45,7 @@ module _ (form : ℕ) (u v : List ℕ) (to : ℕ) (d : DiffCall form u v to) whe
   abbrev D : Diffed
   D = diffOf form u v to m n (length (d .out))
 
-  diff-done : D .refusal .number ≡ 0
+  pub diff-done : diffOf form u v to (length (d .rows)) (length (d .ranges) / 3) (length (d .out)) .refusal .number ≡ 0
   unfolding answered
   diff-done = sym (ap (λ (x : Diff). x .refusal .number) (d .promised .0)) ∙ d .done
 

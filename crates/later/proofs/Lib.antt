@@ -3,3 +3,4 @@ pub mod Queues
 pub mod Words
 pub mod Later
 pub mod Diffs
+pub mod Readable

@@ -1,5 +1,7 @@
 -- One sort is not worse than another: asking later, or for the diff alone.
 use Prim.Native.Nat.{ℕ, _≤_}
+use mathlib.Core.Path.{_≡_}
+use mathlib.Core.Logic.{_⊎_}
 use mathlib.Core.List.{List}
 use Rattle.kept.specs.Kept.{remote}
 use Rattle.sorting.specs.Quick.{Listed}
@@ -16,3 +18,7 @@ AsHigh v w = AtLeast (remote (entriesIn v)) (remote (entriesIn w))
 pub record NotWorse {f g : ℕ → ℕ → Room → Sort} (a : Call f) (b : Call g) : Type 0 where
   pub taken : (n : ℕ) → Listed n (takenBy a) → Listed n (takenBy b)
   pub reaches : (c : ℕ) → reachBy a c ≤ reachBy b c
+
+-- a sort's number if it is refused for words that do not suffice, if at all
+abbrev pub ForWords : ℕ → Type 0
+ForWords number = (number ≡ 0) ⊎ ((number ≡ 8) ⊎ (number ≡ 10))
