@@ -4,3 +4,4 @@ pub mod Words
 pub mod Later
 pub mod Diffs
 pub mod Readable
+pub mod Examples

@@ -2,3 +2,4 @@
 pub mod Calls
 pub mod Sorters
 pub mod Worse
+pub mod Examples
