@@ -5,3 +5,4 @@ pub mod Later
 pub mod Diffs
 pub mod Readable
 pub mod Examples
+pub mod TooLong

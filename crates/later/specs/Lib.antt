@@ -3,3 +3,4 @@ pub mod Calls
 pub mod Sorters
 pub mod Worse
 pub mod Examples
+pub mod TooLong
