@@ -16,10 +16,10 @@ use Rattle.block.specs.declared.Block.{Block}
 use Rattle.block.specs.Row.{noBlock}
 use Rattle.kept.specs.Kept.{piece, falls, wholePiece, keepFrom, rowsOf}
 use Rattle.sorting.specs.Steps.{start, after, Run, Ends}
-use Rattle.sorting.specs.Rules.{queue, isSkip, deps, others, unmet, waits, free, system, below, byReaches}
-use Rattle.sorting.specs.Rule28.{asks28, rule28}
-use Rattle.sorting.specs.Rule13.{asks13, rule13}
-use Rattle.sorting.specs.Named.{asksOf, ruleOf}
+use Rattle.sorting.specs.Rules.{queue, isSkip, unmet, waits, free, system, below, byReaches}
+use Rattle.sorting.specs.Rule28.{asks28}
+use Rattle.sorting.specs.Rule13.{asks13}
+use Rattle.sorting.specs.Named.{asksOf}
 use Rattle.sorting.specs.Sorted.{steps}
 use Rattle.sorting.proofs.Outcome.{Covers, no-further}
 use Rattle.sorting.proofs.Rules.{or-map, unmet-mono, below-mono}

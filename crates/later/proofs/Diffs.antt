@@ -33,7 +33,7 @@ use Rattle.later.specs.Calls.{Call, SortCall, reachBy, DiffCall, written
 use Rattle.later.specs.Sorters.{Sorter}
 use Rattle.later.proofs.Queues.{remains}
 use Rattle.later.proofs.Words.{call-done, reach-is}
-use Rattle.later.proofs.Later.{ran, sort-sorts}
+use Rattle.later.proofs.Later.{ended, sort-sorts}
 
 module _ (form : ℕ) (u v : List ℕ) (to : ℕ) (d : DiffCall form u v to) where
   abbrev m : ℕ
@@ -85,11 +85,11 @@ module _ (form : ℕ) (u v : List ℕ) (to : ℕ) (d : DiffCall form u v to) whe
 
     pub as-far : (c : ℕ) → reachBy a c ≤ reachBy b c
     as-far c =
-        let x = ran (byReaches asks) form u v all a in
-        let y = ran (byReaches asks) to (writtenBy d) v part b in
+        let x = ended (byReaches asks) form u v all a in
+        let y = ended (byReaches asks) to (writtenBy d) v part b in
         omega (
           arith,
-          no-lower asks stays (remote (entriesIn v)) bs es (left was-read) (x .run) (y .run) (x .whole .run) (y .whole) c,
+          no-lower asks stays (remote (entriesIn v)) bs es (left was-read) (x .ran .run) (y .ran .run) (x .ran .whole .run) (y .ran .whole) c,
           reach-is a asks bs (entriesIn v) x c,
           reach-is b asks es (entriesIn v) y c,
         )

@@ -18,7 +18,7 @@ use Rattle.ranges.specs.Ranges as ranges
 use Rattle.vector.specs.Vector as vector
 use Rattle.vector.specs.Vector.{vectorOf}
 use Rattle.updates.specs.Promises as promises
-use Rattle.updates.specs.Promises.{Reading, reading}
+use Rattle.updates.specs.Promises.{reading}
 use Rattle.readings.specs.Sound.{linked}
 use Rattle.readings.specs.Groups as groups
 use Rattle.tokens.specs.Tokens as tokens
@@ -29,7 +29,7 @@ use Rattle.kept.specs.Cut as cut
 use Rattle.records.specs.Records as records
 use Rattle.writing.specs.Diff as written
 use Rattle.diffs.specs.Promises as diffs
-use Rattle.diffs.specs.Promises.{Diffed, diffOf}
+use Rattle.diffs.specs.Promises.{diffOf}
 use Rattle.sorting.specs.Steps as steps
 use Rattle.sorting.specs.Rules as rules
 use Rattle.sorting.specs.Rule28 as rule28
@@ -41,7 +41,7 @@ use Rattle.sort_answers.specs.Answers as answers
 use Rattle.sort_answers.specs.Answers.{Sort}
 use Rattle.sorts.specs.Promises as sort-promises
 use Rattle.sorts.specs.Promises.{sortOf, afterReading}
-use Rattle.later.specs.Examples.{waiter, second, early, late, units, only, sorts, takes, waits, Rises}
+use Rattle.later.specs.Examples.{waiter, second, early, late, units, only, takes, waits, Rises}
 
 -- ---- both are read
 

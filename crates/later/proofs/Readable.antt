@@ -1,8 +1,8 @@
 -- Why a diff has to read: one that is written and reads is sorted, with the rows that it was read with, unless the words do not suffice (8, 10); one that is
 -- longer than an update may be is refused with 3 and reaches nothing.
-use Prim.Native.Nat.{ℕ, _/_, _≤_, _<_}
+use Prim.Native.Nat.{ℕ, _/_, _<_}
 use mathlib.Core.Path.{_≡_, refl, sym, ap, subst, _∙_}
-use mathlib.Core.Logic.{_⊎_, inl, inr}
+use mathlib.Core.Logic.{inl, inr}
 use mathlib.Core.Bool.{Bool, true, false}
 use mathlib.Core.List.{List}
 use native.Mathlib.Omega.{arith}
@@ -11,13 +11,12 @@ use lib.ListN.{length}
 use borrow.Author.Tests.{lt-ltb, eq-eqb}
 use Rattle.numbers.specs.Number.{pick, nowhere}
 use Rattle.numbers.specs.Limits.{maxUpdate}
-use Rattle.grammar.specs.Course.{items, ending}
 use Rattle.vector.specs.Vector.{vectorOf}
 use Rattle.kept.proofs.Vectors.{whyVector, by-number}
 use Rattle.sorting.specs.Rules.{Rule}
 use Rattle.sorting.specs.Named.{ruleOf}
 use Rattle.updates.specs.declared.Update.{Update}
-use Rattle.updates.specs.Promises.{Reading, refused, withBlocks, known, early, reading, answer}
+use Rattle.updates.specs.Promises.{Reading, known, early, reading, answer}
 use Rattle.sort_answers.specs.Answers.{isRule, Sort, refusedWith, Room, whyNot}
 use Rattle.sorts.specs.Promises.{whole, whySort, fitting, against, afterReading, sortOf}
 use Rattle.rereading.specs.Vectors.{Reads, entriesIn}

@@ -21,7 +21,6 @@ use Rattle.grammar.specs.Blocks as blocks
 use Rattle.grammar.specs.Deletes as deletes
 use Rattle.decoder.specs.Line as line
 use Rattle.decoder.specs.Line.{byteAt, bytesAt, soMany}
-use Rattle.decoder.specs.Update as update
 use Rattle.decoder.specs.Update.{blocksOf, deleteSet}
 use Rattle.ranges.specs.Ranges as ranges
 use Rattle.updates.specs.Promises as promises

@@ -1,11 +1,11 @@
 -- What the words of a sort that is done say: the numbers that a whole run takes, and the reaches where it ends, 0 for a client that is not reported.
 use Prim.Native.Nat.{ℕ, _-_, _*_, _/_, _≤_, _<_}
-use mathlib.Core.Path.{_≡_, refl, sym, ap, subst, _∙_}
-use mathlib.Core.Logic.{_⊎_, inl, inr, _≢_}
+use mathlib.Core.Path.{_≡_, refl, sym, ap, _∙_}
+use mathlib.Core.Logic.{_⊎_, inl, inr}
 use mathlib.Core.Bool.{Bool, true, false}
 use mathlib.Core.List.{List, [], _∷_, _++_}
 use native.Mathlib.Omega.{arith}
-use lib.Dec.{ltb, eqb}
+use lib.Dec.{eqb}
 use lib.ListN.{length, take, replicate}
 use lib.Seq.{take-append-seam}
 use borrow.Author.Tests.{eqb-true, eqb-false}
@@ -15,10 +15,10 @@ use Rattle.block.specs.declared.Id.{Id}
 use Rattle.block.specs.declared.Block.{Block}
 use Rattle.vector.specs.Vector.{Entry, clientsIn}
 use Rattle.kept.specs.Kept.{remote}
-use Rattle.sorting.specs.Steps.{State, start, step, after, Run, Ends}
+use Rattle.sorting.specs.Steps.{State, start, step, after, Run}
 use Rattle.sorting.specs.Quick.{Listed}
-use Rattle.sorting.specs.Rules.{queue, Rule, system, byReaches}
-use Rattle.sorting.specs.Sorted.{clients, steps, numbersBy, reachesIn}
+use Rattle.sorting.specs.Rules.{queue, system, byReaches}
+use Rattle.sorting.specs.Sorted.{clients, steps, reachesIn}
 use Rattle.sorting.proofs.Outcome.{below-or, can-fits}
 use Rattle.sorting.proofs.Demand.{others-stay}
 use Rattle.sorting.proofs.Clients.{clients-blocks, clients-vector}
@@ -26,7 +26,7 @@ use Rattle.sort_answers.specs.declared.Sorted.{Sorted}
 use Rattle.sort_answers.specs.Answers.{Sort, Room, answered}
 use Rattle.sorts.specs.Promises.{lent}
 use Rattle.later.specs.Calls.{Call, takenBy, reachAt, reachBy}
-use Rattle.later.specs.Sorters.{Ran}
+use Rattle.later.specs.Sorters.{Ended}
 
 front-padded : (n : ℕ) (ws : List ℕ) → take (length ws) (padded n ws) ≡ ws
 unfolding padded
@@ -125,15 +125,15 @@ module _ {f : ℕ → ℕ → Room → Sort} (a : Call f) where
       ∙ front-padded (length (a .order)) (sortIn .order)
 
   -- the reaches that it reports are those where its run ends
-  pub reach-is : (asks : ℕ → Block → List Id) (bs : List Block) (v : List Entry) (ran : Ran (byReaches asks) bs v sortIn) (c : ℕ)
-      → reachBy a c ≡ (after (steps (byReaches asks) bs) (start (remote v)) (ran .run)) .known c
+  pub reach-is : (asks : ℕ → Block → List Id) (bs : List Block) (v : List Entry) (e : Ended (byReaches asks) bs v sortIn) (c : ℕ)
+      → reachBy a c ≡ (after (steps (byReaches asks) bs) (start (remote v)) (e .ran .run)) .known c
   unfolding answered padded
-  reach-is asks bs v ran c =
+  reach-is asks bs v e c =
       let n = length (a .reaches) in
-      let s = after (steps (byReaches asks) bs) (start (remote v)) (ran .run) in
+      let s = after (steps (byReaches asks) bs) (start (remote v)) (e .ran .run) in
       ap (λ (x : Sorted). reachAt (x .reaches) (a .reaches₁) c) (a .promised .0)
       ∙ ap (λ (ws : List ℕ). reachAt (length (sortIn .reaches) / 2) ws c) (a .promised .5)
-      ∙ ap (λ (ws : List ℕ). reachAt (length ws / 2) (padded n ws) c) (ran .reaches)
+      ∙ ap (λ (ws : List ℕ). reachAt (length ws / 2) (padded n ws) c) (e .reaches)
       ∙ ap (λ (k : ℕ). reachAt k (padded n (reachesIn s (clients bs v))) c)
       (ap (λ (k : ℕ). k / 2) (reaches-length s (clients bs v)) ∙ half (length (clients bs v)))
-      ∙ reach-known asks bs v (ran .run) (ran .whole .run) (replicate (n - length (reachesIn s (clients bs v))) 0) c
+      ∙ reach-known asks bs v (e .ran .run) (e .ran .whole .run) (replicate (n - length (reachesIn s (clients bs v))) 0) c

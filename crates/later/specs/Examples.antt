@@ -7,7 +7,7 @@ use Rattle.block.specs.declared.Block.{Block}
 use Rattle.block.specs.Rows.{plain, withLeft}
 use Rattle.block.specs.Kinds.{DELETED}
 use Rattle.updates.specs.Promises.{Reading}
-use Rattle.diffs.specs.Promises.{Diffed, diffOf}
+use Rattle.diffs.specs.Promises.{diffOf}
 use Rattle.sort_answers.specs.Answers.{Sort}
 use Rattle.sorts.specs.Promises.{sortOf}
 

@@ -2,15 +2,14 @@
 use Prim.Native.Nat.{ℕ, _+_, _≤_}
 use mathlib.Core.Path.{_≡_}
 use mathlib.Core.List.{List, [], _∷_, _++_}
-use lib.ListN.{length}
-use Rattle.numbers.specs.Number.{none, nowhere}
+use Rattle.numbers.specs.Number.{nowhere}
 use Rattle.block.specs.declared.Block.{Block}
 use Rattle.block.specs.Rows.{plain, withLeft, withPart}
 use Rattle.block.specs.Kinds.{BINARY}
 use Rattle.diffs.specs.Promises.{diffOf}
-use Rattle.sort_answers.specs.Answers.{Sort, refusedWith, Room}
+use Rattle.sort_answers.specs.Answers.{refusedWith, Room}
 use Rattle.sorts.specs.Promises.{sortOf}
-use Rattle.later.specs.Examples.{early, only, takes}
+use Rattle.later.specs.Examples.{early, takes}
 
 -- so many bytes: f3 ff ff 07
 abbrev pub most : ℕ
