@@ -1,4 +1,5 @@
--- Calls that are done (Calls), what a sorter's words say (Sorters), and what it means that one call is not worse than another (Worse).
+-- Calls that are done (Calls), what is asked of a sorter (Sorters), what it means that one sort is not worse than another (Worse), and examples: where
+-- reaches rise (Examples), and why a diff has to read (TooLong).
 pub mod Calls
 pub mod Sorters
 pub mod Worse
