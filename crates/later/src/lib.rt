@@ -1,0 +1,1 @@
+// No code: asking later never makes things worse.
