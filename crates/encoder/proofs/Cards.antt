@@ -19,7 +19,7 @@ use Rattle.block.specs.declared.Block.{Block}
 use Rattle.kept.specs.declared.cursor.Cursor.{Cursor}
 use Rattle.kept.specs.declared.plan.Planning.{Planning}
 use Rattle.encoder.specs.Passes.{outcomeOf}
-use Rattle.kept.specs.Plan.{advanced, endedWords, entriesOf, openedAt, planStep, planWords, unplanned}
+use Rattle.kept.specs.Plan.{advanced, endedWords, entriesOf, openedAt, planStep, planWords, restOf, unplanned}
 use Rattle.tokens.specs.Desk.{Aliased, WroteKeys}
 use Rattle.records.specs.Stops.{rowTokens}
 use Rattle.encoder.proofs.Sorts.{cursor, planning, outcome}
@@ -113,7 +113,7 @@ module _ {M : Type 1} (𝓤 : URA M) (H : Heap 𝓤) (A : Atoms 𝓤) (mem : Mem
       said = λ ns r ws. since 𝓤 (λ e. (e, tt));
     }
 
-    pub records·write-row! : Triple 𝓤 (C #records·write-row) Records·write-row → (at-out : Seat) (out₀ : List ℕ) (at-update : Seat) (update₀ : List ℕ) (at-lanes : Seat) (lanes₀ : List ℕ) (form₀ : ℕ) (g-form : Has byte form₀) (at₀ : ℕ) (g-at : Has word at₀) (c₀ : Cursor) (g-c : Has cursor c₀) (b₀ : Block) (g-b : Has block b₀) → (Aliased update₀ lanes₀) → Told 𝓤 H A C #records·write-row (mut byte at-out out₀ out₀ ∷ pass byte at-update update₀ ∷ mut word at-lanes lanes₀ lanes₀ ∷ val byte form₀ g-form ∷ val word at₀ g-at ∷ val cursor c₀ g-c ∷ val block b₀ g-b ∷ []) word (λ r ws. WroteKeys update₀ form₀ (rowTokens update₀ (c₀ .head) (c₀ .from .0) (c₀ .skip .0) b₀) out₀ lanes₀ at₀ (ws .0) (ws .1 .1 .0) r)
+    pub records·write-row! : Triple 𝓤 (C #records·write-row) Records·write-row → (at-out : Seat) (out₀ : List ℕ) (at-update : Seat) (update₀ : List ℕ) (at-lanes : Seat) (lanes₀ : List ℕ) (form₀ : ℕ) (g-form : Has byte form₀) (at₀ : ℕ) (g-at : Has word at₀) (c₀ : Cursor) (g-c : Has cursor c₀) (b₀ : Block) (g-b : Has block b₀) → (Aliased update₀ lanes₀) → Told 𝓤 H A C #records·write-row (mut byte at-out out₀ out₀ ∷ pass byte at-update update₀ ∷ mut word at-lanes lanes₀ lanes₀ ∷ val byte form₀ g-form ∷ val word at₀ g-at ∷ val cursor c₀ g-c ∷ val block b₀ g-b ∷ []) word (λ r ws. WroteKeys update₀ form₀ (rowTokens update₀ (c₀ .head) (restOf b₀ (c₀ .from .0) (c₀ .skip .0)) b₀) out₀ lanes₀ at₀ (ws .0) (ws .1 .1 .0) r)
     records·write-row! known at-out out₀ at-update update₀ at-lanes lanes₀ form₀ g-form at₀ g-at c₀ g-c b₀ g-b h = record {
       loose = record {
         contract = Records·write-row;

@@ -10,17 +10,17 @@ use Rattle.tokens.specs.Tokens.{Token}
 use Rattle.tokens.specs.Desk.{Tidy, WroteKeys}
 use Rattle.tokens.proofs.Keyed.{wrote-keys-none, wrote-keys-then, wrote-keys-is}
 use Rattle.kept.specs.declared.cursor.Cursor.{Cursor}
-use Rattle.kept.specs.Plan.{nowhere, openedAt, advanced, plannedFrom, stopsOf}
+use Rattle.kept.specs.Plan.{nowhere, openedAt, advanced, plannedFrom, restOf, stopsOf}
 use Rattle.records.specs.Stops.{rowTokens, stopsTokens}
 use Rattle.encoder.specs.Passes.{plannedTokens}
 use Rattle.encoder.proofs.Cursors.{stopsAt, opens, goes, ends}
 
 module _ (form : ℕ) (out₀ lanes₀ : List ℕ) (at₀ : ℕ) (u : List ℕ) (rows : List Block) (w : List ℕ) (n : ℕ) where
   abbrev before : Cursor → List Token
-  before c = stopsTokens u rows (length rows) (stopsAt w n c)
+  before c = stopsTokens u rows (length rows) (stopsAt rows w n c)
 
   abbrev own : Cursor → List Token
-  own c = rowTokens u (c .head) (c .from .0) (c .skip .0) (getD rows (c .row) noBlock)
+  own c = let b = getD rows (c .row) noBlock in rowTokens u (c .head) (restOf b (c .from .0) (c .skip .0)) b
 
   pub record Going (c : Cursor) (out lanes : List ℕ) (at : ℕ) : Type 0 where
     pub done : List Token
@@ -35,7 +35,7 @@ module _ (form : ℕ) (out₀ lanes₀ : List ℕ) (at₀ : ℕ) (u : List ℕ) 
         record {
           done = [];
           wrote = wrote-keys-none tidy;
-          all = opens u rows (length rows) most w n 0 room ∙ ap (λ (m : ℕ). stopsTokens u rows (length rows) (stopsOf (plannedFrom w 0 m))) q;
+          all = opens u rows (length rows) most w n 0 room ∙ ap (λ (m : ℕ). stopsTokens u rows (length rows) (stopsOf rows (plannedFrom w 0 m))) q;
         }
 
     pub turns : (c : Cursor) (out lanes : List ℕ) (at : ℕ) → Going c out lanes at → c .row < length rows

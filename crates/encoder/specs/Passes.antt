@@ -24,4 +24,4 @@ wordsFor u v w bs = endedWords (planAllWords u v w unplanned 0 bs) (planAll u v 
 -- ---- the rows that n planned sections name, as tokens
 
 unfoldable pub plannedTokens : List ℕ → List Block → List ℕ → ℕ → List Token
-plannedTokens u rows w n = stopsTokens u rows (length rows) (stopsOf (plannedFrom w 0 n))
+plannedTokens u rows w n = stopsTokens u rows (length rows) (stopsOf rows (plannedFrom w 0 n))

@@ -5,8 +5,8 @@ use mathlib.Core.Bool.{Bool, true, false}
 use mathlib.Core.List.{List, [], _∷_, _++_, map}
 use native.Mathlib.Omega.{arith}
 use lib.Dec.{ltb}
-use lib.ListN.{length, getD, drop, length-drop, length-map}
-use lib.Seq.{getD-drop, drop-drop, drop-append-seam}
+use lib.ListN.{length, getD, take, drop, length-drop, length-map}
+use lib.Seq.{getD-drop, getD-take, take-all, drop-drop, drop-append-seam}
 use Rattle.numbers.specs.Number.{pick}
 use Rattle.block.specs.declared.Block.{Block}
 use Rattle.block.specs.Row.{noBlock}
@@ -17,7 +17,7 @@ use Rattle.readings.proofs.Groups.{groups-joined, groups-all, ordered-distinct}
 use Rattle.parts.specs.Brim.{brim}
 use Rattle.kept.specs.Kept.{Section, remote, falls, piece, wholePiece, keepFrom, withPieces, keepEach, place, falling, clientOf, sectionsOf}
 use Rattle.kept.specs.Cut.{torn, tornPieces, anyTorn}
-use Rattle.kept.specs.Plan.{Planned, plannedFrom, placed, skipFor, Stop, stop, onward, stopsOf, unplanned, endedWords, endedCount, planAll, planAllWords, Of, Opens, further, GoesOn, Goes}
+use Rattle.kept.specs.Plan.{Planned, plannedFrom, placed, skipFor, Stop, stopAt, stop, restOf, onward, stopsOf, unplanned, endedWords, endedCount, planAll, planAllWords, Of, Opens, further, GoesOn, Goes}
 use Rattle.kept.proofs.SectionsPlaced.{alone, before, behind, falling-length, into, into-falling}
 use Rattle.kept.proofs.SectionsKept.{Stays, not-fallen, each-distinct, sections-length}
 use Rattle.kept.proofs.Words.{placed-first, placed-before, placed-behind}
@@ -48,23 +48,31 @@ neither : (a b : Bool) → or a b ≡ false → (a ≡ false) × (b ≡ false)
 neither true b e = absurd (let z : _≡_ {A = ℕ} 0 1 = cc in omega arith)
 neither false b e = (refl, e)
 
-abbrev stopsOne : Planned → List Stop → List Stop
-stopsOne p sts = stop (p .first) (p .from) (p .skip) (p .count) ∷ (onward (p .first + 1) (p .count - 1) ++ sts)
+-- a table that begins with these blocks has them as its rows
+pub row-is : (all rows : List Block) → take (length all) rows ≡ all → (i : ℕ) → i < length all → getD rows i noBlock ≡ getD all i noBlock
+row-is all rows same i h = sym (getD-take (length all) rows i noBlock h) ∙ ap (λ (l : List Block). getD l i noBlock) same
 
-module _ (u : List ℕ) (all : List Block) (short : length u < brim) where
+module _ (u : List ℕ) (all rows : List Block) (same : take (length all) rows ≡ all) (short : length u < brim) where
+  abbrev stopsOne : Planned → List Stop → List Stop
+  stopsOne p sts = stop rows (p .first) (p .from) (p .skip) (p .count) ∷ (onward rows (p .first + 1) (p .count - 1) ++ sts)
+
+  row-here : (i : ℕ) (b : Block) (rest : List Block) → Row all i b rest → b ≡ getD rows i noBlock
+  row-here i b rest row = sym (row-is all rows same i (row .within) ∙ row .is)
+
   -- ---- of one client
 
-  whole-of : (i : ℕ) (b : Block) (rest : List Block) → Sound u b → Row all i b rest → Of u all (stop i 0 0 0) (wholePiece b)
+  whole-of : (i : ℕ) (b : Block) (rest : List Block) → Sound u b → Row all i b rest → Of u all (stop rows i 0 0 0) (wholePiece b)
   whole-of i b rest sound row =
-      record { source = refl; within = row .within; row = row .is; from = refl; to = refl; sound = sound; fits = whole-sane u b sound short; left = whole-left u b sound }
+      subst (λ (c : Block). Of u all (stopAt i (restOf c 0 0) 0) (wholePiece b)) (row-here i b rest row)
+      (record { source = refl; within = row .within; row = row .is; from = refl; to = refl; sound = sound; fits = whole-sane u b sound short; left = whole-left u b sound })
 
   further-go : (i : ℕ) (g rest : List Block) (sts : List Stop) (ss : List Section) → All (Sound u) g → drop i all ≡ g ++ rest → Goes u all sts ss
-      → GoesOn u all (onward i (length g) ++ sts) (map wholePiece g) ss
+      → GoesOn u all (onward rows i (length g) ++ sts) (map wholePiece g) ss
   unfolding onward GoesOn
   further-go i [] rest sts ss sound e h = h
   further-go i (b ∷ g) rest sts ss sound e h =
       let row = row-at all i b (g ++ rest) e in
-      (refl, refl, whole-of i b (g ++ rest) (sound .0) row, further-go (i + 1) g rest sts ss (sound .1) (row .later) h)
+      (refl, whole-of i b (g ++ rest) (sound .0) row, further-go (i + 1) g rest sts ss (sound .1) (row .later) h)
 
   -- a planned section is this one
   record Plans (p : Planned) (s : Section) : Type 0 where
@@ -94,8 +102,9 @@ module _ (u : List ℕ) (all : List Block) (short : length u < brim) where
             let part = neither (torn u (piece b n (b .length .0))) (tornPieces u (map wholePiece g)) untorn in
             let inside : n ≤ b .length .0 = omega (arith, stays .end) in
             let whole : tornAt u b n ≡ false = sym (torn-first u b sound n) ∙ part .0 in
-            let first : Of u all (stop i n (skipFor u b n) (suc (length g))) (piece b n (b .length .0)) =
-            record {
+            let first : Of u all (stop rows i n (skipFor u b n) (suc (length g))) (piece b n (b .length .0)) =
+            subst (λ (c : Block). Of u all (stopAt i (restOf c n (skipFor u b n)) (suc (length g))) (piece b n (b .length .0))) (row-here i b (g ++ rest) row)
+            (record {
               source = refl;
               within = row .within;
               row = row .is;
@@ -104,9 +113,9 @@ module _ (u : List ℕ) (all : List Block) (short : length u < brim) where
               sound = sound;
               fits = first-sane u b sound n inside whole short;
               left = first-left u b sound n inside whole;
-            } in (
+            }) in (
               (ap suc (sym (length-map g wholePiece)), first),
-              subst (λ (m : ℕ). GoesOn u all (onward (i + 1) m ++ sts) (map wholePiece g) ss) one-less (further-go (i + 1) g rest sts ss sounds (row .later) h),
+              subst (λ (m : ℕ). GoesOn u all (onward rows (i + 1) m ++ sts) (map wholePiece g) ss) one-less (further-go (i + 1) g rest sts ss sounds (row .later) h),
             );
       }
     where
@@ -167,41 +176,43 @@ module _ (u : List ℕ) (all : List Block) (short : length u < brim) where
   each-inserted (p ∷ ps) l [] m h k = absurd h
   each-inserted (p ∷ ps) l (s ∷ ss) m h k = each-inserted ps (placed p l) ss (place s m) (h .1) (each-place p s l m (h .0) k)
 
-  each-goes : (ps : List Planned) (ss : List Section) → anyTorn u ss ≡ false → Each ps ss → Goes u all (stopsOf ps) ss
+  each-goes : (ps : List Planned) (ss : List Section) → anyTorn u ss ≡ false → Each ps ss → Goes u all (stopsOf rows ps) ss
   unfolding Each stopsOf anyTorn GoesOn
   each-goes [] [] e h = tt
   each-goes [] (s ∷ ss) e h = absurd h
   each-goes (p ∷ ps) [] e h = absurd h
   each-goes (p ∷ ps) (s ∷ ss) e h =
       let none = neither (tornPieces u (s .pieces)) (anyTorn u ss) e in
-      h .0 .goes (none .0) (stopsOf ps) ss (each-goes ps ss (none .1) (h .1))
+      h .0 .goes (none .0) (stopsOf rows ps) ss (each-goes ps ss (none .1) (h .1))
 
--- ---- the plan of all rows: how many sections, in how many words, and where its stops go
+-- ---- the plan of all rows: how many sections, in how many words, and where its stops go, in any table that begins with these rows
 pub record PlanOf (u : List ℕ) (v : List Entry) (bs : List Block) (w W : List ℕ) (n : ℕ) : Type 0 where
   pub count : n ≡ length (sectionsOf v bs)
   pub size : length W ≡ length w
   pub room : 5 * n ≤ length W
-  pub goes : anyTorn u (sectionsOf v bs) ≡ false → Goes u bs (stopsOf (plannedFrom W 0 n)) (sectionsOf v bs)
+  pub goes : (rows : List Block) → take (length bs) rows ≡ bs → anyTorn u (sectionsOf v bs) ≡ false
+      → Goes u bs (stopsOf rows (plannedFrom W 0 n)) (sectionsOf v bs)
 
 module _ (u : List ℕ) (v : List Entry) (w : List ℕ) (bs : List Block) (short : length u < brim) (ordered : Ordered bs) (sound : All (Sound u) bs)
     (brimmed : length bs ≤ brim) (room : 5 * length (groups clientOf bs) ≤ length w) where
-  clients-each : Each u bs short (planEach u v 0 (groups clientOf bs)) (keepEach v (groups clientOf bs))
-  clients-each = each-plans u bs short v 0 (groups clientOf bs) (groups-all clientOf (Sound u) bs sound) (sym (groups-joined clientOf bs))
+  clients-each : (rows : List Block) (same : take (length bs) rows ≡ bs) → Each u bs rows same short (planEach u v 0 (groups clientOf bs)) (keepEach v (groups clientOf bs))
+  clients-each rows same = each-plans u bs rows same short v 0 (groups clientOf bs) (groups-all clientOf (Sound u) bs sound) (sym (groups-joined clientOf bs))
 
-  sections-each : Each u bs short (inserted (planEach u v 0 (groups clientOf bs)) []) (sectionsOf v bs)
+  sections-each : (rows : List Block) (same : take (length bs) rows ≡ bs) → Each u bs rows same short (inserted (planEach u v 0 (groups clientOf bs)) []) (sectionsOf v bs)
   unfolding sectionsOf
-  sections-each =
+  sections-each rows same =
       let gs = groups clientOf bs in
       let ss = keepEach v gs in
       let sorted : into ss [] ≡ falling ss = into-falling ss (each-distinct v gs (ordered-distinct bs ordered)) in
-      subst (Each u bs short (inserted (planEach u v 0 gs) [])) sorted
-      (each-inserted u bs short (planEach u v 0 gs) [] ss [] clients-each (each-none u bs short))
+      subst (Each u bs rows same short (inserted (planEach u v 0 gs) [])) sorted
+      (each-inserted u bs rows same short (planEach u v 0 gs) [] ss [] (clients-each rows same) (each-none u bs rows same short))
 
   planned-count : length (planEach u v 0 (groups clientOf bs)) ≡ length (sectionsOf v bs)
   unfolding sectionsOf
   planned-count =
       let gs = groups clientOf bs in
-      each-length u bs short (planEach u v 0 gs) (keepEach v gs) clients-each ∙ sym (falling-length (keepEach v gs))
+      let same = take-all (length bs) bs (omega arith) in
+      each-length u bs bs same short (planEach u v 0 gs) (keepEach v gs) (clients-each bs same) ∙ sym (falling-length (keepEach v gs))
 
   pub plan-kept : PlanOf u v bs w (endedWords (planAllWords u v w unplanned 0 bs) (planAll u v w unplanned 0 bs))
       (endedCount (planAllWords u v w unplanned 0 bs) (planAll u v w unplanned 0 bs))
@@ -215,6 +226,6 @@ module _ (u : List ℕ) (v : List Entry) (w : List ℕ) (bs : List Block) (short
         count = ends .count ∙ planned-count;
         size = ends .size;
         room = omega (arith, ends .count, planned-count, sections-length v bs, ends .size);
-        goes = λ untorn. subst (λ (l : List Planned). Goes u bs (stopsOf l) (sectionsOf v bs)) (sym is)
-            (each-goes u bs short (inserted ps []) (sectionsOf v bs) untorn sections-each);
+        goes = λ rows same untorn. subst (λ (l : List Planned). Goes u bs (stopsOf rows l) (sectionsOf v bs)) (sym is)
+            (each-goes u bs rows same short (inserted ps []) (sectionsOf v bs) untorn (sections-each rows same));
       }

@@ -5,8 +5,9 @@ use mathlib.Core.Bool.{true}
 use native.Mathlib.Omega.{arith}
 use Rattle.numbers.specs.Limits.{maxClock}
 use Rattle.block.specs.declared.Block.{Block}
-use Rattle.kept.specs.Plan.{sane, restOf}
+use Rattle.kept.specs.declared.cursor.Ends.{Ends}
+use Rattle.kept.specs.Plan.{sane}
 use Rattle.kept.proofs.Sane.{sane-within}
 
-pub sane-limits : (b : Block) (from skip : ℕ) → sane b (restOf b from skip) ≡ true → b .clock + from ≤ maxClock
-sane-limits b from skip h = let w = sane-within b (restOf b from skip) h in omega (arith, w .some, w .units, w .end)
+pub sane-limits : (b : Block) (e : Ends) → sane b e ≡ true → b .clock + e .from .0 ≤ maxClock
+sane-limits b e h = let w = sane-within b e h in omega (arith, w .some, w .units, w .end)

@@ -8,12 +8,12 @@ use Rattle.block.specs.declared.Block.{Block}
 use Rattle.block.specs.Row.{noBlock}
 use Rattle.readings.specs.Sound.{All}
 use Rattle.tokens.specs.Tokens.{Token}
-use Rattle.kept.specs.Plan.{Stop}
+use Rattle.kept.specs.Plan.{Stop, endsOf}
 use Rattle.records.specs.Stops.{rowTokens, stopsTokens}
 
 module _ (u : List ℕ) (rows : List Block) (n : ℕ) where
   abbrev pub stopTokens : Stop → List Token
-  stopTokens s = rowTokens u (s .head) (s .from) (s .skip) (getD rows (s .row) noBlock)
+  stopTokens s = rowTokens u (s .head) (endsOf s) (getD rows (s .row) noBlock)
 
   pub stops-none : stopsTokens u rows n [] ≡ []
   unfolding stopsTokens

@@ -10,7 +10,8 @@ use Rattle.block.specs.declared.Block.{Block}
 use Rattle.readings.specs.Sound.{bytesIn, linked}
 use Rattle.tokens.specs.Tokens.{client, left, right, info, parentInfo, text, len, var, buf}
 use Rattle.block.specs.Kinds.{isItem}
-use Rattle.kept.specs.Plan.{sane, cutAt, restOf}
+use Rattle.kept.specs.declared.cursor.Ends.{Ends}
+use Rattle.kept.specs.Plan.{sane, cutAt}
 use Rattle.records.specs.Records.{contentNumber, infoByte, name, leftTokens, rightTokens, parentTokens, keyTokens}
 use Rattle.records.specs.Records.{placeTokens, markedTokens, contentTokens, blockTokens}
 use Rattle.records.specs.Stops.{headTokens, rowTokens}
@@ -121,11 +122,10 @@ module _ (u : List ℕ) (b : Block) where
   unfolding headTokens
   head-some count from n = rw (ne-eqb count 0 n)
 
-  pub row-none : (count from skip : ℕ) → sane b (restOf b from skip) ≡ false → rowTokens u count from skip b ≡ []
+  pub row-none : (count : ℕ) (e : Ends) → sane b e ≡ false → rowTokens u count e b ≡ []
   unfolding rowTokens
-  row-none count from skip h = rw h
+  row-none count e h = rw h
 
-  pub row-some : (count from skip : ℕ) → sane b (restOf b from skip) ≡ true
-      → rowTokens u count from skip b ≡ headTokens count from b ++ blockTokens u (cutAt b (restOf b from skip))
+  pub row-some : (count : ℕ) (e : Ends) → sane b e ≡ true → rowTokens u count e b ≡ headTokens count (e .from .0) b ++ blockTokens u (cutAt b e)
   unfolding rowTokens
-  row-some count from skip h = rw h
+  row-some count e h = rw h

@@ -12,6 +12,7 @@ ghost use Rattle.numbers.specs.Number.{pick};
 ghost use Rattle.numbers.specs.Limits.{maxClock};
 ghost use Rattle.readings.specs.Sound.{linked};
 ghost use Rattle.tokens.specs.Desk.{Tidy, Aliased, Wrote, WroteKeys};
+ghost use Rattle.kept.specs.Plan.{restOf};
 ghost use Rattle.records.specs.Records.{infoByte, name, leftTokens, rightTokens, parentTokens, keyTokens};
 ghost use Rattle.records.specs.Records.{placeTokens, contentTokens, blockTokens};
 ghost use Rattle.records.specs.Stops.{headTokens, rowTokens};
@@ -239,7 +240,7 @@ pub fn write_row(
     b: Block,
 ) -> usize
     requires { ⌜ Aliased (now update) (now lanes) ⌝ }
-    ensures { λ r. ⌜ WroteKeys (now (update .entry)) form (rowTokens (now (update .entry)) (c .head) (c .from .0) (c .skip .0) b)
+    ensures { λ r. ⌜ WroteKeys (now (update .entry)) form (rowTokens (now (update .entry)) (c .head) (restOf b (c .from .0) (c .skip .0)) b)
         (now (out .entry)) (now (lanes .entry)) at (now (out .exit)) (now (lanes .exit)) r ⌝ }
 {
     let from = c.from;

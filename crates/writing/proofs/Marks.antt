@@ -7,7 +7,7 @@ use mathlib.Core.List.{List, [], _∷_, _++_, append-assoc, map}
 use native.Mathlib.Omega.{arith}
 use lib.Dec.{ltb, eqb}
 use lib.ListN.{length, getD, take, drop, length-drop}
-use lib.Seq.{getD-drop, getD-take, drop-drop, drop-append-seam}
+use lib.Seq.{getD-drop, drop-drop, drop-append-seam}
 use borrow.Author.Tests.{eqb-true}
 use Rattle.numbers.specs.Number.{pick}
 use Rattle.text.specs.declared.Part.{Part}
@@ -34,6 +34,7 @@ use Rattle.kept.proofs.Words.{placed-first, placed-before, placed-behind}
 use Rattle.kept.proofs.SectionsRun.{tornAt, plannedAt, planOne}
 use Rattle.kept.proofs.SectionsPlan.{planEach, inserted, rows-come}
 use Rattle.kept.proofs.SectionsCut.{first-sane}
+use Rattle.kept.proofs.SectionsGoes.{row-is}
 use Rattle.records.specs.Records.{infoByte, leftTokens, rightTokens, parentTokens, keyTokens, placeTokens, mark, formatTokens, typeTokens, markedTokens, contentTokens, blockTokens, piecesTokens, sectionTokens, sectionsTokens}
 use Rattle.records.specs.Stops.{headTokens, rowTokens, stopsTokens}
 use Rattle.records.proofs.Keyless.{place-keyless, head-keyless}
@@ -192,7 +193,7 @@ module _ (u : List ℕ) (b : Block) where
   row-same from to = cut-same (isWhole (piece b from to)) (eqb from 0) from to (partOf u (piece b from to))
 
   -- a row that is written where so many units fall away
-  row-keys : Sound u b → length u < brim → (count n : ℕ) → n ≤ b .length .0 → keysIn (rowTokens u count n (skipFor u b n) b) ≡ keysIn (blockTokens u b)
+  row-keys : Sound u b → length u < brim → (count n : ℕ) → n ≤ b .length .0 → keysIn (rowTokens u count (restOf b n (skipFor u b n)) b) ≡ keysIn (blockTokens u b)
   unfolding rowTokens
   row-keys sound short count n inside = go (sane b (restOf b n (skipFor u b n))) refl
     where
@@ -225,29 +226,26 @@ row-at all i b rest e =
     none : i ≡ i + 0
     none = omega arith
 
-abbrev stopsOne : Planned → List Stop → List Stop
-stopsOne p sts = stop (p .first) (p .from) (p .skip) (p .count) ∷ (onward (p .first + 1) (p .count - 1) ++ sts)
-
 module _ (u : List ℕ) (all rows : List Block) (same : take (length all) rows ≡ all) (fits : length all ≤ length rows) (short : length u < brim) where
   abbrev written : List Stop → List Token
   written sts = stopsTokens u rows (length rows) sts
 
+  abbrev stopsOne : Planned → List Stop → List Stop
+  stopsOne p sts = stop rows (p .first) (p .from) (p .skip) (p .count) ∷ (onward rows (p .first + 1) (p .count - 1) ++ sts)
+
   abbrev own : Block → List (List ℕ)
   own b = keysIn (blockTokens u b)
 
-  row-is : (i : ℕ) → i < length all → getD rows i noBlock ≡ getD all i noBlock
-  row-is i h = sym (getD-take (length all) rows i noBlock h) ∙ ap (λ (l : List Block). getD l i noBlock) same
-
   -- a row, cut where n units fall away
   stop-keys : (i n count : ℕ) (sts : List Stop) (b : Block) (rest : List Block) → Row all i b rest → Sound u b → n ≤ b .length .0
-      → keysIn (written (stop i n (skipFor u b n) count ∷ sts)) ≡ own b ++ keysIn (written sts)
+      → keysIn (written (stop rows i n (skipFor u b n) count ∷ sts)) ≡ own b ++ keysIn (written sts)
   stop-keys i n count sts b rest row sound inside =
-      let st = stop i n (skipFor u b n) count in
-      let is : getD rows i noBlock ≡ b = row-is i (row .within) ∙ row .is in
+      let st = stop rows i n (skipFor u b n) count in
+      let is : getD rows i noBlock ≡ b = row-is all rows same i (row .within) ∙ row .is in
       ap keysIn (stops-in u rows (length rows) st sts (omega (arith, row .within, fits)))
       ∙ keys-append (stopTokens u rows (length rows) st) (written sts)
       ∙ ap (λ (l : List (List ℕ)). l ++ keysIn (written sts))
-      (ap (λ (c : Block). keysIn (rowTokens u count n (skipFor u b n) c)) is ∙ row-keys u b sound short count n inside)
+      (ap (λ (c : Block). keysIn (rowTokens u count (restOf c n (skipFor u b n)) c)) is ∙ row-keys u b sound short count n inside)
 
   skip-none : (b : Block) → skipFor u b 0 ≡ 0
   unfolding skipFor
@@ -265,14 +263,14 @@ module _ (u : List ℕ) (all rows : List Block) (same : take (length all) rows �
   no-pieces = keys-empty
 
   further-keys : (i : ℕ) (g rest : List Block) (sts : List Stop) → All (Sound u) g → drop i all ≡ g ++ rest
-      → keysIn (written (onward i (length g) ++ sts)) ≡ keysIn (piecesTokens u (map wholePiece g)) ++ keysIn (written sts)
+      → keysIn (written (onward rows i (length g) ++ sts)) ≡ keysIn (piecesTokens u (map wholePiece g)) ++ keysIn (written sts)
   unfolding onward
   further-keys i [] rest sts sound e = ap (λ (l : List (List ℕ)). l ++ keysIn (written sts)) (sym no-pieces)
   further-keys i (b ∷ g) rest sts sound e =
       let row = row-at all i b (g ++ rest) e in
-      let more = onward (i + 1) (length g) ++ sts in
+      let more = onward rows (i + 1) (length g) ++ sts in
       let ps = keysIn (piecesTokens u (map wholePiece g)) in
-      ap (λ (k : ℕ). keysIn (written (stop i 0 k 0 ∷ more))) (sym (skip-none b))
+      ap (λ (k : ℕ). keysIn (written (stop rows i 0 k 0 ∷ more))) (sym (skip-none b))
       ∙ stop-keys i 0 0 more b (g ++ rest) row (sound .0) (omega arith)
       ∙ ap (λ (l : List (List ℕ)). own b ++ l) (further-keys (i + 1) g rest sts (sound .1) (row .later))
       ∙ sym (append-assoc (own b) ps (keysIn (written sts)))
@@ -307,11 +305,11 @@ module _ (u : List ℕ) (all rows : List Block) (same : take (length all) rows �
             let n = k - b .clock in
             let row = row-at all i b (g ++ rest) e in
             let ps = map wholePiece g in
-            let more : keysIn (written (onward (i + 1) (suc (length g) - 1) ++ sts)) ≡ keysIn (piecesTokens u ps) ++ keysIn (written sts) =
-            subst (λ (m : ℕ). keysIn (written (onward (i + 1) m ++ sts)) ≡ keysIn (piecesTokens u ps) ++ keysIn (written sts)) one-less
+            let more : keysIn (written (onward rows (i + 1) (suc (length g) - 1) ++ sts)) ≡ keysIn (piecesTokens u ps) ++ keysIn (written sts) =
+            subst (λ (m : ℕ). keysIn (written (onward rows (i + 1) m ++ sts)) ≡ keysIn (piecesTokens u ps) ++ keysIn (written sts)) one-less
             (further-keys (i + 1) g rest sts sounds (row .later))
             in
-            stop-keys i n (suc (length g)) (onward (i + 1) (suc (length g) - 1) ++ sts) b (g ++ rest) row sound (omega (arith, stays .end))
+            stop-keys i n (suc (length g)) (onward rows (i + 1) (suc (length g) - 1) ++ sts) b (g ++ rest) row sound (omega (arith, stays .end))
             ∙ ap (λ (l : List (List ℕ)). own b ++ l) more
             ∙ sym (append-assoc (own b) (keysIn (piecesTokens u ps)) (keysIn (written sts)))
             ∙ ap (λ (l : List (List ℕ)). l ++ keysIn (written sts))
@@ -365,13 +363,13 @@ module _ (u : List ℕ) (all rows : List Block) (same : take (length all) rows �
   each-inserted (p ∷ ps) l [] m h k = absurd h
   each-inserted (p ∷ ps) l (s ∷ ss) m h k = each-inserted ps (placed p l) ss (place s m) (h .1) (each-place p s l m (h .0) k)
 
-  each-keys : (ps : List Planned) (ss : List Section) → Each ps ss → keysIn (written (stopsOf ps)) ≡ keysIn (sectionsTokens u ss)
+  each-keys : (ps : List Planned) (ss : List Section) → Each ps ss → keysIn (written (stopsOf rows ps)) ≡ keysIn (sectionsTokens u ss)
   unfolding Each stopsOf sectionsTokens
   each-keys [] [] h = ap keysIn (stops-none u rows (length rows))
   each-keys [] (s ∷ ss) h = absurd h
   each-keys (p ∷ ps) [] h = absurd h
   each-keys (p ∷ ps) (s ∷ ss) h =
-      h .0 .keys (stopsOf ps) ∙ ap (λ (l : List (List ℕ)). keysIn (sectionTokens u s) ++ l) (each-keys ps ss (h .1))
+      h .0 .keys (stopsOf rows ps) ∙ ap (λ (l : List (List ℕ)). keysIn (sectionTokens u s) ++ l) (each-keys ps ss (h .1))
       ∙ sym (keys-append (sectionTokens u s) (sectionsTokens u ss))
 
 -- ---- the plan of blocks that were read
@@ -399,7 +397,7 @@ module _ (u : List ℕ) (v : List Entry) (w : List ℕ) (bs : List Block) (short
       let ends = rows-come u v w bs ordered brimmed room .ends in
       let is : plannedFrom (endedWords words s) 0 (endedCount words s) ≡ inserted (planEach u v 0 gs) [] =
       ap (plannedFrom (endedWords words s) 0) (ends .count) ∙ ends .list in
-      ap (λ (l : List Planned). keysIn (stopsTokens u rows (length rows) (stopsOf l))) is
+      ap (λ (l : List Planned). keysIn (stopsTokens u rows (length rows) (stopsOf rows l))) is
       ∙ each-keys u bs rows same fits short (inserted (planEach u v 0 gs) []) (sectionsOf v bs) sections-each
 
 -- ---- the lane of keys takes numbers alone, and none of these is a key's number

@@ -4,11 +4,9 @@ use mathlib.Core.Path.{_≡_, sym, ap, ap₂, _∙_}
 use mathlib.Core.Bool.{false}
 use mathlib.Core.List.{List, [], _∷_, _++_, append-assoc}
 use native.Mathlib.Omega.{arith}
-use lib.ListN.{length, getD, take}
-use lib.Seq.{getD-take}
+use lib.ListN.{length, take}
 use borrow.Author.Tests.{ne-eqb}
 use Rattle.block.specs.declared.Block.{Block}
-use Rattle.block.specs.Row.{noBlock}
 use Rattle.ranges.specs.Ranges.{Range}
 use Rattle.vector.specs.Vector.{Entry}
 use Rattle.readings.specs.Sound.{Sound, All, Ordered}
@@ -19,7 +17,7 @@ use Rattle.kept.specs.Kept.{Piece, Section, SoundSection, clientOf, sectionsOf,
 use Rattle.kept.specs.Cut.{cutRow, anyTorn}
 use Rattle.kept.specs.Plan.{Stop, Of, Opens, further, GoesOn, Goes, stopsOf, plannedFrom}
 use Rattle.kept.proofs.SectionsKept.{sections-sound}
-use Rattle.kept.proofs.SectionsGoes.{PlanOf, plan-kept}
+use Rattle.kept.proofs.SectionsGoes.{row-is, PlanOf, plan-kept}
 use Rattle.kept.proofs.SectionsTorn.{plan-torn}
 use Rattle.records.specs.Records.{blockTokens, piecesTokens, startOf, sectionTokens, sectionsTokens, deleteTokens, updateTokens}
 use Rattle.records.specs.Stops.{headTokens, rowTokens, stopsTokens}
@@ -35,16 +33,13 @@ head-opened count from b n c e own =
 -- ---- rows of a table that begins with these blocks
 
 module _ (u : List ℕ) (bs rows : List Block) (same : take (length bs) rows ≡ bs) (fits : length bs ≤ length rows) where
-  row-is : (i : ℕ) → i < length bs → getD rows i noBlock ≡ getD bs i noBlock
-  row-is i h = sym (getD-take (length bs) rows i noBlock h) ∙ ap (λ (l : List Block). getD l i noBlock) same
-
   abbrev written : List Stop → List Token
   written sts = stopsTokens u rows (length rows) sts
 
   row-written : (st : Stop) (p : Piece) → Of u bs st p
       → stopTokens u rows (length rows) st ≡ headTokens (st .head) (p .from) (p .row) ++ blockTokens u (cutRow u p)
   unfolding rowTokens
-  row-written st p of = rw (row-is (st .row) (of .within), of .row, of .fits, of .left, of .from)
+  row-written st p of = rw (row-is bs rows same (st .row) (of .within), of .row, of .fits, of .left, of .from)
 
   stop-written : (st : Stop) (sts : List Stop) (p : Piece) → Of u bs st p
       → written (st ∷ sts) ≡ (headTokens (st .head) (p .from) (p .row) ++ blockTokens u (cutRow u p)) ++ written sts
@@ -77,8 +72,8 @@ module _ (u : List ℕ) (bs rows : List Block) (same : take (length bs) rows ≡
   goes-written [] [] (s ∷ ss) sound h = absurd h
   goes-written [] (p ∷ ps) ss sound h = absurd h
   goes-written (st ∷ sts) (p ∷ ps) ss sound h =
-      piece-written st sts p (h .0) (h .2)
-      ∙ ap (λ (ts : List Token). blockTokens u (cutRow u p) ++ ts) (goes-written sts ps ss sound (h .3))
+      piece-written st sts p (h .0) (h .1)
+      ∙ ap (λ (ts : List Token). blockTokens u (cutRow u p) ++ ts) (goes-written sts ps ss sound (h .2))
       ∙ sym (append-assoc (blockTokens u (cutRow u p)) (piecesTokens u ps) (sectionsTokens u ss))
   goes-written (st ∷ sts) [] [] sound h = absurd h
   goes-written (st ∷ sts) [] (s ∷ ss) sound h =
@@ -107,7 +102,7 @@ module _ (u : List ℕ) (v : List Entry) (w : List ℕ) (bs : List Block) (short
   planned-are rows same fits untorn =
       let n = outcomeFor u v w bs .sections in
       let ss = sectionsOf v bs in
-      stops-written u bs rows same fits (stopsOf (plannedFrom (wordsFor u v w bs) 0 n)) ss (sections-sound v bs ordered u sound) (plan-is .goes untorn)
+      stops-written u bs rows same fits (stopsOf rows (plannedFrom (wordsFor u v w bs) 0 n)) ss (sections-sound v bs ordered u sound) (plan-is .goes rows same untorn)
 
   pub tokens-are : (rows : List Block) (t : ℕ) (rs : List Range) → take (length bs) rows ≡ bs → length bs ≤ length rows
       → anyTorn u (sectionsOf v bs) ≡ false

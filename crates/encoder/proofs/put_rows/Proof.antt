@@ -149,7 +149,7 @@ module _ {M : Type 1} (𝓤 : URA M) (H : Heap 𝓤) (A : Atoms 𝓤) (W : Given
   X = Turn out₀ lanes₀ update₀ rows₀ plan₀ sections₀ form₀ at₀
 
   abbrev μ : X → ℕ
-  μ t = length (stopsAt plan₀ sections₀ (t .v10))
+  μ t = length (stopsAt rows₀ plan₀ sections₀ (t .v10))
 
   abbrev Inv : List ℕ → X → List (Item 𝓤)
   Inv ls t = ‵ (refs (hs (t .out) (t .lanes))) ∷ locals (envOf (fn .locals) ls) (bare ∷ has (seat-val at-out) ∷ has (seat-val at-lanes) ∷ has (seat-val at-update) ∷ has (seat-val at-rows) ∷ has (seat-val at-plan) ∷ has (vint w64 sections₀) ∷ has (vint w8 form₀) ∷ has (vint w64 at₀) ∷ has (vint w64 (t .v9)) ∷ has (cursor .val (t .v10)) ∷ []) []
@@ -182,7 +182,7 @@ module _ {M : Type 1} (𝓤 : URA M) (H : Heap 𝓤) (A : Atoms 𝓤) (W : Given
         land ! (from ! (stop !)) (store ! 17 refl (g₄ .1 .0)) $
         calls-by-last ! (fmOf 𝓤 H (W .laws) 𝓣) (4 ∷ []) (hs (w₄ .0) (w₄ .1 .1 .0)) (kept·cursor·advance! 𝓤 H A mem run (𝓣 .C) known-kept·cursor·advance at-plan plan₀ sections₀ (are .1 .1 .1 .1 .1 .0) (t .v10) (t .g10)) refl (λ P. and-then ! (load ! (from ! (stop !)) (look ! 25 refl)) (and-then ! (load ! (from ! (stop !)) (look ! 23 refl)) (and-then ! (load ! (from ! (stop !)) (look ! 15 refl)) (no-more !)))) (λ g₅.
         land-last ! (from ! (stop !)) (store ! 15 refl (g₅ .1 .0)) $
-        forget ! 1 refl $ forget ! 3 refl $ forget ! 5 refl $ forget ! 7 refl $ forget ! 9 refl $ forget ! 11 refl $ forget ! 13 refl $ again-by ! μ (Inv ls) t (record { v9 = r₄; g9 = g₄ .0; v10 = advanced plan₀ sections₀ (t .v10); g10 = g₅ .0; out = w₄ .0; lanes = w₄ .1 .1 .0; known = turns form₀ out₀ lanes₀ at₀ update₀ rows₀ plan₀ sections₀ rows-fit (req .1) (t .v10) (t .out) (t .lanes) (t .v9) (t .known) (under t y₂) (w₄ .0) (w₄ .1 .1 .0) r₄ e₄ }) (fewer plan₀ sections₀ (t .v10) (req .1) (omega (arith, under t y₂, rows-fit)))))))
+        forget ! 1 refl $ forget ! 3 refl $ forget ! 5 refl $ forget ! 7 refl $ forget ! 9 refl $ forget ! 11 refl $ forget ! 13 refl $ again-by ! μ (Inv ls) t (record { v9 = r₄; g9 = g₄ .0; v10 = advanced plan₀ sections₀ (t .v10); g10 = g₅ .0; out = w₄ .0; lanes = w₄ .1 .1 .0; known = turns form₀ out₀ lanes₀ at₀ update₀ rows₀ plan₀ sections₀ rows-fit (req .1) (t .v10) (t .out) (t .lanes) (t .v9) (t .known) (under t y₂) (w₄ .0) (w₄ .1 .1 .0) r₄ e₄ }) (fewer rows₀ plan₀ sections₀ (t .v10) (req .1) (omega (arith, under t y₂, rows-fit)))))))
         (λ y₂.
         exit-on ! $
         exec ! (𝓣 .C) (𝓣 .Λ) En (part (1 ∷ 1 ∷ 1 ∷ []) (fn .body)) (atRet En Post) $

@@ -2,6 +2,7 @@
 use mathlib.Core.Path.{sym, _∙_}
 use borrow.Author.Tests.{not-true, not-false}
 use Rattle.tokens.proofs.Keyed.{aliased-same, wrote-keys, wrote-keys-then, wrote-keys-is, wrote-keys-none}
+use Rattle.kept.specs.Plan.{restOf}
 use Rattle.records.proofs.Writes.{row-none, row-some}
 use Rattle.records.proofs.Keyless.{head-keyless}
 use Rattle.records.proofs.Sane.{sane-limits}
@@ -17,7 +18,7 @@ returns c =
     let a = p8 .args in
     let e = rw (p2 .rest .ensures) at (p1 .is-sane .ensures) in
     let h = sym e ∙ not-true (p1 .is-sane .result) (c .if1 .taken) in
-    wrote-keys-is (row-none (a .update .now) (a .b) (a .c .head) (a .c .from .0) (a .c .skip .0) h)
+    wrote-keys-is (row-none (a .update .now) (a .b) (a .c .head) (restOf (a .b) (a .c .from .0) (a .c .skip .0)) h)
     (wrote-keys-none (p8 .pre .tidy))
 
 write-head-requires : tie.Need-write-head-requires
@@ -28,7 +29,7 @@ write-head-requires c κs =
     let p10 = p4 .before .before .before .before .before .before in
     let a = p10 .args in
     let e = rw (p4 .rest .ensures) at (p3 .is-sane .ensures) in
-    (p10 .pre .tidy, sane-limits (a .b) (a .c .from .0) (a .c .skip .0) (sym e ∙ not-false (p3 .is-sane .result) (p2 .if1 .left)))
+    (p10 .pre .tidy, sane-limits (a .b) (restOf (a .b) (a .c .from .0) (a .c .skip .0)) (sym e ∙ not-false (p3 .is-sane .result) (p2 .if1 .left)))
 
 cut-requires : tie.Need-cut-requires
 cut-requires c κs =
@@ -57,7 +58,7 @@ returns-2 c =
     let e = rw (p17 .rest .ensures) at (p16 .is-sane .ensures) in
     let h = sym e ∙ not-false (p16 .is-sane .result) (p15 .if1 .left) in
     let piece = rw (p17 .rest .ensures) at (p7 .cut .ensures) in
-    wrote-keys-is (row-some (a .update .now) (a .b) (a .c .head) (a .c .from .0) (a .c .skip .0) h)
+    wrote-keys-is (row-some (a .update .now) (a .b) (a .c .head) (restOf (a .b) (a .c .from .0) (a .c .skip .0)) h)
     (wrote-keys-then (wrote-keys (head-keyless (a .c .head) (a .c .from .0) (a .b)) (p12 .write-head .ensures)) (rw piece at (p4 .write-block .ensures)))
 
 pub write-row-spec : {M : Type 1} → statement M
