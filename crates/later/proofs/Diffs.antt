@@ -1,6 +1,6 @@
 -- Sorting a diff comes as far as sorting the update: by rule 13 or 28, against the vector that it was made against, in either form.
 use Prim.Native.Nat.{ℕ, _-_, _/_, _≤_}
-use mathlib.Core.Path.{_≡_, sym, ap, subst, _∙_}
+use mathlib.Core.Path.{_≡_, refl, sym, ap, subst, _∙_}
 use mathlib.Core.List.{List}
 use native.Mathlib.Omega.{arith}
 use lib.ListN.{length, take, replicate}
@@ -14,10 +14,14 @@ use Rattle.grammar.specs.Course.{items}
 use Rattle.decoder.specs.Update.{blocksOf}
 use Rattle.readings.proofs.Orders.{blocks-ordered}
 use Rattle.readings.proofs.Sounds.{blocks-sound}
+use Rattle.vector.specs.Vector.{Entry}
 use Rattle.kept.specs.Kept.{remote, sectionsOf}
 use Rattle.updates.specs.Promises.{Reading, reading}
 use Rattle.sorting.specs.Rules.{queue, byReaches}
 use Rattle.sorting.specs.Named.{asksOf}
+use Rattle.sorting.specs.Sorted.{clients, order, orderOf}
+use Rattle.sorting.proofs.Rules.{reaches-mono}
+use Rattle.sorting.proofs.Taken.{sorts}
 use Rattle.written.specs.Written.{AllAlike, sectionsRead}
 use Rattle.diffs.specs.declared.Diff.{Diff}
 use Rattle.diffs.specs.Promises.{Diffed, diffOf, answered}
@@ -27,13 +31,22 @@ use Rattle.rereading.specs.Vectors.{entriesIn}
 use Rattle.rereading.proofs.Done.{done}
 use Rattle.rereading.proofs.Wholes.{all-read}
 use Rattle.rereading.proofs.Reread.{reread-there}
+use Rattle.knowledge.specs.More.{Ran}
 use Rattle.knowledge.specs.Rests.{Remains}
+use Rattle.knowledge.proofs.More.{more-knowledge}
 use Rattle.knowledge.proofs.Diffs.{StaysReady, stays-ready, no-lower}
 use Rattle.later.specs.Calls.{Call, SortCall, reachBy, DiffCall, writtenBy}
 use Rattle.later.specs.Sorters.{Sorter}
+use Rattle.later.specs.Worse.{AsHigh}
 use Rattle.later.proofs.Queues.{remains}
 use Rattle.later.proofs.Words.{call-done, reach-is}
 use Rattle.later.proofs.Later.{ended, sort-sorts}
+
+-- blocks can be sorted from anywhere
+all-sorted : (asks : ℕ → Block → List Id) (bs : List Block) (v : List Entry) → Ran (byReaches asks) bs (remote v) (orderOf (byReaches asks) bs v)
+unfolding orderOf
+all-sorted asks bs v =
+    record { run = order (byReaches asks) bs (clients bs v) (remote v); whole = sorts (byReaches asks) (reaches-mono asks) bs v .ends; order = refl }
 
 module _ (form : ℕ) (u v : List ℕ) (to : ℕ) (d : DiffCall form u v to) where
   abbrev m : ℕ
@@ -75,9 +88,9 @@ module _ (form : ℕ) (u v : List ℕ) (to : ℕ) (d : DiffCall form u v to) whe
   left : length (writtenBy d) ≤ maxUpdate → (c : ℕ) → Remains c (remote (entriesIn v) c) (queue bs c) (queue es c)
   left short c = remains c u (entriesIn v) bs (blocks-ordered form u) (blocks-sound form u) (writtenBy d) es (again short)
 
-  -- of any two sorters by a rule under which what is left of a block is ready if the block is
-  module _ {f g : ℕ → ℕ → Room → Sort} (asks : ℕ → Block → List Id) (stays : StaysReady asks) (all : Sorter (byReaches asks) form u v f)
-      (part : Sorter (byReaches asks) to (writtenBy d) v g) (a : Call f) (b : Call g) where
+  -- of any two sorters by a rule under which what is left of a block is ready if the block is; the update may have been sorted against an earlier vector e
+  module _ {f g : ℕ → ℕ → Room → Sort} (asks : ℕ → Block → List Id) (stays : StaysReady asks) (e : List ℕ) (more : AsHigh e v)
+      (all : Sorter (byReaches asks) form u e f) (part : Sorter (byReaches asks) to (writtenBy d) v g) (a : Call f) (b : Call g) where
     was-read : length (writtenBy d) ≤ maxUpdate
     was-read =
         let read = part (length (b .rows)) (length (b .ranges) / 3) (lent (b .order) (b .counts) (b .reaches) (b .pending)) (call-done b) .0 in
@@ -85,17 +98,28 @@ module _ (form : ℕ) (u v : List ℕ) (to : ℕ) (d : DiffCall form u v to) whe
 
     pub as-far : (c : ℕ) → reachBy a c ≤ reachBy b c
     as-far c =
-        let x = ended (byReaches asks) form u v all a in
-        let y = ended (byReaches asks) to (writtenBy d) v part b in
+        let R = byReaches asks in
+        let x = ended R form u e all a in
+        let y = ended R to (writtenBy d) v part b in
+        let there = all-sorted asks bs (entriesIn v) in
         omega (
           arith,
-          no-lower asks stays (remote (entriesIn v)) bs es (left was-read) (x .ran .run) (y .ran .run) (x .ran .whole .run) (y .ran .whole) c,
-          reach-is a asks bs (entriesIn v) x c,
+          more-knowledge R (reaches-mono asks) bs (remote (entriesIn e)) (remote (entriesIn v)) more (x .ran) there .known c,
+          no-lower asks stays (remote (entriesIn v)) bs es (left was-read) (there .run) (y .ran .run) (there .whole .run) (y .ran .whole) c,
+          reach-is a asks bs (entriesIn e) x c,
           reach-is b asks es (entriesIn v) y c,
         )
 
--- W-212, of `sort` by rule 13 or 28
+-- ---- `sort`, by rule 13 or 28
+
+-- W-212
 pub diff-as-far : (rule form : ℕ) (u v : List ℕ) (to : ℕ) (d : DiffCall form u v to) (a : SortCall rule form u v) (b : SortCall rule to (writtenBy d) v)
     → (c : ℕ) → reachBy a c ≤ reachBy b c
 diff-as-far rule form u v to d =
-    as-far form u v to d (asksOf rule) (stays-ready rule) (sort-sorts rule form u v) (sort-sorts rule to (writtenBy d) v)
+    as-far form u v to d (asksOf rule) (stays-ready rule) v (λ c. omega arith) (sort-sorts rule form u v) (sort-sorts rule to (writtenBy d) v)
+
+-- who asks later, and for the diff alone
+pub diff-later : (rule form : ℕ) (u v w : List ℕ) (to : ℕ) → AsHigh v w → (d : DiffCall form u w to) (a : SortCall rule form u v)
+    (b : SortCall rule to (writtenBy d) w) → (c : ℕ) → reachBy a c ≤ reachBy b c
+diff-later rule form u v w to more d =
+    as-far form u w to d (asksOf rule) (stays-ready rule) v more (sort-sorts rule form u v) (sort-sorts rule to (writtenBy d) w)

@@ -1,7 +1,7 @@
 -- Asking later never makes things worse: of two sorts of the same update that are done, the one whose vector has every clock as high or higher takes what the
 -- other takes, and every client reaches as far. Of any sorter that carries its steps to an end, and so of `sort`.
 use Prim.Native.Nat.{ℕ, _/_}
-use mathlib.Core.Path.{sym, subst}
+use mathlib.Core.Path.{_≡_, sym, subst}
 use mathlib.Core.List.{List}
 use native.Mathlib.Omega.{arith}
 use lib.ListN.{length}
@@ -14,8 +14,9 @@ use Rattle.sorting.specs.Quick.{Listed}
 use Rattle.sorting.specs.Rules.{Rule, byReaches}
 use Rattle.sorting.specs.Named.{asksOf, ruleOf}
 use Rattle.sorting.proofs.Rules.{reaches-mono}
+use Rattle.sort_answers.specs.declared.Sorted.{Sorted}
 use Rattle.sort_answers.specs.Answers.{Sort, Room}
-use Rattle.sorts.specs.Promises.{lent, sortOf}
+use Rattle.sorts.specs.Promises.{lent, sortOf, SortUpdate}
 use Rattle.sorts.proofs.Demand.{demand-3}
 use Rattle.rereading.specs.Vectors.{entriesIn}
 use Rattle.rereading.proofs.Wholes.{all-read}
@@ -53,6 +54,29 @@ pub sort-sorts : (rule form : ℕ) (u v : List ℕ) → Sorter (ruleOf rule) for
 sort-sorts rule form u v m n room z =
     let d = demand-3 rule form u v m n room z in
     (d .read .0, record { ran = record { run = d .run; whole = d .sorts .ends; order = d .order }; reaches = d .reaches (d .run) (d .sorts .ends) })
+
+-- whatever meets its promise with the number 0 is such a call
+pub of-promise : (rule form : ℕ) (u v : List ℕ) (rows : List Block) (ranges order counts reaches pending : List ℕ) (r : Sorted) (rows₁ : List Block)
+    (ranges₁ order₁ counts₁ reaches₁ pending₁ : List ℕ)
+    → SortUpdate rule form u v rows ranges order counts reaches pending r rows₁ ranges₁ order₁ counts₁ reaches₁ pending₁ → r .refusal .number ≡ 0
+    → SortCall rule form u v
+of-promise rule form u v rows ranges order counts reaches pending r rows₁ ranges₁ order₁ counts₁ reaches₁ pending₁ p z = record {
+  rows = rows;
+  ranges = ranges;
+  order = order;
+  counts = counts;
+  reaches = reaches;
+  pending = pending;
+  answer = r;
+  rows₁ = rows₁;
+  ranges₁ = ranges₁;
+  order₁ = order₁;
+  counts₁ = counts₁;
+  reaches₁ = reaches₁;
+  pending₁ = pending₁;
+  promised = p;
+  done = z;
+}
 
 -- W-212
 pub asking-later : (rule form : ℕ) (u v w : List ℕ) → AsHigh v w → (a : SortCall rule form u v) (b : SortCall rule form u w) → NotWorse a b
