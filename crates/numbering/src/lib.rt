@@ -24,7 +24,7 @@ pub const FIRST: usize = 52;
 
 pub const MAX_KEYS: usize = 256;
 
-// Keys of so many bytes are compared each time: that costs no more than to look for their parts.
+// Keys of so many bytes or fewer are compared each time: most marks and node names are short, and in form 1 each has a place of its own.
 pub const SHORT: usize = 16;
 
 // The units of a part's text.
