@@ -228,7 +228,6 @@ fn cut_behind(b: Block, e: Ends) -> Block
         place: 0,
         bytes: Bytes(0),
     };
-    let none = no_id();
     let left = left_of(b, from);
     let part = part_at(b, e);
     let is_item = block::is_item(b.kind);

@@ -7,7 +7,7 @@ use lib.Dec.{ltb}
 use Rattle.numbers.specs.Number.{pick}
 use Rattle.text.specs.declared.Part.{Part}
 use Rattle.block.specs.declared.Block.{Block}
-use Rattle.block.specs.Row.{noPart}
+use Rattle.block.specs.Row.{noPart, leftId, rightId, parentId}
 use Rattle.block.specs.Rows.{plain}
 use Rattle.block.specs.Kinds.{isDeleted, isBinary, isText, isFormat, isType, isAny, isItem, isMarked}
 use Rattle.block.proofs.OfKinds.{item-part}
@@ -47,10 +47,10 @@ abbrev pub bare : Block → Block
 bare b = plain (b .client) (b .clock) 0 0
 
 abbrev pub withIds : Block → Block
-withIds b = beside (b .client) (b .clock) (b .«has_left») (b .left) (b .«has_right») (b .right)
+withIds b = beside (b .client) (b .clock) (b .«has_left») (leftId b) (b .«has_right») (rightId b)
 
 abbrev pub withRoot : Block → Part → Part → Block
-withRoot b p q = rooted (b .client) (b .clock) (b .«has_parent») (b .parent) (b .«has_name») p (b .«has_key») q
+withRoot b p q = rooted (b .client) (b .clock) (b .«has_parent») (parentId b) (b .«has_name») p (b .«has_key») q
 
 module _ {S : Type 0} (r : Reader S) (d u : List ℕ) (b : Block) where
   -- from s to m a block's place is read, and with content of the same bytes the block is like c
@@ -83,8 +83,8 @@ module _ {S : Type 0} (r : Reader S) (d u : List ℕ) (b : Block) where
         let says = info-says b l in
         let ids : ltb (infoByte b) 64 ≡ false = says .ids ∙ ap (λ (x : Bool). pick x false true) some in
         let v = infoByte b in
-        let left = left-read r d (b .client) (b .clock) v (b .«has_left») (b .left) (sound .left .absent) (says .left) s (two .between) (two .first) in
-        let right = right-read r d (b .client) (b .clock) v (b .«has_left») (b .left) (b .«has_right») (b .right) (sound .right .absent) (says .right) in
+        let left = left-read r d (b .client) (b .clock) v (b .«has_left») (leftId b) (sound .left .absent) (says .left) s (two .between) (two .first) in
+        let right = right-read r d (b .client) (b .clock) v (b .«has_left») (leftId b) (b .«has_right») (rightId b) (sound .right .absent) (says .right) in
         record {
           block = withIds b;
           is = rw ids (then-on r _ _ s (two .between) _ left ∙ right (two .between) m (two .then));
@@ -121,9 +121,9 @@ module _ {S : Type 0} (r : Reader S) (d u : List ℕ) (b : Block) where
         let two = split r d (parentTokens u b) (keyTokens u b) s m k in
         let says = info-says b l in
         let ids : ltb (infoByte b) 64 ≡ true = says .ids ∙ ap (λ (x : Bool). pick x false true) none in
-        let parent = parent-read r d u (b .client) (b .clock) (b .«has_parent») (b .parent) (b .«has_name») (b .name) in
+        let parent = parent-read r d u (b .client) (b .clock) (b .«has_parent») (parentId b) (b .«has_name») (b .name) in
         let root = parent (sound .shape .rooted l none) (sound .parent .absent) (sound .name .absent) s (two .between) (two .first) in
-        let text = key-read r d u (b .client) (b .clock) (infoByte b) (b .«has_parent») (b .parent) (b .«has_name») (root .0) (b .«has_key») (b .key) in
+        let text = key-read r d u (b .client) (b .clock) (infoByte b) (b .«has_parent») (parentId b) (b .«has_name») (root .0) (b .«has_key») (b .key) in
         let key = text (sound .key .absent) (says .key none) (two .between) m (two .then) in
         record {
           block = withRoot b (root .0) (key .0);
