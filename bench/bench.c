@@ -321,8 +321,8 @@ static void check_diff(const char *input, const char *work, size_t bytes) {
     for (size_t k = 0; k < a.blocks; k++) {
         const wairokabi_block *x = &on.rows[k], *y = &on.others[k];
         check(x->client == y->client && x->clock == y->clock && x->length.count == y->length.count && x->kind == y->kind &&
-                  x->left.client == y->left.client && x->left.clock == y->left.clock && x->right.client == y->right.client &&
-                  x->right.clock == y->right.clock && x->part.bytes.count == y->part.bytes.count &&
+                  x->left_client == y->left_client && x->left_clock == y->left_clock && x->right_client == y->right_client &&
+                  x->right_clock == y->right_clock && x->part.bytes.count == y->part.bytes.count &&
                   memcmp(on.out + x->part.place, on.copy + y->part.place, x->part.bytes.count) == 0 && x->type_number == y->type_number &&
                   x->mark.bytes.count == y->mark.bytes.count && memcmp(on.out + x->mark.place, on.copy + y->mark.place, x->mark.bytes.count) == 0,
               input, work, "blocks part");

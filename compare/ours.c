@@ -50,19 +50,19 @@ static void part(bool there, const uint8_t *bytes, wairokabi_part p) {
     else
         fputs("none", stdout);
 }
-static void id(bool there, wairokabi_id i) {
+static void id(bool there, uint64_t client, uint32_t clock) {
     if (there)
-        printf(" %" PRIu64 ":%" PRIu32, i.client, i.clock);
+        printf(" %" PRIu64 ":%" PRIu32, client, clock);
     else
         fputs(" none", stdout);
 }
 static void block(const uint8_t *update, wairokabi_block b) {
     static const char *kinds[] = {"", "gc", "skip", "deleted", "binary", "text", "format", "type", "any"};
     printf("%" PRIu64 " %" PRIu32 " %" PRIu64 " %s", b.client, b.clock, b.length.count, kinds[b.kind]);
-    id(b.has_left, b.left);
-    id(b.has_right, b.right);
+    id(b.has_left, b.left_client, b.left_clock);
+    id(b.has_right, b.right_client, b.right_clock);
     part(b.has_name, update, b.name);
-    id(b.has_parent, b.parent);
+    id(b.has_parent, b.parent_client, b.parent_clock);
     part(b.has_key, update, b.key);
     part(b.kind == WAIROKABI_BINARY || b.kind == WAIROKABI_TEXT || b.kind == WAIROKABI_FORMAT || b.kind == WAIROKABI_ANY, update, b.part);
     part(b.kind == WAIROKABI_FORMAT || (b.kind == WAIROKABI_TYPE && (b.type_number == 3 || b.type_number == 5)), update, b.mark);

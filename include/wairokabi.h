@@ -97,34 +97,32 @@ typedef struct wairokabi_refusal {
     size_t place;
 } wairokabi_refusal;
 
-typedef struct wairokabi_id {
-    uint64_t client;
-    uint32_t clock;
-} wairokabi_id;
-
-// A row of the block table: one block. `has_left` says whether `left` is there, and so on; what is not there is zero. `part` is the stored part of a
-// binary or a text, the value of a format (in form 1 its JSON text, in form 2 an any-value's bytes) or the bytes of all values of an any-list, whose length
-// is how many they are; zero for the others. `mark` is the key of a format, or the node name of a type that has one (3 and 5); `type_number` is a type's: 0
-// array, 1 map, 2 text, 3 XML element, 4 XML fragment, 5 XML hook, 6 XML text. In form 2 a key that was read before lies where it lay then. A row that has no
-// block is zero. A row takes 144 bytes.
+// A row of the block table: one block. `has_left` says whether the left id is there, whose client and clock are `left_client` and `left_clock`, and so on;
+// what is not there is zero. `part` is the stored part of a binary or a text, the value of a format (in form 1 its JSON text, in form 2 an any-value's bytes)
+// or the bytes of all values of an any-list, whose length is how many they are; zero for the others. `mark` is the key of a format, or the node name of a type
+// that has one (3 and 5); `type_number` is a type's: 0 array, 1 map, 2 text, 3 XML element, 4 XML fragment, 5 XML hook, 6 XML text. In form 2 a key that was
+// read before lies where it lay then. A row that has no block is zero. A row takes 128 bytes, none of them padding.
 typedef struct wairokabi_block {
     uint64_t client;
+    uint64_t left_client;
+    uint64_t right_client;
+    uint64_t parent_client;
     wairokabi_units length;
-    wairokabi_id left;
-    wairokabi_id right;
-    wairokabi_id parent;
     wairokabi_part name;
     wairokabi_part key;
     wairokabi_part part;
     wairokabi_part mark;
     uint32_t clock;
+    uint32_t left_clock;
+    uint32_t right_clock;
+    uint32_t parent_clock;
     uint8_t kind;
     bool has_left;
     bool has_right;
     bool has_parent;
     bool has_name;
     bool has_key;
-    uint8_t type_number;
+    uint16_t type_number;
 } wairokabi_block;
 
 // What a block's `kind` says.

@@ -49,9 +49,8 @@ static void expect(bool holds, int line, const char *what) {
 // Nothing that is lent is zero before a call, so that zeros after it mean something.
 static void fill(void) {
     const wairokabi_part part = {3, {4}};
-    const wairokabi_id id = {5, 6};
     for (size_t i = 0; i < ROWS; i++)
-        rows[i] = (wairokabi_block){1, {7}, id, id, id, part, part, part, part, 2, WAIROKABI_TEXT, true, true, true, true, true, 6};
+        rows[i] = (wairokabi_block){1, 5, 5, 5, {7}, part, part, part, part, 2, 6, 6, 6, WAIROKABI_TEXT, true, true, true, true, true, 6};
     memset(words, 0xa5, sizeof words);
     memset(out, 0xa5, sizeof out);
 }
@@ -74,18 +73,15 @@ static bool same_words(const uint64_t *a, const uint64_t *b, size_t count) {
     return memcmp(a, b, count * sizeof *a) == 0;
 }
 
-static bool same_id(wairokabi_id a, uint64_t client, uint32_t clock) {
-    return a.client == client && a.clock == clock;
-}
-
 static bool same_part(wairokabi_part a, size_t place, size_t bytes) {
     return a.place == place && a.bytes.count == bytes;
 }
 
 // A block of client 5 that no id leads to and that no key names.
 static bool alone(const wairokabi_block *b, uint32_t clock, uint64_t length, uint8_t kind) {
-    return b->client == 5 && b->clock == clock && b->length.count == length && b->kind == kind && !b->has_left && same_id(b->left, 0, 0) && !b->has_right &&
-           same_id(b->right, 0, 0) && !b->has_parent && same_id(b->parent, 0, 0) && !b->has_key && same_part(b->key, 0, 0);
+    return b->client == 5 && b->clock == clock && b->length.count == length && b->kind == kind && !b->has_left && b->left_client == 0 && b->left_clock == 0 &&
+           !b->has_right && b->right_client == 0 && b->right_clock == 0 && !b->has_parent && b->parent_client == 0 && b->parent_clock == 0 && !b->has_key &&
+           same_part(b->key, 0, 0);
 }
 
 // Client 5, clock 0, parent "t", text "hi", at these places.
@@ -94,15 +90,9 @@ static bool is_hi(const wairokabi_block *b, size_t name, size_t text) {
            b->type_number == 0;
 }
 
+// No byte of a row is padding.
 static bool zero_rows(size_t from) {
-    for (; from < ROWS; from++) {
-        const wairokabi_block *b = &rows[from];
-        if (b->client != 0 || b->clock != 0 || b->length.count != 0 || b->kind != 0 || b->has_left || !same_id(b->left, 0, 0) || b->has_right ||
-            !same_id(b->right, 0, 0) || b->has_parent || !same_id(b->parent, 0, 0) || b->has_name || !same_part(b->name, 0, 0) || b->has_key ||
-            !same_part(b->key, 0, 0) || !same_part(b->part, 0, 0) || !same_part(b->mark, 0, 0) || b->type_number != 0)
-            return false;
-    }
-    return true;
+    return zero_bytes((const uint8_t *)rows, from * sizeof *rows, sizeof rows);
 }
 
 // Refused by this number, blaming this byte.
@@ -130,7 +120,7 @@ static bool wrote(size_t bytes, const uint8_t *expected, size_t count) {
 
 static void reads(void) {
     wairokabi_update u = read_update(1, C, sizeof C, ROWS);
-    EXPECT(sizeof(wairokabi_block) == 144);
+    EXPECT(sizeof(wairokabi_block) == 128);
     EXPECT(done(u.refusal) && u.blocks == 1 && u.ranges == 0);
     EXPECT(is_hi(&rows[0], 7, 9) && zero_rows(1) && zero_words(0));
     u = read_update(2, D, sizeof D, ROWS);
@@ -152,7 +142,8 @@ static void diffs(void) {
     EXPECT(done(d.refusal) && d.blocks == 1 && d.ranges == 0 && wrote(d.bytes, E, sizeof E));
     EXPECT(is_hi(&rows[0], 7, 9) && zero_rows(1) && zero_words(0));
     wairokabi_update u = read_update(1, E, sizeof E, ROWS);
-    EXPECT(done(u.refusal) && u.blocks == 1 && rows[0].clock == 1 && rows[0].has_left && same_id(rows[0].left, 5, 0) && same_part(rows[0].part, 8, 1));
+    EXPECT(done(u.refusal) && u.blocks == 1 && rows[0].clock == 1 && rows[0].has_left && rows[0].left_client == 5 && rows[0].left_clock == 0);
+    EXPECT(same_part(rows[0].part, 8, 1));
     d = encode_diff(1, C, sizeof C, HAS_ALL, sizeof HAS_ALL, 1, ROOM);
     EXPECT(done(d.refusal) && d.blocks == 1 && d.ranges == 0 && wrote(d.bytes, EMPTY, sizeof EMPTY));
     fill();
@@ -177,7 +168,7 @@ static void marks(void) {
     // in form 2 the second "p" is the first one's number
     u = read_update(2, NODES_2, sizeof NODES_2, ROWS);
     EXPECT(done(u.refusal) && u.blocks == 2 && rows[0].type_number == 3 && same_part(rows[0].mark, 17, 1));
-    EXPECT(rows[1].type_number == 5 && same_part(rows[1].mark, 17, 1) && same_id(rows[1].left, 5, 0) && zero_rows(2));
+    EXPECT(rows[1].type_number == 5 && same_part(rows[1].mark, 17, 1) && rows[1].left_client == 5 && rows[1].left_clock == 0 && zero_rows(2));
     u = read_update(1, ONES, sizeof ONES, ROWS);
     EXPECT(done(u.refusal) && u.blocks == 1 && alone(&rows[0], 0, 2, WAIROKABI_ANY) && same_part(rows[0].part, 9, 5) && same_part(rows[0].mark, 0, 0) && zero_rows(1));
     EXPECT(refused(wairokabi_content(1, BOLD_1, sizeof BOLD_1, 0).refusal, 11, 0) && refused(wairokabi_content(1, ONES, sizeof ONES, 0).refusal, 11, 0));
@@ -312,7 +303,7 @@ static void sorts(void) {
     fill();
     wairokabi_sorted s = wairokabi_sort(28, 1, both, sizeof both, none, sizeof none, rows, ROWS, words, WORDS, order, 3, counts, 6, reaches, 6, pending, 6);
     EXPECT(done(s.refusal) && s.steps == 2 && s.counts == 2 && s.reaches == 2 && s.pending == 0 && s.blocks == 2 && s.ranges == 0);
-    EXPECT(rows[0].client == 9 && rows[1].client == 5 && same_id(rows[1].left, 9, 0) && zero_rows(2) && zero_words(0));
+    EXPECT(rows[0].client == 9 && rows[1].client == 5 && rows[1].left_client == 9 && rows[1].left_clock == 0 && zero_rows(2) && zero_words(0));
     EXPECT(same_words(order, (uint64_t[]){0, 1, 0}, 3) && same_words(counts, (uint64_t[]){9, 1, 5, 1, 0, 0}, 6));
     EXPECT(same_words(reaches, (uint64_t[]){9, 1, 5, 1, 0, 0}, 6) && same_words(pending, (uint64_t[]){0, 0, 0, 0, 0, 0}, 6));
     fill();

@@ -1,5 +1,5 @@
 //! A row of the block table: what its kind says, and what may be there or not.
-use crate::raw::{Block, Id, Part};
+use crate::raw::{Block, Part};
 
 /// What a block's `kind` says.
 pub const GC: u8 = 1;
@@ -13,6 +13,13 @@ pub const ANY: u8 = 8;
 
 /// The types by their numbers.
 const TYPES: [&str; 7] = ["array", "map", "text", "xml element", "xml fragment", "xml hook", "xml text"];
+
+/// What names a block's unit: its client and its clock.
+#[derive(Clone, Copy, Debug, Default, PartialEq, Eq, Hash)]
+pub struct Id {
+    pub client: u64,
+    pub clock: u32,
+}
 
 impl Block {
     /// The kind as the listing names it; empty for a row that has no block.
@@ -32,17 +39,17 @@ impl Block {
 
     /// The left id.
     pub fn left(&self) -> Option<Id> {
-        self.has_left.then_some(self.left)
+        self.has_left.then_some(Id { client: self.left_client, clock: self.left_clock })
     }
 
     /// The right id.
     pub fn right(&self) -> Option<Id> {
-        self.has_right.then_some(self.right)
+        self.has_right.then_some(Id { client: self.right_client, clock: self.right_clock })
     }
 
     /// The parent, where an id names it.
     pub fn parent(&self) -> Option<Id> {
-        self.has_parent.then_some(self.parent)
+        self.has_parent.then_some(Id { client: self.parent_client, clock: self.parent_clock })
     }
 
     /// The parent, where a name names it: a part of the update.
@@ -68,7 +75,7 @@ impl Block {
 
     /// The number of a type: 0 to 6.
     pub fn type_number(&self) -> Option<u8> {
-        (self.kind == TYPE).then_some(self.type_number)
+        (self.kind == TYPE).then_some(self.type_number).and_then(|number| u8::try_from(number).ok())
     }
 
     /// A type in words: `array`, `map`, `text`, `xml element`, `xml fragment`, `xml hook` or `xml text`.

@@ -40,7 +40,7 @@ mod updates;
 pub use block::*;
 pub use columns::*;
 pub use numbers::{read_signed, read_unsigned, write_signed, write_unsigned, Signed, MAX_CLOCK, MAX_SIGNED, MAX_UNSIGNED, MAX_VALUE};
-pub use raw::{Block, BytePlace, Bytes, DifferencePlace, Id, NumberPlace, Part, StringPlace, Units};
+pub use raw::{Block, BytePlace, Bytes, DifferencePlace, NumberPlace, Part, StringPlace, Units};
 pub use refused::Refused;
 pub use summaries::*;
 pub use text::*;

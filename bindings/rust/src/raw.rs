@@ -26,39 +26,35 @@ pub struct Refusal {
     pub place: usize,
 }
 
-/// What names a block's unit: its client and its clock.
-#[repr(C)]
-#[derive(Clone, Copy, Debug, Default, PartialEq, Eq, Hash)]
-pub struct Id {
-    pub client: u64,
-    pub clock: u32,
-}
-
 /// A row of the block table: one block.
 ///
-/// `has_left` says whether `left` is there, and so on; what is not there is zero. `part` is the stored part of a binary or a text, the value of a format (in
-/// form 1 its JSON text, in form 2 an any-value's bytes) or the bytes of all values of an any-list, zero for the others. `mark` is the key of a format, or the
-/// node name of a type that has one; `type_number` is a type's. A row that has no block is zero, which is also its default.
+/// `has_left` says whether the left id is there, whose client and clock are `left_client` and `left_clock`, and so on; what is not there is zero. `part` is
+/// the stored part of a binary or a text, the value of a format (in form 1 its JSON text, in form 2 an any-value's bytes) or the bytes of all values of an
+/// any-list, zero for the others. `mark` is the key of a format, or the node name of a type that has one; `type_number` is a type's. A row that has no block
+/// is zero, which is also its default.
 #[repr(C)]
 #[derive(Clone, Copy, Debug, Default, PartialEq, Eq, Hash)]
 pub struct Block {
     pub client: u64,
+    pub left_client: u64,
+    pub right_client: u64,
+    pub parent_client: u64,
     pub length: Units,
-    pub left: Id,
-    pub right: Id,
-    pub parent: Id,
     pub name: Part,
     pub key: Part,
     pub part: Part,
     pub mark: Part,
     pub clock: u32,
+    pub left_clock: u32,
+    pub right_clock: u32,
+    pub parent_clock: u32,
     pub kind: u8,
     pub has_left: bool,
     pub has_right: bool,
     pub has_parent: bool,
     pub has_name: bool,
     pub has_key: bool,
-    pub type_number: u8,
+    pub type_number: u16,
 }
 
 #[repr(C)]

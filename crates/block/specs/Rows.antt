@@ -6,7 +6,7 @@ use Rattle.text.specs.declared.Part.{Part}
 use Rattle.text.specs.declared.Units.{Units}
 use Rattle.block.specs.declared.Id.{Id}
 use Rattle.block.specs.declared.Block.{Block}
-use Rattle.block.specs.Row.{noId, noPart, noBlock}
+use Rattle.block.specs.Row.{noId, noPart, noBlock, leftId, rightId, parentId}
 
 -- ---- every field
 
@@ -19,11 +19,14 @@ headIs client clock n kind b =
       length = n;
       kind = kind;
       «has_left» = b .«has_left»;
-      left = b .left;
+      «left_client» = b .«left_client»;
+      «left_clock» = b .«left_clock»;
       «has_right» = b .«has_right»;
-      right = b .right;
+      «right_client» = b .«right_client»;
+      «right_clock» = b .«right_clock»;
       «has_parent» = b .«has_parent»;
-      parent = b .parent;
+      «parent_client» = b .«parent_client»;
+      «parent_clock» = b .«parent_clock»;
       «has_name» = b .«has_name»;
       name = b .name;
       «has_key» = b .«has_key»;
@@ -42,11 +45,14 @@ idsAre l i r j b =
       length = b .length;
       kind = b .kind;
       «has_left» = l;
-      left = i;
+      «left_client» = i .client;
+      «left_clock» = i .clock;
       «has_right» = r;
-      right = j;
+      «right_client» = j .client;
+      «right_clock» = j .clock;
       «has_parent» = b .«has_parent»;
-      parent = b .parent;
+      «parent_client» = b .«parent_client»;
+      «parent_clock» = b .«parent_clock»;
       «has_name» = b .«has_name»;
       name = b .name;
       «has_key» = b .«has_key»;
@@ -65,11 +71,14 @@ rootIs h i n p k q b =
       length = b .length;
       kind = b .kind;
       «has_left» = b .«has_left»;
-      left = b .left;
+      «left_client» = b .«left_client»;
+      «left_clock» = b .«left_clock»;
       «has_right» = b .«has_right»;
-      right = b .right;
+      «right_client» = b .«right_client»;
+      «right_clock» = b .«right_clock»;
       «has_parent» = h;
-      parent = i;
+      «parent_client» = i .client;
+      «parent_clock» = i .clock;
       «has_name» = n;
       name = p;
       «has_key» = k;
@@ -88,11 +97,14 @@ withPart p b =
       length = b .length;
       kind = b .kind;
       «has_left» = b .«has_left»;
-      left = b .left;
+      «left_client» = b .«left_client»;
+      «left_clock» = b .«left_clock»;
       «has_right» = b .«has_right»;
-      right = b .right;
+      «right_client» = b .«right_client»;
+      «right_clock» = b .«right_clock»;
       «has_parent» = b .«has_parent»;
-      parent = b .parent;
+      «parent_client» = b .«parent_client»;
+      «parent_clock» = b .«parent_clock»;
       «has_name» = b .«has_name»;
       name = b .name;
       «has_key» = b .«has_key»;
@@ -111,11 +123,14 @@ markIs p type b =
       length = b .length;
       kind = b .kind;
       «has_left» = b .«has_left»;
-      left = b .left;
+      «left_client» = b .«left_client»;
+      «left_clock» = b .«left_clock»;
       «has_right» = b .«has_right»;
-      right = b .right;
+      «right_client» = b .«right_client»;
+      «right_clock» = b .«right_clock»;
       «has_parent» = b .«has_parent»;
-      parent = b .parent;
+      «parent_client» = b .«parent_client»;
+      «parent_clock» = b .«parent_clock»;
       «has_name» = b .«has_name»;
       name = b .name;
       «has_key» = b .«has_key»;
@@ -140,19 +155,19 @@ abbrev pub ofKind : ℕ → Block → Block
 ofKind kind b = headIs (b .client) (b .clock) (b .length) kind b
 
 abbrev pub leftIs : Bool → Id → Block → Block
-leftIs there i b = idsAre there i (b .«has_right») (b .right) b
+leftIs there i b = idsAre there i (b .«has_right») (rightId b) b
 
 abbrev pub rightIs : Bool → Id → Block → Block
-rightIs there i b = idsAre (b .«has_left») (b .left) there i b
+rightIs there i b = idsAre (b .«has_left») (leftId b) there i b
 
 abbrev pub parentIs : Bool → Id → Block → Block
 parentIs there i b = rootIs there i (b .«has_name») (b .name) (b .«has_key») (b .key) b
 
 abbrev pub nameIs : Bool → Part → Block → Block
-nameIs there p b = rootIs (b .«has_parent») (b .parent) there p (b .«has_key») (b .key) b
+nameIs there p b = rootIs (b .«has_parent») (parentId b) there p (b .«has_key») (b .key) b
 
 abbrev pub keyIs : Bool → Part → Block → Block
-keyIs there p b = rootIs (b .«has_parent») (b .parent) (b .«has_name») (b .name) there p b
+keyIs there p b = rootIs (b .«has_parent») (parentId b) (b .«has_name») (b .name) there p b
 
 abbrev pub withMark : Part → Block → Block
 withMark p b = markIs p (b .«type_number») b

@@ -71,7 +71,7 @@ pub fn content_number(kind: u8) -> u8
 }
 
 // Whether a type of this number has a node name: an XML element and an XML hook.
-pub fn is_named(number: u8) -> bool
+pub fn is_named(number: u16) -> bool
     ensures { λ r. ⌜ r ≡ isNamed number ⌝ }
 {
     match number {
@@ -82,7 +82,7 @@ pub fn is_named(number: u8) -> bool
 }
 
 // Whether a block of this kind and type number has a mark: a format its key, such a type its node name.
-pub fn is_marked(kind: u8, number: u8) -> bool
+pub fn is_marked(kind: u8, number: u16) -> bool
     ensures { λ r. ⌜ r ≡ isMarked kind number ⌝ }
 {
     match kind {
@@ -98,14 +98,15 @@ pub struct Id {
     pub clock: u32,
 }
 
-// `has_left` says whether `left` is there, and so on; what is not there is zero. Kind, flags and type number stand side by side behind the numbers: 144 bytes.
+// `has_left` says whether the left id is there, and so on; what is not there is zero. An id's client and clock stand with their like, and kind, flags and type
+// number side by side behind the numbers: 128 bytes.
 #[repr(C)]
 pub struct Block {
     pub client: u64,
+    pub left_client: u64,
+    pub right_client: u64,
+    pub parent_client: u64,
     pub length: Units,
-    pub left: Id,
-    pub right: Id,
-    pub parent: Id,
     pub name: Part,
     pub key: Part,
     // the stored part of a binary or a text, a format's value, an any-list's values
@@ -113,23 +114,22 @@ pub struct Block {
     // a format's key, the node name of a type that has one
     pub mark: Part,
     pub clock: u32,
+    pub left_clock: u32,
+    pub right_clock: u32,
+    pub parent_clock: u32,
     pub kind: u8,
     pub has_left: bool,
     pub has_right: bool,
     pub has_parent: bool,
     pub has_name: bool,
     pub has_key: bool,
-    pub type_number: u8,
+    pub type_number: u16,
 }
 
 // The row that has no block: all zero.
 pub fn none() -> Block
     ensures { λ r. ⌜ r ≡ noBlock ⌝ }
 {
-    let id = Id {
-        client: 0,
-        clock: 0,
-    };
     let part = Part {
         place: 0,
         bytes: Bytes(0),
@@ -140,11 +140,14 @@ pub fn none() -> Block
         length: Units(0),
         kind: 0,
         has_left: false,
-        left: id,
+        left_client: 0,
+        left_clock: 0,
         has_right: false,
-        right: id,
+        right_client: 0,
+        right_clock: 0,
         has_parent: false,
-        parent: id,
+        parent_client: 0,
+        parent_clock: 0,
         has_name: false,
         name: part,
         has_key: false,

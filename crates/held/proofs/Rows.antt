@@ -49,7 +49,7 @@ module _ (ks r q : List ℕ) (o : Only ks r q) (n : Narrow r) where
   kept j m h b = subst (λ (x : ℕ). x ≤ m) (sym (o .same j h)) b
 
   -- what is no clock changed
-  pub narrow-bare : among 1 ks ≡ false → getD q 3 0 ≤ 255 → among 6 ks ≡ false → among 9 ks ≡ false → among 12 ks ≡ false → getD q 23 0 ≤ 255 → Narrow q
+  pub narrow-bare : among 1 ks ≡ false → getD q 3 0 ≤ 255 → among 6 ks ≡ false → among 9 ks ≡ false → among 12 ks ≡ false → getD q 23 0 ≤ 65535 → Narrow q
   narrow-bare a b c d e f =
       record { size = size-kept; clock = kept 1 _ a (n .clock); kind = b; left = kept 6 _ c (n .left); right = kept 9 _ d (n .right); parent = kept 12 _ e (n .parent); type = f }
 
@@ -115,7 +115,7 @@ module _ (r : List ℕ) (n : Narrow r) where
       (p .0, p .1 ∙ ap (λ (part : Part). withContent kind (record { 0 = len }) part (rowIn r)) (fields.part-put 19 0 0 r room))
 
   -- a type number
-  pub type-put : (t : ℕ) → t ≤ 255 → Narrow (set r 23 t) × (rowIn (set r 23 t) ≡ withType t (rowIn r))
+  pub type-put : (t : ℕ) → t ≤ 65535 → Narrow (set r 23 t) × (rowIn (set r 23 t) ≡ withType t (rowIn r))
   unfolding among rowIn idIn partIn
   type-put t b =
       let z = set r 23 t in

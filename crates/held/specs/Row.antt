@@ -27,7 +27,7 @@ rowIn r =
     (rootIs (eqb (getD r 10 0) 1) (idIn r 11) (eqb (getD r 13 0) 1) (partIn r 14) (eqb (getD r 16 0) 1) (partIn r 17)
     (withPart (partIn r 19) (markIs (partIn r 21) (getD r 23 0) noBlock))))
 
--- clocks are u32, the kind and the type number are u8 in a row
+-- clocks are u32, the kind is u8 and the type number u16 in a row
 pub record Narrow (r : List ℕ) : Type 0 where
   pub size : length r ≡ 24
   pub clock : getD r 1 0 ≤ 4294967295
@@ -35,7 +35,7 @@ pub record Narrow (r : List ℕ) : Type 0 where
   pub left : getD r 6 0 ≤ 4294967295
   pub right : getD r 9 0 ≤ 4294967295
   pub parent : getD r 12 0 ≤ 4294967295
-  pub type : getD r 23 0 ≤ 255
+  pub type : getD r 23 0 ≤ 65535
 
 -- an answer, with the words v and the row q that it leaves
 unfoldable pub onto : List ℕ → List ℕ → cells-field.Field → Run State Block Block

@@ -73,10 +73,10 @@ fn read_format(form: u8, update: &[u8], w: &mut [u64], r: &mut [u64], place: usi
 
 // The node name of a type that has one.
 fn read_node(form: u8, update: &[u8], w: &mut [u64], r: &mut [u64], number: u64) -> Field
-    requires { ⌜ Small (now w) × Narrow (now r) × (number ≤ 255) ⌝ }
+    requires { ⌜ Small (now w) × Narrow (now r) × (number ≤ 65535) ⌝ }
     ensures { λ f. ⌜ Put form (now (update .entry)) (now (w .entry)) (now (w .exit)) (now (r .exit)) f (blocks.node number (rowIn (now (r .entry)))) ⌝ }
 {
-    if block::is_named(number as u8) {
+    if block::is_named(number as u16) {
         return keyed::read_key(form, update, w, r, MARK);
     }
     Field::Done

@@ -228,7 +228,6 @@ fn cut_behind(b: Block, e: Ends) -> Block
         place: 0,
         bytes: Bytes(0),
     };
-    let none = no_id();
     let left = left_of(b, from);
     let part = part_at(b, e);
     let is_item = block::is_item(b.kind);
@@ -240,9 +239,11 @@ fn cut_behind(b: Block, e: Ends) -> Block
     piece.clock = clock;
     piece.length = units;
     piece.has_left = is_item;
-    piece.left = left;
+    piece.left_client = left.client;
+    piece.left_clock = left.clock;
     piece.has_parent = false;
-    piece.parent = none;
+    piece.parent_client = 0;
+    piece.parent_clock = 0;
     piece.has_name = false;
     piece.name = nothing;
     piece.part = part;

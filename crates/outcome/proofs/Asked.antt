@@ -25,7 +25,7 @@ ids-append (a ∷ ds) es = go (a .there) (ids-append ds es)
 
 -- a block's clock and its ids' are within the limit
 abbrev pub Clocks : Block → Type 0
-Clocks b = (b .clock ≤ maxClock) × (b .left .clock ≤ maxClock) × (b .right .clock ≤ maxClock) × (b .parent .clock ≤ maxClock)
+Clocks b = (b .clock ≤ maxClock) × (b .«left_clock» ≤ maxClock) × (b .«right_clock» ≤ maxClock) × (b .«parent_clock» ≤ maxClock)
 
 abbrev pub Low : Dependency → Type 0
 Low a = a .id .clock ≤ maxClock

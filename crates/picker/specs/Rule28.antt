@@ -6,6 +6,7 @@ use lib.Dec.{eqb}
 use Rattle.numbers.specs.Number.{pick}
 use Rattle.block.specs.declared.Id.{Id}
 use Rattle.block.specs.declared.Block.{Block}
+use Rattle.block.specs.Row.{leftId, rightId, parentId}
 use Rattle.picker.specs.declared.stages.Dependency.{Dependency}
 use Rattle.picker.specs.Waits.{dep}
 
@@ -15,5 +16,5 @@ other c there d = dep (pick (eqb (d .client) c) false there) d
 
 unfoldable pub stages28 : Block → List Dependency
 stages28 b =
-    other (b .client) (b .«has_left») (b .left)
-    ∷ (other (b .client) (b .«has_right») (b .right) ∷ (other (b .client) (b .«has_parent») (b .parent) ∷ []))
+    other (b .client) (b .«has_left») (leftId b)
+    ∷ (other (b .client) (b .«has_right») (rightId b) ∷ (other (b .client) (b .«has_parent») (parentId b) ∷ []))

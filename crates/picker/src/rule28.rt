@@ -25,9 +25,18 @@ pub fn at(b: Block, k: usize) -> Dependency
     ensures { λ r. ⌜ r ≡ getD (stages28 b) k noDependency ⌝ }
 {
     let client = b.client;
-    let left = b.left;
-    let right = b.right;
-    let parent = b.parent;
+    let left = Id {
+        client: b.left_client,
+        clock: b.left_clock,
+    };
+    let right = Id {
+        client: b.right_client,
+        clock: b.right_clock,
+    };
+    let parent = Id {
+        client: b.parent_client,
+        clock: b.parent_clock,
+    };
     match k {
         0 => other(client, b.has_left, left),
         1 => other(client, b.has_right, right),

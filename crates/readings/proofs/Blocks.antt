@@ -13,7 +13,7 @@ use Rattle.text.specs.declared.Part.{Part}
 use Rattle.text.specs.declared.Units.{Units}
 use Rattle.text.specs.Utf8.{wellFormed, after, settled}
 use Rattle.block.specs.declared.Block.{Block}
-use Rattle.block.specs.Row.{noId, noPart}
+use Rattle.block.specs.Row.{noId, noPart, leftId, rightId, parentId}
 use Rattle.block.specs.Kinds.{GC, SKIP, DELETED, BINARY, TEXT, FORMAT, TYPE, ANY, isFormat, isType, isBare, isItem, isBlock, hasPart, maxType, isNamed, isMarked}
 use Rattle.block.specs.Rows.{plain, withLeft, withRight, withKey, markIs, withContent}
 use Rattle.grammar.specs.Grammar as fields
@@ -86,9 +86,9 @@ module _ (form : ℕ) (u : List ℕ) where
     record Frame (b : Block) : Type 0 where
       client : b .client ≡ c
       clock : b .clock ≡ k
-      left : SoundId (b .«has_left») (b .left)
-      right : SoundId (b .«has_right») (b .right)
-      parent : SoundId (b .«has_parent») (b .parent)
+      left : SoundId (b .«has_left») (leftId b)
+      right : SoundId (b .«has_right») (rightId b)
+      parent : SoundId (b .«has_parent») (parentId b)
       name : SoundText u (b .«has_name») (b .name)
       key : SoundText u (b .«has_key») (b .key)
       mark : SoundText u false (b .mark)

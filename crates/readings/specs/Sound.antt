@@ -14,7 +14,7 @@ use Rattle.text.specs.declared.Part.{Part}
 use Rattle.text.specs.Utf8.{wellFormed, unitsOf}
 use Rattle.block.specs.declared.Id.{Id}
 use Rattle.block.specs.declared.Block.{Block}
-use Rattle.block.specs.Row.{noId, noPart}
+use Rattle.block.specs.Row.{noId, noPart, leftId, rightId, parentId}
 use Rattle.block.specs.Kinds.{BINARY, TEXT, FORMAT, TYPE, ANY, isType, isItem, isBlock, hasPart, maxType, isMarked}
 use Rattle.anys.specs.declared.Skipped.the-variants.{At}
 use Rattle.anys.specs.Any.{anys}
@@ -69,9 +69,9 @@ pub record Sound (u : List ℕ) (b : Block) : Type 0 where
   pub client : b .client ≤ maxValue
   pub end : b .clock + b .length .0 ≤ maxClock
   pub kind : isBlock (b .kind) ≡ true
-  pub left : SoundId (b .«has_left») (b .left)
-  pub right : SoundId (b .«has_right») (b .right)
-  pub parent : SoundId (b .«has_parent») (b .parent)
+  pub left : SoundId (b .«has_left») (leftId b)
+  pub right : SoundId (b .«has_right») (rightId b)
+  pub parent : SoundId (b .«has_parent») (parentId b)
   pub name : SoundText u (b .«has_name») (b .name)
   pub key : SoundText u (b .«has_key») (b .key)
   pub mark : SoundText u (isMarked (b .kind) (b .«type_number»)) (b .mark)

@@ -40,7 +40,7 @@ module _ (u : List ℕ) (b : Block) where
   unfolding leftTokens
   left-none h = rw h
 
-  pub left-some : b .«has_left» ≡ true → leftTokens b ≡ client (b .left .client) ∷ (left (b .left .clock) ∷ [])
+  pub left-some : b .«has_left» ≡ true → leftTokens b ≡ client (b .«left_client») ∷ (left (b .«left_clock») ∷ [])
   unfolding leftTokens
   left-some h = rw h
 
@@ -48,7 +48,7 @@ module _ (u : List ℕ) (b : Block) where
   unfolding rightTokens
   right-none h = rw h
 
-  pub right-some : b .«has_right» ≡ true → rightTokens b ≡ client (b .right .client) ∷ (right (b .right .clock) ∷ [])
+  pub right-some : b .«has_right» ≡ true → rightTokens b ≡ client (b .«right_client») ∷ (right (b .«right_clock») ∷ [])
   unfolding rightTokens
   right-some h = rw h
 
@@ -56,7 +56,7 @@ module _ (u : List ℕ) (b : Block) where
   unfolding parentTokens
   parent-named h = rw h
 
-  pub parent-by-id : b .«has_name» ≡ false → parentTokens u b ≡ parentInfo 0 ∷ (client (b .parent .client) ∷ (left (b .parent .clock) ∷ []))
+  pub parent-by-id : b .«has_name» ≡ false → parentTokens u b ≡ parentInfo 0 ∷ (client (b .«parent_client») ∷ (left (b .«parent_clock») ∷ []))
   unfolding parentTokens
   parent-by-id h = rw h
 

@@ -32,14 +32,14 @@ abbrev pub name : List ℕ → Part → Token
 name u p = text (bytesIn u p) (countedIn (bytesIn u p) .units .0)
 
 unfoldable pub leftTokens : Block → List Token
-leftTokens b = pick (b .«has_left») (client (b .left .client) ∷ (left (b .left .clock) ∷ [])) []
+leftTokens b = pick (b .«has_left») (client (b .«left_client») ∷ (left (b .«left_clock») ∷ [])) []
 
 unfoldable pub rightTokens : Block → List Token
-rightTokens b = pick (b .«has_right») (client (b .right .client) ∷ (right (b .right .clock) ∷ [])) []
+rightTokens b = pick (b .«has_right») (client (b .«right_client») ∷ (right (b .«right_clock») ∷ [])) []
 
 unfoldable pub parentTokens : List ℕ → Block → List Token
 parentTokens u b =
-    pick (b .«has_name») (parentInfo 1 ∷ (name u (b .name) ∷ [])) (parentInfo 0 ∷ (client (b .parent .client) ∷ (left (b .parent .clock) ∷ [])))
+    pick (b .«has_name») (parentInfo 1 ∷ (name u (b .name) ∷ [])) (parentInfo 0 ∷ (client (b .«parent_client») ∷ (left (b .«parent_clock») ∷ [])))
 
 unfoldable pub keyTokens : List ℕ → Block → List Token
 keyTokens u b = pick (b .«has_key») (name u (b .key) ∷ []) []

@@ -70,9 +70,8 @@ fn write_left(out: &mut [u8], lanes: &mut [u64], form: u8, at: usize, b: Block) 
     if !b.has_left {
         return at;
     }
-    let id = b.left;
-    let mid = tokens::fields::write_client(out, lanes, form, at, id.client);
-    tokens::fields::write_left_clock(out, lanes, form, mid, id.clock as u64)
+    let mid = tokens::fields::write_client(out, lanes, form, at, b.left_client);
+    tokens::fields::write_left_clock(out, lanes, form, mid, b.left_clock as u64)
 }
 
 fn write_right(out: &mut [u8], lanes: &mut [u64], form: u8, at: usize, b: Block) -> usize
@@ -82,9 +81,8 @@ fn write_right(out: &mut [u8], lanes: &mut [u64], form: u8, at: usize, b: Block)
     if !b.has_right {
         return at;
     }
-    let id = b.right;
-    let mid = tokens::fields::write_client(out, lanes, form, at, id.client);
-    tokens::fields::write_right_clock(out, lanes, form, mid, id.clock as u64)
+    let mid = tokens::fields::write_client(out, lanes, form, at, b.right_client);
+    tokens::fields::write_right_clock(out, lanes, form, mid, b.right_clock as u64)
 }
 
 // A parent by its name, or by its id, which is written as a left id.
@@ -105,10 +103,9 @@ fn write_parent(
         let part = b.name;
         return write_name(out, update, lanes, form, named, part);
     }
-    let id = b.parent;
     let begun = tokens::fields::write_parent_info(out, lanes, form, at, 0);
-    let mid = tokens::fields::write_client(out, lanes, form, begun, id.client);
-    tokens::fields::write_left_clock(out, lanes, form, mid, id.clock as u64)
+    let mid = tokens::fields::write_client(out, lanes, form, begun, b.parent_client);
+    tokens::fields::write_left_clock(out, lanes, form, mid, b.parent_clock as u64)
 }
 
 fn write_key(

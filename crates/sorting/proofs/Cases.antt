@@ -6,7 +6,8 @@ use mathlib.Core.List.{List, [], _∷_}
 use Prim.Native.Nat.{ℕ}
 use Rattle.block.specs.declared.Id.{Id}
 use Rattle.block.specs.declared.Block.{Block}
-use Rattle.block.specs.Row.{noId, noPart}
+use Rattle.block.specs.Row.{noId}
+use Rattle.block.specs.Rows.{leftIs, plain}
 use Rattle.vector.specs.Vector.{Entry, entry}
 use Rattle.kept.specs.Kept.{remote}
 use Rattle.sorting.specs.Steps.{can, step, after}
@@ -20,25 +21,7 @@ use Rattle.sorting.specs.Sorted.{countsIn, countsOf, reachesIn, reachesO
 
 -- a block of some kind, clock and length, perhaps with a left id
 block : ℕ → ℕ → ℕ → ℕ → Bool → Id → Block
-block c clock length kind there i = record {
-  client = c;
-  clock = clock;
-  length = record { 0 = length };
-  kind = kind;
-  «has_left» = there;
-  left = i;
-  «has_right» = false;
-  right = noId;
-  «has_parent» = false;
-  parent = noId;
-  «has_name» = false;
-  name = noPart;
-  «has_key» = false;
-  key = noPart;
-  part = noPart;
-  mark = noPart;
-  «type_number» = 0;
-}
+block c clock length kind there i = leftIs there i (plain c clock length kind)
 
 -- a binary block at clock 0, and one that hangs on an id
 binary : ℕ → Block

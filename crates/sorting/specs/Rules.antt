@@ -8,7 +8,7 @@ use lib.ListN.{length, getD}
 use Rattle.numbers.specs.Number.{pick}
 use Rattle.block.specs.declared.Id.{Id}
 use Rattle.block.specs.declared.Block.{Block}
-use Rattle.block.specs.Row.{noBlock}
+use Rattle.block.specs.Row.{noBlock, leftId, rightId, parentId}
 use Rattle.block.specs.Kinds.{SKIP}
 use Rattle.sorting.specs.Steps.{System, State}
 
@@ -28,7 +28,7 @@ also false d ds = ds
 
 -- what a block hangs on: left id, right id, parent id
 unfoldable pub deps : Block → List Id
-deps b = also (b .«has_left») (b .left) (also (b .«has_right») (b .right) (also (b .«has_parent») (b .parent) []))
+deps b = also (b .«has_left») (leftId b) (also (b .«has_right») (rightId b) (also (b .«has_parent») (parentId b) []))
 
 -- the ids of other clients than c
 unfoldable pub others : ℕ → List Id → List Id

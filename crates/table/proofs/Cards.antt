@@ -14,7 +14,7 @@ use denote.Triple.Statement.{Contract, Triple}
 use denote.Triple.Spec.{tripleOf}
 use denote.Triple.Clauses.{atExit}
 use Rattle.walks.proofs.Rows.{Has, word, unit-kind}
-use Rattle.walks.proofs.Refs.{Seat, val, mut, read, pass, Card, since}
+use Rattle.walks.proofs.Refs.{Seat, val, mut, pass, Card, since}
 use Rattle.block.specs.declared.Block.{Block}
 use Rattle.block.specs.Row.{noBlock}
 use Rattle.table.specs.Rows.{clearedFrom, filledFrom}
@@ -63,20 +63,6 @@ module _ {M : Type 1} (𝓤 : URA M) (H : Heap 𝓤) (A : Atoms 𝓤) (mem : Mem
 
     pub table·fetch! : Triple 𝓤 (C #table·fetch) Table·fetch → (at-rows : Seat) (rows₀ : List Block) (i₀ : ℕ) (g-i : Has word i₀) → (i₀ < length rows₀) → Card 𝓤 H A C #table·fetch (pass block at-rows rows₀ ∷ val word i₀ g-i ∷ []) block (getD rows₀ i₀ noBlock)
     table·fetch! known at-rows rows₀ i₀ g-i h = record {
-      contract = Table·fetch;
-      known = known;
-      ghost = λ x. (x, tt);
-      args = λ ns. refl;
-      asked = fact 𝓤 (i₀ < length rows₀);
-      asks = factI 𝓤 (i₀ < length rows₀) (emp 𝓤) h;
-      into = λ ns. id⊢ 𝓤 _;
-      ensured = λ x r ws. table·fetch-fn.clauses 𝓤 H A mem run (x .0) (x .3) .ensures tt r (atExit table·fetch-fn.ended (x .0) (x .3) ws);
-      out = λ ns v. id⊢ 𝓤 _;
-      said = λ ns r ws. since 𝓤 (λ e. (e, tt));
-    }
-
-    pub table·fetch-rows! : Triple 𝓤 (C #table·fetch) Table·fetch → (at-rows : Seat) (rows₀ : List Block) (i₀ : ℕ) (g-i : Has word i₀) → (i₀ < length rows₀) → Card 𝓤 H A C #table·fetch (read block at-rows rows₀ ∷ val word i₀ g-i ∷ []) block (getD rows₀ i₀ noBlock)
-    table·fetch-rows! known at-rows rows₀ i₀ g-i h = record {
       contract = Table·fetch;
       known = known;
       ghost = λ x. (x, tt);

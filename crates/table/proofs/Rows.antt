@@ -1,14 +1,13 @@
--- Laws of filling and clearing: a row more, no row left, and that the first row cleared may be copied to the others. Assumes nothing.
-use mathlib.Core.Path.{_≡_, _∙_, ap, sym}
+-- Laws of filling: a row more, and no row left. Assumes nothing.
+use mathlib.Core.Path.{_≡_, _∙_, ap}
 use Prim.Native.Nat.{ℕ, suc, _+_, _-_, _<_, _≤_}
 use native.Mathlib.Omega.{arith}
 use native.Mathlib.Numerals.{add-one}
 use mathlib.Core.List.{List, [], _∷_, _++_, append-assoc, append-nil}
-use lib.ListN.{length, getD, set, replicate, take, length-set}
-use lib.Seq.{take-suc-set, take-all, getD-set-same, set-set}
+use lib.ListN.{length, set, replicate, take, length-set}
+use lib.Seq.{take-suc-set, take-all}
 use Rattle.block.specs.declared.Block.{Block}
-use Rattle.block.specs.Row.{noBlock}
-use Rattle.table.specs.Rows.{filledFrom, clearedFrom}
+use Rattle.table.specs.Rows.{filledFrom}
 
 -- row i is b, and so are those after it
 pub filled-more : (b : Block) (rows : List Block) (i : ℕ) → i < length rows → filledFrom (i + 1) b (set rows i b) ≡ filledFrom i b rows
@@ -29,12 +28,3 @@ filled-none b rows i l = ap (λ (n : ℕ). take i rows ++ replicate n b) left �
   where
     left : length rows - i ≡ 0
     left = omega (arith, l)
-
--- row i cleared, and then fetched and copied to itself and to those after it
-pub copied : (rows : List Block) (i : ℕ) → i < length rows → filledFrom i (getD (set rows i noBlock) i noBlock) (set rows i noBlock) ≡ clearedFrom i rows
-unfolding clearedFrom
-copied rows i l =
-    ap (λ (b : Block). filledFrom i b (set rows i noBlock)) (getD-set-same rows i noBlock noBlock l)
-    ∙ sym (filled-more noBlock (set rows i noBlock) i (omega (arith, l, length-set rows i noBlock)))
-    ∙ ap (filledFrom (i + 1) noBlock) (set-set rows i noBlock noBlock)
-    ∙ filled-more noBlock rows i l

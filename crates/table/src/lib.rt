@@ -33,14 +33,10 @@ fn fill_from(rows: &mut [Block], from: usize, b: Block)
     }
 }
 
-// The rows from `from` on have no block from now on. The first is made so and copied whole to the others: made so one by one, a row is stored field by field.
+// The rows from `from` on have no block from now on. No byte of a row is padding, so this is compiled to one memset.
 pub fn clear(rows: &mut [Block], from: usize)
     ensures { λ _. ⌜ now (rows .exit) ≡ clearedFrom from (now (rows .entry)) ⌝ }
 {
-    if from < rows.len() {
-        let none = block::none();
-        fill(rows, from, none);
-        let b = fetch(rows, from);
-        fill_from(rows, from, b);
-    }
+    let none = block::none();
+    fill_from(rows, from, none);
 }

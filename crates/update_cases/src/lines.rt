@@ -1,6 +1,5 @@
 // What the lines of updates have beside numbers: ids, parts, kinds, rows, and the last word.
 use block::Block;
-use block::Id;
 use stream::line;
 use text::Part;
 
@@ -11,12 +10,12 @@ pub fn id(sink: &mut [u8], used: usize, client: u64, clock: u64) -> usize {
 }
 
 // An id with the dot before it, `-` if it is absent.
-fn dotted_id(sink: &mut [u8], used: usize, has: bool, it: Id) -> usize {
+fn dotted_id(sink: &mut [u8], used: usize, has: bool, client: u64, clock: u32) -> usize {
     let begun = line::put(sink, used, b'.');
     if !has {
         return line::put(sink, begun, b'-');
     }
-    id(sink, begun, it.client, it.clock as u64)
+    id(sink, begun, client, clock as u64)
 }
 
 // A part with the dot before it, `-` if it is absent.
@@ -59,18 +58,18 @@ fn head(sink: &mut [u8], used: usize, b: Block) -> usize {
 }
 
 fn origins(sink: &mut [u8], used: usize, b: Block) -> usize {
-    let left = dotted_id(sink, used, b.has_left, b.left);
-    dotted_id(sink, left, b.has_right, b.right)
+    let left = dotted_id(sink, used, b.has_left, b.left_client, b.left_clock);
+    dotted_id(sink, left, b.has_right, b.right_client, b.right_clock)
 }
 
 fn place(sink: &mut [u8], used: usize, b: Block) -> usize {
     let name = dotted_part(sink, used, b.has_name, b.name);
-    let parent = dotted_id(sink, name, b.has_parent, b.parent);
+    let parent = dotted_id(sink, name, b.has_parent, b.parent_client, b.parent_clock);
     dotted_part(sink, parent, b.has_key, b.key)
 }
 
 // The type number of a type with the dot before it, `-` for any other kind.
-fn dotted_type(sink: &mut [u8], used: usize, kind: u8, number: u8) -> usize {
+fn dotted_type(sink: &mut [u8], used: usize, kind: u8, number: u16) -> usize {
     if kind == block::TYPE {
         return dotted(sink, used, number as u64);
     }

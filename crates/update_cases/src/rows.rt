@@ -2,7 +2,6 @@
 use crate::lines;
 use crate::lines::Listed;
 use block::Block;
-use block::Id;
 use stream::line;
 use text::Bytes;
 use text::Part;
@@ -17,10 +16,6 @@ pub struct Told {
 
 // A row that is lent: no field is zero.
 pub fn full() -> Block {
-    let id = Id {
-        client: 0xA5A5,
-        clock: 0xA5A5,
-    };
     let part = Part {
         place: 0xA5A5,
         bytes: Bytes(0xA5A5),
@@ -31,23 +26,31 @@ pub fn full() -> Block {
         length: Units(0xA5A5),
         kind: 0xA5,
         has_left: true,
-        left: id,
+        left_client: 0xA5A5,
+        left_clock: 0xA5A5,
         has_right: true,
-        right: id,
+        right_client: 0xA5A5,
+        right_clock: 0xA5A5,
         has_parent: true,
-        parent: id,
+        parent_client: 0xA5A5,
+        parent_clock: 0xA5A5,
         has_name: true,
         name: part,
         has_key: true,
         key: part,
         part,
         mark: part,
-        type_number: 0xA5,
+        type_number: 0xA5A5,
     }
 }
 
-fn is_no_id(it: Id) -> bool {
-    it.client == 0 && it.clock == 0
+fn has_no_id(b: Block) -> bool {
+    b.left_client == 0
+        && b.left_clock == 0
+        && b.right_client == 0
+        && b.right_clock == 0
+        && b.parent_client == 0
+        && b.parent_clock == 0
 }
 
 fn is_no_part(it: Part) -> bool {
@@ -66,9 +69,7 @@ fn is_none(b: Block) -> bool {
         && length.0 == 0
         && b.kind == 0
         && has_none(b)
-        && is_no_id(b.left)
-        && is_no_id(b.right)
-        && is_no_id(b.parent)
+        && has_no_id(b)
         && is_no_part(b.name)
         && is_no_part(b.key)
         && is_no_part(b.part)

@@ -16,7 +16,7 @@ use Rattle.runs.specs.Runs.{coding}
 use Rattle.block.specs.declared.Id.{Id}
 use Rattle.block.specs.declared.Block.{Block}
 use Rattle.block.specs.Kinds.{TYPE, isGc, isSkip, isDeleted, isBinary, isText, isFormat, isType, isAny, isItem, isNamed}
-use Rattle.block.specs.Row.{noId}
+use Rattle.block.specs.Row.{noId, leftId, rightId, parentId}
 use Rattle.vector.specs.Vector.{Entry}
 use Rattle.ranges.specs.Ranges.{Range}
 use Rattle.readings.specs.Sound.{bytesIn, linked, Sound, SoundId, All, Ordered}
@@ -122,9 +122,9 @@ pub record ModestId (i : Id) : Type 0 where
 
 -- its numbers are within the limits
 pub record Modest (b : Block) : Type 0 where
-  pub left : ModestId (b .left)
-  pub right : ModestId (b .right)
-  pub parent : ModestId (b .parent)
+  pub left : ModestId (leftId b)
+  pub right : ModestId (rightId b)
+  pub parent : ModestId (parentId b)
   pub length : b .length .0 ≤ maxClock
   pub type : b .«type_number» ≤ maxValue
 
@@ -154,14 +154,14 @@ module _ (u : List ℕ) (few : length u ≤ maxUpdate) (b : Block) (m : Modest b
   unfolding leftTokens
   lefts-legal =
       chosen Legals (b .«has_left»)
-      (λ _. more-legal _ _ (client-legal (b .left .client) (m .left .client)) (more-legal _ _ (left-legal (b .left .clock) (m .left .clock)) none-legal))
+      (λ _. more-legal _ _ (client-legal (b .«left_client») (m .left .client)) (more-legal _ _ (left-legal (b .«left_clock») (m .left .clock)) none-legal))
       (λ _. none-legal)
 
   rights-legal : Legals (rightTokens b)
   unfolding rightTokens
   rights-legal =
       chosen Legals (b .«has_right»)
-      (λ _. more-legal _ _ (client-legal (b .right .client) (m .right .client)) (more-legal _ _ (right-legal (b .right .clock) (m .right .clock)) none-legal))
+      (λ _. more-legal _ _ (client-legal (b .«right_client») (m .right .client)) (more-legal _ _ (right-legal (b .«right_clock») (m .right .clock)) none-legal))
       (λ _. none-legal)
 
   parents-legal : Legals (parentTokens u b)
@@ -170,7 +170,7 @@ module _ (u : List ℕ) (few : length u ≤ maxUpdate) (b : Block) (m : Modest b
       chosen Legals (b .«has_name»)
       (λ _. more-legal _ _ (parent-info-legal 1 (omega arith)) (more-legal _ _ (name-legal u few (b .name)) none-legal))
       (λ _. more-legal _ _ (parent-info-legal 0 (omega arith))
-      (more-legal _ _ (client-legal (b .parent .client) (m .parent .client)) (more-legal _ _ (left-legal (b .parent .clock) (m .parent .clock)) none-legal)))
+      (more-legal _ _ (client-legal (b .«parent_client») (m .parent .client)) (more-legal _ _ (left-legal (b .«parent_clock») (m .parent .clock)) none-legal)))
 
   keys-legal : Legals (keyTokens u b)
   unfolding keyTokens

@@ -13,6 +13,7 @@ use Rattle.text.specs.Utf8.{wellFormed, unitsOf, countedIn}
 use Rattle.text.proofs.Laws.{units-le-bytes}
 use Rattle.block.specs.declared.Id.{Id}
 use Rattle.block.specs.declared.Block.{Block}
+use Rattle.block.specs.Row.{leftId, rightId, parentId}
 use Rattle.block.specs.Kinds.{TEXT, FORMAT, TYPE, ANY, isGc, isSkip, isDeleted, isBinary, isText, isFormat, isType, isAny, isItem, isNamed}
 use Rattle.readings.specs.Sound.{bytesIn, SoundId, linked, Sound, Valued}
 use Rattle.readings.proofs.Columns.{chosen}
@@ -74,20 +75,20 @@ module _ (form : ℕ) (u : List ℕ) (few : length u ≤ maxUpdate) where
     unfolding AllLegal Legal isField most
     right-legal there i sound = ((refl, sound .client), ((refl, sound .clock), tt))
 
-    ids-legal : SoundId (b .«has_left») (b .left) → SoundId (b .«has_right») (b .right) → AllLegal form (leftTokens b ++ rightTokens b)
+    ids-legal : SoundId (b .«has_left») (leftId b) → SoundId (b .«has_right») (rightId b) → AllLegal form (leftTokens b ++ rightTokens b)
     unfolding leftTokens rightTokens
     ids-legal l r =
         legal-append form (leftTokens b) (rightTokens b)
-        (chosen (Fit form) (b .«has_left») (λ _. left-legal (b .«has_left») (b .left) l) (λ _. none-legal form))
-        (chosen (Fit form) (b .«has_right») (λ _. right-legal (b .«has_right») (b .right) r) (λ _. none-legal form))
+        (chosen (Fit form) (b .«has_left») (λ _. left-legal (b .«has_left») (leftId b) l) (λ _. none-legal form))
+        (chosen (Fit form) (b .«has_right») (λ _. right-legal (b .«has_right») (rightId b) r) (λ _. none-legal form))
 
     named-legal : wellFormed (bytesIn u (b .name)) ≡ true → AllLegal form (parentInfo 1 ∷ (name u (b .name) ∷ []))
     unfolding AllLegal Legal isField most
     named-legal w = ((refl, omega arith), (name-legal (b .name) w, tt))
 
-    parent-legal : SoundId (b .«has_parent») (b .parent) → AllLegal form (parentInfo 0 ∷ (client (b .parent .client) ∷ (left (b .parent .clock) ∷ [])))
+    parent-legal : SoundId (b .«has_parent») (parentId b) → AllLegal form (parentInfo 0 ∷ (client (b .«parent_client») ∷ (left (b .«parent_clock») ∷ [])))
     unfolding AllLegal Legal isField most
-    parent-legal sound = ((refl, omega arith), left-legal (b .«has_parent») (b .parent) sound)
+    parent-legal sound = ((refl, omega arith), left-legal (b .«has_parent») (parentId b) sound)
 
     key-legal : wellFormed (bytesIn u (b .key)) ≡ true → AllLegal form (keyTokens u b)
     unfolding keyTokens AllLegal

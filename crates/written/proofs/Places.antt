@@ -6,8 +6,9 @@ use mathlib.Core.List.{List, _++_}
 use lib.Dec.{ltb}
 use Rattle.numbers.specs.Number.{pick}
 use Rattle.text.specs.declared.Part.{Part}
+use Rattle.block.specs.declared.Id.{Id}
 use Rattle.block.specs.declared.Block.{Block}
-use Rattle.block.specs.Row.{noPart}
+use Rattle.block.specs.Row.{noId, noPart, leftId, rightId, parentId}
 use Rattle.block.specs.Rows.{plain}
 use Rattle.block.specs.Kinds.{isDeleted, isBinary, isText, isFormat, isType, isAny, isItem, isMarked}
 use Rattle.block.proofs.OfKinds.{item-part}
@@ -42,15 +43,22 @@ no-mark : (k type : ℕ) → isItem k ≡ false → isMarked k type ≡ false
 unfolding isMarked
 no-mark k type l = rw (no-marks k l .0, no-marks k l .1)
 
+-- an id that is not there, by its client and its clock
+no-client : (i : Id) → i ≡ noId → i .client ≡ 0
+no-client i e = ap (λ (j : Id). j .client) e
+
+no-clock : (i : Id) → i ≡ noId → i .clock ≡ 0
+no-clock i e = ap (λ (j : Id). j .clock) e
+
 -- b before anything of it is read, with its ids, and with a parent's name and a key that lie in the new update
 abbrev pub bare : Block → Block
 bare b = plain (b .client) (b .clock) 0 0
 
 abbrev pub withIds : Block → Block
-withIds b = beside (b .client) (b .clock) (b .«has_left») (b .left) (b .«has_right») (b .right)
+withIds b = beside (b .client) (b .clock) (b .«has_left») (leftId b) (b .«has_right») (rightId b)
 
 abbrev pub withRoot : Block → Part → Part → Block
-withRoot b p q = rooted (b .client) (b .clock) (b .«has_parent») (b .parent) (b .«has_name») p (b .«has_key») q
+withRoot b p q = rooted (b .client) (b .clock) (b .«has_parent») (parentId b) (b .«has_name») p (b .«has_key») q
 
 module _ {S : Type 0} (r : Reader S) (d u : List ℕ) (b : Block) where
   -- from s to m a block's place is read, and with content of the same bytes the block is like c
@@ -67,8 +75,9 @@ module _ {S : Type 0} (r : Reader S) (d u : List ℕ) (b : Block) where
     unfolding linked
     linked-alike p q e f =
         let none = sound .shape .rootless l some in
+        let away = sound .parent .absent (none .0) in
         record {
-          same = rw (none .0, sound .parent .absent (none .0), none .1);
+          same = rw (none .0, no-client (parentId b) away, no-clock (parentId b) away, none .1);
           name = nothing-in d u ∙ ap (bytesIn u) (sym (sound .name .absent (none .1)));
           key = nothing-in d u;
           part = e;
@@ -83,8 +92,8 @@ module _ {S : Type 0} (r : Reader S) (d u : List ℕ) (b : Block) where
         let says = info-says b l in
         let ids : ltb (infoByte b) 64 ≡ false = says .ids ∙ ap (λ (x : Bool). pick x false true) some in
         let v = infoByte b in
-        let left = left-read r d (b .client) (b .clock) v (b .«has_left») (b .left) (sound .left .absent) (says .left) s (two .between) (two .first) in
-        let right = right-read r d (b .client) (b .clock) v (b .«has_left») (b .left) (b .«has_right») (b .right) (sound .right .absent) (says .right) in
+        let left = left-read r d (b .client) (b .clock) v (b .«has_left») (leftId b) (sound .left .absent) (says .left) s (two .between) (two .first) in
+        let right = right-read r d (b .client) (b .clock) v (b .«has_left») (leftId b) (b .«has_right») (rightId b) (sound .right .absent) (says .right) in
         record {
           block = withIds b;
           is = rw ids (then-on r _ _ s (two .between) _ left ∙ right (two .between) m (two .then));
@@ -106,8 +115,11 @@ module _ {S : Type 0} (r : Reader S) (d u : List ℕ) (b : Block) where
     rooted-alike : (n k p q : Part) → bytesIn d n ≡ bytesIn u (b .name) → bytesIn d k ≡ bytesIn u (b .key) → bytesIn d p ≡ bytesIn u (b .part)
         → bytesIn d q ≡ bytesIn u (b .mark) → Alike d (filled b p q (withRoot b n k)) u b
     rooted-alike n k p q named keyed e f =
+        let left = sound .left .absent (no-ids .0) in
+        let right = sound .right .absent (no-ids .1) in
         record {
-          same = rw (no-ids .0, no-ids .1, sound .left .absent (no-ids .0), sound .right .absent (no-ids .1));
+          same =
+              rw (no-ids .0, no-ids .1, no-client (leftId b) left, no-clock (leftId b) left, no-client (rightId b) right, no-clock (rightId b) right);
           name = named;
           key = keyed;
           part = e;
@@ -121,9 +133,9 @@ module _ {S : Type 0} (r : Reader S) (d u : List ℕ) (b : Block) where
         let two = split r d (parentTokens u b) (keyTokens u b) s m k in
         let says = info-says b l in
         let ids : ltb (infoByte b) 64 ≡ true = says .ids ∙ ap (λ (x : Bool). pick x false true) none in
-        let parent = parent-read r d u (b .client) (b .clock) (b .«has_parent») (b .parent) (b .«has_name») (b .name) in
+        let parent = parent-read r d u (b .client) (b .clock) (b .«has_parent») (parentId b) (b .«has_name») (b .name) in
         let root = parent (sound .shape .rooted l none) (sound .parent .absent) (sound .name .absent) s (two .between) (two .first) in
-        let text = key-read r d u (b .client) (b .clock) (infoByte b) (b .«has_parent») (b .parent) (b .«has_name») (root .0) (b .«has_key») (b .key) in
+        let text = key-read r d u (b .client) (b .clock) (infoByte b) (b .«has_parent») (parentId b) (b .«has_name») (root .0) (b .«has_key») (b .key) in
         let key = text (sound .key .absent) (says .key none) (two .between) m (two .then) in
         record {
           block = withRoot b (root .0) (key .0);
@@ -137,9 +149,10 @@ module _ {S : Type 0} (r : Reader S) (d u : List ℕ) (b : Block) where
     pub bare-alike : isItem (b .kind) ≡ false → Alike d (plain (b .client) (b .clock) (b .length .0) (b .kind)) u b
     bare-alike l =
         let none = sound .shape .bare l in
+        let away = sound .parent .absent (none .1) in
         let absent : (p : Part) → p ≡ noPart → bytesIn d noPart ≡ bytesIn u p = λ p e. rw e (nothing-in d u) in
         let same : filled b noPart noPart (withRoot b noPart noPart) ≡ plain (b .client) (b .clock) (b .length .0) (b .kind) =
-        rw (none .1, none .2, none .3, sound .parent .absent (none .1), sound .stored .untyped (no-marks (b .kind) l .1)) in
+        rw (none .1, none .2, none .3, no-client (parentId b) away, no-clock (parentId b) away, sound .stored .untyped (no-marks (b .kind) l .1)) in
         subst (λ (x : Block). Alike d x u b) same
         (rooted-alike noPart noPart noPart noPart (absent (b .name) (sound .name .absent (none .2))) (absent (b .key) (sound .key .absent (none .3)))
         (absent (b .part) (sound .stored .nothing (item-part (b .kind) l))) (absent (b .mark) (sound .mark .absent (no-mark (b .kind) (b .«type_number») l))))

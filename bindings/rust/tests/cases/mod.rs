@@ -1,6 +1,6 @@
 //! The bytes of document 01's cases, and tables to lend: nothing in them is zero before a call, so that zeros after it mean something.
 #![allow(dead_code)]
-use wairokabi::{Block, Bytes, Count, Entry, Id, Part, Pending, Range, Units, TEXT};
+use wairokabi::{Block, Bytes, Count, Entry, Part, Pending, Range, Units, TEXT};
 
 /// Form 1: client 5, clock 0, parent "t", text "hi".
 pub const C: [u8; 12] = [0x01, 0x01, 0x05, 0x00, 0x04, 0x01, 0x01, 0x74, 0x02, 0x68, 0x69, 0x00];
@@ -51,18 +51,21 @@ pub struct Lent {
 }
 
 pub fn lent(rows: usize, ranges: usize, out: usize) -> Lent {
-    let (id, part) = (Id { client: 5, clock: 6 }, Part { place: 3, bytes: Bytes(4) });
+    let part = Part { place: 3, bytes: Bytes(4) };
     let row = Block {
         client: 1,
         clock: 2,
         length: Units(7),
         kind: TEXT,
         has_left: true,
-        left: id,
+        left_client: 5,
+        left_clock: 6,
         has_right: true,
-        right: id,
+        right_client: 5,
+        right_clock: 6,
         has_parent: true,
-        parent: id,
+        parent_client: 5,
+        parent_clock: 6,
         has_name: true,
         name: part,
         has_key: true,

@@ -3,6 +3,7 @@ use mathlib.Core.Path.{sym, _∙_}
 use Rattle.tokens.specs.Tokens.{types}
 use Rattle.tokens.proofs.Keyed.{aliased-same, wrote-keys, wrote-keys-then, wrote-keys-is}
 use Rattle.marked.proofs.Marked.{type-named, type-plain, one-field}
+use native.Mathlib.Omega.{arith}
 use borrow.Author.Needs.{needs}
 use Rattle.marked.proofs.write_type.Statement.{statement}
 use Rattle.marked.proofs.write_type.Tie as tie
@@ -35,9 +36,13 @@ returns-2 c =
     wrote-keys-is (type-plain (a .update .now) (a .b) (sym (p1 .is-named .ensures) ∙ c .if1 .left))
     (wrote-keys (one-field types (a .b .«type_number»)) (p6 .write-type .ensures))
 
+-- what is known of the last of a row's twenty fields
+cast-write-type : tie.Need-cast-write-type
+cast-write-type c = omega (arith, c .struct-known .given .1 .1 .1 .1 .1 .1 .1 .1 .1 .1 .1 .1 .1 .1 .1 .1 .1 .1 .1 .0)
+
 pub write-type-spec : {M : Type 1} → statement M
 write-type-spec =
     tie.close
     (tie.spec
-    (λ c. search (needs, c .struct-known .given .1 .1 .1 .1 .1 .1 .1 .1 .1 .1 .1 .1 .1 .1 .1 .1 .0)) (λ c κs. search needs) (λ c κs. search needs) write-key-requires (λ c. search needs) (λ c. search needs)
+    cast-write-type (λ c κs. search needs) (λ c κs. search needs) write-key-requires (λ c. search needs) (λ c. search needs)
     returns (λ c. search needs) (λ c. search needs) returns-2)

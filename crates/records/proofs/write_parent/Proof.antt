@@ -19,10 +19,10 @@ returns-2 c =
     let p4 = c .before .before .before .before in
     let p12 = p4 .before .before .before .before .before .before .before .before in
     let p19 = p12 .before .before .before .before .before .before .before in
-    let p23 = p19 .before .before .before .before in
-    let p27 = p23 .before .before .before .before in
-    let a = p27 .args in
-    wrote-is (parent-by-id (a .update .now) (a .b) (p23 .if1 .left))
+    let p22 = p19 .before .before .before in
+    let p26 = p22 .before .before .before .before in
+    let a = p26 .args in
+    wrote-is (parent-by-id (a .update .now) (a .b) (p22 .if1 .left))
     (wrote-then (p19 .write-parent-info2 .ensures) (wrote-then (p12 .write-client .ensures) (p4 .write-left-clock .ensures)))
 
 pub write-parent-spec : {M : Type 1} → statement M

@@ -17,10 +17,10 @@ returns-2 : tie.Need-returns-2
 returns-2 c =
     let p4 = c .before .before .before .before in
     let p12 = p4 .before .before .before .before .before .before .before .before in
-    let p16 = p12 .before .before .before .before in
-    let p20 = p16 .before .before .before .before in
-    let a = p20 .args in
-    wrote-is (right-some [] (a .b) (not-false (a .b .«has_right») (p16 .if1 .left)))
+    let p15 = p12 .before .before .before in
+    let p19 = p15 .before .before .before .before in
+    let a = p19 .args in
+    wrote-is (right-some [] (a .b) (not-false (a .b .«has_right») (p15 .if1 .left)))
     (wrote-then (p12 .write-client .ensures) (p4 .write-right-clock .ensures))
 
 pub write-right-spec : {M : Type 1} → statement M

@@ -87,14 +87,14 @@ module _ {M : Type 1} (𝓤 : URA M) (H : Heap 𝓤) (A : Atoms 𝓤) (W : Given
         -- [the references; _5 at 1; _4 at 3; _3 at 5; _2 at 7; _1 at 9; _0 at 11]
         assigns ! (bin ! (load ! (from ! (stop !)) (look ! 7 refl)) (lit ! tt) (record { fits = far req })) (from ! (stop !)) (init ! 3 refl (tt, record { fits = far req })) $
         assigns ! (bin ! (load ! (from ! (fld ! refl (stop !))) (look-in ! 9 (sub ! 0 refl (whole !)))) (load ! (from ! (stop !)) (look ! 3 refl)) tt) (from ! (stop !)) (init ! 1 refl (tt, tt)) $
-        rewrite ! 1 (λ (p : ℕ). ‵ (fat fullShare tyPtr l₅ 0 (vptr (at-rows .block) p))) (sym (place-is 144 (at-rows .offset) i₀)) refl $ takes-out ! tt block at-rows rows₀ i₀ noBlock req (λ _.
+        rewrite ! 1 (λ (p : ℕ). ‵ (fat fullShare tyPtr l₅ 0 (vptr (at-rows .block) p))) (sym (place-is 128 (at-rows .offset) i₀)) refl $ takes-out ! tt block at-rows rows₀ i₀ noBlock req (λ _.
         assigns ! (of-opd ! (load ! (from ! (stop !)) (look ! 6 refl))) (from ! (hop ! (look ! 2 refl) (stop !))) (store-raw ! 0 refl (block .lawful M 𝓤 H A W .typed b₀ _ (are .1 .1 .0) .0)) $
         puts-in ! tt block at-rows rows₀ i₀ b₀ req (are .1 .1 .0) $
         assigns ! (of-opd ! (unit-lit !)) (from ! (stop !)) (init ! 11 refl (tt, tt)) $
         returns-within ! Post refl (look ! 11 refl) $
         free-all ! (_ ∷ []) En (has _ ∷ has _ ∷ has _ ∷ has _ ∷ has _ ∷ has _ ∷ []) [] $ by ! (exits tt (set rows₀ i₀ b₀) refl refl)))
       where
-        far : i₀ < length rows₀ → i₀ * 144 < 2 ^ 64
+        far : i₀ < length rows₀ → i₀ * 128 < 2 ^ 64
         far l = omega (arith, are .0 .0 .1 .1, l)
 
 pub fill-spec : {M : Type 1} → stated.statement M

@@ -21,7 +21,7 @@ returns-3 c = rw (c .before .match .keys3) (c .other3 .ensures)
 
 returns-4 : tie.Need-returns-4
 returns-4 c =
-    let a = c .before .before .before .before .before .args in
+    let a = c .before .before .args in
     let m = c .before .match .rest in
     c .none .ensures ∙ sym (no-fourth (a .b) (a .k) (omega (arith, m .0 .0 .1, m .0 .1, m .1)))
 
