@@ -1,0 +1,290 @@
+// The library's calls over its WebAssembly. What is lent to a call lies behind the library's own memory, all of it anew for each call: nothing is kept between
+// calls, and nothing leaks. The memory grows to the largest call that was made, and stays so large.
+import { calls, sizeOf, structs } from './layout.js'
+import { Refused } from './refused.js'
+
+const MAX_UPDATE = 16777215
+const MAX_BLOCKS = 65535
+const MAX_CLIENTS = 64
+const MAX_INPUT = 65536
+const MAX_TEXT = 100957
+const MAX_SUMMARY = Math.floor((18 + 131 * MAX_CLIENTS) / 8)
+
+/** What a block's kind says, by number; what a type is, by number. */
+const KINDS = ['', 'gc', 'skip', 'deleted', 'binary', 'text', 'format', 'type', 'any']
+export const TYPES = ['array', 'map', 'text', 'xml element', 'xml fragment', 'xml hook', 'xml text']
+
+const NO_CLIENT = Uint8Array.of(0)
+
+// ---- what is asked of a caller, so that the library is lent what its header asks for
+
+const asked = (good, words) => {
+  if (!good) throw new TypeError(words)
+}
+/** Bytes; of more than an update may have no more than say so. */
+const bytesOf = (bytes, what) => {
+  asked(bytes instanceof Uint8Array, `${what} is no Uint8Array`)
+  return bytes.subarray(0, MAX_UPDATE + 1)
+}
+const byteOf = (number, what) => {
+  asked(Number.isInteger(number) && number >= 0 && number < 256, `${what} is no number from 0 to 255`)
+  return number
+}
+const countOf = (number, what) => {
+  asked(Number.isSafeInteger(number) && number >= 0, `${what} is no count`)
+  return number
+}
+
+// ---- the library's memory
+
+const PAGE = 65536
+const aligned = at => Math.ceil(at / 16) * 16
+
+/** A module with a 64-bit memory and nothing else. */
+const SMALLEST = Uint8Array.of(0, 0x61, 0x73, 0x6d, 1, 0, 0, 0, 5, 3, 1, 4, 0)
+
+/** Grows by so many pages: by a bigint, and by a number where the engine is older. */
+const grow = (memory, pages) => {
+  try {
+    memory.grow(BigInt(pages))
+  } catch (e) {
+    if (!(e instanceof TypeError)) throw e
+    memory.grow(pages)
+  }
+}
+
+/** Numbers of the library's memory. Its words are all below 2^53: clients, clocks, lengths, counts and places. */
+class View {
+  constructor(buffer) {
+    this.bytes = new Uint8Array(buffer)
+    this.view = new DataView(buffer)
+  }
+
+  number(at, type) {
+    if (type === 'uint8_t' || type === 'bool') return this.view.getUint8(at)
+    const low = this.view.getUint32(at, true)
+    return type === 'uint32_t' ? low : low + this.view.getUint32(at + 4, true) * 2 ** 32
+  }
+
+  /** All fields of a struct. */
+  struct(at, { fields }) {
+    const found = {}
+    for (const [name, field] of fields) found[name] = this.number(at + field.at, field.type)
+    return found
+  }
+
+  /** The first rows of a piece of words, so many words each. */
+  rows(piece, count, words) {
+    return Array.from({ length: count }, (_, n) => Array.from({ length: words }, (_, k) => this.number(piece.at + 8 * (n * words + k), 'uint64_t')))
+  }
+
+  copy(piece, count) {
+    return this.bytes.slice(piece.at, piece.at + count)
+  }
+}
+
+/** One call of the library at a time. */
+const caller = exports => {
+  const [all, known] = [structs(), calls()]
+  const { memory } = exports
+  const base = Number(exports.__heap_base.value)
+
+  /** Calls `name`. `given` has for each parameter its number; the bytes that are lent; or how many elements are lent to be written, all zero. */
+  const call = (name, given) => {
+    const { answer, parameters } = known[name]
+    let top = aligned(base)
+    const room = bytes => {
+      const at = top
+      top = aligned(at + Math.max(bytes, 1))
+      return at
+    }
+    const to = room(all[answer].size)
+    const words = [BigInt(to)]
+    const pieces = {}
+    for (const { name, type, lent, written } of parameters) {
+      if (!lent) words.push(type === 'uint8_t' ? given[name] : BigInt(given[name]))
+      else {
+        const count = written ? given[name] : given[name].length
+        const bytes = count * sizeOf(type, all)
+        pieces[name] = { at: room(bytes), bytes, from: written ? null : given[name] }
+        words.push(BigInt(pieces[name].at), BigInt(count))
+      }
+    }
+    const missing = top - memory.buffer.byteLength
+    if (missing > 0) grow(memory, Math.ceil(missing / PAGE))
+    const view = new View(memory.buffer)
+    for (const { at, bytes, from } of Object.values(pieces)) {
+      if (from === null) view.bytes.fill(0, at, at + bytes)
+      else view.bytes.set(from, at)
+    }
+    exports[`wairokabi_${name}`](...words)
+    const found = view.struct(to, all[answer])
+    return { ...found, number: found.number ?? found.refusal_number, place: found.refusal_place ?? 0, view, pieces }
+  }
+  return { call, row: all.block }
+}
+
+// ---- blocks and ranges
+
+/** A row of the block table, at a place: what is not there is null. */
+const blockReader = ({ size, fields }) => {
+  const at = name => {
+    if (!fields.has(name)) throw new Error(`a block has no field ${name}`)
+    return fields.get(name)
+  }
+  const number = name => {
+    const field = at(name)
+    return (view, from) => view.number(from + field.at, field.type)
+  }
+  const pair = (one, first, other, second) => {
+    const [f, s] = [number(first), number(second)]
+    return (view, from) => ({ [one]: f(view, from), [other]: s(view, from) })
+  }
+  const id = name => pair('client', `${name}_client`, 'clock', `${name}_clock`)
+  const part = name => pair('place', `${name}_place`, 'bytes', `${name}_bytes`)
+  const where = (has, read) => (view, from) => has(view, from) ? read(view, from) : null
+  const client = number('client')
+  const clock = number('clock')
+  const length = number('length')
+  const kind = number('kind')
+  const type = number('type_number')
+  const left = where(number('has_left'), id('left'))
+  const right = where(number('has_right'), id('right'))
+  const parent = where(number('has_parent'), id('parent'))
+  const name = where(number('has_name'), part('name'))
+  const key = where(number('has_key'), part('key'))
+  const stored = part('part')
+  const mark = part('mark')
+  return (view, rows, n) => {
+    const from = rows.at + n * size
+    const named = KINDS[kind(view, from)]
+    const typed = named === 'type' ? type(view, from) : null
+    return {
+      client: client(view, from),
+      clock: clock(view, from),
+      length: length(view, from),
+      kind: named,
+      left: left(view, from),
+      right: right(view, from),
+      parent: parent(view, from),
+      name: name(view, from),
+      key: key(view, from),
+      part: ['binary', 'text', 'format', 'any'].includes(named) ? stored(view, from) : null,
+      mark: named === 'format' || typed === 3 || typed === 5 ? mark(view, from) : null,
+      type: typed
+    }
+  }
+}
+
+/** No update of this form and length has more blocks: in form 1 a block has two bytes at least, in form 2 it may have none. */
+const mostRows = (form, update) => form === 1 ? Math.min(MAX_BLOCKS, update.length >> 1) : MAX_BLOCKS
+/** Nor more delete ranges: one has two bytes at least. */
+const mostRanges = update => update.length >> 1
+
+/** How many rows are lent at first, and by how much more each time. */
+const FEW = 1024
+const MORE = 8
+
+// ---- the calls
+
+/** The library over its WebAssembly: bytes of wairokabi.wasm, or a module that was compiled of them. */
+export const open = async wasm => {
+  if (!WebAssembly.validate(SMALLEST)) throw new Error('this engine has no WebAssembly with 64-bit memory; Node v20 has it with --experimental-wasm-memory64')
+  const made = await WebAssembly.instantiate(wasm, {})
+  const { call, row } = caller((made.instance ?? made).exports)
+  const blockAt = blockReader(row)
+
+  /** Place 0 blames the first byte where reading the update is refused there, and no byte otherwise: where its length is refused, or its vector, and by what
+   * follows reading. */
+  const blamed = ({ number, place }, { form, update }) => {
+    if (place > 0 || number === 14) return place
+    if (number > 8 || update === undefined || update.length > MAX_UPDATE) return null
+    const alone = call('content', { form, update, n: 0 }) // reads all of the update, and nothing else
+    return alone.number === number && alone.place === 0 ? 0 : null
+  }
+  const done = (answer, given) => {
+    if (answer.number !== 0) throw new Refused(answer.number, blamed(answer, given))
+    return answer
+  }
+
+  /** A call on an update, with rows and room enough: some at first, more as long as 8 or 10 says that they are too few. `lent` may set limits, and what they
+   * refuse is refused. */
+  const onUpdate = (name, given, lent = {}) => {
+    const { form, update } = given
+    const { rows = MAX_BLOCKS, ranges = MAX_UPDATE, order = MAX_BLOCKS, out = Infinity } = lent
+    const most = { rows: Math.min(rows, mostRows(form, update)), ranges: Math.min(ranges, mostRanges(update)), order, out }
+    let now = { rows: Math.min(most.rows, FEW), ranges: Math.min(most.ranges, FEW), out: Math.min(most.out, update.length + 64) }
+    for (;;) {
+      const answer = call(name, { ...given, rows: now.rows, ranges: 3 * now.ranges, order: Math.min(most.order, now.rows), out: now.out })
+      const { number } = answer
+      if (number === 8 && (now.rows < most.rows || now.ranges < most.ranges)) {
+        now = { ...now, rows: Math.min(most.rows, MORE * now.rows), ranges: Math.min(most.ranges, MORE * now.ranges) }
+      } else if (number === 10 && now.out < most.out) now = { ...now, out: Math.min(most.out, 2 * now.out) }
+      else return done(answer, given)
+    }
+  }
+  const tables = ({ view, pieces, blocks, ranges }) => ({
+    blocks: Array.from({ length: blocks }, (_, n) => blockAt(view, pieces.rows, n)),
+    ranges: view.rows(pieces.ranges, ranges, 3).map(([client, clock, length]) => ({ client, clock, length }))
+  })
+  const given = (form, update) => ({ form: byteOf(form, 'the form'), update: bytesOf(update, 'the update') })
+
+  const diffed = (name, asking, lent) => {
+    const { view, pieces, bytes } = onUpdate(name, asking, lent)
+    return view.copy(pieces.out, bytes)
+  }
+  /** The words of each report: no sort has more clients. */
+  const REPORTS = { counts: 2 * MAX_CLIENTS, reaches: 2 * 2 * MAX_CLIENTS, pending: 3 * MAX_CLIENTS }
+
+  return Object.freeze({
+    read: (form, update, lent) => tables(onUpdate('read_update', given(form, update), lent)),
+    readStrict: (form, update, lent) => tables(onUpdate('read_update_strict', given(form, update), lent)),
+
+    content: (form, update, n) => {
+      const asking = { ...given(form, update), n: countOf(n, "the block's number") }
+      const { part_place, part_bytes } = done(call('content', asking), asking)
+      return update.subarray(part_place, part_place + part_bytes)
+    },
+
+    list: (form, update) => {
+      const { form: first, update: rest } = given(form, update)
+      const input = new Uint8Array(Math.min(1 + rest.length, MAX_INPUT + 1))
+      input[0] = first
+      input.set(rest.subarray(0, MAX_INPUT), 1)
+      const { view, pieces, bytes } = done(call('list', { input, out: MAX_TEXT }), {})
+      return new TextDecoder().decode(view.copy(pieces.out, bytes))
+    },
+
+    diff: (form, update, vector, to = form, lent) =>
+      diffed('encode_diff', { ...given(form, update), vector: bytesOf(vector, 'the vector'), to: byteOf(to, 'the form') }, lent),
+    convert: (form, update, to, lent) => diffed('encode_update', { ...given(form, update), to: byteOf(to, 'the form') }, lent),
+
+    sort: (rule, form, update, vector = NO_CLIENT, lent) => {
+      const asking = { rule: byteOf(rule, 'the rule'), ...given(form, update), vector: bytesOf(vector, 'the vector') }
+      const answer = onUpdate('sort', { ...asking, ...REPORTS }, lent)
+      const { view, pieces, steps, counts, reaches, pending } = answer
+      return {
+        order: view.rows(pieces.order, steps, 1).map(([n]) => n),
+        counts: view.rows(pieces.counts, counts, 2).map(([client, taken]) => ({ client, taken })),
+        reaches: view.rows(pieces.reaches, reaches, 2).map(([client, clock]) => ({ client, clock })),
+        pending: view.rows(pieces.pending, pending, 3).map(([client, waitsFor, reach]) => ({ client, waitsFor, reach })),
+        ...tables(answer)
+      }
+    },
+
+    readStateVector: vector => {
+      const { view, pieces, count } = done(call('read_state_vector', { vector: bytesOf(vector, 'the vector'), out: 2 * MAX_CLIENTS }), {})
+      return view.rows(pieces.out, count, 2).map(([client, clock]) => ({ client, clock }))
+    },
+
+    writeSummary: (form, update) => {
+      const asking = given(form, update)
+      const { view, pieces, bytes } = done(call('write_summary', { ...asking, out: MAX_SUMMARY }), asking)
+      return view.copy(pieces.out, bytes)
+    },
+    readSummary: summary => {
+      const { view, pieces, count } = done(call('read_summary', { bytes: bytesOf(summary, 'the summary'), rows: 4 * MAX_CLIENTS }), {})
+      return view.rows(pieces.rows, count, 4).map(([client, first, end, blocks]) => ({ client, first, end, blocks }))
+    }
+  })
+}
