@@ -14,6 +14,9 @@ const MAX_SUMMARY = Math.floor((18 + 131 * MAX_CLIENTS) / 8)
 const KINDS = ['', 'gc', 'skip', 'deleted', 'binary', 'text', 'format', 'type', 'any']
 export const TYPES = ['array', 'map', 'text', 'xml element', 'xml fragment', 'xml hook', 'xml text']
 
+/** The kinds that have a stored part. */
+const STORED = new Set(['binary', 'text', 'format', 'any'])
+
 const NO_CLIENT = Uint8Array.of(0)
 
 // ---- what is asked of a caller, so that the library is lent what its header asks for
@@ -53,29 +56,27 @@ const grow = (memory, pages) => {
   }
 }
 
-/** Numbers of the library's memory. Its words are all below 2^53: clients, clocks, lengths, counts and places. */
+/** A number of the library's memory, by its type. Its words are all below 2^53: clients, clocks, lengths, counts and places. */
+const word = (view, at) => view.getUint32(at, true) + view.getUint32(at + 4, true) * 2 ** 32
+const byte = (view, at) => view.getUint8(at)
+const NUMBERS = { uint8_t: byte, bool: byte, uint32_t: (view, at) => view.getUint32(at, true), uint64_t: word, size_t: word }
+
 class View {
   constructor(buffer) {
     this.bytes = new Uint8Array(buffer)
-    this.view = new DataView(buffer)
-  }
-
-  number(at, type) {
-    if (type === 'uint8_t' || type === 'bool') return this.view.getUint8(at)
-    const low = this.view.getUint32(at, true)
-    return type === 'uint32_t' ? low : low + this.view.getUint32(at + 4, true) * 2 ** 32
+    this.numbers = new DataView(buffer)
   }
 
   /** All fields of a struct. */
   struct(at, { fields }) {
     const found = {}
-    for (const [name, field] of fields) found[name] = this.number(at + field.at, field.type)
+    for (const [name, field] of fields) found[name] = NUMBERS[field.type](this.numbers, at + field.at)
     return found
   }
 
   /** The first rows of a piece of words, so many words each. */
   rows(piece, count, words) {
-    return Array.from({ length: count }, (_, n) => Array.from({ length: words }, (_, k) => this.number(piece.at + 8 * (n * words + k), 'uint64_t')))
+    return Array.from({ length: count }, (_, n) => Array.from({ length: words }, (_, k) => word(this.numbers, piece.at + 8 * (n * words + k))))
   }
 
   copy(piece, count) {
@@ -128,20 +129,20 @@ const caller = exports => {
 
 /** A row of the block table, at a place: what is not there is null. */
 const blockReader = ({ size, fields }) => {
-  const at = name => {
-    if (!fields.has(name)) throw new Error(`a block has no field ${name}`)
-    return fields.get(name)
-  }
   const number = name => {
-    const field = at(name)
-    return (view, from) => view.number(from + field.at, field.type)
+    if (!fields.has(name)) throw new Error(`a block has no field ${name}`)
+    const { at, type } = fields.get(name)
+    const read = NUMBERS[type]
+    return (view, from) => read(view, from + at)
   }
-  const pair = (one, first, other, second) => {
-    const [f, s] = [number(first), number(second)]
-    return (view, from) => ({ [one]: f(view, from), [other]: s(view, from) })
+  const id = name => {
+    const [client, clock] = [number(`${name}_client`), number(`${name}_clock`)]
+    return (view, from) => ({ client: client(view, from), clock: clock(view, from) })
   }
-  const id = name => pair('client', `${name}_client`, 'clock', `${name}_clock`)
-  const part = name => pair('place', `${name}_place`, 'bytes', `${name}_bytes`)
+  const part = name => {
+    const [place, bytes] = [number(`${name}_place`), number(`${name}_bytes`)]
+    return (view, from) => ({ place: place(view, from), bytes: bytes(view, from) })
+  }
   const where = (has, read) => (view, from) => has(view, from) ? read(view, from) : null
   const client = number('client')
   const clock = number('clock')
@@ -169,7 +170,7 @@ const blockReader = ({ size, fields }) => {
       parent: parent(view, from),
       name: name(view, from),
       key: key(view, from),
-      part: ['binary', 'text', 'format', 'any'].includes(named) ? stored(view, from) : null,
+      part: STORED.has(named) ? stored(view, from) : null,
       mark: named === 'format' || typed === 3 || typed === 5 ? mark(view, from) : null,
       type: typed
     }
@@ -224,7 +225,7 @@ export const open = async wasm => {
     }
   }
   const tables = ({ view, pieces, blocks, ranges }) => ({
-    blocks: Array.from({ length: blocks }, (_, n) => blockAt(view, pieces.rows, n)),
+    blocks: Array.from({ length: blocks }, (_, n) => blockAt(view.numbers, pieces.rows, n)),
     ranges: view.rows(pieces.ranges, ranges, 3).map(([client, clock, length]) => ({ client, clock, length }))
   })
   const given = (form, update) => ({ form: byteOf(form, 'the form'), update: bytesOf(update, 'the update') })
