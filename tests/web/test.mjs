@@ -1,7 +1,8 @@
 // The page in a browser, opened as a file: what it shows is held to what the library answers (bindings/js), its keys and clicks to where they lead, and it asks for
 // no address. Screenshots go to target/web.
 import assert from 'node:assert/strict'
-import { mkdirSync, writeFileSync } from 'node:fs'
+import { mkdirSync, readFileSync, writeFileSync } from 'node:fs'
+import { createServer } from 'node:http'
 import { fileURLToPath } from 'node:url'
 import { load, Refused, TYPES } from '../../bindings/js/index.js'
 import { bytes, C, D, hex, many, MARCH1, MARCH2 } from '../../bindings/js/test/cases.mjs'
@@ -294,6 +295,34 @@ await test('a narrow window', async () => {
   assert.equal(await page.evaluate('document.documentElement.scrollWidth <= 420'), true)
   await shot('narrow')
   await page.size(1440, 900)
+})
+
+await test('bindings/js in a browser, from a server', async () => {
+  const types = { js: 'text/javascript', wasm: 'application/wasm' }
+  const server = createServer((asked, answer) => {
+    const type = types[asked.url.split('.').at(-1)]
+    if (type === undefined) return answer.end('<!DOCTYPE html><title>empty</title>')
+    answer.setHeader('Content-Type', type)
+    return answer.end(readFileSync(new URL(`.${asked.url}`, root)))
+  })
+  await new Promise(resolve => server.listen(0, '127.0.0.1', resolve))
+  try {
+    const other = await browser.page(`http://127.0.0.1:${server.address().port}/`)
+    const found = await other.evaluate(`import('/bindings/js/index.js').then(async ({ load, Refused }) => {
+      const library = await load()
+      const update = Uint8Array.from(${JSON.stringify([...MARCH2])})
+      try {
+        library.read(1, update.subarray(0, 0))
+      } catch (e) {
+        return [library.read(2, update), e instanceof Refused && e.message]
+      }
+    })`)
+    assert.deepEqual(found, [library.read(2, MARCH2), refusal(1, new Uint8Array()).message])
+    await other.close()
+  } finally {
+    server.closeAllConnections()
+    server.close()
+  }
 })
 
 await test('no complaint, and no address was asked for but its own files', async () => {
