@@ -107,13 +107,60 @@ const drawColumns = () => {
   const rows = now.parts.filter(part => part.role !== 'length').map(part => {
     const { name, kind, drawn, from, to } = part
     const shown = Array.from(now.bytes.subarray(from, Math.min(to, from + 5)), hexByte).join(' ')
-    return element('tr', to === from ? 'none' : '',
+    const row = element('tr', to === from ? 'none' : '',
       element('td', '', link('', name, () => choose({ part, byte: to === from ? null : from, block: now.block }))),
       element('td', 'number', String(from)),
       element('td', 'number', String(to - from)),
       element('td', 'mono', shown + (to - from > 5 ? ' …' : '')),
       element('td', 'note', kind),
       element('td', 'note', drawn))
+    row.dataset.name = name
+    return row
   })
   $('columns').replaceChildren(element('div', 'head', element('h2', '', 'Parts of the file')), tableOf(['part', ' from', ' bytes', '', 'of', 'drawn from it'], rows))
+}
+
+// ---- the draws from a column
+
+/** No more draws are shown. */
+const MOST_DRAWS = 200
+
+/** The cells of a draw: where its run lies, by a link where it begins; then what it says. */
+const drawCellsOf = {
+  differences: ({ base, difference, value }) => [String(base), `${difference < 0 ? '−' : '+'}${Math.abs(difference)}`, element('b', '', String(value))],
+  numbers: ({ value }) => [element('b', '', String(value))],
+  bytes: ({ value }) => [String(value), element('b', '', hexByte(value))],
+  texts: part => [element('b', '', values.text(now.bytes, part, 60))]
+}
+const DRAW_HEADS = { differences: [' base', ' difference', ' value'], numbers: [' value'], bytes: [' value', ' in hex'], texts: ['text'] }
+
+/** Where a draw's bytes lie: those of its run, where it is the first of it; of a text its own. */
+const drawnFrom = ({ from, to, nth, place, bytes }) => {
+  if (nth > 0) return [element('span', 'note', 'of the same run')]
+  const part = from === undefined ? { place, bytes } : { place: from, bytes: to - from }
+  const shown = Array.from(now.bytes.subarray(part.place, part.place + Math.min(part.bytes, 8)), hexByte).join(' ')
+  const go = () => choose({ part: now.part, byte: part.bytes === 0 ? null : part.place, block: now.block })
+  return [link('mono', part.bytes === 0 ? `at ${part.place}` : `byte ${part.place}`, go), element('span', 'mono', `  ${shown}${part.bytes > 8 ? ' …' : ''}`)]
+}
+
+/** What follows the last draw that is shown. */
+const drawEnd = ({ draws, end, endless }) => {
+  if (endless) return 'The last value has no count: it stands without end.'
+  if (end === null) return `The first ${MOST_DRAWS} are shown.`
+  return end.number === 1 ? 'Then the column ends.' : `Then it is ${end.message}`
+}
+
+/** The values of the column that is chosen, as the library draws them, one after another: of differences each from the value before. */
+const drawDraws = () => {
+  const { part, bytes } = now
+  $('draws').hidden = part === null || part.role !== 'column' || part.from === part.to
+  if ($('draws').hidden) return
+  const { name, kind, drawn, from, to } = part
+  const found = library.draws(kind, bytes.subarray(0, to), from, MOST_DRAWS)
+  const rows = found.draws.map((draw, n) => element('tr', '',
+    element('td', 'number note', String(n + 1)),
+    element('td', 'run', ...drawnFrom(draw)),
+    ...drawCellsOf[kind](draw).map(words => element('td', kind === 'texts' ? 'mono' : 'number mono', words))))
+  const title = element('h2', '', `Column ${name}`, element('small', '', ` ${kind}: ${drawn}`))
+  $('draws').replaceChildren(element('div', 'head', title), tableOf([' draw', 'its bytes', ...DRAW_HEADS[kind]], rows), element('p', 'note padded', drawEnd(found)))
 }

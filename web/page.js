@@ -8,6 +8,8 @@ const choose = ({ block = null, byte = null, part = null }) => {
   Object.assign(now, { block, byte, part })
   drawBlock()
   drawByte()
+  drawDraws()
+  for (const row of $('columns').querySelectorAll('tbody tr')) row.classList.toggle('chosen', row.dataset.name === part?.name)
   if (block === null) $('blocks').removeAttribute('aria-activedescendant')
   else $('blocks').setAttribute('aria-activedescendant', `block-${block}`)
   if (block === null || now.tab !== 'blocks') blockRows.redraw()
@@ -32,7 +34,10 @@ const blockAt = (place, again) => {
   if (at === -1) return found[0]
   return again ? found[(at + 1) % found.length] : now.block
 }
-const goTo = place => choose({ byte: place, block: blockAt(place, place === now.byte) })
+const goTo = place => choose({ byte: place, block: blockAt(place, place === now.byte), part: columnAt(place) })
+
+/** The column that has a byte, or null. */
+const columnAt = place => now.parts.find(({ role, from, to }) => role === 'column' && from <= place && place < to) ?? null
 
 const TABS = ['blocks', 'ranges', 'sorting']
 const showTab = name => {

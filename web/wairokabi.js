@@ -401,8 +401,9 @@ const caller = exports => {
   const { memory } = exports
   const base = Number(exports.__heap_base.value)
 
-  /** Calls `name`. `given` has for each parameter its number; the bytes that are lent; or how many elements are lent to be written, all zero. */
-  const call = (name, given) => {
+  /** What is lent to a call. `given` has for each parameter its number; the bytes that are lent, or those of a struct; or how many elements are lent to be
+   * written, all zero. */
+  const lend = (name, given) => {
     const { answer, parameters } = known[name]
     let top = aligned(base)
     const room = bytes => {
@@ -410,17 +411,21 @@ const caller = exports => {
       top = aligned(at + Math.max(bytes, 1))
       return at
     }
-    const to = room(all[answer].size)
-    const words = [BigInt(to)]
+    const words = []
     const pieces = {}
+    const put = (name, bytes, from) => {
+      pieces[name] = { at: room(bytes), bytes, from }
+      words.push(BigInt(pieces[name].at))
+    }
+    put('answer', all[answer].size, null)
     for (const { name, type, lent, written } of parameters) {
-      if (!lent) words.push(type === 'uint8_t' ? given[name] : BigInt(given[name]))
-      else {
-        const count = written ? given[name] : given[name].length
-        const bytes = count * sizeOf(type, all)
-        pieces[name] = { at: room(bytes), bytes, from: written ? null : given[name] }
-        words.push(BigInt(pieces[name].at), BigInt(count))
-      }
+      const value = given[name]
+      if (lent) {
+        const count = written ? value : value.length
+        put(name, count * sizeOf(type, all), written ? null : value)
+        words.push(BigInt(count))
+      } else if (type in all) put(name, all[type].size, value)
+      else words.push(type === 'uint8_t' ? value : BigInt(value))
     }
     const missing = top - memory.buffer.byteLength
     if (missing > 0) grow(memory, Math.ceil(missing / PAGE))
@@ -429,11 +434,24 @@ const caller = exports => {
       if (from === null) view.bytes.fill(0, at, at + bytes)
       else view.bytes.set(from, at)
     }
+    return { name, words, view, pieces }
+  }
+
+  /** Calls the library with what is lent. */
+  const answered = ({ name, words, view, pieces }) => {
     exports[`wairokabi_${name}`](...words)
-    const found = view.struct(to, all[answer])
+    const found = view.struct(pieces.answer.at, all[known[name].answer])
     return { ...found, number: found.number ?? found.refusal_number, place: found.refusal_place ?? 0, view, pieces }
   }
-  return { call, row: all.block }
+  const call = (name, given) => answered(lend(name, given))
+
+  /** Where in a call's answer the place in a column lies, which is the answer or a part of it. */
+  const placeIn = name => {
+    const { size, fields } = all[known[name].answer]
+    const at = (fields.get('place_at') ?? fields.get('at')).at
+    return { at, size: size - at }
+  }
+  return { call, lend, answered, placeIn, row: all.block }
 }
 
 // ---- blocks and ranges
@@ -497,13 +515,28 @@ const mostRanges = update => update.length >> 1
 const FEW = 1024
 const MORE = 8
 
+/** The columns of form 2: the calls that open one and draw from it. */
+const COLUMNS = {
+  numbers: ['open_numbers', 'next_number'],
+  differences: ['open_differences', 'next_difference'],
+  bytes: ['open_bytes', 'next_byte'],
+  texts: ['open_text', 'next_text']
+}
+
+/** What was drawn, from the place behind it, with the draw before it. */
+const drawOf = (kind, { part_place, part_bytes, value, place_from: from, place_at: to, place_key }, before) => {
+  if (kind === 'texts') return { place: part_place, bytes: part_bytes }
+  const draw = { value, from, to, nth: before?.from === from ? before.nth + 1 : 0 }
+  return kind === 'differences' ? { ...draw, base: before?.value ?? 0, difference: place_key - 2 ** 31 } : draw
+}
+
 // ---- the calls
 
 /** The library over its WebAssembly: bytes of wairokabi.wasm, or a module that was compiled of them. */
 const open = async wasm => {
   if (!WebAssembly.validate(SMALLEST)) throw new Error('this engine has no WebAssembly with 64-bit memory; Node v20 has it with --experimental-wasm-memory64')
   const made = await WebAssembly.instantiate(wasm, {})
-  const { call, row } = caller((made.instance ?? made).exports)
+  const { call, lend, answered, placeIn, row } = caller((made.instance ?? made).exports)
   const blockAt = blockReader(row)
 
   /** Place 0 blames the first byte where reading the update is refused there, and no byte otherwise: where its length is refused, or its vector, and by what
@@ -545,6 +578,27 @@ const open = async wasm => {
     const { view, pieces, bytes } = onUpdate(name, asking, lent)
     return view.copy(pieces.out, bytes)
   }
+  /** The place in a column that an answer has, as bytes that the next call takes. */
+  const placeOf = (name, { view, pieces }) => {
+    const { at, size } = placeIn(name)
+    return view.bytes.slice(pieces.answer.at + at, pieces.answer.at + at + size)
+  }
+  /** The draws from a column, one after another: those of a run have its bytes in common. */
+  const draws = (kind, column, at, most) => {
+    const [open, next] = COLUMNS[kind]
+    const opened = call(open, { column, at })
+    if (kind === 'texts' && opened.number !== 0) return { draws: [], end: new Refused(opened.number, opened.place), endless: false }
+    const step = lend(next, { column, place: placeOf(open, opened) })
+    const found = []
+    while (found.length < most) {
+      const answer = answered(step)
+      if (answer.number !== 0) return { draws: found, end: new Refused(answer.number, answer.place), endless: false }
+      found.push(drawOf(kind, answer, found.at(-1)))
+      if (answer.place_endless === 1) return { draws: found, end: null, endless: true }
+      step.view.bytes.set(placeOf(next, answer), step.pieces.place.at)
+    }
+    return { draws: found, end: null, endless: false }
+  }
   /** The words of each report: no sort has more clients. */
   const REPORTS = { counts: 2 * MAX_CLIENTS, reaches: 2 * 2 * MAX_CLIENTS, pending: 3 * MAX_CLIENTS }
 
@@ -582,6 +636,11 @@ const open = async wasm => {
         pending: view.rows(pieces.pending, pending, 3).map(([client, waitsFor, reach]) => ({ client, waitsFor, reach })),
         ...tables(answer)
       }
+    },
+
+    draws: (kind, column, at = 0, most = Infinity) => {
+      asked(Object.hasOwn(COLUMNS, kind), `${kind} is no kind of column`)
+      return draws(kind, bytesOf(column, 'the column'), countOf(at, 'the place'), most === Infinity ? most : countOf(most, 'how many'))
     },
 
     readStateVector: vector => {

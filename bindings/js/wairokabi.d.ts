@@ -80,6 +80,22 @@ export interface SummaryRow {
   blocks: number
 }
 
+/** What a column of form 2 holds: docs/FORMAT.md, section 2. */
+export type Column = 'numbers' | 'differences' | 'bytes' | 'texts'
+
+/** A value drawn from a column of numbers, differences or bytes. */
+export interface Draw {
+  value: number
+  /** The bytes of its run: from the first one up to the place behind the last. */
+  from: number
+  to: number
+  /** Which of its run's values it is, from 0. */
+  nth: number
+  /** Of a column of differences: the value before, at first 0; and what is added to it. */
+  base?: number
+  difference?: number
+}
+
 /** Limits of one's own: more blocks, delete ranges or order steps than these are refused by 8, more bytes written by 10. Without them there are rows and room
  * enough for whatever the library reads and writes. */
 export interface Lent {
@@ -121,6 +137,10 @@ export interface Wairokabi {
   /** Sorts an update's blocks by a rule into those that can be applied and those that wait, against a state vector, or one that names no client. Refused by 12
    * (form or rule), 3, reading's, then the vector's. */
   sort(rule: Rule, form: Form, update: Uint8Array, vector?: Uint8Array, lent?: Lent): Sorted
+  /** The draws from a column that begins at `at` (0) and ends with these bytes, so many at most: of texts the part that each has. `end` is the refusal that they
+   * end with, which is 1 at the end of a column that is whole; null where `most` were drawn, or where the last value of a column of bytes stands without end. */
+  draws(kind: 'texts', column: Uint8Array, at?: number, most?: number): { draws: Part[]; end: Refused | null; endless: boolean }
+  draws(kind: Column, column: Uint8Array, at?: number, most?: number): { draws: Draw[]; end: Refused | null; endless: boolean }
   /** The entries of a state vector in reading order. Refused by 1 to 4. */
   readStateVector(vector: Uint8Array): Entry[]
   /** The summary of an update: who is in it. Refused as reading is. */

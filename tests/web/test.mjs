@@ -113,6 +113,8 @@ await test('the example of March, one click away', async () => {
   assert.deepEqual(await page.evaluate(ROWS), library.read(2, MARCH2).blocks.map(cells(MARCH2)))
   assert.deepEqual((await page.evaluate(ROWS)).map(row => row[6]), ['(9, 1)', '(9, 2)', '(9, 3)'])
   assert.equal(await page.evaluate(lit('column')), '03 01')
+  const draws = await page.evaluate('[...document.querySelectorAll("#draws tbody tr")].map(row => [...row.children].map(cell => cell.textContent))')
+  assert.deepEqual(draws, [['1', 'byte 7  03 01', '0', '+1', '1'], ['2', 'of the same run', '1', '+1', '2'], ['3', 'of the same run', '2', '+1', '3']])
   await shot('march')
   await page.colours(true)
   await shot('march-dark')
@@ -120,6 +122,24 @@ await test('the example of March, one click away', async () => {
   assert.ok(ink > 600 && paper < 120)
   await page.colours(false)
   await shown('march-1.update', 1, MARCH1)
+})
+
+await test('the draws from every column of form 2', async () => {
+  const update = bytes('00 02 00 02 02 45 01 02 00 04 00 05 06 00 84 00 86 10 0b 74 62 6f 6c 64 68 69 62 6f 6c 64 01 04 02 04 01 01 00 00 01 03 00 78 7e 00')
+  await give('bold.update', update)
+  const drawn = async (n, kind, from, to, shown) => {
+    await page.click(`#columns tbody tr:nth-child(${n}) .link`)
+    const rows = await page.evaluate('[...document.querySelectorAll("#draws tbody tr")].map(row => row.lastChild.textContent)')
+    assert.deepEqual(rows, library.draws(kind, update.subarray(0, to), from).draws.map(shown))
+    assert.equal(await page.evaluate('now.part.from'), from)
+    return page.evaluate('$("draws").lastChild.textContent')
+  }
+  assert.equal(await drawn(2, 'differences', 2, 4, d => String(d.value)), 'Then the column ends.')
+  await drawn(3, 'numbers', 5, 7, d => String(d.value))
+  await drawn(4, 'differences', 8, 10, d => String(d.value))
+  assert.match(await drawn(6, 'bytes', 12, 17, d => hex([d.value])), /without end/)
+  await drawn(7, 'texts', 18, 34, d => text(update, d))
+  await shot('column')
 })
 
 await test('a click on a block lights its bytes, and a click on a byte goes to its block', async () => {

@@ -1,6 +1,6 @@
-// The case stream through the binding: every case on updates, vectors and summaries, made with the real Yjs and by hand, held to the line that is expected of it
-// (crates/cases/stdout). Passed over are cases that the binding cannot be asked: of numbers, texts and columns (operations 1 to 12), with less room or fewer
-// rows for a summary than it lends, a block's number over 2^53-1, and a listing of no bytes.
+// The case stream through the binding: every case on updates, vectors, summaries and columns that are read, made with the real Yjs and by hand, held to the line
+// that is expected of it (crates/cases/stdout). Passed over are cases that the binding cannot be asked: of numbers and of columns that are written (operations 1
+// to 4 and 9 to 12), with less room or fewer rows for a summary than it lends, a block's number over 2^53-1, and a listing of no bytes.
 import assert from 'node:assert/strict'
 import { readFileSync } from 'node:fs'
 import { test } from 'node:test'
@@ -36,7 +36,19 @@ const MOST_SUMMARY = 1050
 const MOST_CLIENTS = 64
 const reading = call => (form, rows, ranges, update) => line(() => tables(call(form, update, { rows, ranges })), 'zero')
 const sorting = (rule, form, rows, ranges, order, update, vector) => line(() => sorted(w.sort(rule, form, update, vector, { rows, ranges, order })), 'zero')
+/** A column's values as they are drawn; where the last stands without end, it stands for all that are asked for. */
+const drawing = (kind, shown) => (column, times) => {
+  const { draws, end, endless } = w.draws(kind, column, 0, times)
+  draws.forEach((draw, n) => assert.ok(kind !== 'differences' || (draw.base === (draws[n - 1]?.value ?? 0) && draw.value === draw.base + draw.difference)))
+  const values = draws.map(shown)
+  while (endless && values.length < times) values.push(values.at(-1))
+  return [end === null ? '0' : `${end.number}@${end.at}`, ...values].join(' ')
+}
 const operations = {
+  5: drawing('numbers', draw => draw.value),
+  6: drawing('differences', draw => draw.value),
+  7: drawing('bytes', draw => draw.value),
+  8: (column, times) => drawing('texts', ({ place, bytes }) => hex(column.subarray(place, place + bytes)))(column, times),
   13: vector => line(() => w.readStateVector(vector).map(id), 'zero'),
   14: reading(w.read),
   15: (form, n, update) => typeof n === 'bigint' ? null : line(() => [hex(w.content(form, update, n))]),

@@ -95,6 +95,21 @@ test('state vectors and summaries', () => {
   refused(() => w.readSummary(bytes('20')), 16, null)
 })
 
+test('draws from a column, each with its run, its base and its difference', () => {
+  // cases H and I, and the left clocks of the example of March, at bytes 7 and 8
+  const differences = (column, at) => w.draws('differences', column, at).draws.map(d => [d.from, d.to, d.nth, d.base, d.difference, d.value])
+  assert.deepEqual(differences(bytes('0301')), [[0, 2, 0, 0, 1, 1], [0, 2, 1, 1, 1, 2], [0, 2, 2, 2, 1, 3]])
+  assert.deepEqual(differences(bytes('0a4100')), [[0, 1, 0, 0, 5, 5], [1, 3, 0, 5, -1, 4], [1, 3, 1, 4, -1, 3]])
+  assert.deepEqual(differences(MARCH2.subarray(0, 9), 7), [[7, 9, 0, 0, 1, 1], [7, 9, 1, 1, 1, 2], [7, 9, 2, 2, 1, 3]])
+  const { draws, end } = w.draws('numbers', MARCH2.subarray(0, 6), 3)
+  assert.deepEqual([draws.map(d => d.value), end.number, end.at], [[5, 9, 9, 9, 9, 9], 1, 6])
+  assert.deepEqual(w.draws('bytes', bytes('040100'), 0, 9), { draws: [{ value: 4, from: 0, to: 2, nth: 0 }, { value: 4, from: 0, to: 2, nth: 1 }, { value: 0, from: 2, to: 3, nth: 0 }], end: null, endless: true })
+  assert.deepEqual(w.draws('texts', D.subarray(0, 15), 9).draws, [{ place: 10, bytes: 1 }, { place: 11, bytes: 2 }])
+  assert.deepEqual(w.draws('texts', bytes('05'), 0).end.number, 1)
+  assert.equal(w.draws('numbers', bytes('40ffffff7f'), 0, 1000).draws.length, 1000)
+  assert.throws(() => w.draws('words', C), TypeError)
+})
+
 test('refusals of reading, by every call that reads', () => {
   const calls = (form, update) => [() => w.read(form, update), () => w.readStrict(form, update), () => w.content(form, update, 0), () => w.convert(form, update, 1),
     () => w.diff(form, update, bytes('00')), () => w.sort(28, form, update), () => w.sort(13, form, update), () => w.writeSummary(form, update)]
