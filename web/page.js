@@ -63,9 +63,9 @@ const read = () => {
   Object.assign(now, found, { other, parts: found.form === 2 ? columns.parts(bytes) : [], block: null, byte: null, part: null })
   const { blocks, ranges } = now.read ?? { blocks: [], ranges: [] }
   setPlaces(blocks)
-  setWidths(blocks)
   $('empty').hidden = true
   $('verdict').hidden = $('panes').hidden = false
+  setWidths(blocks)
   $('tab-blocks').querySelector('.count').textContent = blocks.length.toLocaleString('en')
   $('tab-ranges').querySelector('.count').textContent = ranges.length.toLocaleString('en')
   blockRows.set(blocks.length)
@@ -229,6 +229,7 @@ const listenBytes = () => {
     setHex()
     if (now.byte !== null) showByte(now.byte)
   }).observe($('bytes'))
+  addEventListener('resize', fitPanes)
 }
 
 const KEYS = {

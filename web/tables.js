@@ -122,6 +122,18 @@ const setWidths = blocks => {
     $('blocks').style.setProperty(`--${name}`, `${count + 0.6}ch`)
   }
   $('blocks').style.setProperty('--all', `${all}ch`)
+  leastLetters = all + HOLDS
+  fitPanes()
+}
+
+/** The letters that the columns of kind and of what is held take at least, as page.css has them; and all columns. */
+const HOLDS = 8.5 + 16
+let leastLetters = 0
+
+/** Where the blocks need more than their share of the window, the bytes stand eight in a row beside them. */
+const fitPanes = () => {
+  const least = leastLetters * letter() + 8 * 14 + 32
+  $('panes').classList.toggle('wide', least > ($('panes').clientWidth - 14) * 1.25 / 2.25)
 }
 
 // ---- the chosen block

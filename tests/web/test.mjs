@@ -6,6 +6,7 @@ import { createServer } from 'node:http'
 import { fileURLToPath } from 'node:url'
 import { load, Refused, TYPES } from '../../bindings/js/index.js'
 import { bytes, C, D, hex, many, MARCH1, MARCH2 } from '../../bindings/js/test/cases.mjs'
+import { cases } from '../../bindings/js/test/stream.mjs'
 import { open } from './browser.mjs'
 
 const root = new URL('../../', import.meta.url)
@@ -307,6 +308,29 @@ await test('a large update in form 2', async () => {
   await give('form-2.update', update)
   const rows = await page.evaluate(ROWS)
   assert.deepEqual(rows, library.read(2, update).blocks.map(cells(update)).slice(0, rows.length))
+})
+
+await test('updates of the case stream are shown without a complaint, as many blocks as the library reads', async () => {
+  const asked = [...cases()].filter(([operation, given]) => operation === 14 && (given[0] === 1 || given[0] === 2)).filter((_, n) => n % 97 === 0)
+  const given = asked.map(([, [form, , , update]]) => [form, [...update]])
+  const found = await page.evaluate(`${JSON.stringify(given)}.map(([form, update]) => {
+    askForm(String(form))
+    take('of the stream', Uint8Array.from(update))
+    for (const part of now.parts) choose({ part, block: now.block })
+    for (let byte = 0; byte < Math.min(now.bytes.length, 40); byte++) goTo(byte)
+    return [blockRows.count, rangeRows.count, $('verdict').textContent.match(/refused (\\d+)/)?.[1] ?? '0']
+  })`)
+  const expected = given.map(([form, update]) => {
+    try {
+      const { blocks, ranges } = library.read(form, Uint8Array.from(update))
+      return [blocks.length, ranges.length]
+    } catch (e) {
+      return [0, 0, String(e.number)]
+    }
+  })
+  assert.deepEqual(found.map((row, n) => row.slice(0, expected[n].length)), expected)
+  await page.evaluate('askForm("both")')
+  console.log(`    ${given.length} updates, ${expected.filter(row => row.length === 3).length} of them refused`)
 })
 
 await test('a narrow window', async () => {
