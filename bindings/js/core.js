@@ -59,7 +59,14 @@ const grow = (memory, pages) => {
 /** A number of the library's memory, by its type. Its words are all below 2^53: clients, clocks, lengths, counts and places. */
 const word = (view, at) => view.getUint32(at, true) + view.getUint32(at + 4, true) * 2 ** 32
 const byte = (view, at) => view.getUint8(at)
-const NUMBERS = { uint8_t: byte, bool: byte, uint32_t: (view, at) => view.getUint32(at, true), uint64_t: word, size_t: word }
+const NUMBERS = {
+  uint8_t: byte,
+  bool: byte,
+  uint16_t: (view, at) => view.getUint16(at, true),
+  uint32_t: (view, at) => view.getUint32(at, true),
+  uint64_t: word,
+  size_t: word
+}
 
 class View {
   constructor(buffer) {
@@ -114,7 +121,7 @@ const caller = exports => {
         put(name, count * sizeOf(type, all), written ? null : value)
         words.push(BigInt(count))
       } else if (type in all) put(name, all[type].size, value)
-      else words.push(type === 'uint8_t' ? value : BigInt(value))
+      else words.push(type === 'uint64_t' || type === 'size_t' ? BigInt(value) : Number(value))
     }
     const missing = top - memory.buffer.byteLength
     if (missing > 0) grow(memory, Math.ceil(missing / PAGE))

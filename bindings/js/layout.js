@@ -2,7 +2,7 @@
 // is the one place that knows of layouts. A struct inside a struct is gone into: `left.client` and `left_client` are both the field `left_client`.
 import { HEADER } from './header.js'
 
-const SIZES = { uint8_t: 1, bool: 1, uint32_t: 4, uint64_t: 8, size_t: 8 }
+const SIZES = { uint8_t: 1, bool: 1, uint16_t: 2, uint32_t: 4, uint64_t: 8, size_t: 8 }
 const upTo = (at, align) => Math.ceil(at / align) * align
 const short = name => name.replace(/^wairokabi_/, '')
 

@@ -65,9 +65,11 @@ test('fields lie where a C compiler puts them', { skip: spawnSync(cc, ['--versio
 
 test('ids that stand flat in a row are the same fields', () => {
   const flat = `typedef struct wairokabi_units { uint64_t count; } wairokabi_units;
-    typedef struct wairokabi_block { uint64_t client; uint64_t left_client; wairokabi_units length; uint32_t left_clock; bool has_left; } wairokabi_block;`
+    typedef struct wairokabi_block { uint64_t client; uint64_t left_client; wairokabi_units length; uint32_t left_clock; bool has_left; uint16_t type_number; } wairokabi_block;`
   const { size, fields } = structs(flat).block
-  assert.deepEqual([size, [...fields.keys()], fields.get('left_clock').at], [32, ['client', 'left_client', 'length', 'left_clock', 'has_left'], 24])
+  const places = [...fields].map(([name, { at }]) => `${name} ${at}`)
+  assert.deepEqual([size, places], [32, ['client 0', 'left_client 8', 'length 16', 'left_clock 24', 'has_left 28', 'type_number 30']])
+  for (const field of ['client', 'left_client', 'length', 'left_clock', 'has_left', 'type_number']) assert.ok(structs().block.fields.has(field))
 })
 
 test('refusals have the words of the header', () => {
