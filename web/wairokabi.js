@@ -2,8 +2,16 @@
 // loads neither modules nor WebAssembly from beside the page.
 'use strict'
 const wairokabi = (() => {
-// Made by tools/wasm from include/wairokabi.h, of which these are the structs and the calls. Where each field lies follows from them (layout.js).
+// Made by tools/wasm from include/wairokabi.h: its constants, structs and calls, and what the number of a refusal says. layout.js reads them.
 const HEADER = `
+#define WAIROKABI_MAX_UPDATE 16777215
+#define WAIROKABI_MAX_CLIENTS 64
+#define WAIROKABI_MAX_UNSIGNED 9223372036854775807
+#define WAIROKABI_MAX_SIGNED 4611686018427387903
+#define WAIROKABI_MAX_VALUE 9007199254740991
+#define WAIROKABI_MAX_CLOCK 2147483647
+#define WAIROKABI_MAX_INPUT 65536
+#define WAIROKABI_MAX_TEXT 100957
 typedef struct wairokabi_units {
     uint64_t count;
 } wairokabi_units;
@@ -41,6 +49,14 @@ typedef struct wairokabi_block {
     bool has_key;
     uint8_t type_number;
 } wairokabi_block;
+#define WAIROKABI_GC 1
+#define WAIROKABI_SKIP 2
+#define WAIROKABI_DELETED 3
+#define WAIROKABI_BINARY 4
+#define WAIROKABI_TEXT 5
+#define WAIROKABI_FORMAT 6
+#define WAIROKABI_TYPE 7
+#define WAIROKABI_ANY 8
 typedef struct wairokabi_written {
     uint8_t number;
     size_t bytes;
@@ -231,12 +247,36 @@ wairokabi_written wairokabi_write_texts(
     const uint8_t *text, size_t text_count,
     const uint64_t *units, size_t units_count);
 `
+const REFUSALS = `
+1 bytes or a column end early
+2 the ninth byte of a number says more
+3 over a limit, or a clock out of range; plain values with more than 16 arrays and objects open at once; more than 256 keys of form 2, read or written
+4 a client in two sections, or twice in a vector
+5 content number not 1, 3, 4, 6, 7, 8; a plain value with an unknown tag; a type number over 6
+6 not UTF-8
+7 units run past the text, or end in a pair
+8 kept blocks, non-empty delete ranges or order steps exceed the rows lent
+9 a cut, or a diff's, would fall inside a pair
+10 output needs more bytes than lent
+11 no block n, or it has no binary or text
+12 form not 1 or 2, or rule not 13 or 28
+13 form 2, or a difference column, needs a difference outside -2^30 to 2^30-1
+14 strict reading: the flag of form 2 is not 0
+15 strict reading: a byte stays unread
+16 a summary's version is unknown
+17 a summary's rows out of order, a row of no blocks, a first clock above its last end, filling that is not zero, or bytes left over
+19 a diff would keep a format whose form is not the one written
+`
 // Where the header's structs have their fields, and what its calls take: read off its declarations (header.js), by the rules of C on a machine of 64 bits. This
 // is the one place that knows of layouts. A struct inside a struct is gone into: `left.client` and `left_client` are both the field `left_client`.
 
 const SIZES = { uint8_t: 1, bool: 1, uint16_t: 2, uint32_t: 4, uint64_t: 8, size_t: 8 }
 const upTo = (at, align) => Math.ceil(at / align) * align
 const short = name => name.replace(/^wairokabi_/, '')
+
+/** The header's constants, by their names without `WAIROKABI_`. */
+const constants = (header = HEADER) =>
+  Object.fromEntries([...header.matchAll(/^#define WAIROKABI_(\w+) (\d+)$/gm)].map(([, name, value]) => [name, Number(value)]))
 
 /** Each struct by its name without `wairokabi_`: its size, its alignment and its fields, each with its place and its type. */
 const structs = (header = HEADER) => {
@@ -278,27 +318,9 @@ const calls = (header = HEADER) => {
 const sizeOf = (type, all) => SIZES[type] ?? all[type].size
 // Why a call was refused, and which byte it blames.
 
+
 /** What each number says, in the header's words. */
-const WORDS = {
-  1: 'bytes or a column end early',
-  2: 'the ninth byte of a number says more',
-  3: 'over a limit, or a clock out of range; plain values with more than 16 arrays and objects open at once; more than 256 keys of form 2, read or written',
-  4: 'a client in two sections, or twice in a vector',
-  5: 'content number not 1, 3, 4, 6, 7, 8; a plain value with an unknown tag; a type number over 6',
-  6: 'not UTF-8',
-  7: 'units run past the text, or end in a pair',
-  8: 'kept blocks, non-empty delete ranges or order steps exceed the rows lent',
-  9: "a cut, or a diff's, would fall inside a pair",
-  10: 'output needs more bytes than lent',
-  11: 'no block n, or it has no binary or text',
-  12: 'form not 1 or 2, or rule not 13 or 28',
-  13: 'form 2, or a difference column, needs a difference outside -2^30 to 2^30-1',
-  14: 'strict reading: the flag of form 2 is not 0',
-  15: 'strict reading: a byte stays unread',
-  16: "a summary's version is unknown",
-  17: "a summary's rows out of order, a row of no blocks, a first clock above its last end, filling that is not zero, or bytes left over",
-  19: 'a diff would keep a format whose form is not the one written'
-}
+const WORDS = Object.fromEntries([...REFUSALS.matchAll(/^(\d+) (.*)$/gm)].map(([, number, words]) => [number, words]))
 
 class Refused extends Error {
   /** `at` is the place of the byte that is blamed, counted from 0 in the update; null where none is. */
@@ -314,15 +336,15 @@ class Refused extends Error {
 // The library's calls over its WebAssembly. What is lent to a call lies behind the library's own memory, all of it anew for each call: nothing is kept between
 // calls, and nothing leaks. The memory grows to the largest call that was made, and stays so large.
 
-const MAX_UPDATE = 16777215
+const CONSTANTS = constants()
+const { MAX_UPDATE, MAX_CLIENTS, MAX_INPUT, MAX_TEXT } = CONSTANTS
 const MAX_BLOCKS = 65535
-const MAX_CLIENTS = 64
-const MAX_INPUT = 65536
-const MAX_TEXT = 100957
 const MAX_SUMMARY = Math.floor((18 + 131 * MAX_CLIENTS) / 8)
 
-/** What a block's kind says, by number; what a type is, by number. */
-const KINDS = ['', 'gc', 'skip', 'deleted', 'binary', 'text', 'format', 'type', 'any']
+/** What a block's kind says, by number: the constants that are no limits. */
+const KINDS = ['']
+for (const [name, number] of Object.entries(CONSTANTS)) if (!name.startsWith('MAX_')) KINDS[number] = name.toLowerCase()
+/** What a type is, by number. */
 const TYPES = ['array', 'map', 'text', 'xml element', 'xml fragment', 'xml hook', 'xml text']
 
 /** The kinds that have a stored part. */

@@ -1,17 +1,17 @@
 // The library's calls over its WebAssembly. What is lent to a call lies behind the library's own memory, all of it anew for each call: nothing is kept between
 // calls, and nothing leaks. The memory grows to the largest call that was made, and stays so large.
-import { calls, sizeOf, structs } from './layout.js'
+import { calls, constants, sizeOf, structs } from './layout.js'
 import { Refused } from './refused.js'
 
-const MAX_UPDATE = 16777215
+const CONSTANTS = constants()
+const { MAX_UPDATE, MAX_CLIENTS, MAX_INPUT, MAX_TEXT } = CONSTANTS
 const MAX_BLOCKS = 65535
-const MAX_CLIENTS = 64
-const MAX_INPUT = 65536
-const MAX_TEXT = 100957
 const MAX_SUMMARY = Math.floor((18 + 131 * MAX_CLIENTS) / 8)
 
-/** What a block's kind says, by number; what a type is, by number. */
-const KINDS = ['', 'gc', 'skip', 'deleted', 'binary', 'text', 'format', 'type', 'any']
+/** What a block's kind says, by number: the constants that are no limits. */
+const KINDS = ['']
+for (const [name, number] of Object.entries(CONSTANTS)) if (!name.startsWith('MAX_')) KINDS[number] = name.toLowerCase()
+/** What a type is, by number. */
 export const TYPES = ['array', 'map', 'text', 'xml element', 'xml fragment', 'xml hook', 'xml text']
 
 /** The kinds that have a stored part. */

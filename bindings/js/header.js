@@ -1,5 +1,13 @@
-// Made by tools/wasm from include/wairokabi.h, of which these are the structs and the calls. Where each field lies follows from them (layout.js).
+// Made by tools/wasm from include/wairokabi.h: its constants, structs and calls, and what the number of a refusal says. layout.js reads them.
 export const HEADER = `
+#define WAIROKABI_MAX_UPDATE 16777215
+#define WAIROKABI_MAX_CLIENTS 64
+#define WAIROKABI_MAX_UNSIGNED 9223372036854775807
+#define WAIROKABI_MAX_SIGNED 4611686018427387903
+#define WAIROKABI_MAX_VALUE 9007199254740991
+#define WAIROKABI_MAX_CLOCK 2147483647
+#define WAIROKABI_MAX_INPUT 65536
+#define WAIROKABI_MAX_TEXT 100957
 typedef struct wairokabi_units {
     uint64_t count;
 } wairokabi_units;
@@ -37,6 +45,14 @@ typedef struct wairokabi_block {
     bool has_key;
     uint8_t type_number;
 } wairokabi_block;
+#define WAIROKABI_GC 1
+#define WAIROKABI_SKIP 2
+#define WAIROKABI_DELETED 3
+#define WAIROKABI_BINARY 4
+#define WAIROKABI_TEXT 5
+#define WAIROKABI_FORMAT 6
+#define WAIROKABI_TYPE 7
+#define WAIROKABI_ANY 8
 typedef struct wairokabi_written {
     uint8_t number;
     size_t bytes;
@@ -226,4 +242,24 @@ wairokabi_written wairokabi_write_texts(
     uint8_t *out, size_t out_count,
     const uint8_t *text, size_t text_count,
     const uint64_t *units, size_t units_count);
+`
+export const REFUSALS = `
+1 bytes or a column end early
+2 the ninth byte of a number says more
+3 over a limit, or a clock out of range; plain values with more than 16 arrays and objects open at once; more than 256 keys of form 2, read or written
+4 a client in two sections, or twice in a vector
+5 content number not 1, 3, 4, 6, 7, 8; a plain value with an unknown tag; a type number over 6
+6 not UTF-8
+7 units run past the text, or end in a pair
+8 kept blocks, non-empty delete ranges or order steps exceed the rows lent
+9 a cut, or a diff's, would fall inside a pair
+10 output needs more bytes than lent
+11 no block n, or it has no binary or text
+12 form not 1 or 2, or rule not 13 or 28
+13 form 2, or a difference column, needs a difference outside -2^30 to 2^30-1
+14 strict reading: the flag of form 2 is not 0
+15 strict reading: a byte stays unread
+16 a summary's version is unknown
+17 a summary's rows out of order, a row of no blocks, a first clock above its last end, filling that is not zero, or bytes left over
+19 a diff would keep a format whose form is not the one written
 `

@@ -6,6 +6,10 @@ const SIZES = { uint8_t: 1, bool: 1, uint16_t: 2, uint32_t: 4, uint64_t: 8, size
 const upTo = (at, align) => Math.ceil(at / align) * align
 const short = name => name.replace(/^wairokabi_/, '')
 
+/** The header's constants, by their names without `WAIROKABI_`. */
+export const constants = (header = HEADER) =>
+  Object.fromEntries([...header.matchAll(/^#define WAIROKABI_(\w+) (\d+)$/gm)].map(([, name, value]) => [name, Number(value)]))
+
 /** Each struct by its name without `wairokabi_`: its size, its alignment and its fields, each with its place and its type. */
 export const structs = (header = HEADER) => {
   const known = new Map(Object.entries(SIZES).map(([type, size]) => [type, { size, align: size, fields: null }]))

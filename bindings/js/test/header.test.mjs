@@ -7,7 +7,7 @@ import { tmpdir } from 'node:os'
 import { join } from 'node:path'
 import { test } from 'node:test'
 import { HEADER } from '../header.js'
-import { calls, structs } from '../layout.js'
+import { calls, constants, structs } from '../layout.js'
 import { WORDS } from '../refused.js'
 
 const root = new URL('../../../', import.meta.url)
@@ -77,11 +77,9 @@ test('refusals have the words of the header', () => {
   assert.deepEqual(Object.entries(WORDS), theirs)
 })
 
-test('limits are those of the header', () => {
-  const core = readFileSync(new URL('bindings/js/core.js', root), 'utf8')
-  for (const name of ['MAX_UPDATE', 'MAX_CLIENTS', 'MAX_INPUT', 'MAX_TEXT']) {
-    assert.equal(core.match(new RegExp(`const ${name} = (\\d+)`))[1], header.match(new RegExp(`#define WAIROKABI_${name} (\\d+)`))[1], name)
-  }
-  const kinds = [...header.matchAll(/#define WAIROKABI_([A-Z]+) (\d)$/gm)].map(([, name]) => name.toLowerCase())
-  assert.ok(core.includes(`const KINDS = ['', ${kinds.map(kind => `'${kind}'`).join(', ')}]`))
+test('limits and kinds are those of the header', () => {
+  const ours = Object.entries(constants())
+  assert.deepEqual(ours, [...header.matchAll(/^#define WAIROKABI_(\w+) (\d+)$/gm)].map(([, name, value]) => [name, Number(value)]))
+  const kinds = ours.filter(([name]) => !name.startsWith('MAX_')).map(([, value]) => value)
+  assert.deepEqual(kinds, kinds.map((_, n) => n + 1))
 })
