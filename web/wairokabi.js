@@ -585,6 +585,7 @@ const open = async wasm => {
    * refuse is refused. */
   const onUpdate = (name, given, lent = {}) => {
     const { form, update } = given
+    for (const [what, limit] of Object.entries(lent)) if (limit !== undefined) countOf(limit, `the limit of ${what}`)
     const { rows = MAX_BLOCKS, ranges = MAX_UPDATE, order = MAX_BLOCKS, out = Infinity } = lent
     const most = { rows: Math.min(rows, mostRows(form, update)), ranges: Math.min(ranges, mostRanges(update)), order, out }
     let now = { rows: Math.min(most.rows, FEW), ranges: Math.min(most.ranges, FEW), out: Math.min(most.out, update.length + 64) }
@@ -667,9 +668,9 @@ const open = async wasm => {
       }
     },
 
-    draws: (kind, column, at = 0, most = Infinity) => {
+    draws: (kind, column, at = 0, most = MAX_BLOCKS) => {
       asked(Object.hasOwn(COLUMNS, kind), `${kind} is no kind of column`)
-      return draws(kind, bytesOf(column, 'the column'), countOf(at, 'the place'), most === Infinity ? most : countOf(most, 'how many'))
+      return draws(kind, bytesOf(column, 'the column'), countOf(at, 'the place'), countOf(most, 'how many'))
     },
 
     readStateVector: vector => {

@@ -137,7 +137,7 @@ export interface Wairokabi {
   /** Sorts an update's blocks by a rule into those that can be applied and those that wait, against a state vector, or one that names no client. Refused by 12
    * (form or rule), 3, reading's, then the vector's. */
   sort(rule: Rule, form: Form, update: Uint8Array, vector?: Uint8Array, lent?: Lent): Sorted
-  /** The draws from a column that begins at `at` (0) and ends with these bytes, so many at most: of texts the part that each has. `end` is the refusal that they
+  /** The draws from a column that begins at `at` (0) and ends with these bytes, so many (65,535) at most: of texts the part that each has. `end` is the refusal that they
    * end with, which is 1 at the end of a column that is whole; null where `most` were drawn, or where the last value of a column of bytes stands without end. */
   draws(kind: 'texts', column: Uint8Array, at?: number, most?: number): { draws: Part[]; end: Refused | null; endless: boolean }
   draws(kind: Column, column: Uint8Array, at?: number, most?: number): { draws: Draw[]; end: Refused | null; endless: boolean }

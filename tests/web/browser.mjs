@@ -40,8 +40,8 @@ export const open = async (program = 'chromium') => {
     rmSync(home, { recursive: true, force: true, maxRetries: 5, retryDelay: 200 })
   }
 
-  /** A page of this size. `problems` has what it complains of: exceptions, refused loads, requests that are no file. */
-  const page = async (url, { width = 1440, height = 900, dark = false } = {}) => {
+  /** A page of this size; `before` is run before its own scripts. `problems` has what it complains of: exceptions, refused loads, requests that are no file. */
+  const page = async (url, { width = 1440, height = 900, dark = false, before = '' } = {}) => {
     const { targetId } = await send('Target.createTarget', { url: 'about:blank' })
     const { sessionId } = await send('Target.attachToTarget', { targetId, flatten: true })
     const ask = (method, params) => send(method, params, sessionId)
@@ -91,6 +91,7 @@ export const open = async (program = 'chromium') => {
       await ask('DOM.setFileInputFiles', { nodeId, files: [file] })
     }
     const screenshot = async () => Buffer.from((await ask('Page.captureScreenshot', { format: 'png' })).data, 'base64')
+    if (before !== '') await ask('Page.addScriptToEvaluateOnNewDocument', { source: before })
     await ask('Page.navigate', { url })
     await until("document.readyState === 'complete'")
     return { ask, evaluate, until, drawn, key, click, chooseFile, screenshot, size, colours, problems, requests, close: () => send('Target.closeTarget', { targetId }) }

@@ -369,6 +369,13 @@ await test('bindings/js in a browser, from a server', async () => {
   }
 })
 
+await test('an engine without 64-bit memory is told so', async () => {
+  const other = await browser.page(new URL('web/index.html', root).href, { before: 'WebAssembly.validate = () => false' })
+  await other.until('document.querySelector("#empty").textContent.includes("does not run in this browser")')
+  assert.match(await other.evaluate('$("empty").textContent'), /64-bit memory/)
+  await other.close()
+})
+
 await test('no complaint, and no address was asked for but its own files', async () => {
   assert.deepEqual(page.problems, [])
   assert.deepEqual(page.requests.filter(url => !url.startsWith(new URL('web/', root).href) && !url.startsWith('data:')), [])

@@ -142,7 +142,8 @@ test('limits of the caller', () => {
 
 test('what is no update, form or number throws a TypeError', () => {
   for (const call of [() => w.read(1, [1, 2]), () => w.read(1), () => w.read('1', C), () => w.read(256, C), () => w.read(1.5, C), () => w.content(1, C, -1), () => w.diff(1, C),
-    () => w.convert(1, C), () => w.sort(28, 1, C, 'vector'), () => w.readSummary('10')]) assert.throws(call, TypeError)
+    () => w.convert(1, C), () => w.sort(28, 1, C, 'vector'), () => w.readSummary('10'), () => w.read(1, C, { rows: -1 }), () => w.convert(1, C, 2, { out: 1.5 }),
+    () => w.draws('numbers', C, -1), () => w.draws('numbers', C, 0, NaN)]) assert.throws(call, TypeError)
 })
 
 test('an update may be a part of a larger buffer, and stays as it was', () => {
