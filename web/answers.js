@@ -1,0 +1,117 @@
+// What is shown now, and what the library answers of it.
+'use strict'
+
+const $ = id => document.getElementById(id)
+
+/** An element with a class and children; a text is a child. */
+const element = (tag, name = '', ...children) => {
+  const made = document.createElement(tag)
+  if (name !== '') made.className = name
+  made.append(...children)
+  return made
+}
+/** A button that looks like a link. */
+const link = (name, words, action) => {
+  const made = element('button', `link ${name}`, words)
+  made.type = 'button'
+  made.addEventListener('click', action)
+  return made
+}
+const many = (count, what) => `${count.toLocaleString('en')} ${what}${count === 1 ? '' : 's'}`
+const hexByte = byte => byte.toString(16).padStart(2, '0')
+const idWords = id => id === null ? '' : `(${id.client}, ${id.clock})`
+/** So many ids of a client, from a clock on. */
+const idsWords = ({ client, clock, length }) => {
+  if (length === 0) return 'none'
+  return length === 1 ? `(${client}, ${clock})` : `(${client}, ${clock}) to (${client}, ${clock + length - 1})`
+}
+
+/** The bytes, their name and a note on them; the form that is asked for, and the one that was read; what reading came to, in this form and in the other; the parts
+ * that form 2 is cut into; the block, the byte and the part that are chosen; the tab. */
+const now = {
+  name: '',
+  note: '',
+  bytes: new Uint8Array(),
+  asked: 'both',
+  form: 1,
+  read: null,
+  refused: null,
+  strict: null,
+  other: null,
+  parts: [],
+  block: null,
+  byte: null,
+  part: null,
+  tab: 'blocks'
+}
+let library = null
+
+/** The answer of a call, or its refusal. */
+const attempt = call => {
+  try {
+    return { answer: call(), refused: null }
+  } catch (e) {
+    if (!(e instanceof wairokabi.Refused)) throw e
+    return { answer: null, refused: e }
+  }
+}
+
+/** What reading comes to in a form: what was read, or why it is refused; and why it is refused strictly. */
+const reading = (form, bytes) => {
+  const { answer: read, refused } = attempt(() => library.read(form, bytes))
+  const strict = read === null ? refused : attempt(() => library.readStrict(form, bytes)).refused
+  return { form, read, refused, strict }
+}
+
+/** Of both forms the one that leaves no byte unread; else the one that reads, if anything is in it; else the one with more in it. Where neither has anything: form
+ * 2, if its nine columns can be cut. */
+const chosen = (one, two, bytes) => {
+  const size = ({ read }) => read === null ? 0 : read.blocks.length + read.ranges.length
+  for (const good of [r => r.strict === null, r => size(r) > 0]) {
+    if (good(one) !== good(two)) return good(one) ? one : two
+    if (good(one)) return size(two) > size(one) ? two : one
+  }
+  return bytes[0] === 0 && columns.whole(bytes) ? two : one
+}
+
+/** The draws that made block n, in reading order: of each its `field`, its `value`, the `place` and `bytes` that it has in the update, which of a run's values it is
+ * (`nth`, from 0), and the `base` and `difference` of a clock. They are the library's to say, by a call `explain` that it does not have yet: until then there are
+ * none, and `explanation` (tables.js) shows nothing. */
+const explained = n => library.explain?.(now.form, now.bytes, n) ?? []
+
+/** The byte that is blamed, by reading or by strict reading, with its number; null where none is. */
+const blame = () => now.refused ?? now.strict
+
+// ---- which block a byte belongs to
+
+/** The fields of a block that are parts of the update, how they are lit, and what they are called. */
+const ROLES = [['part', 'stored', 'stored part'], ['name', 'name', 'parent name'], ['key', 'key', 'key'], ['mark', 'mark', 'mark']]
+
+/** All parts of all blocks by place. Two of them are apart, or the same: in form 2 several marks may be one key. */
+let places = []
+const setPlaces = blocks => {
+  places = []
+  blocks.forEach((block, n) => {
+    ROLES.forEach(([field], role) => {
+      const part = block[field]
+      if (part !== null && part.bytes > 0) places.push({ from: part.place, to: part.place + part.bytes, n, role })
+    })
+  })
+  places.sort((a, b) => a.from - b.from || a.n - b.n)
+}
+
+/** The first of these parts that ends behind a place. */
+const firstBehind = place => {
+  let [low, high] = [0, places.length]
+  while (low < high) {
+    const middle = (low + high) >> 1
+    if (places[middle].to > place) high = middle
+    else low = middle + 1
+  }
+  return low
+}
+const partsAt = place => {
+  const found = []
+  for (let k = firstBehind(place); k < places.length && places[k].from <= place; k++) found.push(places[k])
+  return found
+}
