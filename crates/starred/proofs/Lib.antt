@@ -1,3 +1,3 @@
--- The starred cases of document 01 (Starred), and a place of each kind (Places).
+-- Both tables hold of the definitions.
 pub mod Starred
 pub mod Places

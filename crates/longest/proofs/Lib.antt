@@ -1,0 +1,2 @@
+-- The writers' runs are the longest there are.
+pub mod Fewest

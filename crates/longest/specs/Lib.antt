@@ -1,0 +1,2 @@
+-- Lists of runs, and that the writers' are the shortest.
+pub mod Longest

@@ -1,0 +1,1 @@
+// No code: the writers' runs are the longest there are.
