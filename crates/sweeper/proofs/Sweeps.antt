@@ -21,6 +21,15 @@ use Rattle.sweeper.proofs.Fronts.{row-there}
 
 -- ---- how many blocks are left
 
+pub left-all : (ss : List Slot) (taken : List ℕ) (i n : ℕ) → i < n → leftAt ss taken i ≤ leftBelow ss taken n
+unfolding leftBelow
+left-all ss taken i zero h = absurd (omega arith)
+left-all ss taken i (suc n) h = go (eqb i n) refl (left-all ss taken i n)
+  where
+    go : (b : Bool) → eqb i n ≡ b → (i < n → leftAt ss taken i ≤ leftBelow ss taken n) → leftAt ss taken i ≤ leftAt ss taken n + leftBelow ss taken n
+    go true e rec = let p : i ≡ n = eqb-true i n e in rw p (omega arith)
+    go false e rec = let ne = eqb-false i n e in omega (arith, rec (omega (arith, ne)))
+
 module _ (ss : List Slot) (taken : List ℕ) (i x : ℕ) where
   left-other : (j : ℕ) → j ≢ i → leftAt ss (set taken i x) j ≡ leftAt ss taken j
   unfolding leftAt
@@ -92,7 +101,7 @@ module _ (rule : ℕ) (ss : List Slot) (rows : List Block) where
     abbrev next : Board → Board
     next d = took i (rowAt ss d i) (getD rows (rowAt ss d i) noBlock) d
 
-    next-room : (d : Board) → length (next d .taken) ≡ length (d .taken)
+    pub next-room : (d : Board) → length (next d .taken) ≡ length (d .taken)
     unfolding took
     next-room d = length-set (d .taken) i (suc (getD (d .taken) i 0))
 
@@ -184,7 +193,7 @@ module _ (rule : ℕ) (ss : List Slot) (rows : List Block) where
         go true = omega arith
         go false = omega arith
 
-    next-spends : (d : Board) → i < length ss → length ss ≤ length (d .taken) → rowAt ss d i < length rows → Spends d (next d)
+    pub next-spends : (d : Board) → i < length ss → length ss ≤ length (d .taken) → rowAt ss d i < length rows → Spends d (next d)
     unfolding took
     next-spends d small there h =
         omega (arith, left-fewer ss (d .taken) i (suc (getD (d .taken) i 0)) (length ss) small (less d small there h), more-most (d .steps))
