@@ -114,12 +114,18 @@ module _ (R : Rule ℕ) (mono : RuleMonotone R) (m : Room) (v : List ℕ) (r : R
     reading = refl;
   }
 
+  judged-alike : (why : ℕ) (s t : Sort) → Alike s t → Alike (pick (eqb why 0) s (refusedWith (nowhere why))) (pick (eqb why 0) t (refusedWith (nowhere why)))
+  judged-alike why s t a = alike-pick (eqb why 0) s t (refusedWith (nowhere why)) (refusedWith (nowhere why)) a (same _)
+
+  why-same : (s t : Sort) → Alike s t → whySort m s ≡ whySort m t
+  unfolding whySort
+  why-same s t a = λ i. whyNot m (a .steps i) (length (a .counts i)) (length (a .reaches i)) (length (a .pending i))
+
   fitting-alike : (s t : Sort) → Alike s t → Alike (fitting m s) (fitting m t)
-  unfolding fitting whySort
-  fitting-alike s t a = rw (a .steps, a .counts, a .reaches, a .pending) (alike-pick (eqb why 0) s t (refusedWith (nowhere why)) (refusedWith (nowhere why)) a (same _))
-    where
-      why : ℕ
-      why = whyNot m (length (t .order)) (length (t .counts)) (length (t .reaches)) (length (t .pending))
+  unfolding fitting
+  fitting-alike s t a =
+      subst (λ (why : ℕ). Alike (pick (eqb why 0) s (refusedWith (nowhere why))) (pick (eqb (whySort m t) 0) t (refusedWith (nowhere (whySort m t)))))
+      (sym (why-same s t a)) (judged-alike (whySort m t) s t a)
 
   against-alike : Alike (against slowly R m (vectorOf v) r) (against quickly R m (vectorOf v) r)
   against-alike = rw (against-is slowly R m v r, against-is quickly R m v r)
