@@ -242,6 +242,21 @@ wairokabi_sorted wairokabi_sort(
     uint64_t *reaches, size_t reaches_count,
     uint64_t *pending, size_t pending_count);
 
+// Sorts like `wairokabi_sort`, by a second sorter that is slow and plain, so that it can be checked by reading it: it sweeps over all clients, lowest first,
+// takes each one's blocks while they are ready, and sweeps again until a sweep takes nothing. Answer, tables, reports and refusals are proved to be those of
+// `wairokabi_sort`; only the order differs.
+wairokabi_sorted wairokabi_sort_slowly(
+    uint8_t rule,
+    uint8_t form,
+    const uint8_t *update, size_t update_count,
+    const uint8_t *vector, size_t vector_count,
+    wairokabi_block *rows, size_t rows_count,
+    uint64_t *ranges, size_t ranges_count,
+    uint64_t *order, size_t order_count,
+    uint64_t *counts, size_t counts_count,
+    uint64_t *reaches, size_t reaches_count,
+    uint64_t *pending, size_t pending_count);
+
 // Writes the listing of an update as text. `input` is a form byte, then the update. A refusal of reading is text too (`refused 3 at 17`, the place counted
 // in the update); 10 where the text does not fit, which never happens with WAIROKABI_MAX_TEXT bytes.
 wairokabi_written wairokabi_list(

@@ -323,6 +323,25 @@ static void sorts(void) {
     EXPECT(refused(s.refusal, 12, 0) && s.pending == 0 && pending[0] == 0 && zero_rows(0));
 }
 
+// A block of client 9 and two of client 5: the plain sorter takes the lowest client first, and reports the same; refusals are the same.
+static void sorts_slowly(void) {
+    static const uint8_t two[] = {0x02, 0x01, 0x09, 0x00, 0x00, 0x01, 0x02, 0x05, 0x00, 0x00, 0x01, 0x00, 0x01, 0x00}, none[] = {0x00};
+    uint64_t order[3] = {7, 7, 7}, counts[6] = {7, 7, 7, 7, 7, 7}, reaches[6] = {7, 7, 7, 7, 7, 7}, pending[6] = {7, 7, 7, 7, 7, 7};
+    fill();
+    wairokabi_sorted s = wairokabi_sort(28, 1, two, sizeof two, none, sizeof none, rows, ROWS, words, WORDS, order, 3, counts, 6, reaches, 6, pending, 6);
+    EXPECT(done(s.refusal) && s.steps == 3 && same_words(order, (uint64_t[]){0, 1, 2}, 3));
+    fill();
+    s = wairokabi_sort_slowly(28, 1, two, sizeof two, none, sizeof none, rows, ROWS, words, WORDS, order, 3, counts, 6, reaches, 6, pending, 6);
+    EXPECT(done(s.refusal) && s.steps == 3 && s.counts == 2 && s.reaches == 2 && s.pending == 0 && s.blocks == 3 && s.ranges == 0);
+    EXPECT(rows[0].client == 9 && rows[2].client == 5 && rows[2].clock == 1 && zero_rows(3) && zero_words(0));
+    EXPECT(same_words(order, (uint64_t[]){1, 2, 0}, 3) && same_words(counts, (uint64_t[]){9, 1, 5, 2, 0, 0}, 6));
+    EXPECT(same_words(reaches, (uint64_t[]){9, 1, 5, 2, 0, 0}, 6) && same_words(pending, (uint64_t[]){0, 0, 0, 0, 0, 0}, 6));
+    s = wairokabi_sort_slowly(28, 1, two, sizeof two, none, sizeof none, rows, ROWS, words, WORDS, order, 2, counts, 6, reaches, 6, pending, 6);
+    EXPECT(refused(s.refusal, 8, 0) && s.steps == 0 && s.blocks == 0 && zero_rows(0) && order[0] == 0 && counts[0] == 0);
+    s = wairokabi_sort_slowly(14, 1, two, sizeof two, none, sizeof none, rows, ROWS, words, WORDS, order, 3, counts, 6, reaches, 6, pending, 6);
+    EXPECT(refused(s.refusal, 12, 0) && s.steps == 0 && zero_rows(0));
+}
+
 static void others(void) {
     static const uint8_t input[] = {0x01, 0x01, 0x01, 0x05, 0x00, 0x04, 0x01, 0x01, 0x74, 0x02, 0x68, 0x69, 0x00};
     static const char listing[] = "update form 1 blocks 1 ranges 0\n5 0 2 text\nend\n", short_listing[] = "refused 1 at 11\n";
@@ -511,6 +530,7 @@ int main(void) {
     diffs();
     marks();
     sorts();
+    sorts_slowly();
     summaries();
     refusals();
     places();

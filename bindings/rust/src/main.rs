@@ -61,6 +61,7 @@ struct Words {
     long: bool,
     strict: bool,
     read: bool,
+    slowly: bool,
     to: Option<String>,
     rule: Option<String>,
     out: Option<String>,
@@ -77,6 +78,7 @@ impl Words {
                 "--long" => words.long = true,
                 "--strict" => words.strict = true,
                 "--read" => words.read = true,
+                "--slowly" => words.slowly = true,
                 "--to" => words.to = Some(next()?.ok_or_else(|| not_run("--to needs a form"))?),
                 "--rule" => words.rule = Some(next()?.ok_or_else(|| not_run("--rule needs a rule"))?),
                 "--out" => words.out = Some(next()?.ok_or_else(|| not_run("--out needs a file"))?),
@@ -189,6 +191,7 @@ fn run(words: Words) -> Result<Vec<u8>, Stop> {
         ("--read", words.read, "summary"),
         ("--to", words.to.is_some(), "diff"),
         ("--rule", words.rule.is_some(), "sort"),
+        ("--slowly", words.slowly, "sort"),
         ("--out", words.out.is_some(), "diff content summary"),
     ];
     if let Some((option, ..)) = misplaced.iter().find(|(_, given, of)| *given && !of.split(' ').any(|c| c == command)) {
@@ -371,7 +374,8 @@ fn sorted(asked: &Asked, words: &Words) -> Result<Vec<u8>, Stop> {
     let (mut rows, mut ranges) = asked.tables();
     let (mut order, mut counts) = (vec![0; rows.len()], [Count::default(); MAX_CLIENTS]);
     let (mut reaches, mut pending) = ([Entry::default(); MAX_REACHES], [Pending::default(); MAX_CLIENTS]);
-    let sorted = sort(rule, form, bytes, &asked.vector.bytes, &mut rows, &mut ranges, &mut order, &mut counts, &mut reaches, &mut pending)
+    let by = if words.slowly { sort_slowly } else { sort };
+    let sorted = by(rule, form, bytes, &asked.vector.bytes, &mut rows, &mut ranges, &mut order, &mut counts, &mut reaches, &mut pending)
         .map_err(|r| asked.refused(r))?;
     let blocks = sorted.update.blocks;
     let mut text = format!("taken, in order: {} of {}\n", sorted.order.len(), many(blocks.len(), "block"));

@@ -280,7 +280,7 @@ fn diff<'t>(answer: raw::Diff, rows: &'t [Block], ranges: &'t [Range], out: &'t 
 /// The blocks of an update, sorted, and the update that was read for it. Each is the first rows of what was lent; the others are zero.
 #[derive(Clone, Copy, Debug, PartialEq, Eq)]
 pub struct Sorted<'t> {
-    /// The numbers of the blocks that are taken, in order: each step takes the highest client whose front is ready.
+    /// The numbers of the blocks that are taken, in order: each step takes the highest client whose front is ready, or, by [`sort_slowly`], the next of a sweep.
     pub order: &'t [u64],
     /// Each client with blocks, highest first, and how many of them are taken.
     pub counts: &'t [Count],
@@ -364,13 +364,85 @@ pub fn sort<'t>(
         )
     };
     done_reading(answer.refusal, form, update)?;
-    Ok(Sorted {
+    Ok(sorted(answer, rows, ranges, order, counts, reaches, pending))
+}
+
+/// Sorts like [`sort`], by a second sorter that is slow and plain, so that it can be checked by reading it: it sweeps over all clients, lowest first, takes
+/// each one's blocks while they are ready, and sweeps again until a sweep takes nothing. Update, reports and refusals are proved to be those of [`sort`]; only
+/// the order differs.
+///
+/// ```
+/// use wairokabi::{sort, sort_slowly, Block, Count, Entry, Pending, Range};
+///
+/// // one block of client 9, two of client 5
+/// let update = [0x02, 0x01, 0x09, 0x00, 0x00, 0x01, 0x02, 0x05, 0x00, 0x00, 0x01, 0x00, 0x01, 0x00];
+/// let (mut rows, mut ranges) = ([Block::default(); 4], [Range::default(); 4]);
+/// let (mut order, mut counts) = ([0; 4], [Count::default(); 64]);
+/// let (mut reaches, mut pending) = ([Entry::default(); 128], [Pending::default(); 64]);
+///
+/// let quick = sort(28, 1, &update, &[0x00], &mut rows, &mut ranges, &mut order, &mut counts, &mut reaches, &mut pending)?;
+/// assert_eq!(quick.order, [0, 1, 2]);
+/// let slow = sort_slowly(28, 1, &update, &[0x00], &mut rows, &mut ranges, &mut order, &mut counts, &mut reaches, &mut pending)?;
+/// assert_eq!(slow.order, [1, 2, 0]);
+/// assert_eq!(slow.counts, [Count { client: 9, taken: 1 }, Count { client: 5, taken: 2 }]);
+/// # Ok::<(), wairokabi::Refused>(())
+/// ```
+#[allow(clippy::too_many_arguments)] // the header's
+pub fn sort_slowly<'t>(
+    rule: u8,
+    form: u8,
+    update: &[u8],
+    vector: &[u8],
+    rows: &'t mut [Block],
+    ranges: &'t mut [Range],
+    order: &'t mut [u64],
+    counts: &'t mut [Count],
+    reaches: &'t mut [Entry],
+    pending: &'t mut [Pending],
+) -> Result<Sorted<'t>, Refused> {
+    let answer = unsafe {
+        raw::wairokabi_sort_slowly(
+            rule,
+            form,
+            update.as_ptr(),
+            update.len(),
+            vector.as_ptr(),
+            vector.len(),
+            rows.as_mut_ptr(),
+            rows.len(),
+            words(ranges),
+            count(ranges),
+            words(order),
+            count(order),
+            words(counts),
+            count(counts),
+            words(reaches),
+            count(reaches),
+            words(pending),
+            count(pending),
+        )
+    };
+    done_reading(answer.refusal, form, update)?;
+    Ok(sorted(answer, rows, ranges, order, counts, reaches, pending))
+}
+
+/// What was sorted, in what was lent.
+fn sorted<'t>(
+    answer: raw::Sorted,
+    rows: &'t [Block],
+    ranges: &'t [Range],
+    order: &'t [u64],
+    counts: &'t [Count],
+    reaches: &'t [Entry],
+    pending: &'t [Pending],
+) -> Sorted<'t> {
+    Sorted {
         order: &order[..answer.steps],
         counts: &counts[..answer.counts],
         reaches: &reaches[..answer.reaches],
         pending: &pending[..answer.pending],
         update: Update { blocks: &rows[..answer.blocks], ranges: &ranges[..answer.ranges] },
-    })
+    }
 }
 
 /// Writes the listing of an update as text. `input` is a form byte, then the update. A refusal of reading is text too (`refused 3 at 17`,

@@ -29,6 +29,7 @@ ghost use Rattle.contents.specs.Promises.{whereOf};
 ghost use Rattle.listed.specs.Listed.{Lists};
 ghost use Rattle.diffs.specs.Promises.{Diffs, emptyVector};
 ghost use Rattle.sorts.specs.Promises.{SortUpdate};
+ghost use Rattle.slow_sorts.specs.Promises.{SortSlowly};
 ghost use Rattle.summaries.specs.Promises.{WriteSummary, ReadSummary};
 
 // ---- updates
@@ -110,6 +111,37 @@ pub extern "C" fn wairokabi_sort(
     ensures { λ r. ⌜ SortUpdate rule form (now (update .entry)) (now (vector .entry)) (now (rows .entry)) (now (ranges .entry)) (now (order .entry)) (now (counts .entry)) (now (reaches .entry)) (now (pending .entry)) r (now (rows .exit)) (now (ranges .exit)) (now (order .exit)) (now (counts .exit)) (now (reaches .exit)) (now (pending .exit)) ⌝ }
 {
     sorts::sort(
+        rule,
+        form,
+        update,
+        vector,
+        rows,
+        ranges,
+        order,
+        counts,
+        reaches,
+        pending,
+    )
+}
+
+#[no_mangle]
+pub extern "C" fn wairokabi_sort_slowly(
+    rule: u8,
+    form: u8,
+    update: &[u8],
+    vector: &[u8],
+    rows: &mut [Block],
+    ranges: &mut [u64],
+    order: &mut [u64],
+    counts: &mut [u64],
+    reaches: &mut [u64],
+    pending: &mut [u64],
+) -> Sorted
+    ensures { λ r. ⌜ SortSlowly rule form (now (update .entry)) (now (vector .entry)) (now (rows .entry)) (now (ranges .entry)) (now (order .entry))
+        (now (counts .entry)) (now (reaches .entry)) (now (pending .entry))
+        r (now (rows .exit)) (now (ranges .exit)) (now (order .exit)) (now (counts .exit)) (now (reaches .exit)) (now (pending .exit)) ⌝ }
+{
+    slow_sorts::sort_slowly(
         rule,
         form,
         update,

@@ -7,7 +7,7 @@ use mathlib.Core.List.{List, [], _∷_}
 use native.Mathlib.Nat.{mul-le-mul-left}
 use native.Mathlib.Omega.{arith}
 use lib.Dec.{eqb}
-use lib.ListN.{length}
+use lib.ListN.{length, getD}
 use borrow.Author.Tests.{eqb-true, eqb-false}
 use Rattle.numbers.specs.Number.{pick}
 use Rattle.numbers.specs.Limits.{maxClock}
@@ -23,7 +23,7 @@ use Rattle.sorting.specs.Steps.{start}
 use Rattle.sorting.specs.Quick.{Listed}
 use Rattle.sorting.proofs.Clients.{clients-vector}
 use Rattle.outcome.specs.Tie.{slotOf, Slotted, Opened}
-use Rattle.outcome.proofs.Looks.{unseen}
+use Rattle.outcome.proofs.Looks.{Shows, unseen}
 use Rattle.outcome.proofs.Sums.{sum-le, sum-times, sizes, queues-fit}
 use Rattle.outcome.proofs.Places.{slot-apart, listed-slot}
 use Rattle.outcome.proofs.Standing.{Held, Standing}
@@ -49,6 +49,16 @@ remote-low (e ∷ es) c all = go (eqb (e .client) c) (remote-low es c (all .1))
     go true rest = all .0
     go false rest = rest
 
+-- the reaches of a vector
+pub begun-shows : {bs : List Block} {v : List Entry} {ss : List Slot} {reach : List ℕ} → Slotted bs v ss
+    → ((i : ℕ) → i < length ss → getD reach i 0 ≡ remote v (slotOf ss i .client)) → Shows ss reach (remote v)
+begun-shows {bs} {v} {ss} {reach} slotted reaches = record { at = reaches; else = λ c e. remote-none v c (other c e) }
+  where
+    other : (c : ℕ) → isNamed c ss ≡ false → Listed c (clientsIn v) → ⊥
+    other c e l =
+        let p = listed-slot ss c (subst (Listed c) (sym (slotted .names)) (clients-vector bs v c l)) in
+        false≢true (sym e ∙ ap (λ (d : ℕ). isNamed d ss) (sym (p .2)) ∙ slot-named ss (p .0) (slotted .falling) (p .1))
+
 module _ (rule : ℕ) {bs : List Block} {v : List Entry} {ss : List Slot} {reach fronts : List ℕ} (slotted : Slotted bs v ss) (opened : Opened v ss reach fronts) where
   begun-held : (i : ℕ) → i < length ss → Held rule bs ss (start (remote v)) i (frontAt fronts i)
   unfolding fresh
@@ -71,15 +81,10 @@ module _ (rule : ℕ) {bs : List Block} {v : List Entry} {ss : List Slot} {reach
   pub begun-stands : All (λ (e : Entry). e .clock ≤ maxClock) v → Standing rule bs ss reach fronts (start (remote v))
   begun-stands low = record {
     room = opened .room;
-    shows = record { at = opened .reaches; else = λ c e. remote-none v c (other c e) };
+    shows = begun-shows slotted (opened .reaches);
     low = λ c. remote-low v c low;
     held = begun-held;
   }
-    where
-      other : (c : ℕ) → isNamed c ss ≡ false → Listed c (clientsIn v) → ⊥
-      other c e l =
-          let p = listed-slot ss c (subst (Listed c) (sym (slotted .names)) (clients-vector bs v c l)) in
-          false≢true (sym e ∙ ap (λ (d : ℕ). isNamed d ss) (sym (p .2)) ∙ slot-named ss (p .0) (slotted .falling) (p .1))
 
   begun-weight : (i : ℕ) → i < length ss → weight rule (frontAt fronts i) ≤ looksEach rule * sizes bs (clientAt ss) i
   begun-weight i small =

@@ -28,7 +28,7 @@ use Rattle.outcome.specs.Tie.{slotOf, Slotted, Awaits, Ended}
 -- ---- slots one after another
 
 -- each of these slots, the first of which is slot i
-abbrev Each : (ℕ → Slot → Type 0) → ℕ → List Slot → Type 0
+abbrev pub Each : (ℕ → Slot → Type 0) → ℕ → List Slot → Type 0
 Each P i [] = Unit {0}
 Each P i (s ∷ ss) = P i s × Each P (suc i) ss
 
@@ -39,7 +39,7 @@ each-from P n (s ∷ ss) h = (
   each-from P (suc n) ss (λ i g. subst (λ (k : ℕ). P k (slotOf ss i)) (omega arith) (h (suc i) (omega arith))),
 )
 
-each : (P : ℕ → Slot → Type 0) (ss : List Slot) → ((i : ℕ) → i < length ss → P i (slotOf ss i)) → Each P 0 ss
+pub each : (P : ℕ → Slot → Type 0) (ss : List Slot) → ((i : ℕ) → i < length ss → P i (slotOf ss i)) → Each P 0 ss
 each P ss h = each-from P 0 ss (λ i g. subst (λ (k : ℕ). P k (slotOf ss i)) (omega arith) (h i g))
 
 -- ---- words of one slot after another: before any others, a slot's are those that its client is reported with
@@ -66,10 +66,10 @@ module _ (bs : List Block) (s : State ℕ) (fronts : List ℕ) where
       go false = refl
 
 module _ (s : State ℕ) (reach : List ℕ) where
-  abbrev Reached : ℕ → Slot → Type 0
+  abbrev pub Reached : ℕ → Slot → Type 0
   Reached i t = getD reach i 0 ≡ s .known (t .client)
 
-  reaches-each : (i : ℕ) (ss : List Slot) → Each Reached i ss → reachesFrom i ss reach ≡ reachesIn s (clientsOf ss)
+  pub reaches-each : (i : ℕ) (ss : List Slot) → Each Reached i ss → reachesFrom i ss reach ≡ reachesIn s (clientsOf ss)
   unfolding reachesFrom reachesIn reachOf
   reaches-each i [] h = refl
   reaches-each i (t ∷ ss) h = λ j. t .client ∷ (h .0 j ∷ reaches-each (suc i) ss (h .1) j)
@@ -87,7 +87,7 @@ module _ (rule : ℕ) (bs : List Block) (s : State ℕ) (reach fronts : List ℕ
 
 -- ---- a front that waits, and one that has no block left
 
-all-taken : (rule : ℕ) (bs : List Block) (s : State ℕ) (c : ℕ) → length (queue bs c) ≤ s .taken c → report (ruleOf rule) (queue bs) s c ≡ none
+pub all-taken : (rule : ℕ) (bs : List Block) (s : State ℕ) (c : ℕ) → length (queue bs c) ≤ s .taken c → report (ruleOf rule) (queue bs) s c ≡ none
 unfolding report
 all-taken rule bs s c h = rw (le-ltb (s .taken c) (length (queue bs c)) h) refl
 

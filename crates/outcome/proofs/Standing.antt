@@ -45,7 +45,7 @@ pub record Standing (rule : ℕ) (bs : List Block) (ss : List Slot) (reach front
 -- ---- a step
 
 module _ (rule : ℕ) (bs : List Block) (s : State ℕ) (c : ℕ) where
-  taken-other : (d : ℕ) → d ≢ c → step (steps (ruleOf rule) bs) s c .taken d ≡ s .taken d
+  pub taken-other : (d : ℕ) → d ≢ c → step (steps (ruleOf rule) bs) s c .taken d ≡ s .taken d
   taken-other d ne = go (step-taken (steps (ruleOf rule) bs) s c d)
     where
       go : Moved (steps (ruleOf rule) bs) s c d → step (steps (ruleOf rule) bs) s c .taken d ≡ s .taken d
@@ -82,6 +82,32 @@ module _ (rule : ℕ) (bs : List Block) (s : State ℕ) (c : ℕ) where
           let p : a ≡ c = eqb-true a c e in
           rw p (omega (arith, known-own h, lifted-low (s .known c) (front bs s c) h (low c)))
       go false e = omega (arith, others-stay (asksOf rule) bs s c a (eqb-false a c e), low a)
+
+-- ---- reaches: one step more
+
+module _ (rule : ℕ) (bs : List Block) {ss : List Slot} (falling : Falling ss) {reach : List ℕ} (s : State ℕ) (room : length ss ≤ length reach)
+    (shows : Shows ss reach (s .known)) (i : ℕ) (small : i < length ss)
+    (end : front bs s (clientAt ss i) .clock + front bs s (clientAt ss i) .length .0 ≤ maxClock) where
+  pub lift-shows : Shows ss (lift reach i (front bs s (clientAt ss i))) (step (steps (ruleOf rule) bs) s (clientAt ss i) .known)
+  unfolding lift
+  lift-shows = record { at = λ j hj. go j hj (eqb j i) refl; else = other }
+    where
+      c : ℕ
+      c = clientAt ss i
+
+      go : (j : ℕ) → j < length ss → (x : Bool) → eqb j i ≡ x
+          → getD (set reach i (lifted (getD reach i 0) (front bs s c))) j 0 ≡ step (steps (ruleOf rule) bs) s c .known (clientAt ss j)
+      go j hj true e =
+          let p : j ≡ i = eqb-true j i e in
+          rw p (getD-set-same reach i (lifted (getD reach i 0) (front bs s c)) 0 (omega arith)
+          ∙ ap (λ (r : ℕ). lifted r (front bs s c)) (shows .at i small) ∙ sym (known-own rule bs s c end))
+      go j hj false e =
+          let ne = eqb-false j i e in
+          getD-set-other reach i j (lifted (getD reach i 0) (front bs s c)) 0 ne ∙ shows .at j hj
+          ∙ sym (others-stay (asksOf rule) bs s c (clientAt ss j) (slot-apart ss falling j i hj small ne))
+
+      other : (d : ℕ) → isNamed d ss ≡ false → step (steps (ruleOf rule) bs) s c .known d ≡ 0
+      other d e = others-stay (asksOf rule) bs s c d (λ p. false≢true (sym e ∙ ap (λ (x : ℕ). isNamed x ss) p ∙ slot-named ss i falling small)) ∙ shows .else d e
 
 -- ---- fronts
 
@@ -143,34 +169,13 @@ module _ {rule : ℕ} {bs : List Block} {ss : List Slot} (falling : Falling ss) 
       go j hj false e = rw (other-put fronts i g j (eqb-false j i e)) (st .held j hj)
 
   module _ (end : front bs s (clientAt ss i) .clock + front bs s (clientAt ss i) .length .0 ≤ maxClock) where
-    lift-shows : Shows ss (lift reach i (front bs s (clientAt ss i))) (step (steps (ruleOf rule) bs) s (clientAt ss i) .known)
-    unfolding lift
-    lift-shows = record { at = λ j hj. go j hj (eqb j i) refl; else = other }
-      where
-        c : ℕ
-        c = clientAt ss i
-
-        go : (j : ℕ) → j < length ss → (x : Bool) → eqb j i ≡ x
-            → getD (set reach i (lifted (getD reach i 0) (front bs s c))) j 0 ≡ step (steps (ruleOf rule) bs) s c .known (clientAt ss j)
-        go j hj true e =
-            let p : j ≡ i = eqb-true j i e in
-            rw p (getD-set-same reach i (lifted (getD reach i 0) (front bs s c)) 0 (omega (arith, st .room))
-            ∙ ap (λ (r : ℕ). lifted r (front bs s c)) (st .shows .at i small) ∙ sym (known-own rule bs s c end))
-        go j hj false e =
-            let ne = eqb-false j i e in
-            getD-set-other reach i j (lifted (getD reach i 0) (front bs s c)) 0 ne ∙ st .shows .at j hj
-            ∙ sym (others-stay (asksOf rule) bs s c (clientAt ss j) (slot-apart ss falling j i hj small ne))
-
-        other : (d : ℕ) → isNamed d ss ≡ false → step (steps (ruleOf rule) bs) s c .known d ≡ 0
-        other d e = others-stay (asksOf rule) bs s c d (λ p. false≢true (sym e ∙ ap (λ (x : ℕ). isNamed x ss) p ∙ slot-named ss i falling small)) ∙ st .shows .else d e
-
     pub stand-took : 0 < frontAt fronts i .left → frontAt fronts i .next < brim
         → Standing rule bs ss (lift reach i (front bs s (clientAt ss i))) (putFront fronts i (moved (frontAt fronts i) (frontAt fronts i .next)))
         (step (steps (ruleOf rule) bs) s (clientAt ss i))
     unfolding lift
     stand-took l nb = record {
       room = (simp length-set (st .room .0), rw (length-put fronts i (moved (frontAt fronts i) (frontAt fronts i .next))) (st .room .1));
-      shows = lift-shows;
+      shows = lift-shows rule bs falling s (st .room .0) (st .shows) i small end;
       low = known-low rule bs s (clientAt ss i) end (st .low);
       held = λ j hj. go j hj (eqb j i) refl;
     }

@@ -47,7 +47,7 @@ fn wait_for(f: Front, stage: usize, p: usize, named: bool, id: Id) -> Front
 }
 
 // Whether an id is met where its client has slot p, if it is named.
-fn is_met(reach: &[u64], p: usize, named: bool, id: Id) -> bool
+pub fn is_met(reach: &[u64], p: usize, named: bool, id: Id) -> bool
     ensures { λ r. ⌜ r ≡ metAt (now (reach .entry)) p named id ⌝ }
 {
     if !named {
@@ -132,7 +132,7 @@ fn examine(
 // ---- a block that is taken
 
 // Places and counts stay below the brim.
-fn one_more(n: usize) -> usize
+pub fn one_more(n: usize) -> usize
     ensures { λ r. ⌜ r ≡ oneMore n ⌝ }
 {
     if n < parts::BRIM {
@@ -155,7 +155,7 @@ fn move_on(f: Front, i: usize) -> Front
 }
 
 // The reach of slot p rises to the block's end. A Skip lifts nothing.
-fn raise(reach: &mut [u64], p: usize, b: Block)
+pub fn raise(reach: &mut [u64], p: usize, b: Block)
     ensures { λ _. ⌜ now (reach .exit) ≡ lift (now (reach .entry)) p b ⌝ }
 {
     let kind = b.kind;

@@ -20,7 +20,7 @@ pub fn clear_after(out: &mut [u64], n: usize)
     }
 }
 
-fn reach_at(reach: &[u64], i: usize) -> u64
+pub fn reach_at(reach: &[u64], i: usize) -> u64
     ensures { λ r. ⌜ r ≡ getD (now (reach .entry)) i 0 ⌝ }
 {
     if reach.len() <= i {

@@ -77,14 +77,17 @@ module _ (w : List ℕ) (bs : List Block) where
     open-words = ap (stored (stored w noted)) found-is ∙ stored-stored w noted (slotsFor most bs names) (named-all-longer most names noted)
 
     -- what the words hold then
+    pub held-fits : 3 * length (slotsFor most bs names) ≤ length w
+    unfolding slotsFor
+    held-fits = named-all-fits w noted fits names
+
     pub held-asks : (3 * length (slotsFor most bs names) ≤ length (stored w (slotsFor most bs names)))
         × Falling (slotsFrom (stored w (slotsFor most bs names)) 0 (length (slotsFor most bs names)))
     unfolding slotsFor
-    held-asks =
-        let fit : 3 * length (slotsFor most bs names) ≤ length w = named-all-fits w noted fits names in (
-          rw (stored-length w (slotsFor most bs names) fit) fit,
-          subst Falling (sym (stored-slots w (slotsFor most bs names))) (named-all-falling most names noted (noted-all-falling most 0 bs [] none-falls)),
-        )
+    held-asks = (
+      rw (stored-length w (slotsFor most bs names) held-fits) held-fits,
+      subst Falling (sym (stored-slots w (slotsFor most bs names))) (named-all-falling most names noted (noted-all-falling most 0 bs [] none-falls)),
+    )
 
 -- ---- all looks, and the reports
 

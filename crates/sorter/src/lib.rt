@@ -77,7 +77,7 @@ fn sorted(p: Look, counts: usize, reaches: usize, pending: usize) -> Sorting
     }
 }
 
-fn refused(number: u8) -> Sorting
+pub fn refused(number: u8) -> Sorting
     ensures { λ r. ⌜ r ≡ noSorting number ⌝ }
 {
     Sorting {
@@ -90,7 +90,13 @@ fn refused(number: u8) -> Sorting
 }
 
 // Slots for the clients of the first rows, as many as are blocks, and for the first m of these clients. How many slots these are.
-fn open_slots(rows: &[Block], blocks: usize, clients: &[u64], m: usize, slots: &mut [u64]) -> usize
+pub fn open_slots(
+    rows: &[Block],
+    blocks: usize,
+    clients: &[u64],
+    m: usize,
+    slots: &mut [u64],
+) -> usize
     requires { ⌜ (blocks ≤ length (now rows)) × (m ≤ length (now clients)) ⌝ }
     ensures { λ r. ⌜ (r ≡ length (slotsFor (length (now (slots .entry)) / 3) (take blocks (now (rows .entry))) (take m (now (clients .entry)))))
         × (now (slots .exit) ≡ stored (now (slots .entry)) (slotsFor (length (now (slots .entry)) / 3) (take blocks (now (rows .entry))) (take m (now (clients .entry))))) ⌝ }

@@ -17,6 +17,7 @@ use Rattle.sorting.specs.Rule28.{asks28}
 use Rattle.sorting.specs.Rule13.{before, asks13}
 use Rattle.sorting.specs.Named.{asksOf, ruleOf}
 use Rattle.sorting.specs.Sorted.{insert, insertAll, clients, order, outcome, numbersFrom, numbersBy, orderOf}
+use Rattle.sorting.specs.Slow.{lowestFirst, fronts, drain, sweep, sweeps, slow, slowly, slowOrderOf}
 use Rattle.sorting.specs.Sorted.{countsIn, countsOf, reachesIn, reachesOf, pendingIn, pendingOf}
 
 -- a block of some kind, clock and length, perhaps with a left id
@@ -77,3 +78,10 @@ behind-a-gap : (sort 13 (gc 3 ∷ []) [] ≡ answer [] (5 ∷ 0 ∷ []) (5 ∷ 0
     × (sort 13 (late true (record { client = 9; clock = 0 }) ∷ []) [] ≡ answer [] (5 ∷ 0 ∷ []) (5 ∷ 0 ∷ []) (5 ∷ 9 ∷ 0 ∷ []))
 unfolding gc skip late sort answer block orderOf countsOf reachesOf pendingOf countsIn reachesIn pendingIn numbersBy numbersFrom outcome order clients insert insertAll quick choices best left can step after system queue deps others asksOf asks28 asks13 before byReaches waits unmet report remote
 behind-a-gap = (refl, refl, refl, refl, refl, refl, refl)
+
+-- W-211: the slow order takes the lowest client first and all of its fronts that are ready, and sweeps again for what another client has made ready
+lowest-first : (slowOrderOf (ruleOf 28) (binary 9 ∷ gc 0 ∷ gc 1 ∷ []) [] ≡ 1 ∷ 2 ∷ 0 ∷ []) × (orderOf (ruleOf 28) (binary 9 ∷ gc 0 ∷ gc 1 ∷ []) [] ≡ 0 ∷ 1 ∷ 2 ∷ [])
+    × (slowOrderOf (ruleOf 13) (after-id 5 9 0 ∷ late false noId ∷ binary 9 ∷ []) [] ≡ 2 ∷ 0 ∷ [])
+    × (slowOrderOf (ruleOf 28) (after-id 5 9 0 ∷ late false noId ∷ binary 9 ∷ []) [] ≡ 2 ∷ 0 ∷ 1 ∷ [])
+unfolding gc late block binary after-id orderOf slowOrderOf slowly slow sweeps sweep drain fronts lowestFirst numbersBy numbersFrom order clients insert insertAll quick choices best left can step after system queue deps others asksOf asks28 asks13 before byReaches waits unmet remote
+lowest-first = (refl, refl, refl, refl)

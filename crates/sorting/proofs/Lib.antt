@@ -1,6 +1,6 @@
 -- One outcome of every monotone system (Outcome), the order of highest clients (Quick), what holds of every rule (Rules), each rule in the paper's words
 -- (Rule28, Rule13) and by its number (Named), the clients reported (Clients), the blocks' numbers (Numbers), demand 3 by any rule (Demand), the same said
--- of the blocks' numbers (Taken), and the worked cases (Cases).
+-- of the blocks' numbers (Taken), the worked cases (Cases), and the slow plain order, which comes to the same (Slow).
 pub mod Outcome
 pub mod Quick
 pub mod Rules
@@ -12,3 +12,4 @@ pub mod Numbers
 pub mod Demand
 pub mod Taken
 pub mod Cases
+pub mod Slow

@@ -14,12 +14,12 @@ use Rattle.sorting.specs.Quick.{Listed, next, higher, order, left, best,
 use Rattle.sorting.proofs.Outcome.{can-fits, step-own, step-up, one-order, sorts}
 
 module _ {A : Type 0} (S : System A) where
-  run-append : (s : State A) (cs ds : List ℕ) → Run S s cs → Run S (after S s cs) ds → Run S s (cs ++ ds)
+  pub run-append : (s : State A) (cs ds : List ℕ) → Run S s cs → Run S (after S s cs) ds → Run S s (cs ++ ds)
   unfolding Run after
   run-append s [] ds r q = q
   run-append s (c ∷ cs) ds r q = (r .0, run-append (step S s c) cs ds (r .1) q)
 
-  after-append : (s : State A) (cs ds : List ℕ) → after S s (cs ++ ds) ≡ after S (after S s cs) ds
+  pub after-append : (s : State A) (cs ds : List ℕ) → after S s (cs ++ ds) ≡ after S (after S s cs) ds
   unfolding after
   after-append s [] ds = refl
   after-append s (c ∷ cs) ds = after-append (step S s c) cs ds
@@ -52,7 +52,7 @@ module _ {A : Type 0} (S : System A) where
   left-less s c (d ∷ cs) t (inr l) = omega (arith, left-less s c cs t l, step-up S s c d)
 
   module _ (clients : List ℕ) (listed : (c : ℕ) → 0 < S .size c → Listed c clients) where
-    less : (s : State A) (c : ℕ) → T (can S s c) → left S (step S s c) clients < left S s clients
+    pub less : (s : State A) (c : ℕ) → T (can S s c) → left S (step S s c) clients < left S s clients
     less s c t = left-less s c clients t (listed c (omega (arith, can-fits S s c t)))
 
     -- a run has no more steps than there are blocks left
@@ -113,7 +113,7 @@ module _ {A : Type 0} (S : System A) where
   best-is (c ∷ cs) s = higher-is s c cs (can S s c) refl (best S cs s) (best-is cs s)
 
   module _ (clients : List ℕ) (listed : (c : ℕ) → 0 < S .size c → Listed c clients) where
-    no-listed : (s : State A) → ((c : ℕ) → Listed c clients → T (can S s c) → ⊥) → Stuck S s
+    pub no-listed : (s : State A) → ((c : ℕ) → Listed c clients → T (can S s c) → ⊥) → Stuck S s
     unfolding Stuck
     no-listed s h c t = h c (listed c (omega (arith, can-fits S s c t))) t
 

@@ -39,7 +39,7 @@ overlaid-length w [] = rw (take-nil {A = ℕ} (length w)) refl
 overlaid-length [] (x ∷ ws) = refl
 overlaid-length (y ∷ w) (x ∷ ws) = omega (arith, overlaid-length w ws)
 
-overlaid-fitted : (w ws : List ℕ) → cleared (overlaid w ws) (length ws) ≡ fitted (length w) ws
+pub overlaid-fitted : (w ws : List ℕ) → cleared (overlaid w ws) (length ws) ≡ fitted (length w) ws
 unfolding cleared fitted
 overlaid-fitted w ws = rw (overlaid-front w ws, overlaid-length w ws) refl
 
@@ -60,14 +60,14 @@ module _ (rule : ℕ) (u : List ℕ) (bs : List Block) (v : List Entry) (fair : 
   abbrev ss : List Slot
   ss = slotsFor maxReaches bs (clientsIn v)
 
-  is-slotted : Slotted bs v ss
+  pub is-slotted : Slotted bs v ss
   unfolding slotsFor
   is-slotted = slotted bs v maxReaches (fair .owners) (fair .entries) (omega arith) (fair .count)
 
-  few : length ss ≤ maxReaches
+  pub few : length ss ≤ maxReaches
   few = omega (arith, slots-most bs v ss is-slotted (fair .owners) (fair .entries))
 
-  sortable : Sortable bs
+  pub sortable : Sortable bs
   sortable =
       record {
         ordered = fair .ordered;

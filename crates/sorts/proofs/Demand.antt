@@ -30,12 +30,12 @@ use Rattle.sorting.proofs.Demand.{highest, is-order, left-waits, front}
 use Rattle.sorting.proofs.Taken.{sorts, taken, untaken, taken-once, taken-below}
 use Rattle.updates.specs.Promises.{Reading, reading}
 use Rattle.sort_answers.specs.Answers.{isRule, Sort, refusedWith, Room}
-use Rattle.sorts.specs.Promises.{whole, whySort, fitting, against, afterReading, sortOf}
+use Rattle.sorts.specs.Promises.{Finder, quickly, whole, whySort, fitting, against, afterReading, sortBy, sortOf}
 use Rattle.sorts.specs.Demand.{endOf, Demand3}
 
 -- ---- what 0 says
 
-module _ (R : Rule ℕ) (m : Room) (v : List ℕ) (r : Reading) where
+module _ (F : Finder) (R : Rule ℕ) (m : Room) (v : List ℕ) (r : Reading) where
   abbrev es : List Entry
   es = items (vectorOf v)
 
@@ -48,31 +48,31 @@ module _ (R : Rule ℕ) (m : Room) (v : List ℕ) (r : Reading) where
       go true e h = refl
       go false e h = absurd (eqb-false (whySort m s) 0 e h)
 
-  against-is : against R m (vectorOf v) r ≡ pick (eqb (whyVector v) 0) (fitting m (whole R es r)) (refusedWith (nowhere (whyVector v)))
+  pub against-is : against F R m (vectorOf v) r ≡ pick (eqb (whyVector v) 0) (fitting m (whole F R es r)) (refusedWith (nowhere (whyVector v)))
   unfolding against
-  against-is = by-number v (fitting m (whole R es r)) (λ n. refusedWith (nowhere n))
+  against-is = by-number v (fitting m (whole F R es r)) (λ n. refusedWith (nowhere n))
 
   ends-is : ending (vectorOf v) (λ _. true) (λ _. false) ≡ pick (eqb (whyVector v) 0) true false
   ends-is = by-number v true (λ _. false)
 
-  against-done : against R m (vectorOf v) r .refusal .number ≡ 0
-      → (ending (vectorOf v) (λ _. true) (λ _. false) ≡ true) × (against R m (vectorOf v) r ≡ whole R es r)
+  against-done : against F R m (vectorOf v) r .refusal .number ≡ 0
+      → (ending (vectorOf v) (λ _. true) (λ _. false) ≡ true) × (against F R m (vectorOf v) r ≡ whole F R es r)
   against-done h = rw (against-is, ends-is) (go (eqb (whyVector v) 0) refl (subst (λ (s : Sort). s .refusal .number ≡ 0) against-is h))
     where
-      go : (x : Bool) → eqb (whyVector v) 0 ≡ x → pick x (fitting m (whole R es r)) (refusedWith (nowhere (whyVector v))) .refusal .number ≡ 0
-          → (pick x true false ≡ true) × (pick x (fitting m (whole R es r)) (refusedWith (nowhere (whyVector v))) ≡ whole R es r)
-      go true e h = (refl, fitting-done (whole R es r) h)
+      go : (x : Bool) → eqb (whyVector v) 0 ≡ x → pick x (fitting m (whole F R es r)) (refusedWith (nowhere (whyVector v))) .refusal .number ≡ 0
+          → (pick x true false ≡ true) × (pick x (fitting m (whole F R es r)) (refusedWith (nowhere (whyVector v))) ≡ whole F R es r)
+      go true e h = (refl, fitting-done (whole F R es r) h)
       go false e h = absurd (eqb-false (whyVector v) 0 e h)
 
-  after-done : afterReading R m (vectorOf v) r .refusal .number ≡ 0
-      → (r .refusal .number ≡ 0) × (ending (vectorOf v) (λ _. true) (λ _. false) ≡ true) × (afterReading R m (vectorOf v) r ≡ whole R es r)
+  pub after-done : afterReading F R m (vectorOf v) r .refusal .number ≡ 0
+      → (r .refusal .number ≡ 0) × (ending (vectorOf v) (λ _. true) (λ _. false) ≡ true) × (afterReading F R m (vectorOf v) r ≡ whole F R es r)
   unfolding afterReading
   after-done h = go (eqb (r .refusal .number) 0) refl h
     where
-      go : (x : Bool) → eqb (r .refusal .number) 0 ≡ x → pick x (against R m (vectorOf v) r) (refusedWith (r .refusal)) .refusal .number ≡ 0
+      go : (x : Bool) → eqb (r .refusal .number) 0 ≡ x → pick x (against F R m (vectorOf v) r) (refusedWith (r .refusal)) .refusal .number ≡ 0
           → (r .refusal .number ≡ 0)
           × (ending (vectorOf v) (λ _. true) (λ _. false) ≡ true)
-          × (pick x (against R m (vectorOf v) r) (refusedWith (r .refusal)) ≡ whole R es r)
+          × (pick x (against F R m (vectorOf v) r) (refusedWith (r .refusal)) ≡ whole F R es r)
       go true e h = (eqb-true (r .refusal .number) 0 e, against-done h .0, against-done h .1)
       go false e h = absurd (eqb-false (r .refusal .number) 0 e h)
 
@@ -85,7 +85,7 @@ module _ (R : Rule ℕ) (mono : RuleMonotone R) where
   reported bs v f cs e = ap f (sym (sorts R mono bs v .same cs e))
 
   whole-demanded : (r : Reading) (c : List ℕ) → r .refusal .number ≡ 0 → ending (vectorOf c) (λ _. true) (λ _. false) ≡ true
-      → Demand3 R r (vectorOf c) (whole R (items (vectorOf c)) r)
+      → Demand3 R r (vectorOf c) (whole quickly R (items (vectorOf c)) r)
   unfolding whole outcome orderOf countsOf reachesOf pendingOf
   whole-demanded r c z ends =
       let bs = r .blocks in
@@ -113,16 +113,16 @@ module _ (R : Rule ℕ) (mono : RuleMonotone R) where
 -- Demand 3, by the rule that the caller names
 pub demand-3 : (rule form : ℕ) (u v : List ℕ) (blockRows rangeRows : ℕ) (m : Room) → sortOf rule form u v blockRows rangeRows m .refusal .number ≡ 0
     → Demand3 (ruleOf rule) (reading form u blockRows rangeRows) (vectorOf v) (sortOf rule form u v blockRows rangeRows m)
-unfolding sortOf
+unfolding sortBy
 demand-3 rule form u v blockRows rangeRows m h = go (isRule rule) h
   where
     r : Reading
     r = reading form u blockRows rangeRows
 
-    go : (x : Bool) → pick x (afterReading (ruleOf rule) m (vectorOf v) r) (refusedWith (nowhere 12)) .refusal .number ≡ 0
-        → Demand3 (ruleOf rule) r (vectorOf v) (pick x (afterReading (ruleOf rule) m (vectorOf v) r) (refusedWith (nowhere 12)))
+    go : (x : Bool) → pick x (afterReading quickly (ruleOf rule) m (vectorOf v) r) (refusedWith (nowhere 12)) .refusal .number ≡ 0
+        → Demand3 (ruleOf rule) r (vectorOf v) (pick x (afterReading quickly (ruleOf rule) m (vectorOf v) r) (refusedWith (nowhere 12)))
     go true h =
-        let (z, ends, is) = after-done (ruleOf rule) m v r h in
+        let (z, ends, is) = after-done quickly (ruleOf rule) m v r h in
         subst (Demand3 (ruleOf rule) r (vectorOf v)) (sym is) (whole-demanded (ruleOf rule) (reaches-mono (asksOf rule)) r v z ends)
     go false h = absurd (omega (arith, h))
 

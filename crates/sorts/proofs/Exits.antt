@@ -1,15 +1,11 @@
--- The ways out of `sort`, with no machine: what is given and left at each keeps the promise.
+-- What `sort` gives and leaves of an update that was read: what the order of highest clients has, or what the vector's refusal leaves.
 use Prim.Native.Nat.{ℕ, _/_, _≤_}
-use mathlib.Core.Path.{_≡_, refl, sym, ap, _∙_}
-use mathlib.Core.Bool.{Bool, true, false}
-use mathlib.Core.List.{List, []}
+use mathlib.Core.Path.{_≡_}
+use mathlib.Core.List.{List}
 use native.Mathlib.Omega.{arith}
-use lib.Dec.{ltb, eqb}
+use lib.Dec.{eqb}
 use lib.ListN.{length}
-use borrow.Author.Tests.{eqb-false, eq-eqb, ne-eqb, ltb-false}
-use Rattle.numbers.specs.declared.Refusal.{Refusal}
-use Rattle.numbers.specs.Number.{pick, nowhere}
-use Rattle.numbers.specs.Output.{padded}
+use Rattle.numbers.specs.Number.{pick}
 use Rattle.block.specs.declared.Block.{Block}
 use Rattle.grammar.specs.Course.{items}
 use Rattle.vector.specs.Vector.{Entry, vectorOf}
@@ -17,55 +13,41 @@ use Rattle.vector.proofs.Clients.{vector-most}
 use Rattle.kept.proofs.Vectors.{vector-clocks, whyVector, by-number}
 use Rattle.picker.specs.Picker.{nowhere as noRow}
 use Rattle.reports.specs.Reports.{fitted}
-use Rattle.reports.proofs.Fitted.{fitted-padded, fitted-length}
 use Rattle.sorting.specs.Named.{ruleOf}
 use Rattle.sorting.specs.Sorted.{orderOf, countsOf, reachesOf, pendingOf}
 use Rattle.sorter.specs.declared.Sorting.{Sorting}
 use Rattle.sorter.specs.Sorter.{noSorting}
 use Rattle.sorter.specs.Sorter.{sortingRead, orderRead, countsRead, reachesRead, pendingRead}
-use Rattle.updates.specs.Promises.{Reading, refused, reading, answer, rowsOf, wordsOf}
-use Rattle.updates.proofs.Read.{reading-good, rows-length, words-length, rows-back}
-use Rattle.sort_answers.specs.declared.Sorted.{Sorted}
-use Rattle.sort_answers.specs.Answers.{isRule, Sort, refusedWith, Room, whyNot}
-use Rattle.sorts.specs.Promises.{lent, whole, whySort, fitting, against, afterReading, sortOf}
-use Rattle.sort_answers.specs.Answers.{answered, judged, answerTo}
-use Rattle.sorts.specs.Promises.{SortUpdate}
+use Rattle.updates.specs.Promises.{Reading, reading, rowsOf}
+use Rattle.updates.proofs.Read.{reading-good, rows-length, rows-back}
+use Rattle.sorts.specs.Promises.{quickly}
 use Rattle.sorts.proofs.Answers.{Fair, counts-are, reaches-are, pending-are, order-is, sorting-is}
+use Rattle.sorts.proofs.Ways.{Gives}
 
--- ---- 0 says that there is room for all of it
+-- blocks that were read and the entries of a vector are within the limits
+pub read-fair : (form : ℕ) (u v : List ℕ) (blockRows rangeRows : ℕ) → Fair u (reading form u blockRows rangeRows .blocks) (items (vectorOf v))
+read-fair form u v blockRows rangeRows =
+    let good = reading-good form u blockRows rangeRows in
+    record { ordered = good .ordered; sound = good .sound; count = good .count; owners = good .clients; entries = vector-most v; clocks = vector-clocks v }
 
-module _ (m : Room) (o c p q : ℕ) where
-  abbrev Fits : Type 0
-  Fits = (o ≤ m .order) × (c ≤ m .counts) × (p ≤ m .reaches) × (q ≤ m .pending)
-
-  all-fit : whyNot m o c p q ≡ 0 → Fits
-  unfolding whyNot
-  all-fit = go (ltb (m .order) o) refl (ltb (m .counts) c) refl (ltb (m .reaches) p) refl (ltb (m .pending) q) refl
-    where
-      go : (x : Bool) → ltb (m .order) o ≡ x → (y : Bool) → ltb (m .counts) c ≡ y → (z : Bool) → ltb (m .reaches) p ≡ z
-          → (t : Bool) → ltb (m .pending) q ≡ t → _≡_ {A = ℕ} (pick x 8 (pick y 10 (pick z 10 (pick t 10 0)))) 0 → Fits
-      go true ex y ey z ez t et h = absurd (omega (arith, h))
-      go false ex true ey z ez t et h = absurd (omega (arith, h))
-      go false ex false ey true ez t et h = absurd (omega (arith, h))
-      go false ex false ey false ez true et h = absurd (omega (arith, h))
-      go false ex false ey false ez false et h =
-          (ltb-false (m .order) o ex, ltb-false (m .counts) c ey, ltb-false (m .reaches) p ez, ltb-false (m .pending) q et)
-
-module _ (rule form : ℕ) (u v : List ℕ) (rows₀ : List Block) (ranges₀ order₀ counts₀ reaches₀ pending₀ : List ℕ) where
+module _ (rule form : ℕ) (u v : List ℕ) (rows₀ : List Block) (ranges₀ order₀ counts₀ reaches₀ pending₀ : List ℕ) (short : length rows₀ ≤ noRow) where
   abbrev M : ℕ
   M = length rows₀
 
   abbrev N : ℕ
   N = length ranges₀
 
-  abbrev room : Room
-  room = lent order₀ counts₀ reaches₀ pending₀
-
   abbrev R : Reading
   R = reading form u M (N / 3)
 
   abbrev es : List Entry
   es = items (vectorOf v)
+
+  abbrev bs : List Block
+  bs = R .blocks
+
+  abbrev w : ℕ
+  w = whyVector v
 
   abbrev S : Sorting
   S = sortingRead rule (vectorOf v) (rowsOf M R) (length (R .blocks)) order₀
@@ -82,191 +64,49 @@ module _ (rule form : ℕ) (u v : List ℕ) (rows₀ : List Block) (ranges₀ or
   abbrev Q : List ℕ
   Q = pendingRead rule (vectorOf v) (rowsOf M R) (length (R .blocks)) order₀ pending₀
 
-  abbrev s : Sort
-  s = sortOf rule form u v M (N / 3) room
+  fair : Fair u bs es
+  fair = read-fair form u v M (N / 3)
 
-  abbrev Right : Sorted → List Block → List ℕ → List ℕ → List ℕ → List ℕ → List ℕ → Type 0
-  Right r rows ranges order counts reaches pending =
-      SortUpdate rule form u v rows₀ ranges₀ order₀ counts₀ reaches₀ pending₀ r rows ranges order counts reaches pending
+  small : length (rowsOf M R) ≤ noRow
+  small = omega (arith, short, rows-length form u M N)
 
-  -- a refusal leaves nothing
-  by-refusal : (why : Refusal) (m k : ℕ) (order counts reaches pending : List ℕ) → s ≡ refusedWith why → m ≡ M → k ≡ N
-      → length order ≡ length order₀ → length counts ≡ length counts₀ → length reaches ≡ length reaches₀ → length pending ≡ length pending₀
-      → Right (answered (refusedWith why)) (rowsOf m (refused why)) (wordsOf k (refused why)) (padded (length order) []) (padded (length counts) [])
-      (padded (length reaches) []) (padded (length pending) [])
-  by-refusal why m k order counts reaches pending e p q a b c d = (
-    ap answered (sym e),
-    ap (λ (x : ℕ). rowsOf x (refused why)) p ∙ ap (λ (x : Sort). rowsOf M (x .reading)) (sym e),
-    ap (λ (x : ℕ). wordsOf x (refused why)) q ∙ ap (λ (x : Sort). wordsOf N (x .reading)) (sym e),
-    ap (λ (x : ℕ). padded x []) a ∙ ap (λ (x : Sort). padded (length order₀) (x .order)) (sym e),
-    ap (λ (x : ℕ). padded x []) b ∙ ap (λ (x : Sort). padded (length counts₀) (x .counts)) (sym e),
-    ap (λ (x : ℕ). padded x []) c ∙ ap (λ (x : Sort). padded (length reaches₀) (x .reaches)) (sym e),
-    ap (λ (x : ℕ). padded x []) d ∙ ap (λ (x : Sort). padded (length pending₀) (x .pending)) (sym e),
-  )
+  abbrev made : Sorting
+  made =
+      record {
+        number = 0;
+        steps = length (orderOf (ruleOf rule) bs es);
+        counts = length (countsOf (ruleOf rule) bs es);
+        reaches = length (reachesOf (ruleOf rule) bs es);
+        pending = length (pendingOf (ruleOf rule) bs es);
+      }
 
-  -- the rule is unknown
-  pub exit-unknown : isRule rule ≡ false
-      → Right (answered (refusedWith (nowhere 12))) (rowsOf M (refused (nowhere 12))) (wordsOf N (refused (nowhere 12))) (padded (length order₀) [])
-      (padded (length counts₀) []) (padded (length reaches₀) []) (padded (length pending₀) [])
-  unfolding sortOf
-  exit-unknown e =
-      by-refusal (nowhere 12) M N order₀ counts₀ reaches₀ pending₀
-      (ap (λ (x : Bool). pick x (afterReading (ruleOf rule) room (vectorOf v) R) (refusedWith (nowhere 12))) e) refl refl refl refl refl refl
+  sorting-at : S ≡ pick (eqb w 0) made (noSorting w)
+  unfolding sortingRead
+  sorting-at = rw (rows-back form u M N, sorting-is rule u bs es fair (rowsOf M R) (rows-back form u M N) small order₀) (by-number v made noSorting)
 
-  -- it is known
-  module _ (named : isRule rule ≡ true) where
-    known-rule : s ≡ afterReading (ruleOf rule) room (vectorOf v) R
-    unfolding sortOf
-    known-rule = ap (λ (x : Bool). pick x (afterReading (ruleOf rule) room (vectorOf v) R) (refusedWith (nowhere 12))) named
+  order-at : O ≡ pick (eqb w 0) (fitted (length order₀) (orderOf (ruleOf rule) bs es)) order₀
+  unfolding orderRead
+  order-at =
+      rw (rows-back form u M N, order-is rule u bs es fair (rowsOf M R) (rows-back form u M N) small order₀)
+      (by-number v (fitted (length order₀) (orderOf (ruleOf rule) bs es)) (λ n. order₀))
 
-    pub exit-unread : (R .refusal .number ≡ 0 → ⊥)
-        → Right (answered (refusedWith (R .refusal))) (rowsOf (length (rowsOf M R)) (refused (R .refusal))) (wordsOf (length (wordsOf N R)) (refused (R .refusal)))
-        (padded (length order₀) []) (padded (length counts₀) []) (padded (length reaches₀) []) (padded (length pending₀) [])
-    unfolding afterReading
-    exit-unread z =
-        by-refusal (R .refusal) (length (rowsOf M R)) (length (wordsOf N R)) order₀ counts₀ reaches₀ pending₀
-        (known-rule ∙ ap (λ (x : Bool). pick x (against (ruleOf rule) room (vectorOf v) R) (refusedWith (R .refusal))) (ne-eqb (R .refusal .number) 0 z))
-        (rows-length form u M N) (words-length form u M N) refl refl refl refl
+  counts-at : C ≡ pick (eqb w 0) (fitted (length counts₀) (countsOf (ruleOf rule) bs es)) counts₀
+  unfolding countsRead
+  counts-at =
+      rw (rows-back form u M N, counts-are rule u bs es fair (rowsOf M R) (rows-back form u M N) small order₀)
+      (by-number v (fitted (length counts₀) (countsOf (ruleOf rule) bs es)) (λ n. counts₀))
 
-    -- ---- the update was read
+  reaches-at : P ≡ pick (eqb w 0) (fitted (length reaches₀) (reachesOf (ruleOf rule) bs es)) reaches₀
+  unfolding reachesRead
+  reaches-at =
+      rw (rows-back form u M N, reaches-are rule u bs es fair (rowsOf M R) (rows-back form u M N) small order₀)
+      (by-number v (fitted (length reaches₀) (reachesOf (ruleOf rule) bs es)) (λ n. reaches₀))
 
-    module _ (z : R .refusal .number ≡ 0) (short : M ≤ noRow) where
-      abbrev bs : List Block
-      bs = R .blocks
+  pending-at : Q ≡ pick (eqb w 0) (fitted (length pending₀) (pendingOf (ruleOf rule) bs es)) pending₀
+  unfolding pendingRead
+  pending-at =
+      rw (rows-back form u M N, pending-are rule u bs es fair (rowsOf M R) (rows-back form u M N) small order₀)
+      (by-number v (fitted (length pending₀) (pendingOf (ruleOf rule) bs es)) (λ n. pending₀))
 
-      fair : Fair u bs es
-      fair =
-          let good = reading-good form u M (N / 3) in
-          record { ordered = good .ordered; sound = good .sound; count = good .count; owners = good .clients; entries = vector-most v; clocks = vector-clocks v }
-
-      small : length (rowsOf M R) ≤ noRow
-      small = omega (arith, short, rows-length form u M N)
-
-      -- the vector's refusal, then that of the room
-      abbrev w : ℕ
-      w = whyVector v
-
-      abbrev last : ℕ
-      last = whySort room (whole (ruleOf rule) es R)
-
-      abbrev all : ℕ
-      all = pick (eqb w 0) last w
-
-      abbrev made : Sorting
-      made =
-          record {
-            number = 0;
-            steps = length (orderOf (ruleOf rule) bs es);
-            counts = length (countsOf (ruleOf rule) bs es);
-            reaches = length (reachesOf (ruleOf rule) bs es);
-            pending = length (pendingOf (ruleOf rule) bs es);
-          }
-
-      sorting-at : S ≡ pick (eqb w 0) made (noSorting w)
-      unfolding sortingRead
-      sorting-at = rw (rows-back form u M N, sorting-is rule u bs es fair (rowsOf M R) (rows-back form u M N) small order₀) (by-number v made noSorting)
-
-      order-at : O ≡ pick (eqb w 0) (fitted (length order₀) (orderOf (ruleOf rule) bs es)) order₀
-      unfolding orderRead
-      order-at =
-          rw (rows-back form u M N, order-is rule u bs es fair (rowsOf M R) (rows-back form u M N) small order₀)
-          (by-number v (fitted (length order₀) (orderOf (ruleOf rule) bs es)) (λ n. order₀))
-
-      counts-at : C ≡ pick (eqb w 0) (fitted (length counts₀) (countsOf (ruleOf rule) bs es)) counts₀
-      unfolding countsRead
-      counts-at =
-          rw (rows-back form u M N, counts-are rule u bs es fair (rowsOf M R) (rows-back form u M N) small order₀)
-          (by-number v (fitted (length counts₀) (countsOf (ruleOf rule) bs es)) (λ n. counts₀))
-
-      reaches-at : P ≡ pick (eqb w 0) (fitted (length reaches₀) (reachesOf (ruleOf rule) bs es)) reaches₀
-      unfolding reachesRead
-      reaches-at =
-          rw (rows-back form u M N, reaches-are rule u bs es fair (rowsOf M R) (rows-back form u M N) small order₀)
-          (by-number v (fitted (length reaches₀) (reachesOf (ruleOf rule) bs es)) (λ n. reaches₀))
-
-      pending-at : Q ≡ pick (eqb w 0) (fitted (length pending₀) (pendingOf (ruleOf rule) bs es)) pending₀
-      unfolding pendingRead
-      pending-at =
-          rw (rows-back form u M N, pending-are rule u bs es fair (rowsOf M R) (rows-back form u M N) small order₀)
-          (by-number v (fitted (length pending₀) (pendingOf (ruleOf rule) bs es)) (λ n. pending₀))
-
-      sort-at : s ≡ pick (eqb all 0) (whole (ruleOf rule) es R) (refusedWith (nowhere all))
-      unfolding afterReading against fitting
-      sort-at =
-          known-rule
-          ∙ ap (λ (x : Bool). pick x (against (ruleOf rule) room (vectorOf v) R) (refusedWith (R .refusal))) (eq-eqb (R .refusal .number) 0 z)
-          ∙ by-number v (pick (eqb last 0) (whole (ruleOf rule) es R) (refusedWith (nowhere last))) (λ n. refusedWith (nowhere n)) ∙ go (eqb w 0) refl
-        where
-          go : (x : Bool) → eqb w 0 ≡ x
-              → pick x (pick (eqb last 0) (whole (ruleOf rule) es R) (refusedWith (nowhere last))) (refusedWith (nowhere w))
-              ≡ pick (eqb (pick x last w) 0) (whole (ruleOf rule) es R) (refusedWith (nowhere (pick x last w)))
-          go true e = refl
-          go false e = rw e refl
-
-      -- what was lent is as long as it was
-      same-size : (l ws before : List ℕ) → l ≡ pick (eqb w 0) (fitted (length before) ws) before → length l ≡ length before
-      same-size l ws before e = ap length e ∙ go (eqb w 0)
-        where
-          go : (x : Bool) → length (pick x (fitted (length before) ws) before) ≡ length before
-          go true = fitted-length (length before) ws
-          go false = refl
-
-      -- ---- judged with so many words
-
-      module _ (order counts reaches pending : ℕ) (a : length order₀ ≡ order) (b : length counts₀ ≡ counts) (c : length reaches₀ ≡ reaches)
-          (d : length pending₀ ≡ pending) where
-        abbrev why : ℕ
-        why = judged S order counts reaches pending
-
-        why-at : why ≡ all
-        unfolding judged whySort whole
-        why-at = rw (← a, ← b, ← c, ← d, sorting-at) (go (eqb w 0) refl)
-          where
-            go : (x : Bool) → eqb w 0 ≡ x
-                → judged (pick x made (noSorting w)) (length order₀) (length counts₀) (length reaches₀) (length pending₀) ≡ pick x last w
-            go true e = refl
-            go false e = rw e refl
-
-        pub exit-refused : (why ≡ 0 → ⊥)
-            → Right (answered (refusedWith (nowhere why))) (rowsOf (length (rowsOf M R)) (refused (nowhere why)))
-            (wordsOf (length (wordsOf N R)) (refused (nowhere why))) (padded (length O) []) (padded (length C) []) (padded (length P) []) (padded (length Q) [])
-        exit-refused h =
-            by-refusal (nowhere why) (length (rowsOf M R)) (length (wordsOf N R)) O C P Q
-            (sort-at ∙ ap (λ (x : Bool). pick x (whole (ruleOf rule) es R) (refusedWith (nowhere all))) (ne-eqb all 0 (λ e. h (why-at ∙ e)))
-            ∙ ap (λ (n : ℕ). refusedWith (nowhere n)) (sym why-at))
-            (rows-length form u M N) (words-length form u M N) (same-size O _ order₀ order-at) (same-size C _ counts₀ counts-at)
-            (same-size P _ reaches₀ reaches-at) (same-size Q _ pending₀ pending-at)
-
-        pub exit-done : why ≡ 0 → Right (answerTo (answer R) S) (rowsOf M R) (wordsOf N R) O C P Q
-        unfolding answerTo answer answered whole whySort
-        exit-done h = (
-          ap (answerTo (answer R)) (sorting-at ∙ ap (λ (x : Bool). pick x made (noSorting w)) read) ∙ ap answered (sym done-is),
-          ap (λ (x : Sort). rowsOf M (x .reading)) (sym done-is),
-          ap (λ (x : Sort). wordsOf N (x .reading)) (sym done-is),
-          stands O (orderOf (ruleOf rule) bs es) order₀ order-at (fits .0) ∙ ap (λ (x : Sort). padded (length order₀) (x .order)) (sym done-is),
-          stands C (countsOf (ruleOf rule) bs es) counts₀ counts-at (fits .1) ∙ ap (λ (x : Sort). padded (length counts₀) (x .counts)) (sym done-is),
-          stands P (reachesOf (ruleOf rule) bs es) reaches₀ reaches-at (fits .2) ∙ ap (λ (x : Sort). padded (length reaches₀) (x .reaches)) (sym done-is),
-          stands Q (pendingOf (ruleOf rule) bs es) pending₀ pending-at (fits .3) ∙ ap (λ (x : Sort). padded (length pending₀) (x .pending)) (sym done-is),
-        )
-          where
-            fine : all ≡ 0
-            fine = sym why-at ∙ h
-
-            both : (eqb w 0 ≡ true) × (last ≡ 0)
-            both = go (eqb w 0) refl fine
-              where
-                go : (x : Bool) → eqb w 0 ≡ x → pick x last w ≡ 0 → (x ≡ true) × (last ≡ 0)
-                go true e h = (refl, h)
-                go false e h = absurd (eqb-false w 0 e h)
-
-            read : eqb w 0 ≡ true
-            read = both .0
-
-            fits : Fits room (length (orderOf (ruleOf rule) bs es)) (length (countsOf (ruleOf rule) bs es)) (length (reachesOf (ruleOf rule) bs es)) (length (pendingOf (ruleOf rule) bs es))
-            fits = all-fit room (length (orderOf (ruleOf rule) bs es)) (length (countsOf (ruleOf rule) bs es)) (length (reachesOf (ruleOf rule) bs es)) (length (pendingOf (ruleOf rule) bs es)) (both .1)
-
-            done-is : s ≡ whole (ruleOf rule) es R
-            done-is = sort-at ∙ ap (λ (x : Bool). pick x (whole (ruleOf rule) es R) (refusedWith (nowhere all))) (eq-eqb all 0 fine)
-
-            stands : (l ws before : List ℕ) → l ≡ pick (eqb w 0) (fitted (length before) ws) before → length ws ≤ length before → l ≡ padded (length before) ws
-            stands l ws before e f = e ∙ ap (λ (x : Bool). pick x (fitted (length before) ws) before) read ∙ fitted-padded (length before) ws f
+  pub gives : Gives quickly rule form u v rows₀ ranges₀ order₀ counts₀ reaches₀ pending₀ S O C P Q
+  gives = record { sorting = sorting-at; order = order-at; counts = counts-at; reaches = reaches-at; pending = pending-at }

@@ -21,15 +21,29 @@ lent order counts reaches pending = record { order = length order; counts = leng
 
 -- ---- an update of a form, sorted by a rule against a vector, with so many rows and words lent
 
+-- what a sorter finds of blocks by a rule, against the entries of a vector: the numbers of the blocks that are taken, in order, and the reports
+pub record Found : Type 0 where
+  pub order : List ℕ
+  pub counts : List ℕ
+  pub reaches : List ℕ
+  pub pending : List ℕ
+
+abbrev pub Finder : Type 0
+Finder = Rule ℕ → List Block → List Entry → Found
+
+-- the order that takes the highest client at each step (another sorter's order is W-211's)
+abbrev pub quickly : Finder
+quickly R bs v = record { order = orderOf R bs v; counts = countsOf R bs v; reaches = reachesOf R bs v; pending = pendingOf R bs v }
+
 -- what was read, sorted against the entries of a vector
-unfoldable pub whole : Rule ℕ → List Entry → Reading → Sort
-whole R v r =
+unfoldable pub whole : Finder → Rule ℕ → List Entry → Reading → Sort
+whole F R v r =
     record {
       refusal = none;
-      order = orderOf R (r .blocks) v;
-      counts = countsOf R (r .blocks) v;
-      reaches = reachesOf R (r .blocks) v;
-      pending = pendingOf R (r .blocks) v;
+      order = F R (r .blocks) v .order;
+      counts = F R (r .blocks) v .counts;
+      reaches = F R (r .blocks) v .reaches;
+      pending = F R (r .blocks) v .pending;
       reading = r;
     }
 
@@ -41,16 +55,19 @@ unfoldable pub fitting : Room → Sort → Sort
 fitting m s = pick (eqb (whySort m s) 0) s (refusedWith (nowhere (whySort m s)))
 
 -- the vector is read after the update, and its refusal blames no byte
-unfoldable pub against : Rule ℕ → Room → Course Entry → Reading → Sort
-against R m c r = ending c (λ s. fitting m (whole R (items c) r)) (λ why. refusedWith (nowhere (why .number)))
+unfoldable pub against : Finder → Rule ℕ → Room → Course Entry → Reading → Sort
+against F R m c r = ending c (λ s. fitting m (whole F R (items c) r)) (λ why. refusedWith (nowhere (why .number)))
 
-unfoldable pub afterReading : Rule ℕ → Room → Course Entry → Reading → Sort
-afterReading R m c r = pick (eqb (r .refusal .number) 0) (against R m c r) (refusedWith (r .refusal))
+unfoldable pub afterReading : Finder → Rule ℕ → Room → Course Entry → Reading → Sort
+afterReading F R m c r = pick (eqb (r .refusal .number) 0) (against F R m c r) (refusedWith (r .refusal))
 
 -- an unknown rule is 12, after the form (12 too) and before anything of the update
-unfoldable pub sortOf : ℕ → ℕ → List ℕ → List ℕ → ℕ → ℕ → Room → Sort
-sortOf rule form u v blockRows rangeRows m =
-    pick (isRule rule) (afterReading (ruleOf rule) m (vectorOf v) (reading form u blockRows rangeRows)) (refusedWith (nowhere 12))
+unfoldable pub sortBy : Finder → ℕ → ℕ → List ℕ → List ℕ → ℕ → ℕ → Room → Sort
+sortBy F rule form u v blockRows rangeRows m =
+    pick (isRule rule) (afterReading F (ruleOf rule) m (vectorOf v) (reading form u blockRows rangeRows)) (refusedWith (nowhere 12))
+
+abbrev pub sortOf : ℕ → ℕ → List ℕ → List ℕ → ℕ → ℕ → Room → Sort
+sortOf = sortBy quickly
 
 -- ---- what `sort` gives, and what it leaves in all that is lent
 

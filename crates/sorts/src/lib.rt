@@ -12,7 +12,7 @@ ghost use Rattle.sort_answers.specs.Answers.{refusedWith, answered};
 ghost use Rattle.sorts.specs.Promises.{SortUpdate};
 
 // A refusal, and zeros in all that was lent.
-fn refuse(
+pub fn refuse(
     rows: &mut [Block],
     ranges: &mut [u64],
     order: &mut [u64],

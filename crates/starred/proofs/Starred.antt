@@ -40,7 +40,7 @@ use Rattle.sorting.specs.Sorted as outcomes
 use Rattle.sort_answers.specs.Answers as sort-answers
 use Rattle.sorts.specs.Promises as sort-promises
 use Rattle.sort_answers.specs.Answers.{Sort}
-use Rattle.sorts.specs.Promises.{sortOf, afterReading}
+use Rattle.sorts.specs.Promises.{quickly, sortBy, sortOf, afterReading}
 use Rattle.lines.specs.Lines.{digits, decimal}
 use Rattle.listing_text.specs.Listing as listing
 use Rattle.listed.specs.Listed as listings
@@ -71,7 +71,7 @@ lists = (
 
 -- what the vector of no entries and a reading come to
 abbrev against : promises.Reading → Sort
-against r = afterReading (ruleOf 28) (record { order = 2; counts = 4; reaches = 4; pending = 6 }) (vectorOf (0x00 ∷ [])) r
+against r = afterReading quickly (ruleOf 28) (record { order = 2; counts = 4; reaches = 4; pending = 6 }) (vectorOf (0x00 ∷ [])) r
 
 sorting : (against (blocksRead (after-id 5 9 8 ∷ in-parent 9 15 17 ∷ [])) ≡ sorted (1 ∷ 0 ∷ []) (9 ∷ 1 ∷ 5 ∷ 1 ∷ []) (9 ∷ 1 ∷ 5 ∷ 1 ∷ []) [] (after-id 5 9 8 ∷ in-parent 9 15 17 ∷ []))
     × (against (blocksRead (after-id 5 9 8 ∷ [])) ≡ sorted [] (5 ∷ 0 ∷ []) (5 ∷ 0 ∷ []) (5 ∷ 9 ∷ 0 ∷ []) (after-id 5 9 8 ∷ []))
@@ -82,7 +82,7 @@ sorting = (refl, refl, refl)
 sorts-M : (n m : ℕ) → (sorts updateM1 n m ≡ sorted (1 ∷ 0 ∷ []) (9 ∷ 1 ∷ 5 ∷ 1 ∷ []) (9 ∷ 1 ∷ 5 ∷ 1 ∷ []) [] (after-id 5 9 8 ∷ in-parent 9 15 17 ∷ []))
     × (sorts updateM2 n m ≡ sorted [] (5 ∷ 0 ∷ []) (5 ∷ 0 ∷ []) (5 ∷ 9 ∷ 0 ∷ []) (after-id 5 9 8 ∷ []))
     × (sorts updateM3 n m ≡ sorted [] (9 ∷ 0 ∷ 5 ∷ 0 ∷ []) (9 ∷ 0 ∷ 5 ∷ 0 ∷ []) (9 ∷ 5 ∷ 0 ∷ 5 ∷ 9 ∷ 0 ∷ []) (after-id 5 9 8 ∷ after-id 9 5 16 ∷ []))
-unfolding sortOf sort-answers.isRule
+unfolding sortBy sort-answers.isRule
 sorts-M n m = (
   ap against (updates n m .4) ∙ sorting .0,
   ap against (updates n m .5) ∙ sorting .1,

@@ -52,7 +52,9 @@ use Rattle.table.proofs.Sorts.{block}
 use Rattle.updates.proofs.Sorts.{update, update-refusal, update-blocks}
 use Rattle.sorts.proofs.Cards.{Sort-answers·is-rule, sort-answers·is-rule!, Sorts·refuse, Sort-answers·judge, Sort-answers·done, Sorter·sort-read, sorts·refuse!, sort-answers·judge!, sort-answers·done!, sorter·sort-read-rows! }
 use Rattle.updates.proofs.Read.{rows-fit, rows-length}
-use Rattle.sorts.proofs.Exits.{exit-unknown, exit-unread, exit-refused, exit-done}
+use Rattle.sorts.specs.Promises.{quickly}
+use Rattle.sorts.proofs.Ways.{exit-unknown, exit-unread, exit-refused, exit-done}
+use Rattle.sorts.proofs.Exits.{gives}
 use Rattle.updates.proofs.Cards.{Updates·read-update, updates·read-update! }
 use Rattle.sort_answers.proofs.is_rule.Symbol as sort-answers·is-rule-def
 use Rattle.sort_answers.proofs.is_rule.Symbol.{name as #sort-answers·is-rule}
@@ -204,7 +206,7 @@ module _ {M : Type 1} (𝓤 : URA M) (H : Heap 𝓤) (A : Atoms 𝓤) (W : Given
         calls-by ! (fmOf 𝓤 H (W .laws) 𝓣) (2 ∷ 3 ∷ 4 ∷ 5 ∷ 6 ∷ 7 ∷ []) (hs rows₀ ranges₀ order₀ counts₀ reaches₀ pending₀) (sorts·refuse! 𝓤 H A mem run (𝓣 .C) known-sorts·refuse at-rows rows₀ at-ranges ranges₀ at-order order₀ at-counts counts₀ at-reaches reaches₀ at-pending pending₀ (record { number = 12; place = 0 }) (refusal-has 12 (refl, lit< tt) 0 (refl, lit< tt))) refl (λ P. and-then ! (load ! (from ! (stop !)) (look ! 109 refl)) (and-then ! (load ! (from ! (stop !)) (look ! 105 refl)) (and-then ! (load ! (from ! (stop !)) (look ! 101 refl)) (and-then ! (load ! (from ! (stop !)) (look ! 97 refl)) (and-then ! (load ! (from ! (stop !)) (look ! 93 refl)) (and-then ! (load ! (from ! (stop !)) (look ! 89 refl)) (and-then ! (load ! (from ! (stop !)) (look ! 87 refl)) (no-more !)))))))) (λ g₃.
         land ! (from ! (stop !)) (init ! 143 refl (g₃ .1 .0)) $
         return-on ! Post refl (look ! 143 refl) $
-        free-all ! (_ ∷ []) En (has _ ∷ has _ ∷ has _ ∷ has _ ∷ has _ ∷ has _ ∷ has _ ∷ has _ ∷ has _ ∷ has _ ∷ has _ ∷ bare ∷ bare ∷ bare ∷ has _ ∷ has _ ∷ has _ ∷ has _ ∷ has _ ∷ has _ ∷ has _ ∷ has _ ∷ has _ ∷ has _ ∷ has _ ∷ has _ ∷ has _ ∷ has _ ∷ has _ ∷ []) [] $ by ! (exits (answered (refusedWith (record { number = 12; place = 0 }))) (rowsOf (length rows₀) (refused (record { number = 12; place = 0 }))) (wordsOf (length ranges₀) (refused (record { number = 12; place = 0 }))) (padded (length order₀) []) (padded (length counts₀) []) (padded (length reaches₀) []) (padded (length pending₀) []) (g₃ .0) (exit-unknown rule₀ form₀ update₀ vector₀ rows₀ ranges₀ order₀ counts₀ reaches₀ pending₀ (not-true _ y₂)))))
+        free-all ! (_ ∷ []) En (has _ ∷ has _ ∷ has _ ∷ has _ ∷ has _ ∷ has _ ∷ has _ ∷ has _ ∷ has _ ∷ has _ ∷ has _ ∷ bare ∷ bare ∷ bare ∷ has _ ∷ has _ ∷ has _ ∷ has _ ∷ has _ ∷ has _ ∷ has _ ∷ has _ ∷ has _ ∷ has _ ∷ has _ ∷ has _ ∷ has _ ∷ has _ ∷ has _ ∷ []) [] $ by ! (exits (answered (refusedWith (record { number = 12; place = 0 }))) (rowsOf (length rows₀) (refused (record { number = 12; place = 0 }))) (wordsOf (length ranges₀) (refused (record { number = 12; place = 0 }))) (padded (length order₀) []) (padded (length counts₀) []) (padded (length reaches₀) []) (padded (length pending₀) []) (g₃ .0) (exit-unknown quickly rule₀ form₀ update₀ vector₀ rows₀ ranges₀ order₀ counts₀ reaches₀ pending₀ (not-true _ y₂)))))
         (λ y₂.
         skip-on ! $
         assigns ! (addr ! (from ! (fld ! refl (hop ! (look-in ! 133 (sub ! 0 refl (whole !))) (stop !))))) (from ! (stop !)) (init ! 85 refl (tt, tt)) $
@@ -244,7 +246,7 @@ module _ {M : Type 1} (𝓤 : URA M) (H : Heap 𝓤) (A : Atoms 𝓤) (W : Given
         calls-by ! (fmOf 𝓤 H (W .laws) 𝓣) (2 ∷ 3 ∷ 4 ∷ 5 ∷ 6 ∷ 7 ∷ []) (hs (rowsOf (length rows₀) (reading form₀ update₀ (length rows₀) (length ranges₀ / 3))) (wordsOf (length ranges₀) (reading form₀ update₀ (length rows₀) (length ranges₀ / 3))) order₀ counts₀ reaches₀ pending₀) (sorts·refuse! 𝓤 H A mem run (𝓣 .C) known-sorts·refuse at-rows (rowsOf (length rows₀) (reading form₀ update₀ (length rows₀) (length ranges₀ / 3))) at-ranges (wordsOf (length ranges₀) (reading form₀ update₀ (length rows₀) (length ranges₀ / 3))) at-order order₀ at-counts counts₀ at-reaches reaches₀ at-pending pending₀ ((answer (reading form₀ update₀ (length rows₀) (length ranges₀ / 3))) .refusal) (update-refusal (answer (reading form₀ update₀ (length rows₀) (length ranges₀ / 3))) (g₄ .0))) refl (λ P. and-then ! (load ! (from ! (stop !)) (look ! 75 refl)) (and-then ! (load ! (from ! (stop !)) (look ! 71 refl)) (and-then ! (load ! (from ! (stop !)) (look ! 67 refl)) (and-then ! (load ! (from ! (stop !)) (look ! 63 refl)) (and-then ! (load ! (from ! (stop !)) (look ! 59 refl)) (and-then ! (load ! (from ! (stop !)) (look ! 55 refl)) (and-then ! (load ! (from ! (fld ! refl (stop !))) (look-in ! 121 (sub ! 0 refl (whole !)))) (no-more !)))))))) (λ g₆.
         land ! (from ! (stop !)) (init ! 143 refl (g₆ .1 .0)) $
         return-on ! Post refl (look ! 143 refl) $
-        free-all ! (_ ∷ []) En (has _ ∷ has _ ∷ has _ ∷ has _ ∷ has _ ∷ has _ ∷ has _ ∷ has _ ∷ has _ ∷ has _ ∷ has _ ∷ has _ ∷ bare ∷ bare ∷ has _ ∷ has _ ∷ bare ∷ bare ∷ bare ∷ bare ∷ bare ∷ bare ∷ bare ∷ bare ∷ bare ∷ bare ∷ bare ∷ bare ∷ bare ∷ has _ ∷ has _ ∷ has _ ∷ has _ ∷ has _ ∷ has _ ∷ has _ ∷ has _ ∷ has _ ∷ has _ ∷ has _ ∷ has _ ∷ has _ ∷ has _ ∷ has _ ∷ has _ ∷ []) [] $ by ! (exits (answered (refusedWith ((answer (reading form₀ update₀ (length rows₀) (length ranges₀ / 3))) .refusal))) (rowsOf (length (rowsOf (length rows₀) (reading form₀ update₀ (length rows₀) (length ranges₀ / 3)))) (refused ((answer (reading form₀ update₀ (length rows₀) (length ranges₀ / 3))) .refusal))) (wordsOf (length (wordsOf (length ranges₀) (reading form₀ update₀ (length rows₀) (length ranges₀ / 3)))) (refused ((answer (reading form₀ update₀ (length rows₀) (length ranges₀ / 3))) .refusal))) (padded (length order₀) []) (padded (length counts₀) []) (padded (length reaches₀) []) (padded (length pending₀) []) (g₆ .0) (exit-unread rule₀ form₀ update₀ vector₀ rows₀ ranges₀ order₀ counts₀ reaches₀ pending₀ (not-false _ y₂) (eqb-false _ 0 (not-true _ y₅))))))
+        free-all ! (_ ∷ []) En (has _ ∷ has _ ∷ has _ ∷ has _ ∷ has _ ∷ has _ ∷ has _ ∷ has _ ∷ has _ ∷ has _ ∷ has _ ∷ has _ ∷ bare ∷ bare ∷ has _ ∷ has _ ∷ bare ∷ bare ∷ bare ∷ bare ∷ bare ∷ bare ∷ bare ∷ bare ∷ bare ∷ bare ∷ bare ∷ bare ∷ bare ∷ has _ ∷ has _ ∷ has _ ∷ has _ ∷ has _ ∷ has _ ∷ has _ ∷ has _ ∷ has _ ∷ has _ ∷ has _ ∷ has _ ∷ has _ ∷ has _ ∷ has _ ∷ has _ ∷ []) [] $ by ! (exits (answered (refusedWith ((answer (reading form₀ update₀ (length rows₀) (length ranges₀ / 3))) .refusal))) (rowsOf (length (rowsOf (length rows₀) (reading form₀ update₀ (length rows₀) (length ranges₀ / 3)))) (refused ((answer (reading form₀ update₀ (length rows₀) (length ranges₀ / 3))) .refusal))) (wordsOf (length (wordsOf (length ranges₀) (reading form₀ update₀ (length rows₀) (length ranges₀ / 3)))) (refused ((answer (reading form₀ update₀ (length rows₀) (length ranges₀ / 3))) .refusal))) (padded (length order₀) []) (padded (length counts₀) []) (padded (length reaches₀) []) (padded (length pending₀) []) (g₆ .0) (exit-unread quickly rule₀ form₀ update₀ vector₀ rows₀ ranges₀ order₀ counts₀ reaches₀ pending₀ (not-false _ y₂) (eqb-false _ 0 (not-true _ y₅))))))
         (λ y₅.
         skip-on ! $
         assigns ! (addr ! (from ! (fld ! refl (hop ! (look-in ! 133 (sub ! 0 refl (whole !))) (stop !))))) (from ! (stop !)) (init ! 53 refl (tt, tt)) $
@@ -298,13 +300,13 @@ module _ {M : Type 1} (𝓤 : URA M) (H : Heap 𝓤) (A : Atoms 𝓤) (W : Given
         calls-by ! (fmOf 𝓤 H (W .laws) 𝓣) (2 ∷ 3 ∷ 4 ∷ 5 ∷ 6 ∷ 7 ∷ []) (hs (rowsOf (length rows₀) (reading form₀ update₀ (length rows₀) (length ranges₀ / 3))) (wordsOf (length ranges₀) (reading form₀ update₀ (length rows₀) (length ranges₀ / 3))) (orderRead rule₀ (vectorOf vector₀) (rowsOf (length rows₀) (reading form₀ update₀ (length rows₀) (length ranges₀ / 3))) ((answer (reading form₀ update₀ (length rows₀) (length ranges₀ / 3))) .blocks) order₀) (countsRead rule₀ (vectorOf vector₀) (rowsOf (length rows₀) (reading form₀ update₀ (length rows₀) (length ranges₀ / 3))) ((answer (reading form₀ update₀ (length rows₀) (length ranges₀ / 3))) .blocks) order₀ counts₀) (reachesRead rule₀ (vectorOf vector₀) (rowsOf (length rows₀) (reading form₀ update₀ (length rows₀) (length ranges₀ / 3))) ((answer (reading form₀ update₀ (length rows₀) (length ranges₀ / 3))) .blocks) order₀ reaches₀) (pendingRead rule₀ (vectorOf vector₀) (rowsOf (length rows₀) (reading form₀ update₀ (length rows₀) (length ranges₀ / 3))) ((answer (reading form₀ update₀ (length rows₀) (length ranges₀ / 3))) .blocks) order₀ pending₀)) (sorts·refuse! 𝓤 H A mem run (𝓣 .C) known-sorts·refuse at-rows (rowsOf (length rows₀) (reading form₀ update₀ (length rows₀) (length ranges₀ / 3))) at-ranges (wordsOf (length ranges₀) (reading form₀ update₀ (length rows₀) (length ranges₀ / 3))) at-order (orderRead rule₀ (vectorOf vector₀) (rowsOf (length rows₀) (reading form₀ update₀ (length rows₀) (length ranges₀ / 3))) ((answer (reading form₀ update₀ (length rows₀) (length ranges₀ / 3))) .blocks) order₀) at-counts (countsRead rule₀ (vectorOf vector₀) (rowsOf (length rows₀) (reading form₀ update₀ (length rows₀) (length ranges₀ / 3))) ((answer (reading form₀ update₀ (length rows₀) (length ranges₀ / 3))) .blocks) order₀ counts₀) at-reaches (reachesRead rule₀ (vectorOf vector₀) (rowsOf (length rows₀) (reading form₀ update₀ (length rows₀) (length ranges₀ / 3))) ((answer (reading form₀ update₀ (length rows₀) (length ranges₀ / 3))) .blocks) order₀ reaches₀) at-pending (pendingRead rule₀ (vectorOf vector₀) (rowsOf (length rows₀) (reading form₀ update₀ (length rows₀) (length ranges₀ / 3))) ((answer (reading form₀ update₀ (length rows₀) (length ranges₀ / 3))) .blocks) order₀ pending₀) (record { number = judged (sortingRead rule₀ (vectorOf vector₀) (rowsOf (length rows₀) (reading form₀ update₀ (length rows₀) (length ranges₀ / 3))) ((answer (reading form₀ update₀ (length rows₀) (length ranges₀ / 3))) .blocks) order₀) (at-order .count) (at-counts .count) (at-reaches .count) (at-pending .count); place = 0 }) (refusal-has (judged (sortingRead rule₀ (vectorOf vector₀) (rowsOf (length rows₀) (reading form₀ update₀ (length rows₀) (length ranges₀ / 3))) ((answer (reading form₀ update₀ (length rows₀) (length ranges₀ / 3))) .blocks) order₀) (at-order .count) (at-counts .count) (at-reaches .count) (at-pending .count)) (g₈ .0) 0 (refl, lit< tt))) refl (λ P. and-then ! (load ! (from ! (stop !)) (look ! 23 refl)) (and-then ! (load ! (from ! (stop !)) (look ! 19 refl)) (and-then ! (load ! (from ! (stop !)) (look ! 15 refl)) (and-then ! (load ! (from ! (stop !)) (look ! 11 refl)) (and-then ! (load ! (from ! (stop !)) (look ! 7 refl)) (and-then ! (load ! (from ! (stop !)) (look ! 3 refl)) (and-then ! (load ! (from ! (stop !)) (look ! 1 refl)) (no-more !)))))))) (λ g₁₀.
         land ! (from ! (stop !)) (init ! 143 refl (g₁₀ .1 .0)) $
         return-on ! Post refl (look ! 143 refl) $
-        free-all ! (_ ∷ []) En (has _ ∷ has _ ∷ has _ ∷ has _ ∷ has _ ∷ has _ ∷ has _ ∷ has _ ∷ has _ ∷ has _ ∷ has _ ∷ has _ ∷ has _ ∷ has _ ∷ has _ ∷ has _ ∷ bare ∷ bare ∷ bare ∷ bare ∷ bare ∷ bare ∷ bare ∷ bare ∷ bare ∷ bare ∷ bare ∷ bare ∷ bare ∷ has _ ∷ has _ ∷ has _ ∷ has _ ∷ bare ∷ bare ∷ bare ∷ bare ∷ bare ∷ bare ∷ bare ∷ bare ∷ bare ∷ bare ∷ bare ∷ bare ∷ has _ ∷ has _ ∷ has _ ∷ has _ ∷ has _ ∷ has _ ∷ has _ ∷ has _ ∷ has _ ∷ has _ ∷ has _ ∷ has _ ∷ has _ ∷ has _ ∷ has _ ∷ has _ ∷ has _ ∷ has _ ∷ has _ ∷ has _ ∷ has _ ∷ has _ ∷ has _ ∷ has _ ∷ has _ ∷ has _ ∷ has _ ∷ []) [] $ by ! (exits (answered (refusedWith (record { number = judged (sortingRead rule₀ (vectorOf vector₀) (rowsOf (length rows₀) (reading form₀ update₀ (length rows₀) (length ranges₀ / 3))) ((answer (reading form₀ update₀ (length rows₀) (length ranges₀ / 3))) .blocks) order₀) (at-order .count) (at-counts .count) (at-reaches .count) (at-pending .count); place = 0 }))) (rowsOf (length (rowsOf (length rows₀) (reading form₀ update₀ (length rows₀) (length ranges₀ / 3)))) (refused (record { number = judged (sortingRead rule₀ (vectorOf vector₀) (rowsOf (length rows₀) (reading form₀ update₀ (length rows₀) (length ranges₀ / 3))) ((answer (reading form₀ update₀ (length rows₀) (length ranges₀ / 3))) .blocks) order₀) (at-order .count) (at-counts .count) (at-reaches .count) (at-pending .count); place = 0 }))) (wordsOf (length (wordsOf (length ranges₀) (reading form₀ update₀ (length rows₀) (length ranges₀ / 3)))) (refused (record { number = judged (sortingRead rule₀ (vectorOf vector₀) (rowsOf (length rows₀) (reading form₀ update₀ (length rows₀) (length ranges₀ / 3))) ((answer (reading form₀ update₀ (length rows₀) (length ranges₀ / 3))) .blocks) order₀) (at-order .count) (at-counts .count) (at-reaches .count) (at-pending .count); place = 0 }))) (padded (length (orderRead rule₀ (vectorOf vector₀) (rowsOf (length rows₀) (reading form₀ update₀ (length rows₀) (length ranges₀ / 3))) ((answer (reading form₀ update₀ (length rows₀) (length ranges₀ / 3))) .blocks) order₀)) []) (padded (length (countsRead rule₀ (vectorOf vector₀) (rowsOf (length rows₀) (reading form₀ update₀ (length rows₀) (length ranges₀ / 3))) ((answer (reading form₀ update₀ (length rows₀) (length ranges₀ / 3))) .blocks) order₀ counts₀)) []) (padded (length (reachesRead rule₀ (vectorOf vector₀) (rowsOf (length rows₀) (reading form₀ update₀ (length rows₀) (length ranges₀ / 3))) ((answer (reading form₀ update₀ (length rows₀) (length ranges₀ / 3))) .blocks) order₀ reaches₀)) []) (padded (length (pendingRead rule₀ (vectorOf vector₀) (rowsOf (length rows₀) (reading form₀ update₀ (length rows₀) (length ranges₀ / 3))) ((answer (reading form₀ update₀ (length rows₀) (length ranges₀ / 3))) .blocks) order₀ pending₀)) []) (g₁₀ .0) (exit-refused rule₀ form₀ update₀ vector₀ rows₀ ranges₀ order₀ counts₀ reaches₀ pending₀ (not-false _ y₂) (eqb-true _ 0 (not-false _ y₅)) (omega (arith, sz .0, are .1 .1 .1 .1 .0 .0 .1 .0)) (at-order .count) (at-counts .count) (at-reaches .count) (at-pending .count) (sz .1 .1 .0) (sz .1 .1 .1 .0) (sz .1 .1 .1 .1 .0) (sz .1 .1 .1 .1 .1 .0) (eqb-false _ 0 (not-true _ y₉))))))
+        free-all ! (_ ∷ []) En (has _ ∷ has _ ∷ has _ ∷ has _ ∷ has _ ∷ has _ ∷ has _ ∷ has _ ∷ has _ ∷ has _ ∷ has _ ∷ has _ ∷ has _ ∷ has _ ∷ has _ ∷ has _ ∷ bare ∷ bare ∷ bare ∷ bare ∷ bare ∷ bare ∷ bare ∷ bare ∷ bare ∷ bare ∷ bare ∷ bare ∷ bare ∷ has _ ∷ has _ ∷ has _ ∷ has _ ∷ bare ∷ bare ∷ bare ∷ bare ∷ bare ∷ bare ∷ bare ∷ bare ∷ bare ∷ bare ∷ bare ∷ bare ∷ has _ ∷ has _ ∷ has _ ∷ has _ ∷ has _ ∷ has _ ∷ has _ ∷ has _ ∷ has _ ∷ has _ ∷ has _ ∷ has _ ∷ has _ ∷ has _ ∷ has _ ∷ has _ ∷ has _ ∷ has _ ∷ has _ ∷ has _ ∷ has _ ∷ has _ ∷ has _ ∷ has _ ∷ has _ ∷ has _ ∷ has _ ∷ []) [] $ by ! (exits (answered (refusedWith (record { number = judged (sortingRead rule₀ (vectorOf vector₀) (rowsOf (length rows₀) (reading form₀ update₀ (length rows₀) (length ranges₀ / 3))) ((answer (reading form₀ update₀ (length rows₀) (length ranges₀ / 3))) .blocks) order₀) (at-order .count) (at-counts .count) (at-reaches .count) (at-pending .count); place = 0 }))) (rowsOf (length (rowsOf (length rows₀) (reading form₀ update₀ (length rows₀) (length ranges₀ / 3)))) (refused (record { number = judged (sortingRead rule₀ (vectorOf vector₀) (rowsOf (length rows₀) (reading form₀ update₀ (length rows₀) (length ranges₀ / 3))) ((answer (reading form₀ update₀ (length rows₀) (length ranges₀ / 3))) .blocks) order₀) (at-order .count) (at-counts .count) (at-reaches .count) (at-pending .count); place = 0 }))) (wordsOf (length (wordsOf (length ranges₀) (reading form₀ update₀ (length rows₀) (length ranges₀ / 3)))) (refused (record { number = judged (sortingRead rule₀ (vectorOf vector₀) (rowsOf (length rows₀) (reading form₀ update₀ (length rows₀) (length ranges₀ / 3))) ((answer (reading form₀ update₀ (length rows₀) (length ranges₀ / 3))) .blocks) order₀) (at-order .count) (at-counts .count) (at-reaches .count) (at-pending .count); place = 0 }))) (padded (length (orderRead rule₀ (vectorOf vector₀) (rowsOf (length rows₀) (reading form₀ update₀ (length rows₀) (length ranges₀ / 3))) ((answer (reading form₀ update₀ (length rows₀) (length ranges₀ / 3))) .blocks) order₀)) []) (padded (length (countsRead rule₀ (vectorOf vector₀) (rowsOf (length rows₀) (reading form₀ update₀ (length rows₀) (length ranges₀ / 3))) ((answer (reading form₀ update₀ (length rows₀) (length ranges₀ / 3))) .blocks) order₀ counts₀)) []) (padded (length (reachesRead rule₀ (vectorOf vector₀) (rowsOf (length rows₀) (reading form₀ update₀ (length rows₀) (length ranges₀ / 3))) ((answer (reading form₀ update₀ (length rows₀) (length ranges₀ / 3))) .blocks) order₀ reaches₀)) []) (padded (length (pendingRead rule₀ (vectorOf vector₀) (rowsOf (length rows₀) (reading form₀ update₀ (length rows₀) (length ranges₀ / 3))) ((answer (reading form₀ update₀ (length rows₀) (length ranges₀ / 3))) .blocks) order₀ pending₀)) []) (g₁₀ .0) (exit-refused quickly rule₀ form₀ update₀ vector₀ rows₀ ranges₀ order₀ counts₀ reaches₀ pending₀ (not-false _ y₂) (eqb-true _ 0 (not-false _ y₅)) (gives rule₀ form₀ update₀ vector₀ rows₀ ranges₀ order₀ counts₀ reaches₀ pending₀ (omega (arith, sz .0, are .1 .1 .1 .1 .0 .0 .1 .0))) (at-order .count) (at-counts .count) (at-reaches .count) (at-pending .count) (sz .1 .1 .0) (sz .1 .1 .1 .0) (sz .1 .1 .1 .1 .0) (sz .1 .1 .1 .1 .1 .0) (eqb-false _ 0 (not-true _ y₉))))))
         (λ y₉.
         skip-on ! $
         calls-by ! (fmOf 𝓤 H (W .laws) 𝓣) ([]) (hs (rowsOf (length rows₀) (reading form₀ update₀ (length rows₀) (length ranges₀ / 3))) (wordsOf (length ranges₀) (reading form₀ update₀ (length rows₀) (length ranges₀ / 3))) (orderRead rule₀ (vectorOf vector₀) (rowsOf (length rows₀) (reading form₀ update₀ (length rows₀) (length ranges₀ / 3))) ((answer (reading form₀ update₀ (length rows₀) (length ranges₀ / 3))) .blocks) order₀) (countsRead rule₀ (vectorOf vector₀) (rowsOf (length rows₀) (reading form₀ update₀ (length rows₀) (length ranges₀ / 3))) ((answer (reading form₀ update₀ (length rows₀) (length ranges₀ / 3))) .blocks) order₀ counts₀) (reachesRead rule₀ (vectorOf vector₀) (rowsOf (length rows₀) (reading form₀ update₀ (length rows₀) (length ranges₀ / 3))) ((answer (reading form₀ update₀ (length rows₀) (length ranges₀ / 3))) .blocks) order₀ reaches₀) (pendingRead rule₀ (vectorOf vector₀) (rowsOf (length rows₀) (reading form₀ update₀ (length rows₀) (length ranges₀ / 3))) ((answer (reading form₀ update₀ (length rows₀) (length ranges₀ / 3))) .blocks) order₀ pending₀)) (sort-answers·done! 𝓤 H A mem run (𝓣 .C) known-sort-answers·done (answer (reading form₀ update₀ (length rows₀) (length ranges₀ / 3))) (g₄ .0) (sortingRead rule₀ (vectorOf vector₀) (rowsOf (length rows₀) (reading form₀ update₀ (length rows₀) (length ranges₀ / 3))) ((answer (reading form₀ update₀ (length rows₀) (length ranges₀ / 3))) .blocks) order₀) (g₇ .0)) refl (λ P. and-then ! (load ! (from ! (stop !)) (look ! 121 refl)) (and-then ! (load ! (from ! (stop !)) (look ! 119 refl)) (no-more !))) (λ g₁₁.
         land ! (from ! (stop !)) (init ! 143 refl (g₁₁ .1 .0)) $
         returns-within ! Post refl (look ! 143 refl) $
-        free-all ! (_ ∷ []) En (has _ ∷ has _ ∷ has _ ∷ has _ ∷ has _ ∷ has _ ∷ has _ ∷ has _ ∷ has _ ∷ has _ ∷ has _ ∷ has _ ∷ has _ ∷ has _ ∷ has _ ∷ has _ ∷ bare ∷ bare ∷ bare ∷ bare ∷ bare ∷ bare ∷ bare ∷ bare ∷ bare ∷ bare ∷ bare ∷ bare ∷ bare ∷ has _ ∷ has _ ∷ has _ ∷ has _ ∷ bare ∷ bare ∷ bare ∷ bare ∷ bare ∷ bare ∷ bare ∷ bare ∷ bare ∷ bare ∷ bare ∷ bare ∷ has _ ∷ has _ ∷ has _ ∷ has _ ∷ has _ ∷ has _ ∷ has _ ∷ has _ ∷ has _ ∷ has _ ∷ has _ ∷ has _ ∷ has _ ∷ has _ ∷ []) [] $ by ! (exits (answerTo (answer (reading form₀ update₀ (length rows₀) (length ranges₀ / 3))) (sortingRead rule₀ (vectorOf vector₀) (rowsOf (length rows₀) (reading form₀ update₀ (length rows₀) (length ranges₀ / 3))) ((answer (reading form₀ update₀ (length rows₀) (length ranges₀ / 3))) .blocks) order₀)) (rowsOf (length rows₀) (reading form₀ update₀ (length rows₀) (length ranges₀ / 3))) (wordsOf (length ranges₀) (reading form₀ update₀ (length rows₀) (length ranges₀ / 3))) (orderRead rule₀ (vectorOf vector₀) (rowsOf (length rows₀) (reading form₀ update₀ (length rows₀) (length ranges₀ / 3))) ((answer (reading form₀ update₀ (length rows₀) (length ranges₀ / 3))) .blocks) order₀) (countsRead rule₀ (vectorOf vector₀) (rowsOf (length rows₀) (reading form₀ update₀ (length rows₀) (length ranges₀ / 3))) ((answer (reading form₀ update₀ (length rows₀) (length ranges₀ / 3))) .blocks) order₀ counts₀) (reachesRead rule₀ (vectorOf vector₀) (rowsOf (length rows₀) (reading form₀ update₀ (length rows₀) (length ranges₀ / 3))) ((answer (reading form₀ update₀ (length rows₀) (length ranges₀ / 3))) .blocks) order₀ reaches₀) (pendingRead rule₀ (vectorOf vector₀) (rowsOf (length rows₀) (reading form₀ update₀ (length rows₀) (length ranges₀ / 3))) ((answer (reading form₀ update₀ (length rows₀) (length ranges₀ / 3))) .blocks) order₀ pending₀) (g₁₁ .0) (exit-done rule₀ form₀ update₀ vector₀ rows₀ ranges₀ order₀ counts₀ reaches₀ pending₀ (not-false _ y₂) (eqb-true _ 0 (not-false _ y₅)) (omega (arith, sz .0, are .1 .1 .1 .1 .0 .0 .1 .0)) (at-order .count) (at-counts .count) (at-reaches .count) (at-pending .count) (sz .1 .1 .0) (sz .1 .1 .1 .0) (sz .1 .1 .1 .1 .0) (sz .1 .1 .1 .1 .1 .0) (eqb-true _ 0 (not-false _ y₉))))))))))))))
+        free-all ! (_ ∷ []) En (has _ ∷ has _ ∷ has _ ∷ has _ ∷ has _ ∷ has _ ∷ has _ ∷ has _ ∷ has _ ∷ has _ ∷ has _ ∷ has _ ∷ has _ ∷ has _ ∷ has _ ∷ has _ ∷ bare ∷ bare ∷ bare ∷ bare ∷ bare ∷ bare ∷ bare ∷ bare ∷ bare ∷ bare ∷ bare ∷ bare ∷ bare ∷ has _ ∷ has _ ∷ has _ ∷ has _ ∷ bare ∷ bare ∷ bare ∷ bare ∷ bare ∷ bare ∷ bare ∷ bare ∷ bare ∷ bare ∷ bare ∷ bare ∷ has _ ∷ has _ ∷ has _ ∷ has _ ∷ has _ ∷ has _ ∷ has _ ∷ has _ ∷ has _ ∷ has _ ∷ has _ ∷ has _ ∷ has _ ∷ has _ ∷ []) [] $ by ! (exits (answerTo (answer (reading form₀ update₀ (length rows₀) (length ranges₀ / 3))) (sortingRead rule₀ (vectorOf vector₀) (rowsOf (length rows₀) (reading form₀ update₀ (length rows₀) (length ranges₀ / 3))) ((answer (reading form₀ update₀ (length rows₀) (length ranges₀ / 3))) .blocks) order₀)) (rowsOf (length rows₀) (reading form₀ update₀ (length rows₀) (length ranges₀ / 3))) (wordsOf (length ranges₀) (reading form₀ update₀ (length rows₀) (length ranges₀ / 3))) (orderRead rule₀ (vectorOf vector₀) (rowsOf (length rows₀) (reading form₀ update₀ (length rows₀) (length ranges₀ / 3))) ((answer (reading form₀ update₀ (length rows₀) (length ranges₀ / 3))) .blocks) order₀) (countsRead rule₀ (vectorOf vector₀) (rowsOf (length rows₀) (reading form₀ update₀ (length rows₀) (length ranges₀ / 3))) ((answer (reading form₀ update₀ (length rows₀) (length ranges₀ / 3))) .blocks) order₀ counts₀) (reachesRead rule₀ (vectorOf vector₀) (rowsOf (length rows₀) (reading form₀ update₀ (length rows₀) (length ranges₀ / 3))) ((answer (reading form₀ update₀ (length rows₀) (length ranges₀ / 3))) .blocks) order₀ reaches₀) (pendingRead rule₀ (vectorOf vector₀) (rowsOf (length rows₀) (reading form₀ update₀ (length rows₀) (length ranges₀ / 3))) ((answer (reading form₀ update₀ (length rows₀) (length ranges₀ / 3))) .blocks) order₀ pending₀) (g₁₁ .0) (exit-done quickly rule₀ form₀ update₀ vector₀ rows₀ ranges₀ order₀ counts₀ reaches₀ pending₀ (not-false _ y₂) (eqb-true _ 0 (not-false _ y₅)) (gives rule₀ form₀ update₀ vector₀ rows₀ ranges₀ order₀ counts₀ reaches₀ pending₀ (omega (arith, sz .0, are .1 .1 .1 .1 .0 .0 .1 .0))) (at-order .count) (at-counts .count) (at-reaches .count) (at-pending .count) (sz .1 .1 .0) (sz .1 .1 .1 .0) (sz .1 .1 .1 .1 .0) (sz .1 .1 .1 .1 .1 .0) (eqb-true _ 0 (not-false _ y₉))))))))))))))
 
 pub sort-spec : {M : Type 1} → stated.statement M
 unfolding code.routine tablesOf

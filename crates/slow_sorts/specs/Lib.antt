@@ -1,0 +1,2 @@
+-- What the public call that sorts slowly promises.
+pub mod Promises

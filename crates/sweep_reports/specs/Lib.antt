@@ -1,0 +1,2 @@
+-- What the slow plain sorter reports after its sweeps.
+pub mod Reports

@@ -1,0 +1,4 @@
+-- What holds a front, and in which row it stands (Fronts), the three loops (Sweeps), and what the walks share (Cards).
+pub mod Fronts
+pub mod Sweeps
+pub mod Cards

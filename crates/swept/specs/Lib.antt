@@ -1,0 +1,2 @@
+-- What the slow plain sorter's sweeps come to.
+pub mod Swept
