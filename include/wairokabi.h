@@ -416,7 +416,7 @@ typedef struct wairokabi_text_opened {
     wairokabi_string_place place;
 } wairokabi_text_opened;
 
-// The place before the first text of a text column that begins at `at`. 1, 2, 6.
+// The place before the first text of a text column that begins at `at`. 1, 2, 6: then the place is the column's end, from which every read says 1.
 wairokabi_text_opened wairokabi_open_text(const uint8_t *column, size_t column_count, size_t at);
 
 typedef struct wairokabi_text_next {

@@ -519,7 +519,14 @@ static void column_places(void) {
     // texts: one of five bytes that has one; one that is not UTF-8; two units of "t"; none left
     static const uint8_t cut[] = {0x05, 0x74}, bad[] = {0x01, 0xff, 0x01}, far[] = {0x01, 0x74, 0x02}, left[] = {0x01, 0x74, 0x41, 0x00};
     const wairokabi_text_opened o = wairokabi_open_text(cut, sizeof cut, 0);
-    EXPECT(refused(o.refusal, 1, 2) && o.place.at == 0 && o.place.end == 0 && o.place.units.at == 0);
+    EXPECT(refused(o.refusal, 1, 2) && o.place.at == 2 && o.place.end == 2 && o.place.units.at == 2);
+    // what was refused stays refused: 40 00 announces 64 bytes of text, and is no two texts of no units
+    static const uint8_t announced[] = {0x40, 0x00};
+    wairokabi_text_next shut = {{0, 0}, {0, {0}}, wairokabi_open_text(announced, sizeof announced, 0).place};
+    for (int i = 0; i < 3; i++) {
+        shut = wairokabi_next_text(announced, sizeof announced, shut.place);
+        EXPECT(refused(shut.refusal, 1, 2) && same_part(shut.part, 0, 0));
+    }
     EXPECT(refused(wairokabi_open_text(bad, sizeof bad, 0).refusal, 6, 1));
     wairokabi_text_next t = wairokabi_next_text(far, sizeof far, wairokabi_open_text(far, sizeof far, 0).place);
     EXPECT(refused(t.refusal, 7, 1) && same_part(t.part, 0, 0) && t.place.at == 1 && t.place.end == 2 && t.place.units.at == 2);
