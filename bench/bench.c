@@ -138,55 +138,49 @@ static void rust_each(void) {
     on.answer[1] = ranges;
 }
 
+// A whole column in one call; the Rust draws and sums value by value, so ours is summed too.
 static void ours_next(void) {
     const uint8_t *s = on.column.bytes;
     const size_t n = on.column.count;
     uint64_t sum = 0;
+    size_t read = 0;
     uint8_t bad = 0;
     switch (on.kind) {
     case 0: {
-        wairokabi_number_place p = wairokabi_open_numbers(0);
-        for (size_t k = 0; k < on.count; k++) {
-            const wairokabi_number_next r = wairokabi_next_number(s, n, p);
-            bad |= r.refusal.number;
-            sum += r.value;
-            p = r.place;
-        }
+        const wairokabi_numbers_read r = wairokabi_read_numbers(s, n, wairokabi_open_numbers(0), on.words, on.count);
+        bad = r.refusal.number;
+        read = r.count;
+        for (size_t k = 0; k < read; k++)
+            sum += on.words[k];
         break;
     }
     case 1: {
-        wairokabi_difference_place p = wairokabi_open_differences(0);
-        for (size_t k = 0; k < on.count; k++) {
-            const wairokabi_difference_next r = wairokabi_next_difference(s, n, p);
-            bad |= r.refusal.number;
-            sum += r.value;
-            p = r.place;
-        }
+        const wairokabi_differences_read r = wairokabi_read_differences(s, n, wairokabi_open_differences(0), on.words, on.count);
+        bad = r.refusal.number;
+        read = r.count;
+        for (size_t k = 0; k < read; k++)
+            sum += on.words[k];
         break;
     }
     case 2: {
-        wairokabi_byte_place p = wairokabi_open_bytes(0);
-        for (size_t k = 0; k < on.count; k++) {
-            const wairokabi_byte_next r = wairokabi_next_byte(s, n, p);
-            bad |= r.refusal.number;
-            sum += r.value;
-            p = r.place;
-        }
+        uint8_t *bytes = (uint8_t *)on.words;
+        const wairokabi_bytes_read r = wairokabi_read_bytes(s, n, wairokabi_open_bytes(0), bytes, on.count);
+        bad = r.refusal.number;
+        read = r.count;
+        for (size_t k = 0; k < read; k++)
+            sum += bytes[k];
         break;
     }
     default: {
         const wairokabi_text_opened o = wairokabi_open_text(s, n, 0);
-        bad |= o.refusal.number;
-        wairokabi_string_place p = o.place;
-        for (size_t k = 0; k < on.count; k++) {
-            const wairokabi_text_next r = wairokabi_next_text(s, n, p);
-            bad |= r.refusal.number;
-            sum += r.part.bytes.count;
-            p = r.place;
-        }
+        const wairokabi_texts_read r = wairokabi_read_texts(s, n, o.place, on.words, 2 * on.count);
+        bad = o.refusal.number | r.refusal.number;
+        read = r.count;
+        for (size_t k = 0; k < read; k++)
+            sum += on.words[2 * k + 1];
     }
     }
-    on.answer[0] = bad ? (uint64_t)-1 : sum;
+    on.answer[0] = bad || read != on.count ? (uint64_t)-1 : sum;
 }
 
 static void rust_next(void) {
@@ -394,9 +388,11 @@ static void column_work(const char *input, const char *work, size_t count) {
     on.count = count;
     on.column = load(input, "column");
     on.copy = some(8 * count + on.column.count * 4);
-    if (!strcmp(work, "next"))
+    if (!strcmp(work, "next")) {
+        on.words = some(16 * count);
         measure(input, work, ours_next, rust_next, 1, on.column.bytes, on.column.count);
-    else {
+        free(on.words);
+    } else {
         on.values = load(input, "values");
         on.room = on.column.count;
         on.out = some(on.room);

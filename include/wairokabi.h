@@ -429,7 +429,7 @@ typedef struct wairokabi_text_opened {
     wairokabi_string_place place;
 } wairokabi_text_opened;
 
-// The place before the first text of a text column that begins at `at`. 1, 2, 6.
+// The place before the first text of a text column that begins at `at`. 1, 2, 6: then the place is the column's end, from which every read says 1.
 wairokabi_text_opened wairokabi_open_text(const uint8_t *column, size_t column_count, size_t at);
 
 typedef struct wairokabi_text_next {
@@ -440,6 +440,60 @@ typedef struct wairokabi_text_next {
 
 // Where the next text lies in a text column, and the place after it. 1, 2, 3, 7.
 wairokabi_text_next wairokabi_next_text(const uint8_t *column, size_t column_count, wairokabi_string_place place);
+
+// ---- columns, read in bulk
+//
+// As many values as `out` has room for, or up to the first that cannot be read; zeros behind them. The answer says how many, with number 0, and the place
+// after them, from which reading goes on, by these calls or by `next_..`. A refusal is told only where the very first value cannot be read: then no value
+// was read, the place is as it was, and `out` is all zero. So a call that gives fewer values than there is room for is followed by one that tells why.
+
+typedef struct wairokabi_numbers_read {
+    wairokabi_refusal refusal;
+    size_t count;
+    wairokabi_number_place place;
+} wairokabi_numbers_read;
+
+// The next values of a number column. 1, 2, 3.
+wairokabi_numbers_read wairokabi_read_numbers(
+    const uint8_t *column, size_t column_count,
+    wairokabi_number_place place,
+    uint64_t *out, size_t out_count);
+
+typedef struct wairokabi_differences_read {
+    wairokabi_refusal refusal;
+    size_t count;
+    wairokabi_difference_place place;
+} wairokabi_differences_read;
+
+// The next values of a difference column. 1, 2, 3.
+wairokabi_differences_read wairokabi_read_differences(
+    const uint8_t *column, size_t column_count,
+    wairokabi_difference_place place,
+    uint64_t *out, size_t out_count);
+
+typedef struct wairokabi_bytes_read {
+    wairokabi_refusal refusal;
+    size_t count;
+    wairokabi_byte_place place;
+} wairokabi_bytes_read;
+
+// The next values of a byte column. 1, 2, 3.
+wairokabi_bytes_read wairokabi_read_bytes(
+    const uint8_t *column, size_t column_count,
+    wairokabi_byte_place place,
+    uint8_t *out, size_t out_count);
+
+typedef struct wairokabi_texts_read {
+    wairokabi_refusal refusal;
+    size_t count;
+    wairokabi_string_place place;
+} wairokabi_texts_read;
+
+// Where the next texts lie in a text column, two words each: the place of its first byte, and its length in bytes. 1, 2, 3, 7.
+wairokabi_texts_read wairokabi_read_texts(
+    const uint8_t *column, size_t column_count,
+    wairokabi_string_place place,
+    uint64_t *out, size_t out_count);
 
 // ---- columns, written, in the longest runs
 

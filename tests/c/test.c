@@ -467,6 +467,45 @@ static void columns(void) {
     EXPECT(w.number == 0 && wrote(w.bytes, column, sizeof column));
 }
 
+static int all_zero(const uint64_t *words, size_t n) {
+    for (size_t i = 0; i < n; i++)
+        if (words[i])
+            return 0;
+    return 1;
+}
+
+// The same columns in bulk: as much as there is room for, up to what cannot be read, and what is told when nothing can be.
+static void bulk(void) {
+    static const uint8_t zeros[] = {0x40, 0x03}, steps[] = {0x03, 0x01, 0x43, 0x01}, bytes[] = {0x04, 0x01, 0x00}, column[] = {0x03, 0x74, 0x68, 0x69, 0x01, 0x02};
+    uint64_t w[6];
+    memset(w, 0xa5, sizeof w);
+    wairokabi_numbers_read n = wairokabi_read_numbers(zeros, sizeof zeros, wairokabi_open_numbers(0), w, 2);
+    EXPECT(done(n.refusal) && n.count == 2 && all_zero(w, 2) && w[2] == 0xa5a5a5a5a5a5a5a5 && n.place.at == 2 && n.place.count == 3);
+    n = wairokabi_read_numbers(zeros, sizeof zeros, n.place, w, 6);
+    EXPECT(done(n.refusal) && n.count == 3 && all_zero(w, 6) && n.place.at == 2 && n.place.count == 0);
+    memset(w, 0xa5, sizeof w);
+    n = wairokabi_read_numbers(zeros, sizeof zeros, n.place, w, 6);
+    EXPECT(refused(n.refusal, 1, 2) && n.count == 0 && all_zero(w, 6) && n.place.at == 2);
+    n = wairokabi_read_numbers(zeros, sizeof zeros, n.place, w, 0);
+    EXPECT(done(n.refusal) && n.count == 0 && n.place.at == 2);
+    // 1, 2, 3, then a run of -2: 1, and no clock
+    memset(w, 0xa5, sizeof w);
+    wairokabi_differences_read d = wairokabi_read_differences(steps, sizeof steps, wairokabi_open_differences(0), w, 6);
+    EXPECT(done(d.refusal) && d.count == 4 && w[0] == 1 && w[2] == 3 && w[3] == 1 && all_zero(w + 4, 2) && d.place.at == 4 && d.place.count == 2);
+    d = wairokabi_read_differences(steps, sizeof steps, d.place, w, 6);
+    EXPECT(refused(d.refusal, 3, 2) && d.count == 0 && all_zero(w, 6) && d.place.last == 1);
+    fill();
+    const wairokabi_bytes_read b = wairokabi_read_bytes(bytes, sizeof bytes, wairokabi_open_bytes(0), out, 5);
+    EXPECT(done(b.refusal) && b.count == 5 && out[0] == 4 && out[1] == 4 && !out[2] && !out[4] && b.place.endless);
+    memset(w, 0xa5, sizeof w);
+    wairokabi_texts_read t = wairokabi_read_texts(column, sizeof column, wairokabi_open_text(column, sizeof column, 0).place, w, 3);
+    EXPECT(done(t.refusal) && t.count == 1 && w[0] == 1 && w[1] == 1 && w[2] == 0 && t.place.at == 2);
+    t = wairokabi_read_texts(column, sizeof column, t.place, w, 6);
+    EXPECT(done(t.refusal) && t.count == 1 && w[0] == 2 && w[1] == 2 && all_zero(w + 2, 4));
+    t = wairokabi_read_texts(column, sizeof column, t.place, w, 6);
+    EXPECT(refused(t.refusal, 1, 6) && t.count == 0 && all_zero(w, 6));
+}
+
 // Which byte a column is refused for, counted from the column's first one; the place to read from comes back as it was.
 static void column_places(void) {
     // 5, then a run of 2^53, which is over the limit; 4, then a run of -2: 2, 0, and no clock
@@ -491,7 +530,14 @@ static void column_places(void) {
     // texts: one of five bytes that has one; one that is not UTF-8; two units of "t"; none left
     static const uint8_t cut[] = {0x05, 0x74}, bad[] = {0x01, 0xff, 0x01}, far[] = {0x01, 0x74, 0x02}, left[] = {0x01, 0x74, 0x41, 0x00};
     const wairokabi_text_opened o = wairokabi_open_text(cut, sizeof cut, 0);
-    EXPECT(refused(o.refusal, 1, 2) && o.place.at == 0 && o.place.end == 0 && o.place.units.at == 0);
+    EXPECT(refused(o.refusal, 1, 2) && o.place.at == 2 && o.place.end == 2 && o.place.units.at == 2);
+    // what was refused stays refused: 40 00 announces 64 bytes of text, and is no two texts of no units
+    static const uint8_t announced[] = {0x40, 0x00};
+    wairokabi_text_next shut = {{0, 0}, {0, {0}}, wairokabi_open_text(announced, sizeof announced, 0).place};
+    for (int i = 0; i < 3; i++) {
+        shut = wairokabi_next_text(announced, sizeof announced, shut.place);
+        EXPECT(refused(shut.refusal, 1, 2) && same_part(shut.part, 0, 0));
+    }
     EXPECT(refused(wairokabi_open_text(bad, sizeof bad, 0).refusal, 6, 1));
     wairokabi_text_next t = wairokabi_next_text(far, sizeof far, wairokabi_open_text(far, sizeof far, 0).place);
     EXPECT(refused(t.refusal, 7, 1) && same_part(t.part, 0, 0) && t.place.at == 1 && t.place.end == 2 && t.place.units.at == 2);
@@ -538,6 +584,7 @@ int main(void) {
     numbers();
     texts();
     columns();
+    bulk();
     column_places();
     long_names();
     printf("c test: %d held, %d not\n", tried - failed, failed);

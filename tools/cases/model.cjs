@@ -206,6 +206,36 @@ const take = (chars, k, units) => {
   return k
 }
 
+// The text calls (operations 30 to 32). Counting and cutting look at the whole text first; taking looks at no byte past the last character taken.
+const countUnits = s => {
+  const chars = characters(s)
+  if (chars === null) return nowhere(6)
+  return { number: 0, units: chars.reduce((sum, [, , n]) => sum + n, 0n) }
+}
+
+const takeText = (s, at, units) => {
+  if (at > BigInt(s.length)) return units === 0n ? { number: 0, bytes: 0 } : nowhere(7)
+  const rest = s.slice(Number(at))
+  let bytes = 0
+  while (units > 0n) {
+    // the next character: of one byte to four, no shorter prefix of it is UTF-8
+    const next = [1, 2, 3, 4].map(n => rest.slice(bytes, bytes + n)).map(characters).find(chars => chars !== null && chars.length === 1)
+    if (next === undefined || next[0][2] > units) return nowhere(7)
+    bytes += next[0][1]
+    units -= next[0][2]
+  }
+  return { number: 0, bytes }
+}
+
+const cutText = (s, units) => {
+  const chars = characters(s)
+  if (chars === null) return nowhere(6)
+  if (units > chars.reduce((sum, [, , n]) => sum + n, 0n)) return nowhere(7)
+  const k = take(chars, 0, units)
+  if (k === null) return nowhere(9)
+  return { number: 0, bytes: k < chars.length ? chars[k][0] : s.length }
+}
+
 // Opens a text column: its length, bytes and UTF-8 are looked at. Gives { number, place } or { number: 0, draw, start }; a drawn text has its place in the
 // column, and the run of its unit length.
 // What is not UTF-8 lies at the first byte of the text. A text that its units do not fit lies where it would begin, also where no byte is left.
@@ -285,6 +315,6 @@ const writeTexts = (text, units, room) => {
 }
 
 module.exports = {
-  nowhere, readUnsigned, readSigned, unsigned, signed, writeUnsigned, writeSigned, numbers, differences, bytes, draws, characters, texts, readTexts,
+  nowhere, readUnsigned, readSigned, unsigned, signed, writeUnsigned, writeSigned, numbers, differences, bytes, draws, characters, countUnits, takeText, cutText, texts, readTexts,
   writeNumbers, writeDifferences, writeBytes, writeTexts
 }

@@ -215,6 +215,34 @@ pub struct TextNext {
     pub place: StringPlace,
 }
 
+#[repr(C)]
+pub struct NumbersRead {
+    pub refusal: Refusal,
+    pub count: usize,
+    pub place: NumberPlace,
+}
+
+#[repr(C)]
+pub struct DifferencesRead {
+    pub refusal: Refusal,
+    pub count: usize,
+    pub place: DifferencePlace,
+}
+
+#[repr(C)]
+pub struct BytesRead {
+    pub refusal: Refusal,
+    pub count: usize,
+    pub place: BytePlace,
+}
+
+#[repr(C)]
+pub struct TextsRead {
+    pub refusal: Refusal,
+    pub count: usize,
+    pub place: StringPlace,
+}
+
 extern "C" {
     pub fn wairokabi_read_update(
         form: u8,
@@ -345,6 +373,14 @@ extern "C" {
     pub fn wairokabi_open_text(column: *const u8, column_count: usize, at: usize) -> TextOpened;
 
     pub fn wairokabi_next_text(column: *const u8, column_count: usize, place: StringPlace) -> TextNext;
+
+    pub fn wairokabi_read_numbers(column: *const u8, column_count: usize, place: NumberPlace, out: *mut u64, out_count: usize) -> NumbersRead;
+
+    pub fn wairokabi_read_differences(column: *const u8, column_count: usize, place: DifferencePlace, out: *mut u64, out_count: usize) -> DifferencesRead;
+
+    pub fn wairokabi_read_bytes(column: *const u8, column_count: usize, place: BytePlace, out: *mut u8, out_count: usize) -> BytesRead;
+
+    pub fn wairokabi_read_texts(column: *const u8, column_count: usize, place: StringPlace, out: *mut u64, out_count: usize) -> TextsRead;
 
     pub fn wairokabi_write_numbers(out: *mut u8, out_count: usize, values: *const u64, values_count: usize) -> Written;
 

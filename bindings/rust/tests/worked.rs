@@ -215,6 +215,34 @@ fn columns_are_read_and_written() {
     assert_eq!(next_text(&column, place).unwrap_err().number(), 1);
 }
 
+/// In bulk: what one value after another gives, the room being full or a value that cannot be read ending it.
+#[test]
+fn columns_are_read_in_bulk() {
+    let mut out = [7; 4];
+    // 1, 2, 3, then a run of -2 that leads to 1 and then below 0
+    let column = [0x03, 0x01, 0x43, 0x01];
+    let (values, place) = read_differences(&column, open_differences(0), &mut out[..2]).unwrap();
+    assert_eq!(values, [1, 2]);
+    let (values, place) = read_differences(&column, place, &mut out).unwrap();
+    assert_eq!((values, place.at, place.from, place.count), (&[3, 1][..], 4, 2, 2));
+    assert_eq!(out, [3, 1, 0, 0]);
+    assert_eq!(read_differences(&column, place, &mut out).unwrap_err().number(), 3);
+    assert_eq!(out, [0; 4]);
+    // no room: nothing is read and nothing refused
+    assert_eq!(read_numbers(&[], open_numbers(0), &mut []), Ok((&[][..], open_numbers(0))));
+    assert_eq!(read_numbers(&[], open_numbers(0), &mut out).unwrap_err().number(), 1);
+    let mut bytes = [9; 5];
+    let (values, place) = read_bytes(&[0x04, 0x01, 0x00], open_bytes(0), &mut bytes).unwrap();
+    assert_eq!((values, place.endless), (&[4, 4, 0, 0, 0][..], true));
+    // "t", then two units of "h"
+    let column = [0x02, 0x74, 0x68, 0x01, 0x02];
+    let mut texts = [TextPart { place: 9, bytes: 9 }; 3];
+    let (read, place) = read_texts(&column, open_text(&column, 0).unwrap(), &mut texts).unwrap();
+    assert_eq!(read, [TextPart { place: 1, bytes: 1 }]);
+    assert_eq!(texts[1..], [TextPart::default(); 2]);
+    assert_eq!(read_texts(&column, place, &mut texts).unwrap_err().number(), 7);
+}
+
 /// A place that no reading made is answered too: here past the column, where a text of no units is empty.
 #[test]
 fn a_place_past_the_column_has_no_text() {

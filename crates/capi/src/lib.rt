@@ -1,5 +1,9 @@
 // The C interface: each public call under its name with `wairokabi_` before it, and with its promise. include/wairokabi.h says the same in C.
 use block::Block;
+use bulk::BytesRead;
+use bulk::DifferencesRead;
+use bulk::NumbersRead;
+use bulk::TextsRead;
 use columns::byte;
 use columns::difference;
 use columns::number;
@@ -23,6 +27,7 @@ use wairokabi::TextOpened;
 use wairokabi::Unsigned;
 ghost use mathlib.Core.Path.{_≡_};
 ghost use Rattle.wairokabi.specs.Promises.{ReadUnsigned, ReadSigned, WriteUnsigned, WriteSigned, CountUnits, TakeText, CutText, OpenNumbers, NextNumber, OpenDifferences, NextDifference, OpenBytes, NextByte, OpenText, NextText, WriteNumbers, WriteDifferences, WriteBytes, WriteTexts, ReadStateVector};
+ghost use Rattle.bulk.specs.Promises.{ReadNumbers, ReadDifferences, ReadBytes, ReadTexts};
 ghost use Rattle.updates.specs.Promises.{ReadUpdate};
 ghost use Rattle.strict.specs.Promises.{ReadStrictly};
 ghost use Rattle.contents.specs.Promises.{whereOf};
@@ -297,6 +302,52 @@ pub extern "C" fn wairokabi_next_text(column: &[u8], place: string::Place) -> Te
     ensures { λ r. ⌜ NextText (now (column .entry)) place r ⌝ }
 {
     wairokabi::next_text(column, place)
+}
+
+// ---- columns in bulk
+
+#[no_mangle]
+pub extern "C" fn wairokabi_read_numbers(
+    column: &[u8],
+    place: number::Place,
+    out: &mut [u64],
+) -> NumbersRead
+    ensures { λ r. ⌜ ReadNumbers (now (column .entry)) place (now (out .entry)) r (now (out .exit)) ⌝ }
+{
+    bulk::read_numbers(column, place, out)
+}
+
+#[no_mangle]
+pub extern "C" fn wairokabi_read_differences(
+    column: &[u8],
+    place: difference::Place,
+    out: &mut [u64],
+) -> DifferencesRead
+    ensures { λ r. ⌜ ReadDifferences (now (column .entry)) place (now (out .entry)) r (now (out .exit)) ⌝ }
+{
+    bulk::read_differences(column, place, out)
+}
+
+#[no_mangle]
+pub extern "C" fn wairokabi_read_bytes(
+    column: &[u8],
+    place: byte::Place,
+    out: &mut [u8],
+) -> BytesRead
+    ensures { λ r. ⌜ ReadBytes (now (column .entry)) place (now (out .entry)) r (now (out .exit)) ⌝ }
+{
+    bulk::read_bytes(column, place, out)
+}
+
+#[no_mangle]
+pub extern "C" fn wairokabi_read_texts(
+    column: &[u8],
+    place: string::Place,
+    out: &mut [u64],
+) -> TextsRead
+    ensures { λ r. ⌜ ReadTexts (now (column .entry)) place (now (out .entry)) r (now (out .exit)) ⌝ }
+{
+    bulk::read_texts(column, place, out)
 }
 
 // ---- columns, written

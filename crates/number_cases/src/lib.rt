@@ -1,8 +1,8 @@
 // Operations 1 to 12 of the case program, told apart: numbers, and columns read and written.
 use column_cases::columns_of;
-use column_cases::columns_of::Column;
 use column_cases::lent::Writer;
 use column_cases::numbers_of;
+use readers::Kind;
 use stream::Done;
 use stream::input;
 use stream::input::Place;
@@ -21,8 +21,8 @@ pub fn case(
         2 => numbers_of::read(true, source, place, bytes, sink, used),
         3 => numbers_of::write_unsigned(source, place, sink, used),
         4 => numbers_of::write_signed(source, place, sink, used),
-        5 => columns_of::read(Column::Numbers, source, place, sink, used),
-        6 => columns_of::read(Column::Differences, source, place, sink, used),
+        5 => columns_of::read(Kind::Number, source, place, sink, used),
+        6 => columns_of::read(Kind::Difference, source, place, sink, used),
         _ => case_of_columns(operation, source, place, bytes, sink, used),
     }
 }
@@ -36,7 +36,7 @@ fn case_of_columns(
     used: usize,
 ) -> Done {
     match operation {
-        7 => columns_of::read(Column::Bytes, source, place, sink, used),
+        7 => columns_of::read(Kind::Byte, source, place, sink, used),
         8 => columns_of::read_texts(source, place, sink, used),
         9 => columns_of::write(Writer::Numbers, source, place, sink, used),
         10 => columns_of::write(Writer::Differences, source, place, sink, used),

@@ -1,16 +1,18 @@
 -- What readers give is what the columns give by value: k reads give the values that k draws give, then the refusal that ended them, each time again.
--- For a refused read changes nothing in the reader.
+-- For a refused read changes nothing in the reader. A text column whose opening was refused stays refused: every read says 1.
 use Prim.Native.Nat.{ℕ, zero, suc, _+_}
 use mathlib.Core.Path.{_≡_, refl, sym, ap, _∙_, subst}
 use mathlib.Core.List.{List, [], _∷_, map}
-use lib.Seq.{slice}
+use lib.ListN.{length}
+use lib.Seq.{slice, drop-length}
 use denote.Ref.{RefT, now}
 use Rattle.numbers.specs.declared.Refusal.{Refusal}
-use Rattle.numbers.specs.Number.{none}
+use Rattle.numbers.specs.declared.Signed.the-variants.{Wrong}
+use Rattle.numbers.specs.Number.{none, readSigned, speltSigned, minusOf, placed, withSign}
 use Rattle.columns.specs.declared.number.Place as number-place
 use Rattle.columns.specs.declared.number.Answer as number-answer
 use Rattle.columns.specs.declared.number.Answer.the-variants as number
-use Rattle.columns.specs.Number.{nextNumber}
+use Rattle.columns.specs.Number.{nextNumber, begun}
 use Rattle.columns.specs.declared.difference.Place as difference-place
 use Rattle.columns.specs.declared.difference.Answer as difference-answer
 use Rattle.columns.specs.declared.difference.Answer.the-variants as difference
@@ -20,17 +22,20 @@ use Rattle.columns.specs.declared.byte.Answer as byte-answer
 use Rattle.columns.specs.declared.byte.Answer.the-variants as byte
 use Rattle.columns.specs.Byte.{nextByte}
 use Rattle.string.specs.declared.Place as string-place
+use Rattle.string.specs.declared.Opened as string-opened
+use Rattle.string.specs.declared.Opened.the-variants as opening
 use Rattle.string.specs.declared.Answer as string-answer
 use Rattle.string.specs.declared.Answer.the-variants as string
 use Rattle.string.specs.String as strings
 use Rattle.columns.specs.Reading.{Draw, drew, stop, andThen, reads, numberDraw, differenceDraw, byteDraw, readNumbers, readDifferences, readBytes}
+use Rattle.readers.specs.declared.Kind.the-variants as kind
 use Rattle.readers.specs.declared.Place.{Place}
 use Rattle.readers.specs.declared.Place.the-variants.{Number, Difference, Byte, Text}
 use Rattle.readers.specs.declared.Column.{Column}
 use Rattle.readers.specs.declared.Step.{Step}
 use Rattle.readers.specs.declared.Answer.{Answer}
-use Rattle.readers.specs.Readers.{valued, refused, numberStep, differenceStep, byteStep, textStep, stepOf, reader, answerOf, after}
-use Rattle.readers.specs.Promises.{Next}
+use Rattle.readers.specs.Readers.{valued, refused, shut, textStart, startOf, numberStep, differenceStep, byteStep, textStep, stepOf, reader, answerOf, after}
+use Rattle.readers.specs.Promises.{opened, Next}
 use Rattle.readers.specs.Answers.{answers, onwards, told, worded, toldTexts}
 
 -- ---- a step, by a draw of its column
@@ -139,3 +144,23 @@ pub texts-read : (k : ℕ) (s : RefT (List ℕ)) (p : string-place.Place)
 unfolding answers strings.readTexts onwards stepOf
 texts-read zero s p = refl
 texts-read (suc k) s p = text-turn k s p (strings.nextText (now s) p) refl (texts-read k s)
+
+-- ---- a column whose opening was refused
+
+signed-end : (s : List ℕ) → readSigned s (length s) ≡ Wrong (record { number = 1; place = length s })
+unfolding readSigned speltSigned minusOf placed withSign
+signed-end s = rw (drop-length s)
+
+shut-step : (s : List ℕ) → stepOf s (Text (shut s)) ≡ record { place = Text (shut s); answer = refused (record { number = 1; place = length s }) }
+unfolding stepOf textStep strings.nextText strings.drawn nextNumber begun
+shut-step s = rw (signed-end s)
+
+-- every read of its reader says 1, at the column's end
+pub shut-reads : (k : ℕ) (s : RefT (List ℕ)) → (startOf (now s) kind.Text .refusal .number ≡ 0 → ⊥)
+    → answers k (opened s kind.Text .column) ≡ onwards k [] (refused (record { number = 1; place = length (now s) }))
+unfolding opened startOf textStart
+shut-reads k s not = ap (λ (c : Place). answers k (reader s c)) (stands (strings.openText (now s) 0) not) ∙ stuck k s (Text (shut (now s))) _ (shut-step (now s))
+  where
+    stands : (x : string-opened.Opened) → (textStart (now s) x .refusal .number ≡ 0 → ⊥) → textStart (now s) x .place ≡ Text (shut (now s))
+    stands (opening.At c) n = absurd (n refl)
+    stands (opening.Not why) n = refl

@@ -1,6 +1,7 @@
 -- Column readers, over what the four columns mean: where a reader begins, and what a read gives and leaves.
 use Prim.Native.Nat.{ℕ}
 use mathlib.Core.List.{List}
+use lib.ListN.{length}
 use denote.Ref.{RefT, now}
 use Rattle.numbers.specs.declared.Refusal.{Refusal}
 use Rattle.numbers.specs.Number.{none}
@@ -32,17 +33,20 @@ use Rattle.readers.specs.declared.Answer.{Answer}
 use Rattle.readers.specs.declared.Start.{Start}
 use Rattle.readers.specs.declared.Step.{Step}
 
--- ---- opening: before the column's first value; a text column is opened first, and refused it has a place of zeros
+-- ---- opening: before the column's first value; a text column is opened first, and refused it stands at its end, so that every read says 1
 
-unfoldable pub textStart : string-opened.Opened → Start
-textStart (opening.At c) = record { refusal = none; place = Text c }
-textStart (opening.Not why) = record { refusal = why; place = Text (strings.placeAt 0 0 (numbers.startAt 0)) }
+abbrev pub shut : List ℕ → string-place.Place
+shut s = strings.placeAt (length s) (length s) (numbers.startAt (length s))
+
+unfoldable pub textStart : List ℕ → string-opened.Opened → Start
+textStart s (opening.At c) = record { refusal = none; place = Text c }
+textStart s (opening.Not why) = record { refusal = why; place = Text (shut s) }
 
 unfoldable pub startOf : List ℕ → Kind → Start
 startOf s kind.Number = record { refusal = none; place = Number (numbers.startAt 0) }
 startOf s kind.Difference = record { refusal = none; place = Difference (differences.startAt 0) }
 startOf s kind.Byte = record { refusal = none; place = Byte (bytes.startAt 0) }
-startOf s kind.Text = textStart (strings.openText s 0)
+startOf s kind.Text = textStart s (strings.openText s 0)
 
 -- ---- reading: of each case of a column's answer, its refusal and values, and the place after; refused, the place before
 

@@ -77,14 +77,14 @@ fn refuse(why: Refusal) -> Answer
     }
 }
 
-struct Start {
+pub struct Start {
     pub refusal: Refusal,
     pub place: Place,
 }
 
-// A text column alone can be refused here; its place is zeros then.
+// A text column alone can be refused here; it stands at its end then, so that every read says 1.
 fn begin_text(column: &[u8]) -> Start
-    ensures { λ r. ⌜ r ≡ textStart (openText (now (column .entry)) 0) ⌝ }
+    ensures { λ r. ⌜ r ≡ textStart (now (column .entry)) (openText (now (column .entry)) 0) ⌝ }
 {
     match string::open(column, 0) {
         string::Opened::At(first) => Start {
@@ -95,15 +95,16 @@ fn begin_text(column: &[u8]) -> Start
             place: Place::Text(first),
         },
         string::Opened::Not(why) => {
-            let units = number::start(0);
-            let none = string::Place {
-                at: 0,
-                end: 0,
+            let end = column.len();
+            let units = number::start(end);
+            let shut = string::Place {
+                at: end,
+                end,
                 units,
             };
             Start {
                 refusal: why,
-                place: Place::Text(none),
+                place: Place::Text(shut),
             }
         }
     }
@@ -149,7 +150,7 @@ fn begin(column: &[u8], kind: Kind) -> Start
 }
 
 // An answer, and the place after it: the same place where the read is refused.
-struct Step {
+pub struct Step {
     pub place: Place,
     pub answer: Answer,
 }
@@ -276,4 +277,29 @@ pub fn next<'s, 'a>(column: &'s mut Column<'a>) -> Answer
     let s = step_of(column.bytes, column.place);
     column.place = s.place;
     s.answer
+}
+
+// ---- for callers that keep the bytes and a place: what these lend and give back is plain, so whoever calls them needs no proof by hand
+
+// Where a reader stands that was opened on these bytes, and the refusal of its opening.
+pub fn open_at(bytes: &[u8], kind: Kind) -> Start
+    ensures { λ r. ⌜ r ≡ startOf (now (bytes .entry)) kind ⌝ }
+{
+    let opened = open(bytes, kind);
+    Start {
+        refusal: opened.refusal,
+        place: opened.column.place,
+    }
+}
+
+// A read of a reader that stands at this place: where it stands then, and its answer.
+pub fn next_at(bytes: &[u8], place: Place) -> Step
+    ensures { λ r. ⌜ r ≡ stepOf (now (bytes .entry)) place ⌝ }
+{
+    let mut column = Column { bytes, place };
+    let answer = next(&mut column);
+    Step {
+        place: column.place,
+        answer,
+    }
 }

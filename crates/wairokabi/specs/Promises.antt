@@ -132,12 +132,16 @@ byteAnswer c (byte.Bad why) = record { refusal = why; value = 0; place = c }
 abbrev pub NextByte : List ℕ → byte-place.Place → ByteNext → Type 0
 NextByte s c r = r ≡ byteAnswer c (bytes.nextByte s c)
 
-unfoldable pub openAnswer : string-opened.Opened → TextOpened
-openAnswer (opened.At c) = record { refusal = none; place = c }
-openAnswer (opened.Not why) = record { refusal = why; place = strings.placeAt 0 0 (numbers.startAt 0) }
+-- where a refused opening stands: at the end of the column, so that every read from there says 1
+abbrev pub shut : List ℕ → string-place.Place
+shut s = strings.placeAt (length s) (length s) (numbers.startAt (length s))
+
+unfoldable pub openAnswer : List ℕ → string-opened.Opened → TextOpened
+openAnswer s (opened.At c) = record { refusal = none; place = c }
+openAnswer s (opened.Not why) = record { refusal = why; place = shut s }
 
 abbrev pub OpenText : List ℕ → ℕ → TextOpened → Type 0
-OpenText s at r = r ≡ openAnswer (strings.openText s at)
+OpenText s at r = r ≡ openAnswer s (strings.openText s at)
 
 unfoldable pub textAnswer : string-place.Place → string-answer.Answer → TextNext
 textAnswer c (string.Next p d) = record { refusal = none; part = p; place = d }

@@ -289,6 +289,7 @@ pub struct TextOpened {
     pub place: string::Place,
 }
 
+// A refused opening stands at the end of the column: every read from there says 1.
 pub fn open_text(column: &[u8], at: usize) -> TextOpened
     ensures { λ r. ⌜ OpenText (now (column .entry)) at r ⌝ }
 {
@@ -301,15 +302,16 @@ pub fn open_text(column: &[u8], at: usize) -> TextOpened
             place,
         },
         string::Opened::Not(why) => {
-            let units = number::start(0);
-            let none = string::Place {
-                at: 0,
-                end: 0,
+            let end = column.len();
+            let units = number::start(end);
+            let shut = string::Place {
+                at: end,
+                end,
                 units,
             };
             TextOpened {
                 refusal: why,
-                place: none,
+                place: shut,
             }
         }
     }

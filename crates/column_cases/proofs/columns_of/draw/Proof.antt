@@ -8,10 +8,10 @@ use Rattle.column_cases.proofs.columns_of.draw.Statement.{statement}
 use Rattle.column_cases.proofs.columns_of.draw.Tie as tie
 
 abbrev Inv-loop : tie.InvT-loop
-Inv-loop column times values₀ reader₀ count₀ values reader count = (count ≤ length values) × (length values ≡ length values₀)
+Inv-loop column times values₀ place₀ count₀ values place count = (count ≤ length values) × (length values ≡ length values₀)
 
 abbrev μ-loop : tie.MeasureT-loop
-μ-loop column times values₀ reader₀ count₀ values reader count = length values₀ - count
+μ-loop column times values₀ place₀ count₀ values place count = length values₀ - count
 
 returns : tie.Need-returns Inv-loop μ-loop
 returns c = search (needs, length-take-le)

@@ -1,0 +1,3 @@
+-- What reading in bulk is, and what the public calls promise.
+pub mod Bulk
+pub mod Promises
