@@ -1,6 +1,6 @@
 -- The parts of what is sought, as the code tests them.
 use mathlib.Core.Path.{_≡_, refl, sym, ap, _∙_}
-use mathlib.Core.Bool.{Bool, true, false}
+use mathlib.Core.Bool.{Bool, true, false, not}
 use Prim.Native.Nat.{ℕ, zero, suc, _+_, _-_, _*_, _≤_, _<_}
 use native.Mathlib.Omega.{arith}
 use lib.Dec.{ltb, leb}
@@ -81,3 +81,9 @@ module _ (w : List ℕ) (n c p : ℕ) (is : p ≡ rank c (slotsFrom w 0 n)) wher
   pub first-in : p < n → firstOf (slotsFrom w 0 n) c ≡ getD w (3 * p + 1) 0
   unfolding firstOf
   first-in h = ap (λ (i : ℕ). getD (slotsFrom w 0 n) i (slot 0 0 0) .first) (sym is) ∙ first-at w n p h
+
+-- ---- a dependency
+
+pub not-pick : (x : Bool) → not x ≡ pick x false true
+not-pick true = refl
+not-pick false = refl

@@ -66,10 +66,14 @@ heldBy rows s k = pick (ltb (sought rows s k) (length rows)) (numberAt s (sought
 abbrev pub onNumber : ℕ → ℕ → Dependency
 onNumber c n = dep true (record { client = c; clock = n })
 
--- a dependency on the holder of its id; none where the id is held at first
+-- it is there, and its id is not held at first
+unfoldable pub isAsked : List ℕ → ℕ → Dependency → Bool
+isAsked w h a = pick (a .there) (pick (isHeld w h (a .id)) false true) false
+
+-- then on the holder of its id
 unfoldable pub placedDep : List ℕ → ℕ → List Slot → List Block → Dependency → Dependency
 placedDep w h ss rows a =
-    pick (a .there) (pick (isHeld w h (a .id)) noDependency (onNumber (a .id .client) (heldBy rows (spanOf ss (a .id .client)) (a .id .clock)))) noDependency
+    pick (isAsked w h a) (onNumber (a .id .client) (heldBy rows (spanOf ss (a .id .client)) (a .id .clock))) noDependency
 
 -- the row of a client's first block
 unfoldable pub firstOf : List Slot → ℕ → ℕ

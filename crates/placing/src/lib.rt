@@ -9,10 +9,11 @@ use text::Units;
 ghost use mathlib.Core.Path.{_≡_};
 ghost use Prim.Native.Nat.{_+_, _-_, _*_, _≤_, _<_};
 ghost use lib.ListN.{length};
+ghost use Rattle.numbers.specs.Limits.{maxClock};
 ghost use Rattle.ranges.specs.Table.{row};
 ghost use Rattle.slots.specs.Slots.{slotAt, slotsFrom, Falling};
 ghost use Rattle.placing.specs.Halving.{middle, narrowed, clipped, found};
-ghost use Rattle.placing.specs.Placing.{isBefore, begins, isHeld, spanAt, spanOf, firstOf, pastRow, capped, numberAt, numberedBlock, onNumber};
+ghost use Rattle.placing.specs.Placing.{isBefore, begins, isHeld, isAsked, spanAt, spanOf, firstOf, pastRow, capped, numberAt, numberedBlock, onNumber};
 
 // ---- halving
 
@@ -106,7 +107,7 @@ fn is_begun(words: &[u64], n: usize, i: usize, id: Id) -> bool
 }
 
 // Whether n ranges hold an id.
-pub fn is_held(words: &[u64], n: usize, id: Id) -> bool
+fn is_held(words: &[u64], n: usize, id: Id) -> bool
     requires { ⌜ 3 * n ≤ length (now words) ⌝ }
     ensures { λ r. ⌜ r ≡ isHeld (now (words .entry)) n id ⌝ }
 {
@@ -136,7 +137,7 @@ fn span_at(slots: &[u64], p: usize) -> Span
 }
 
 // The rows of a client, none if it has no slot.
-pub fn span_of(slots: &[u64], n: usize, client: u64) -> Span
+fn span_of(slots: &[u64], n: usize, client: u64) -> Span
     requires { ⌜ (3 * n ≤ length (now slots)) × Falling (slotsFrom (now slots) 0 n) ⌝ }
     ensures { λ r. ⌜ r ≡ spanOf (slotsFrom (now (slots .entry)) 0 n) client ⌝ }
 {
@@ -198,15 +199,57 @@ pub fn number_of(s: Span, i: usize, b: Block, clock: u32) -> u32
     cap(k as usize)
 }
 
-// ---- a block by number
+// ---- a dependency on the number of its holder
 
-// A dependency on the block of this number.
-pub fn on_number(client: u64, clock: u32) -> Dependency
-    ensures { λ r. ⌜ r ≡ onNumber client clock ⌝ }
+// The number of an id that no row holds.
+pub fn never() -> u32
+    ensures { λ r. ⌜ r ≡ maxClock ⌝ }
 {
-    let id = Id { client, clock };
+    2147483647
+}
+
+// Whether a dependency is there and n ranges do not hold its id.
+pub fn is_asked(words: &[u64], n: usize, a: Dependency) -> bool
+    requires { ⌜ 3 * n ≤ length (now words) ⌝ }
+    ensures { λ r. ⌜ r ≡ isAsked (now (words .entry)) n a ⌝ }
+{
+    let id = a.id;
+    if !a.there {
+        return false;
+    }
+    let held = is_held(words, n, id);
+    !held
+}
+
+// The rows of its client.
+pub fn span_for(slots: &[u64], n: usize, a: Dependency) -> Span
+    requires { ⌜ (3 * n ≤ length (now slots)) × Falling (slotsFrom (now slots) 0 n) ⌝ }
+    ensures { λ r. ⌜ r ≡ spanOf (slotsFrom (now (slots .entry)) 0 n) (a .id .client) ⌝ }
+{
+    let id = a.id;
+    span_of(slots, n, id.client)
+}
+
+pub fn clock_of(a: Dependency) -> u32
+    ensures { λ r. ⌜ r ≡ a .id .clock ⌝ }
+{
+    let id = a.id;
+    id.clock
+}
+
+// The same client's block of this number.
+pub fn on_number(a: Dependency, number: u32) -> Dependency
+    ensures { λ r. ⌜ r ≡ onNumber (a .id .client) number ⌝ }
+{
+    let old = a.id;
+    let id = Id {
+        client: old.client,
+        clock: number,
+    };
     Dependency { there: true, id }
 }
+
+// ---- a block by number
 
 // The row of a client's first block. Slot `near` may be the client's.
 fn first_of(slots: &[u64], n: usize, near: usize, client: u64) -> usize
