@@ -56,7 +56,7 @@ above b (d ∷ q) a c (suc j) h = omega (arith, a .1, above d q (c .0) (c .1) j 
 -- ---- where the ended blocks end
 
 module _ (k : ℕ) where
-  ended-le : (q : List Block) → ended q k ≤ length q
+  pub ended-le : (q : List Block) → ended q k ≤ length q
   unfolding ended
   ended-le [] = omega arith
   ended-le (b ∷ q) = go (leb (endOf b) k) (ended-le q)
@@ -66,7 +66,7 @@ module _ (k : ℕ) where
       go false h = omega arith
 
   -- an ended block, and the one after them
-  ended-low : (q : List Block) (j : ℕ) → j < ended q k → endOf (at q j) ≤ k
+  pub ended-low : (q : List Block) (j : ℕ) → j < ended q k → endOf (at q j) ≤ k
   unfolding ended
   ended-low [] j h = absurd (omega arith)
   ended-low (b ∷ q) j h = go j (leb (endOf b) k) refl h (ended-low q)
@@ -76,7 +76,7 @@ module _ (k : ℕ) where
       go (suc j) true e h rec = rec j (omega arith)
       go j false e h rec = absurd (omega arith)
 
-  ended-high : (q : List Block) → ended q k < length q → k < endOf (at q (ended q k))
+  pub ended-high : (q : List Block) → ended q k < length q → k < endOf (at q (ended q k))
   unfolding ended
   ended-high [] h = absurd (omega arith)
   ended-high (b ∷ q) h = go (leb (endOf b) k) refl h (ended-high q)

@@ -32,7 +32,7 @@ use Rattle.numbered.specs.Numbered.{holder, asked, placed, byNumber, num
 use Rattle.numbered.proofs.Holders.{queue-chain, told-below}
 use Rattle.numbered.proofs.Blocks.{numbered-clients, numbered-numbers, numbered-queue, numbered-at}
 
-queue-short : (bs : List Block) (c : ℕ) → length (queue bs c) ≤ length bs
+pub queue-short : (bs : List Block) (c : ℕ) → length (queue bs c) ≤ length bs
 unfolding queue
 queue-short [] c = omega arith
 queue-short (b ∷ bs) c = one-more (λ ns q. length q ≤ suc (length bs)) 0 b bs c (λ e. omega (arith, queue-short bs c)) (λ e. omega (arith, queue-short bs c))
@@ -73,7 +73,7 @@ skip-free : (gone : Id → Bool) (place : Id → ℕ) (g : Id → Bool) (c : ℕ
 unfolding byNumber deps others unmet asked
 skip-free gone place g c b e k = rw e refl
 
-never-skips : (gone : Id → Bool) (place : Id → ℕ) (k : ℕ) (b : Block) → isSkip (byNumber gone place k b) ≡ false
+pub never-skips : (gone : Id → Bool) (place : Id → ℕ) (k : ℕ) (b : Block) → isSkip (byNumber gone place k b) ≡ false
 unfolding byNumber
 never-skips gone place k b = refl
 
