@@ -190,13 +190,14 @@ sound-clocks : (u : List ℕ) (bs : List Block) → All (Sound u) bs → All Clo
 sound-clocks u [] all = tt
 sound-clocks u (b ∷ bs) all = let low : b .clock ≤ maxClock = omega (arith, all .0 .end) in ((low, all .0 .left .clock, all .0 .right .clock, all .0 .parent .clock), sound-clocks u bs (all .1))
 
-pub picked-outcome : (rule : ℕ) (u : List ℕ) (bs rows : List Block) (v : List Entry) (ss : List Slot) (reach fronts words : List ℕ) → take (length bs) rows ≡ bs
-    → length rows ≤ nowhere → Sortable bs → All (Sound u) bs → All (λ (e : Entry). e .clock ≤ maxClock) v → Slotted bs v ss → Opened v ss reach fronts
+-- of blocks whose clocks are within the limit
+pub picked-clocks : (rule : ℕ) (bs rows : List Block) (v : List Entry) (ss : List Slot) (reach fronts words : List ℕ) → take (length bs) rows ≡ bs
+    → length rows ≤ nowhere → Sortable bs → All Clocks bs → All (λ (e : Entry). e .clock ≤ maxClock) v → Slotted bs v ss → Opened v ss reach fronts
     → Came rule bs v ss words (allPicked rule ss rows (length bs) reach fronts words)
 unfolding allPicked looks after Run Highest numbersBy
-picked-outcome rule u bs rows v ss reach fronts words agree short sortable sound low slotted opened =
+picked-clocks rule bs rows v ss reach fronts words agree short sortable clocks low slotted opened =
     rw (le-leb (length bs) maxBlocks (sortable .few))
-    (onward rule (record { slotted = slotted; sortable = sortable; clocks = sound-clocks u bs sound }) rows agree short words (looksEach rule * length bs) reach fronts words 0
+    (onward rule (record { slotted = slotted; sortable = sortable; clocks = clocks }) rows agree short words (looksEach rule * length bs) reach fronts words 0
     (record {
       cs = [];
       run = tt;
@@ -207,3 +208,9 @@ picked-outcome rule u bs rows v ss reach fronts words agree short sortable sound
       enough = begun-work rule slotted opened;
       few = omega (arith, mul-le-mul (each-most rule) (sortable .few));
     }))
+
+pub picked-outcome : (rule : ℕ) (u : List ℕ) (bs rows : List Block) (v : List Entry) (ss : List Slot) (reach fronts words : List ℕ) → take (length bs) rows ≡ bs
+    → length rows ≤ nowhere → Sortable bs → All (Sound u) bs → All (λ (e : Entry). e .clock ≤ maxClock) v → Slotted bs v ss → Opened v ss reach fronts
+    → Came rule bs v ss words (allPicked rule ss rows (length bs) reach fronts words)
+picked-outcome rule u bs rows v ss reach fronts words agree short sortable sound low slotted opened =
+    picked-clocks rule bs rows v ss reach fronts words agree short sortable (sound-clocks u bs sound) low slotted opened

@@ -229,6 +229,7 @@ module _ {rule : ℕ} {bs : List Block} {v : List Entry} {ss : List Slot} (given
       reaches = st .shows .at;
       others = st .shows .else;
       left = λ i small. st .held i small .left;
+      next = λ i small. st .held i small .next;
       waits = λ i small l. idle-reported i small (idle i small) l;
     }
 

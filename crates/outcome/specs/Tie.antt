@@ -53,6 +53,8 @@ pub record Ended (rule : ℕ) (bs : List Block) (ss : List Slot) (s : State ℕ)
   pub reaches : (i : ℕ) → i < length ss → getD reach i 0 ≡ s .known (slotOf ss i .client)
   pub others : (c : ℕ) → isNamed c ss ≡ false → s .known c ≡ 0
   pub left : (i : ℕ) → i < length ss → frontAt fronts i .left + s .taken (slotOf ss i .client) ≡ slotOf ss i .count
+  -- the row of its next block
+  pub next : (i : ℕ) → i < length ss → 0 < frontAt fronts i .left → frontAt fronts i .next ≡ slotOf ss i .first + s .taken (slotOf ss i .client)
   -- a front that has blocks left waits for the first id that is not met
   pub waits : (i : ℕ) → i < length ss → 0 < frontAt fronts i .left
       → (d : Id) × (report (ruleOf rule) (queue bs) s (slotOf ss i .client) ≡ some d) × (frontAt fronts i .missing ≡ d .client)

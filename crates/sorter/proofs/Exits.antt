@@ -48,7 +48,7 @@ module _ (w : List ℕ) (bs : List Block) where
   fits : 3 * length noted ≤ length w
   fits = noted-all-fits w [] (omega arith) 0 bs
 
-  here : slotsFrom (stored w noted) 0 count ≡ noted
+  pub here : slotsFrom (stored w noted) 0 count ≡ noted
   here = rw (counts) (stored-slots w noted)
 
   size : length (stored w noted) ≡ length w

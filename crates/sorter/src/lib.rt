@@ -25,7 +25,7 @@ pub struct Sorting {
 }
 
 // The first rows, as many as are blocks, noted in slots. How many slots these are.
-fn note_rows(rows: &[Block], blocks: usize, slots: &mut [u64]) -> Noted
+pub fn note_rows(rows: &[Block], blocks: usize, slots: &mut [u64]) -> Noted
     requires { ⌜ blocks ≤ length (now rows) ⌝ }
     ensures { λ r. ⌜ (r ≡ notedBy (length (now (slots .entry)) / 3) (take blocks (now (rows .entry))))
         × (now (slots .exit) ≡ stored (now (slots .entry)) (notedAll (length (now (slots .entry)) / 3) 0 (take blocks (now (rows .entry))) [])) ⌝ }
@@ -65,7 +65,7 @@ fn pick_rows(
     p
 }
 
-fn sorted(p: Look, counts: usize, reaches: usize, pending: usize) -> Sorting
+pub fn sorted(p: Look, counts: usize, reaches: usize, pending: usize) -> Sorting
     ensures { λ r. ⌜ r ≡ sortingOf p counts reaches pending ⌝ }
 {
     Sorting {

@@ -1,13 +1,13 @@
--- Cases M and N of document 01 under both rules, and what tells the rules apart, by computing: demand 3 holds of every rule under which more knowledge
+-- Cases M and N of document 01 under both rules, what tells the rules apart, and held ids, by computing: demand 3 holds of every rule under which more knowledge
 -- holds nothing back, these hold of the right ones.
 use mathlib.Core.Path.{_≡_, refl}
 use mathlib.Core.Bool.{Bool, true, false}
-use mathlib.Core.List.{List, [], _∷_}
+use mathlib.Core.List.{List, [], _∷_, _++_}
 use Prim.Native.Nat.{ℕ}
 use Rattle.block.specs.declared.Id.{Id}
 use Rattle.block.specs.declared.Block.{Block}
 use Rattle.block.specs.Row.{noId}
-use Rattle.block.specs.Rows.{leftIs, plain}
+use Rattle.block.specs.Rows.{leftIs, plain, withLeft, withRight, withParent}
 use Rattle.vector.specs.Vector.{Entry, entry}
 use Rattle.kept.specs.Kept.{remote}
 use Rattle.sorting.specs.Steps.{can, step, after}
@@ -15,6 +15,9 @@ use Rattle.sorting.specs.Quick.{left, best, quick, order as choices}
 use Rattle.sorting.specs.Rules.{queue, deps, others, unmet, waits, system, report, byReaches}
 use Rattle.sorting.specs.Rule28.{asks28}
 use Rattle.sorting.specs.Rule13.{before, asks13}
+use Rattle.ranges.specs.Ranges.{Range}
+use Rattle.ranges.specs.Table.{range}
+use Rattle.sorting.specs.Held.{within, ruleHeld, heldIn, orderHeld, countsHeld, pendingHeld}
 use Rattle.sorting.specs.Named.{asksOf, ruleOf}
 use Rattle.sorting.specs.Sorted.{insert, insertAll, clients, order, outcome, numbersFrom, numbersBy, orderOf}
 use Rattle.sorting.specs.Slow.{lowestFirst, fronts, drain, sweep, sweeps, slow, slowly, slowOrderOf}
@@ -85,3 +88,32 @@ lowest-first : (slowOrderOf (ruleOf 28) (binary 9 ∷ gc 0 ∷ gc 1 ∷ []) [] �
     × (slowOrderOf (ruleOf 28) (after-id 5 9 0 ∷ late false noId ∷ binary 9 ∷ []) [] ≡ 2 ∷ 0 ∷ 1 ∷ [])
 unfolding gc late block binary after-id orderOf slowOrderOf slowly slow sweeps sweep drain fronts lowestFirst numbersBy numbersFrom order clients insert insertAll quick choices best left can step after system queue deps others asksOf asks28 asks13 before byReaches waits unmet remote
 lowest-first = (refl, refl, refl, refl)
+
+-- ---- held ids
+
+held : List Block → List Range → Answer
+held bs rs = answer (orderHeld bs rs) (countsHeld bs rs) [] (pendingHeld bs rs)
+
+-- of client 9: one id at clock 0, a Skip of one, one id at clock 2
+gapped : List Block
+gapped = block 9 0 1 4 false noId ∷ block 9 1 1 2 false noId ∷ block 9 2 1 4 false noId ∷ []
+
+-- a block of client 5 at clock 7, which hangs on an id of its own and on one of client 9
+both-ids : ℕ → Block
+both-ids k =
+    withLeft (record { client = 5; clock = 9 })
+    (withRight (record { client = 9; clock = k }) (withParent (record { client = 8; clock = 1 }) (plain 5 7 1 4)))
+
+-- W-206: an id inside a hole is not met, though the reach is past it; the ids around it are; an id that was held at first is; the own client holds nothing
+-- back, however high, nor does a gap; the first id that is not met is named with its clock; and the order is that of the highest client
+held-ids : (held (gapped ++ (after-id 5 9 1 ∷ [])) [] ≡ answer (0 ∷ 1 ∷ 2 ∷ []) (9 ∷ 3 ∷ 5 ∷ 0 ∷ []) [] (5 ∷ 9 ∷ 1 ∷ []))
+    × (sort 28 (gapped ++ (after-id 5 9 1 ∷ [])) [] ≡ answer (0 ∷ 1 ∷ 2 ∷ 3 ∷ []) (9 ∷ 3 ∷ 5 ∷ 1 ∷ []) (9 ∷ 3 ∷ 5 ∷ 1 ∷ []) [])
+    × (held (gapped ++ (after-id 5 9 2 ∷ [])) [] ≡ answer (0 ∷ 1 ∷ 2 ∷ 3 ∷ []) (9 ∷ 3 ∷ 5 ∷ 1 ∷ []) [] [])
+    × (held (gapped ++ (after-id 5 9 3 ∷ [])) [] ≡ answer (0 ∷ 1 ∷ 2 ∷ []) (9 ∷ 3 ∷ 5 ∷ 0 ∷ []) [] (5 ∷ 9 ∷ 3 ∷ []))
+    × (held (after-id 5 9 1 ∷ []) (range 9 1 1 ∷ []) ≡ answer (0 ∷ []) (5 ∷ 1 ∷ []) [] [])
+    × (held (after-id 5 9 2 ∷ []) (range 9 1 1 ∷ []) ≡ answer [] (5 ∷ 0 ∷ []) [] (5 ∷ 9 ∷ 2 ∷ []))
+    × (held (late true (record { client = 5; clock = 7 }) ∷ []) [] ≡ answer (0 ∷ []) (5 ∷ 1 ∷ []) [] [])
+    × (held (both-ids 4 ∷ []) (range 8 1 1 ∷ []) ≡ answer [] (5 ∷ 0 ∷ []) [] (5 ∷ 9 ∷ 4 ∷ []))
+    × (held (both-ids 4 ∷ []) (range 9 4 1 ∷ []) ≡ answer [] (5 ∷ 0 ∷ []) [] (5 ∷ 8 ∷ 1 ∷ []))
+unfolding held gapped both-ids late sort answer block after-id orderHeld countsHeld pendingHeld heldIn within ruleHeld orderOf countsOf reachesOf pendingOf countsIn reachesIn pendingIn numbersBy numbersFrom outcome order clients insert insertAll quick choices best left can step after system queue deps others asksOf asks28 asks13 before byReaches waits unmet report remote
+held-ids = (refl, refl, refl, refl, refl, refl, refl, refl, refl)

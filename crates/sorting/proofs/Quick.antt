@@ -112,13 +112,13 @@ module _ {A : Type 0} (S : System A) where
   best-is [] s = λ c l t. l
   best-is (c ∷ cs) s = higher-is s c cs (can S s c) refl (best S cs s) (best-is cs s)
 
+  pub best-sound : (cs : List ℕ) (s : State A) (c : ℕ) → best S cs s ≡ some c → T (can S s c)
+  best-sound cs s c e = subst (Best s cs) e (best-is cs s) .0
+
   module _ (clients : List ℕ) (listed : (c : ℕ) → 0 < S .size c → Listed c clients) where
     pub no-listed : (s : State A) → ((c : ℕ) → Listed c clients → T (can S s c) → ⊥) → Stuck S s
     unfolding Stuck
     no-listed s h c t = h c (listed c (omega (arith, can-fits S s c t))) t
-
-    best-sound : (s : State A) (c : ℕ) → best S clients s ≡ some c → T (can S s c)
-    best-sound s c e = subst (Best s clients) e (best-is clients s) .0
 
     pub quick-ends : (s : State A) → Ends S s (quick S clients s)
     unfolding quick
@@ -126,8 +126,8 @@ module _ {A : Type 0} (S : System A) where
         let f = suc (left S s clients) in
         let t = after S s (order S (best S clients) f s) in
         record {
-          run = order-run clients listed (best S clients) best-sound f s;
-          end = no-listed t (subst (Best t clients) (order-end clients listed (best S clients) best-sound f s (omega arith))
+          run = order-run clients listed (best S clients) (best-sound clients) f s;
+          end = no-listed t (subst (Best t clients) (order-end clients listed (best S clients) (best-sound clients) f s (omega arith))
               (best-is clients t));
         }
 

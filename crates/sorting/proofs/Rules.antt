@@ -2,7 +2,7 @@
 use mathlib.Core.Path.{_≡_, refl, sym}
 use mathlib.Core.Bool.{Bool, true, false, _||_}
 use mathlib.Core.List.{List, [], _∷_, map}
-use mathlib.Core.Logic.{inl, inr}
+use mathlib.Core.Logic.{_⊎_, inl, inr, _≢_, _↔_}
 use mathlib.Core.Option.{none, some}
 use Prim.Native.Nat.{ℕ, _≤_, _<_}
 use native.Mathlib.Omega.{arith}
@@ -16,7 +16,7 @@ use Rattle.block.specs.Row.{noBlock}
 use Rattle.readings.specs.Sound.{owner, All}
 use Rattle.sorting.specs.Steps.{State, Monotone}
 use Rattle.sorting.specs.Quick.{Listed}
-use Rattle.sorting.specs.Rules.{queue, isSkip, Rule, unmet, waits, free, system, report, below, byReaches}
+use Rattle.sorting.specs.Rules.{queue, isSkip, others, Rule, unmet, waits, free, system, report, below, byReaches}
 
 pub or-map : (a b c d : Bool) → (T a → T c) → (T b → T d) → T (a || b) → T (c || d)
 or-map true b true d f g t = tt
@@ -73,6 +73,35 @@ report-waits R q s c d p = go (ltb (s .taken c) (length (q c))) p
         → waits R (s .known) c (getD (q c) (s .taken c) noBlock) ≡ some d
     go true p = p
     go false p = absurd (none-some d p)
+
+-- ---- ids of other clients
+
+pub others-are : (c : ℕ) (ds : List Id) → All (λ (d : Id). d .client ≢ c) (others c ds)
+unfolding others
+others-are c [] = tt
+others-are c (d ∷ ds) = go (eqb (d .client) c) refl (others-are c ds)
+  where
+    go : (x : Bool) → eqb (d .client) c ≡ x → All (λ (e : Id). e .client ≢ c) (others c ds)
+        → All (λ (e : Id). e .client ≢ c) (pick x (others c ds) (d ∷ others c ds))
+    go true e rest = rest
+    go false e rest = (eqb-false (d .client) c e, rest)
+
+-- nothing of them is waited for exactly when each id is the own client's or met
+module _ (met : Id → Bool) (Met : Id → Type 0) (yes : (d : Id) → met d ≡ true → Met d) (no : (d : Id) → met d ≡ false → Met d → ⊥) (c : ℕ) where
+  pub others-free : (ds : List Id) → T (free (unmet met (others c ds))) ↔ All (λ (d : Id). (d .client ≡ c) ⊎ Met d) ds
+  unfolding others unmet
+  others-free [] = ((λ t. tt), (λ t. tt))
+  others-free (d ∷ ds) = go (eqb (d .client) c) refl (met d) refl (others-free ds)
+    where
+      go : (x : Bool) → eqb (d .client) c ≡ x → (y : Bool) → met d ≡ y
+          → (T (free (unmet met (others c ds))) ↔ All (λ (e : Id). (e .client ≡ c) ⊎ Met e) ds)
+          → T (free (unmet met (pick x (others c ds) (d ∷ others c ds)))) ↔ (((d .client ≡ c) ⊎ Met d) × All (λ (e : Id). (e .client ≡ c) ⊎ Met e) ds)
+      go true e y f rec = ((λ t. (inl (eqb-true (d .client) c e), rec .0 t)), (λ m. rec .1 (m .1)))
+      go false e true f rec = rw f ((λ t. (inr (yes d f), rec .0 t)), (λ m. rec .1 (m .1)))
+      go false e false f rec = rw f (
+        (λ t. absurd t),
+        (λ m. elim (m .0) [ inl p ↦ absurd (eqb-false (d .client) c e p) | inr h ↦ absurd (no d f h) ]),
+      )
 
 -- a rule by reaches
 pub below-mono : (κ κ′ : ℕ → ℕ) → ((a : ℕ) → κ a ≤ κ′ a) → (d : Id) → T (below κ d) → T (below κ′ d)

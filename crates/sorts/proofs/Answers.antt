@@ -1,10 +1,9 @@
 -- What the sorter gives and leaves, of blocks that were read and the entries of a vector: the order, and the reports on the one outcome of sorting.
 use Prim.Native.Nat.{ℕ, _+_, _≤_}
 use mathlib.Core.Path.{_≡_, refl, sym, ap, _∙_}
-use mathlib.Core.List.{List, [], _∷_}
+use mathlib.Core.List.{List}
 use native.Mathlib.Omega.{arith}
 use lib.ListN.{length, take, replicate, length-replicate}
-use lib.Seq.{take-nil}
 use Rattle.numbers.specs.Limits.{maxClock, maxClients, maxBlocks}
 use Rattle.block.specs.declared.Block.{Block}
 use Rattle.vector.specs.Vector.{Entry, clientsIn}
@@ -20,24 +19,13 @@ use Rattle.sorting.specs.Named.{ruleOf}
 use Rattle.sorting.specs.Sorted.{outcomeOf, orderOf, countsOf, reachesOf, pendingOf}
 use Rattle.outcome.specs.Tie.{Slotted, Sortable, Opened, overlaid}
 use Rattle.outcome.specs.Came.{Came}
+use Rattle.outcome.proofs.Overlay.{overlaid-front, overlaid-length}
 use Rattle.outcome.proofs.Slotted.{slotted, slots-most}
 use Rattle.outcome.proofs.Picked.{picked-outcome}
 use Rattle.outcome.proofs.Reported.{counts-reported, reaches-reported, pending-reported}
 use Rattle.sorter.specs.Sorter.{slotsFor, maxReaches, frontWords, reachesAt, frontsAt, deskOn, countsOn, reachesOn, pendingOn, cleared, orderOn, sortingOf, sortingOn}
 
 -- ---- words overlaid by others, and cleared after them, are as many of them as fit
-
-overlaid-front : (w ws : List ℕ) → take (length ws) (overlaid w ws) ≡ take (length w) ws
-unfolding overlaid
-overlaid-front w [] = rw (take-nil {A = ℕ} (length w)) refl
-overlaid-front [] (x ∷ ws) = refl
-overlaid-front (y ∷ w) (x ∷ ws) = ap (λ (l : List ℕ). x ∷ l) (overlaid-front w ws)
-
-overlaid-length : (w ws : List ℕ) → length (overlaid w ws) ≡ length w
-unfolding overlaid
-overlaid-length w [] = rw (take-nil {A = ℕ} (length w)) refl
-overlaid-length [] (x ∷ ws) = refl
-overlaid-length (y ∷ w) (x ∷ ws) = omega (arith, overlaid-length w ws)
 
 pub overlaid-fitted : (w ws : List ℕ) → cleared (overlaid w ws) (length ws) ≡ fitted (length w) ws
 unfolding cleared fitted

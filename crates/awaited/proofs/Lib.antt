@@ -1,0 +1,2 @@
+-- The parts of what is reported, as the code tests them.
+pub mod Waits

@@ -1,0 +1,2 @@
+-- What a client with blocks left waits for.
+pub mod Awaited

@@ -1,0 +1,2 @@
+-- What a sorter by held ids does with rows and held ranges.
+pub mod HeldSorter

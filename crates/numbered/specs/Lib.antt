@@ -1,0 +1,2 @@
+-- Blocks that hang on the numbers of other blocks, in place of ids.
+pub mod Numbered

@@ -1,0 +1,1 @@
+// No code: sorting by held ids is sorting by the numbers of the blocks that hold them.

@@ -1,0 +1,3 @@
+-- Halving (Halving), and what is found by it and made of it (Placing).
+pub mod Halving
+pub mod Placing
