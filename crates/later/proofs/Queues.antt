@@ -10,7 +10,7 @@ use borrow.Author.Tests.{ltb-true, eqb-true, eqb-false, eq-eqb, ne-eqb}
 use Rattle.numbers.specs.Number.{pick}
 use Rattle.block.specs.declared.Id.{Id}
 use Rattle.block.specs.declared.Block.{Block}
-use Rattle.block.specs.Row.{noId}
+use Rattle.block.specs.Row.{noId, leftId, rightId, parentId}
 use Rattle.block.specs.Kinds.{isItem}
 use Rattle.vector.specs.Vector.{Entry}
 use Rattle.readings.specs.Sound.{All, Sound, Ordered, owner, linked}
@@ -173,9 +173,9 @@ module _ (c : ℕ) (met : Id → Bool) where
   unfolding deps
   begun-free u p own t =
       let b = p .row in
-      own-free (isItem (b .kind)) (record { client = b .client; clock = b .clock + p .from - 1 }) (also (b .«has_right») (b .right) []) own
-      (both-free (b .«has_right») (b .right) (also (b .«has_parent») (b .parent) []) [] (less-free (b .«has_parent») (b .parent) [])
-      (less-free (b .«has_left») (b .left) (also (b .«has_right») (b .right) (also (b .«has_parent») (b .parent) [])) t))
+      own-free (isItem (b .kind)) (record { client = b .client; clock = b .clock + p .from - 1 }) (also (b .«has_right») (rightId b) []) own
+      (both-free (b .«has_right») (rightId b) (also (b .«has_parent») (parentId b) []) [] (less-free (b .«has_parent») (parentId b) [])
+      (less-free (b .«has_left») (leftId b) (also (b .«has_right») (rightId b) (also (b .«has_parent») (parentId b) [])) t))
 
 module _ (c k : ℕ) where
   itself : (b : Block) → Rest c k b b
