@@ -11,7 +11,7 @@ use Rattle.numbers.specs.Number.{pick}
 use Rattle.numbers.specs.Limits.{maxClock}
 use Rattle.block.specs.declared.Id.{Id}
 use Rattle.block.specs.declared.Block.{Block}
-use Rattle.block.specs.Row.{noId, noBlock}
+use Rattle.block.specs.Row.{noId, noBlock, leftId, rightId, parentId}
 use Rattle.slots.specs.Slots.{Slot}
 use Rattle.picker.specs.declared.stages.Dependency.{Dependency}
 use Rattle.picker.specs.Waits.{dep, noDependency}
@@ -22,27 +22,27 @@ use Rattle.placing.specs.Placing.{isHeld, spanOf, heldBy, capped, isAsked, onNu
 use Rattle.numbered.specs.Numbered.{asked, placed, byNumber, numberedFrom}
 
 -- stage k of a block by rule 28
-pub stage-left : (b : Block) → stageAt 28 b 0 ≡ pick (isSkip b) noDependency (other (b .client) (b .«has_left») (b .left))
+pub stage-left : (b : Block) → stageAt 28 b 0 ≡ pick (isSkip b) noDependency (other (b .client) (b .«has_left») (leftId b))
 unfolding stageAt stages stages28
 stage-left b = go (isSkip b)
   where
-    go : (x : Bool) → getD (pick x [] (stages28 b)) 0 noDependency ≡ pick x noDependency (other (b .client) (b .«has_left») (b .left))
+    go : (x : Bool) → getD (pick x [] (stages28 b)) 0 noDependency ≡ pick x noDependency (other (b .client) (b .«has_left») (leftId b))
     go true = refl
     go false = refl
 
-pub stage-right : (b : Block) → stageAt 28 b 1 ≡ pick (isSkip b) noDependency (other (b .client) (b .«has_right») (b .right))
+pub stage-right : (b : Block) → stageAt 28 b 1 ≡ pick (isSkip b) noDependency (other (b .client) (b .«has_right») (rightId b))
 unfolding stageAt stages stages28
 stage-right b = go (isSkip b)
   where
-    go : (x : Bool) → getD (pick x [] (stages28 b)) 1 noDependency ≡ pick x noDependency (other (b .client) (b .«has_right») (b .right))
+    go : (x : Bool) → getD (pick x [] (stages28 b)) 1 noDependency ≡ pick x noDependency (other (b .client) (b .«has_right») (rightId b))
     go true = refl
     go false = refl
 
-pub stage-parent : (b : Block) → stageAt 28 b 2 ≡ pick (isSkip b) noDependency (other (b .client) (b .«has_parent») (b .parent))
+pub stage-parent : (b : Block) → stageAt 28 b 2 ≡ pick (isSkip b) noDependency (other (b .client) (b .«has_parent») (parentId b))
 unfolding stageAt stages stages28
 stage-parent b = go (isSkip b)
   where
-    go : (x : Bool) → getD (pick x [] (stages28 b)) 2 noDependency ≡ pick x noDependency (other (b .client) (b .«has_parent») (b .parent))
+    go : (x : Bool) → getD (pick x [] (stages28 b)) 2 noDependency ≡ pick x noDependency (other (b .client) (b .«has_parent») (parentId b))
     go true = refl
     go false = refl
 
@@ -76,9 +76,9 @@ module _ (w : List ℕ) (h : ℕ) (ss : List Slot) (rows : List Block) where
   row-numbered i b l =
       rw (stage-left b, stage-right b, stage-parent b)
       (rw (
-        placed-stage b (b .«has_left») (b .left),
-        placed-stage b (b .«has_right») (b .right),
-        placed-stage b (b .«has_parent») (b .parent),
+        placed-stage b (b .«has_left») (leftId b),
+        placed-stage b (b .«has_right») (rightId b),
+        placed-stage b (b .«has_parent») (parentId b),
         le-ltb maxClock (i - firstOf ss (b .client)) (omega arith),
       ) refl)
 

@@ -13,7 +13,7 @@ use Rattle.numbers.specs.Number.{pick}
 use Rattle.numbers.specs.Limits.{maxBlocks}
 use Rattle.block.specs.declared.Id.{Id}
 use Rattle.block.specs.declared.Block.{Block}
-use Rattle.block.specs.Row.{noBlock}
+use Rattle.block.specs.Row.{noBlock, leftId, rightId, parentId}
 use Rattle.vector.specs.Vector.{Entry}
 use Rattle.kept.specs.Kept.{remote}
 use Rattle.readings.specs.Sound.{Ordered}
@@ -65,7 +65,7 @@ module _ (gone : Id → Bool) (place : Id → ℕ) (f g : Id → Bool) (same : (
   asked-free : (k : ℕ) → free (unmet g (others c (deps (byNumber gone place k b)))) ≡ free (unmet f (others c (deps b)))
   unfolding byNumber deps others unmet
   asked-free k =
-      one-asked (b .«has_left») (b .left) _ _ (one-asked (b .«has_right») (b .right) _ _ (one-asked (b .«has_parent») (b .parent) [] [] refl))
+      one-asked (b .«has_left») (leftId b) _ _ (one-asked (b .«has_right») (rightId b) _ _ (one-asked (b .«has_parent») (parentId b) [] [] refl))
 
 -- a Skip asks for nothing
 skip-free : (gone : Id → Bool) (place : Id → ℕ) (g : Id → Bool) (c : ℕ) (b : Block) → isSkip b ≡ true → (k : ℕ)

@@ -10,7 +10,8 @@ use Rattle.numbers.specs.Number.{pick}
 use Rattle.numbers.specs.Limits.{maxClock}
 use Rattle.block.specs.declared.Id.{Id}
 use Rattle.block.specs.declared.Block.{Block}
-use Rattle.block.specs.Row.{noId, noPart, noBlock}
+use Rattle.block.specs.Row.{noId, noBlock, leftId, rightId, parentId}
+use Rattle.block.specs.Rows.{idsAre, parentIs, plain}
 use Rattle.block.specs.Kinds.{GC}
 use Rattle.sorting.specs.Rules.{isSkip}
 
@@ -41,25 +42,9 @@ module _ (gone : Id → Bool) (place : Id → ℕ) where
 
   unfoldable pub byNumber : ℕ → Block → Block
   byNumber k b =
-      record {
-        client = b .client;
-        clock = k;
-        length = record { 0 = 1 };
-        kind = GC;
-        «has_left» = asked b (b .«has_left») (b .left);
-        left = placed (asked b (b .«has_left») (b .left)) (b .left);
-        «has_right» = asked b (b .«has_right») (b .right);
-        right = placed (asked b (b .«has_right») (b .right)) (b .right);
-        «has_parent» = asked b (b .«has_parent») (b .parent);
-        parent = placed (asked b (b .«has_parent») (b .parent)) (b .parent);
-        «has_name» = false;
-        name = noPart;
-        «has_key» = false;
-        key = noPart;
-        part = noPart;
-        mark = noPart;
-        «type_number» = 0;
-      }
+      idsAre (asked b (b .«has_left») (leftId b)) (placed (asked b (b .«has_left») (leftId b)) (leftId b))
+      (asked b (b .«has_right») (rightId b)) (placed (asked b (b .«has_right») (rightId b)) (rightId b))
+      (parentIs (asked b (b .«has_parent») (parentId b)) (placed (asked b (b .«has_parent») (parentId b)) (parentId b)) (plain (b .client) k 1 GC))
 
   -- these blocks, the first of which is block i of all, each client's first being this one of all
   unfoldable pub numberedFrom : (ℕ → ℕ) → ℕ → List Block → List Block

@@ -8,7 +8,8 @@ use Rattle.numbers.specs.Number.{pick}
 use Rattle.numbers.specs.Limits.{maxClock}
 use Rattle.block.specs.declared.Id.{Id}
 use Rattle.block.specs.declared.Block.{Block}
-use Rattle.block.specs.Row.{noBlock, noPart}
+use Rattle.block.specs.Row.{noBlock}
+use Rattle.block.specs.Rows.{idsAre, parentIs, plain}
 use Rattle.block.specs.Kinds.{GC, SKIP}
 use Rattle.ranges.specs.Ranges.{Range}
 use Rattle.ranges.specs.Table.{row}
@@ -81,25 +82,8 @@ firstOf ss c = getD ss (rank c ss) (slot 0 0 0) .first
 
 unfoldable pub numberedBlock : List Slot → ℕ → Block → Dependency → Dependency → Dependency → Block
 numberedBlock ss i b left right parent =
-    record {
-      client = b .client;
-      clock = capped (i - firstOf ss (b .client));
-      length = record { 0 = 1 };
-      kind = GC;
-      «has_left» = left .there;
-      left = left .id;
-      «has_right» = right .there;
-      right = right .id;
-      «has_parent» = parent .there;
-      parent = parent .id;
-      «has_name» = false;
-      name = noPart;
-      «has_key» = false;
-      key = noPart;
-      part = noPart;
-      mark = noPart;
-      «type_number» = 0;
-    }
+    idsAre (left .there) (left .id) (right .there) (right .id)
+    (parentIs (parent .there) (parent .id) (plain (b .client) (capped (i - firstOf ss (b .client))) 1 GC))
 
 -- row i by number, its stages being those of rule 28
 unfoldable pub rowBy : List ℕ → ℕ → List Slot → List Block → ℕ → Block → Block
