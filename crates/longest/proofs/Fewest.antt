@@ -183,6 +183,56 @@ over-spelled c p k n (v ∷ vs) = go (eqb (c .keyOf p v) k) (over-spelled c v k 
     go true same other = same
     go false same other = rw (other, after-first c (record { key = k; times = n + 1 }) v (c .keyOf p v) 0 vs, less)
 
+-- ---- runs whose neighbours differ are told by their keys
+
+-- the first of these keys, if there is one, is not k
+unfoldable NotFirst : ℕ → List ℕ → Type 0
+NotFirst k [] = Unit {0}
+NotFirst k (x ∷ xs) = k ≡ x → ⊥
+
+peel : (k j n m : ℕ) (xs ys : List ℕ) → NotFirst k xs → NotFirst j ys → replicate (suc n) k ++ xs ≡ replicate (suc m) j ++ ys
+    → (k ≡ j) × (n ≡ m) × (xs ≡ ys)
+unfolding NotFirst
+peel k j zero zero xs ys h g e = (head-eq-of-cons-eq e, refl, tail-eq-of-cons-eq e)
+peel k j zero (suc m) [] ys h g e = absurd (nil≢cons (tail-eq-of-cons-eq e))
+peel k j zero (suc m) (x ∷ xs) ys h g e = absurd (h (head-eq-of-cons-eq e ∙ sym (head-eq-of-cons-eq (tail-eq-of-cons-eq e))))
+peel k j (suc n) zero xs [] h g e = absurd (nil≢cons (sym (tail-eq-of-cons-eq e)))
+peel k j (suc n) zero xs (y ∷ ys) h g e = absurd (g (sym (head-eq-of-cons-eq e) ∙ head-eq-of-cons-eq (tail-eq-of-cons-eq e)))
+peel k j (suc n) (suc m) xs ys h g e =
+    let rest = peel k j n m xs ys h g (tail-eq-of-cons-eq e) in
+    (rest .0, ap suc (rest .1), rest .2)
+
+not-first : (r : Run) (rs : List Run) → AtLeastOnce rs → Apart (r ∷ rs) → NotFirst (r .key) (expanded rs)
+unfolding NotFirst AtLeastOnce Apart expanded
+not-first r [] some h = tt
+not-first r (s ∷ rs) some h = go (s .times) (some .0)
+  where
+    go : (n : ℕ) → 1 ≤ n → NotFirst (r .key) (replicate n (s .key) ++ expanded rs)
+    go zero one = absurd (omega arith)
+    go (suc n) one = h .0
+
+apart-rest : (r : Run) (rs : List Run) → Apart (r ∷ rs) → Apart rs
+unfolding Apart
+apart-rest r [] h = tt
+apart-rest r (s ∷ rs) h = h .1
+
+some-keys : (r : Run) (rs : List Run) → 1 ≤ r .times → expanded (r ∷ rs) ≡ replicate (suc (r .times - 1)) (r .key) ++ expanded rs
+unfolding expanded
+some-keys r rs h = let back : r .times ≡ suc (r .times - 1) = omega arith in ap (λ (n : ℕ). replicate n (r .key) ++ expanded rs) back
+
+same-runs : (rs ss : List Run) → AtLeastOnce rs → AtLeastOnce ss → Apart rs → Apart ss → expanded rs ≡ expanded ss → rs ≡ ss
+unfolding AtLeastOnce expanded
+same-runs [] [] some some′ h g e = refl
+same-runs [] (s ∷ ss) some some′ h g e = absurd (nil≢cons (e ∙ some-keys s ss (some′ .0)))
+same-runs (r ∷ rs) [] some some′ h g e = absurd (nil≢cons (sym e ∙ some-keys r rs (some .0)))
+same-runs (r ∷ rs) (s ∷ ss) some some′ h g e =
+    let first = peel (r .key) (s .key) (r .times - 1) (s .times - 1) (expanded rs) (expanded ss)
+    (not-first r rs (some .1) h) (not-first s ss (some′ .1) g) (sym (some-keys r rs (some .0)) ∙ e ∙ some-keys s ss (some′ .0)) in
+    let times : r .times ≡ s .times = omega (arith, first .1, some .0, some′ .0) in
+    let rest = same-runs rs ss (some .1) (some′ .1) (apart-rest r rs h) (apart-rest s ss g) (first .2) in
+    let one : r ≡ s = ap (λ (k : ℕ). record { key = k; times = r .times }) (first .0) ∙ ap (λ (n : ℕ). record { key = s .key; times = n }) times in
+    cc (one, rest)
+
 -- ---- of every coding
 
 written-of : (c : Coding) (vs : List ℕ) → column c vs ≡ spelled c (runsOf c vs)
@@ -220,6 +270,8 @@ of-codings c vs = record {
   says = (once-of c vs, rw keys-of (stand-keys c 0 vs));
   apart = apart-of c vs;
   fewest = λ others h. least-of c vs others (h .0) (keys-stand c 0 (expanded others) vs (h .1));
+  only = λ others h apart. same-runs others (runsOf c vs) (h .0) (once-of c vs) apart (apart-of c vs)
+      (keys-stand c 0 (expanded others) vs (h .1) ∙ sym (keys-of c vs));
 }
 
 -- ---- of the three columns: a key leads to a value exactly when it is the value's key
@@ -258,11 +310,13 @@ pub of-columns : OfColumns
 of-columns col vs inside =
     let base = of-codings (coding col) vs in
     let low : 0 ≤ coding col .most = omega arith in
+    let by-coding : (rs : List Run) → Says (leadsIn col) rs vs → Says (leadsBy (coding col)) rs vs =
+    λ rs h. (h .0, stands-as (leadsIn col) (leadsBy (coding col)) (coding col .most) 0 (expanded rs) vs (key-leads col) low inside (h .1)) in
     record {
       runs = base .runs;
       written = base .written;
       says = (base .says .0, stands-as (leadsBy (coding col)) (leadsIn col) (coding col .most) 0 (expanded (base .runs)) vs (leads-key col) low inside (base .says .1));
       apart = base .apart;
-      fewest = λ others h. base .fewest others
-          (h .0, stands-as (leadsIn col) (leadsBy (coding col)) (coding col .most) 0 (expanded others) vs (key-leads col) low inside (h .1));
+      fewest = λ others h. base .fewest others (by-coding others h);
+      only = λ others h apart. base .only others (by-coding others h) apart;
     }

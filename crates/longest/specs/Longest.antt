@@ -66,13 +66,15 @@ Apart [] = Unit {0}
 Apart (r ∷ []) = Unit {0}
 Apart (r ∷ s ∷ rs) = (r .key ≡ s .key → ⊥) × Apart (s ∷ rs)
 
--- what a writer writes of the values is the spelling of runs that say them; neighbours differ, and no runs that say the same are fewer
+-- what a writer writes of the values is the spelling of runs that say them; neighbours differ, no runs that say the same are fewer, and no others whose
+-- neighbours differ say the same
 pub record Longest (leads : Rule) (c : Coding) (vs : List ℕ) : Type 0 where
   pub runs : List Run
   pub written : column c vs ≡ spelled c runs
   pub says : Says leads runs vs
   pub apart : Apart runs
   pub fewest : (others : List Run) → Says leads others vs → length runs ≤ length others
+  pub only : (others : List Run) → Says leads others vs → Apart others → others ≡ runs
 
 -- of every coding; of each column, where its values are within their limit, as all that is written is
 abbrev pub OfCodings : Type 0
