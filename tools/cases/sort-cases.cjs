@@ -1,5 +1,5 @@
 // A case of operation 17 with the line that is expected: from the model. Beside it a case of operation 25, the same by rule 13, which is compared with what
-// Yjs takes and leaves pending.
+// Yjs takes and leaves pending; and of every few a case of operation 26, the same by sweeps.
 'use strict'
 const model = require('./sort-model.cjs')
 const { readVector } = require('./update-model.cjs')
@@ -58,8 +58,20 @@ const rows = ({ blockRows = 512, rangeRows = 1024, orderRows = 512 } = {}) => ({
 const ruled = (rule, form, update, vector, lent) =>
   add(25, [limited('rule', rule, 255), ...asked(form, update, vector, lent)], line(model.sort(form, update, vector, { rule, ...rows(lent) })))
 
+// Operation 26. Only the order differs from what operation 25 has.
+const slowly = (rule, form, update, vector, lent) => {
+  const [quick, slow] = [false, true].map(slowly => model.sort(form, update, vector, { rule, slowly, ...rows(lent) }))
+  const told = r => r.number === 0 ? [r.order.length, ...reports(r), ...tables(r.read)] : [first(r)]
+  if (told(quick).join() !== told(slow).join()) throw new Error(`the sorters part: ${hex(update)} against ${hex(vector)}`)
+  return add(26, [limited('rule', rule, 255), ...asked(form, update, vector, lent)], line(slow))
+}
+
+// Every few sorts are asked slowly, too, by one rule and the other.
+const FEW = 3
+let asks = 0
 const sort = (form, update, vector, lent) => {
   answer(form, update, vector)
+  if (asks++ % FEW === 0) slowly(asks % 2 === 0 ? 28 : 13, form, update, vector, lent)
   ruled(13, form, update, vector, lent)
   return add(17, asked(form, update, vector, lent), line(model.sort(form, update, vector, rows(lent))))
 }
@@ -81,7 +93,7 @@ const fitted = (random, form, update, vector, k) => {
 }
 
 module.exports = {
-  sort, ruled, fitted, answer, answer13, stream, output, counts, refused,
+  sort, ruled, slowly, fitted, answer, answer13, stream, output, counts, refused,
   told: () => [
     `cases of an operation: ${told(counts)}`,
     `the number of a line: ${told(refused)}; at another place than 0: ${told(placed)}`,

@@ -1,4 +1,4 @@
-// What documents 01 and 02 (W-210) and docs/DECISIONS.md say of sorting, in plain JavaScript: the update and the vector as update-model.cjs reads them, which blocks are
+// What documents 01 and 02 (W-210, W-211) and docs/DECISIONS.md say of sorting, in plain JavaScript: the update and the vector as update-model.cjs reads them, which blocks are
 // taken, one after another, and what is reported. Made without our Rattle code and without Yjs.
 'use strict'
 const { readUpdate, readVector } = require('./update-model.cjs')
@@ -48,13 +48,50 @@ const sorted = (blocks, entries, { rule = 28, choose = ([highest]) => highest } 
   }
 }
 
-const sort = (form, update, vector, { rule = 28, blockRows, rangeRows, orderRows = Infinity } = {}) => {
+// W-211, worked out by itself: sweeps over all clients, lowest first, each of which has its fronts taken while they are ready, until a sweep takes nothing.
+const swept = (blocks, entries, rule) => {
+  const rising = highestFirst(blocks.map(b => b.client)).reverse()
+  const waiting = new Map(rising.map(client => [client, [...blocks.keys()].filter(n => blocks[n].client === client)]))
+  const reach = new Map(entries.map(e => [e.client, e.clock]))
+  const reached = client => reach.get(client) ?? 0n
+  // the client that block n waits for, or none
+  const missing = n => {
+    const b = blocks[n]
+    if (b.kind === 'skip') return null
+    for (const id of [b.left, b.right, b.parent]) if (id !== null && id.client !== b.client && id.clock >= reached(id.client)) return id.client
+    return rule === 13 && b.clock > reached(b.client) ? b.client : null
+  }
+  const order = []
+  for (let before = -1; before < order.length;) {
+    before = order.length
+    for (const client of rising) {
+      const queue = waiting.get(client)
+      while (queue.length > 0 && missing(queue[0]) === null) {
+        const n = queue.shift()
+        const end = blocks[n].clock + blocks[n].length
+        if (blocks[n].kind !== 'skip' && end > reached(client)) reach.set(client, end)
+        order.push(n)
+      }
+    }
+  }
+  const falling = [...rising].reverse()
+  const left = falling.filter(client => waiting.get(client).length > 0)
+  return {
+    order,
+    taken: falling.map(client => [client, order.filter(n => blocks[n].client === client).length]),
+    reaches: highestFirst([...rising, ...entries.map(e => e.client)]).map(client => [client, reached(client)]),
+    pending: left.map(client => missing(waiting.get(client)[0])).map((other, k) => [left[k], other, reached(other)])
+  }
+}
+
+// With `slowly` by sweeps.
+const sort = (form, update, vector, { rule = 28, slowly = false, blockRows, rangeRows, orderRows = Infinity } = {}) => {
   if (rule !== 13 && rule !== 28) return nowhere(12)
   const read = readUpdate(form, update, blockRows, rangeRows)
   if (read.number !== 0) return read
   const remote = readVector(vector)
   if (remote.number !== 0) return remote
-  const r = sorted(read.blocks, remote.entries, { rule })
+  const r = slowly ? swept(read.blocks, remote.entries, rule) : sorted(read.blocks, remote.entries, { rule })
   return r.order.length > orderRows ? nowhere(8) : { number: 0, read, entries: remote.entries, ...r }
 }
 

@@ -366,4 +366,26 @@ const partings = () => {
   gives(1, '02 01 09 00 81 05 00 01 01 05 03 00 01 00', '01 05 01', '0 1 ; 9:1 5:1 ; 9:1 5:4 ;')
 }
 
-module.exports = { all: () => [small, paper, skips, gaps, fronts, everyOrder, wide, order, partings].forEach(part => part()) }
+// W-211: the lowest client first, all its fronts that are ready, and once more for what another client has made ready; the refusals in their order.
+const sweeps = () => {
+  const slow = (rule, update, vector, reports) => {
+    w(c.slowly(rule, 1, bytes(update), bytes(vector), { orderRows: steps(reports) }), line(1, bytes(update), reports))
+    if (steps(reports) > 0) w(c.slowly(rule, 1, bytes(update), bytes(vector), { orderRows: steps(reports) - 1 }), '8@0 zero')
+  }
+  const two = '02 01 09 00 00 01 02 05 00 00 01 00 01 00'
+  gives(1, two, '00', '0 1 2 ; 9:1 5:2 ; 9:1 5:2 ;')
+  slow(28, two, '00', '1 2 0 ; 9:1 5:2 ; 9:1 5:2 ;')
+  slow(13, two, '00', '1 2 0 ; 9:1 5:2 ; 9:1 5:2 ;')
+  const second = '02 03 05 00 00 01 81 09 00 01 00 01 01 09 00 00 01 00'
+  gives(1, second, '00', '3 0 1 2 ; 9:1 5:3 ; 9:1 5:3 ;')
+  slow(28, second, '00', '0 3 1 2 ; 9:1 5:3 ; 9:1 5:3 ;')
+  slow(28, '02 01 05 00 81 09 00 01 01 09 00 81 05 00 01 00', '00', '; 9:0 5:0 ; 9:0 5:0 ; 9>5:0 5>9:0')
+  slow(13, '01 01 05 03 00 01 00', '00', '; 5:0 ; 5:0 ; 5>5:0')
+  slow(28, '01 01 05 03 00 01 00', '00', '0 ; 5:1 ; 5:4 ;')
+  w(c.slowly(14, 1, bytes(two), bytes('00')), '12@0 zero')
+  w(c.slowly(28, 3, bytes(two), bytes('00')), '12@0 zero')
+  w(c.slowly(28, 1, bytes(two), bytes('01')), '1@0 zero')
+  w(c.slowly(28, 1, bytes('02 01 09'), bytes('01')), '1@3 zero')
+}
+
+module.exports = { all: () => [small, paper, skips, gaps, fronts, everyOrder, wide, order, partings, sweeps].forEach(part => part()) }

@@ -1,4 +1,4 @@
-// Operations 17 and 25 of the case program: a sort, its reports, and the tables that its update was read into.
+// Operations 17, 25 and 26 of the case program: a sort, its reports, and the tables that its update was read into.
 use block::Block;
 use sort_answers::Sorted;
 use stream::Done;
@@ -51,8 +51,33 @@ fn end(sink: &mut [u8], begun: Told, told: Told, answer: Sorted, words: &[u64]) 
     rows::end(sink, seen, read, words)
 }
 
+// A sort, by either sorter.
+fn sort_by(
+    slowly: bool,
+    rule: u8,
+    form: u8,
+    update: &[u8],
+    vector: &[u8],
+    rows: &mut [Block],
+    words: &mut [u64],
+    order: &mut [u64],
+    counts: &mut [u64],
+    reaches: &mut [u64],
+    pending: &mut [u64],
+) -> Sorted {
+    if slowly {
+        return slow_sorts::sort_slowly(
+            rule, form, update, vector, rows, words, order, counts, reaches, pending,
+        );
+    }
+    sorts::sort(
+        rule, form, update, vector, rows, words, order, counts, reaches, pending,
+    )
+}
+
 // The line of a sort with n rows lent; more than there are is not asked.
 fn ask(
+    slowly: bool,
     rule: u8,
     form: u8,
     update: &[u8],
@@ -71,7 +96,8 @@ fn ask(
     }
     let row = rows::full();
     let mut rows = [row; 512];
-    let answer = sorts::sort(
+    let answer = sort_by(
+        slowly,
         rule,
         form,
         update,
@@ -88,8 +114,9 @@ fn ask(
     end(sink, begun, told, answer, words)
 }
 
-// What a case asks beside its update and its vector: the rule, the form, and how many rows and words are lent.
+// What a case asks beside its update and its vector: the sorter, the rule, the form, and how many rows and words are lent.
 struct Asked {
+    slowly: bool,
     rule: u8,
     form: u8,
     rows: usize,
@@ -112,6 +139,7 @@ fn lend_reports(
     let mut reaches = [0xA5A5A5A5A5A5A5A5u64; 256];
     let mut pending = [0xA5A5A5A5A5A5A5A5u64; 192];
     ask(
+        case.slowly,
         case.rule,
         case.form,
         update,
@@ -154,13 +182,14 @@ fn lend(case: Asked, update: &[u8], vector: &[u8], sink: &mut [u8], used: usize)
     lend_order(case, update, vector, &mut words[..lent], sink, used)
 }
 
-fn arguments(rule: u8, source: &mut [u8], place: Place) -> Asked {
+fn arguments(slowly: bool, rule: u8, source: &mut [u8], place: Place) -> Asked {
     let form = input::number(source, place, 255);
     let rows = input::number(source, form.place, 512);
     let ranges = input::number(source, rows.place, 1024);
     let order = input::number(source, ranges.place, 512);
     let place = order.place;
     Asked {
+        slowly,
         rule,
         form: form.value as u8,
         rows: rows.value as usize,
@@ -192,6 +221,7 @@ fn finish(
 
 // A sort by a rule: form, block rows, range rows, order rows, update, vector.
 fn read_by(
+    slowly: bool,
     rule: u8,
     source: &mut [u8],
     place: Place,
@@ -199,7 +229,7 @@ fn read_by(
     sink: &mut [u8],
     used: usize,
 ) -> Done {
-    let case = arguments(rule, source, place);
+    let case = arguments(slowly, rule, source, place);
     let taken = input::bytes(source, case.place, bytes);
     let place = taken.place;
     if !place.good {
@@ -217,7 +247,7 @@ pub fn read(
     sink: &mut [u8],
     used: usize,
 ) -> Done {
-    read_by(28, source, place, bytes, sink, used)
+    read_by(false, 28, source, place, bytes, sink, used)
 }
 
 // 25: the rule comes first.
@@ -229,5 +259,33 @@ pub fn read_rule(
     used: usize,
 ) -> Done {
     let rule = input::number(source, place, 255);
-    read_by(rule.value as u8, source, rule.place, bytes, sink, used)
+    read_by(
+        false,
+        rule.value as u8,
+        source,
+        rule.place,
+        bytes,
+        sink,
+        used,
+    )
+}
+
+// 26: the same by the slow plain sorter.
+pub fn read_slowly(
+    source: &mut [u8],
+    place: Place,
+    bytes: &mut [u8],
+    sink: &mut [u8],
+    used: usize,
+) -> Done {
+    let rule = input::number(source, place, 255);
+    read_by(
+        true,
+        rule.value as u8,
+        source,
+        rule.place,
+        bytes,
+        sink,
+        used,
+    )
 }
