@@ -7,6 +7,7 @@ use columns::number;
 use numbers::Read;
 use numbers::Refusal;
 use numbers::Written;
+use runs::Column;
 use text::Bytes;
 use text::Part;
 use text::Taken;
@@ -352,19 +353,19 @@ pub fn next_text(column: &[u8], place: string::Place) -> TextNext
 pub fn write_numbers(out: &mut [u8], values: &[u64]) -> Written
     ensures { λ r. ⌜ WriteNumbers (now (out .entry)) (now (values .entry)) r (now (out .exit)) ⌝ }
 {
-    number::write(out, values)
+    once::write_all(out, Column::Number, values)
 }
 
 pub fn write_differences(out: &mut [u8], values: &[u64]) -> Written
     ensures { λ r. ⌜ WriteDifferences (now (out .entry)) (now (values .entry)) r (now (out .exit)) ⌝ }
 {
-    difference::write(out, values)
+    once::write_all(out, Column::Difference, values)
 }
 
 pub fn write_bytes(out: &mut [u8], values: &[u8]) -> Written
     ensures { λ r. ⌜ WriteBytes (now (out .entry)) (now (values .entry)) r (now (out .exit)) ⌝ }
 {
-    byte::write(out, values)
+    once::write_bytes(out, values)
 }
 
 pub fn write_texts(out: &mut [u8], text: &[u8], units: &[u64]) -> Written

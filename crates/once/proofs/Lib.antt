@@ -1,0 +1,2 @@
+-- The laws of one pass over a slice.
+pub mod Laws

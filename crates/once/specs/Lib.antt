@@ -1,0 +1,2 @@
+-- One pass over a slice.
+pub mod Once
