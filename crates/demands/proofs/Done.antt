@@ -15,7 +15,7 @@ use Rattle.sorting.specs.Rules.{Rule}
 use Rattle.sorting.specs.Named.{ruleOf}
 use Rattle.updates.specs.Promises.{Reading, reading}
 use Rattle.sort_answers.specs.Answers.{isRule, Sort, refusedWith, Room, whyNot}
-use Rattle.sorts.specs.Promises.{whole, whySort, fitting, against, afterReading, sortOf}
+use Rattle.sorts.specs.Promises.{quickly, whole, whySort, fitting, against, afterReading, sortBy, sortOf}
 use Rattle.demands.specs.Allowed.{Doable, SortDone}
 
 -- ---- words enough
@@ -41,7 +41,7 @@ enough m o c r p a b d e = rw (le-ltb (m .order) o a, le-ltb (m .counts) c b, le
 
 module _ (R : Rule ℕ) (m : Room) (v : List ℕ) (r : Reading) where
   abbrev s : Sort
-  s = whole R (items (vectorOf v)) r
+  s = whole quickly R (items (vectorOf v)) r
 
   fitting-zero : fitting m s .refusal .number ≡ 0 → whySort m s ≡ 0
   unfolding fitting
@@ -51,14 +51,14 @@ module _ (R : Rule ℕ) (m : Room) (v : List ℕ) (r : Reading) where
       go true e h = eqb-true (whySort m s) 0 e
       go false e h = h
 
-  against-is : against R m (vectorOf v) r ≡ pick (eqb (whyVector v) 0) (fitting m s) (refusedWith (nowhere (whyVector v)))
+  against-is : against quickly R m (vectorOf v) r ≡ pick (eqb (whyVector v) 0) (fitting m s) (refusedWith (nowhere (whyVector v)))
   unfolding against
   against-is = by-number v (fitting m s) (λ n. refusedWith (nowhere n))
 
   ends-is : ending (vectorOf v) (λ _. true) (λ _. false) ≡ pick (eqb (whyVector v) 0) true false
   ends-is = by-number v true (λ _. false)
 
-  against-zero : against R m (vectorOf v) r .refusal .number ≡ 0 → (ending (vectorOf v) (λ _. true) (λ _. false) ≡ true) × (whySort m s ≡ 0)
+  against-zero : against quickly R m (vectorOf v) r .refusal .number ≡ 0 → (ending (vectorOf v) (λ _. true) (λ _. false) ≡ true) × (whySort m s ≡ 0)
   against-zero h = rw ends-is (go (eqb (whyVector v) 0) refl (subst (λ (t : Sort). t .refusal .number ≡ 0) against-is h))
     where
       go : (x : Bool) → eqb (whyVector v) 0 ≡ x → pick x (fitting m s) (refusedWith (nowhere (whyVector v))) .refusal .number ≡ 0
@@ -66,12 +66,12 @@ module _ (R : Rule ℕ) (m : Room) (v : List ℕ) (r : Reading) where
       go true e h = (refl, fitting-zero h)
       go false e h = absurd (eqb-false (whyVector v) 0 e h)
 
-  after-zero : afterReading R m (vectorOf v) r .refusal .number ≡ 0
+  after-zero : afterReading quickly R m (vectorOf v) r .refusal .number ≡ 0
       → (r .refusal .number ≡ 0) × (ending (vectorOf v) (λ _. true) (λ _. false) ≡ true) × (whySort m s ≡ 0)
   unfolding afterReading
   after-zero h = go (eqb (r .refusal .number) 0) refl h
     where
-      go : (x : Bool) → eqb (r .refusal .number) 0 ≡ x → pick x (against R m (vectorOf v) r) (refusedWith (r .refusal)) .refusal .number ≡ 0
+      go : (x : Bool) → eqb (r .refusal .number) 0 ≡ x → pick x (against quickly R m (vectorOf v) r) (refusedWith (r .refusal)) .refusal .number ≡ 0
           → (r .refusal .number ≡ 0) × (ending (vectorOf v) (λ _. true) (λ _. false) ≡ true) × (whySort m s ≡ 0)
       go true e h = (eqb-true (r .refusal .number) 0 e, against-zero h .0, against-zero h .1)
       go false e h = absurd (eqb-false (r .refusal .number) 0 e h)
@@ -85,20 +85,20 @@ module _ (R : Rule ℕ) (m : Room) (v : List ℕ) (r : Reading) where
       go false h = h
 
   zero-after : r .refusal .number ≡ 0 → ending (vectorOf v) (λ _. true) (λ _. false) ≡ true → whySort m s ≡ 0
-      → afterReading R m (vectorOf v) r .refusal .number ≡ 0
+      → afterReading quickly R m (vectorOf v) r .refusal .number ≡ 0
   unfolding afterReading fitting whole
   zero-after read ends why = rw (eq-eqb (r .refusal .number) 0 read, against-is, vector-read ends, eq-eqb (whySort m s) 0 why)
 
 -- ---- by the rule that is named
 
 pub sort-done : SortDone
-unfolding sortOf whySort whole
+unfolding sortBy whySort whole
 sort-done rule form u v blockRows rangeRows m = (forth, back)
   where
     r : Reading
     r = reading form u blockRows rangeRows
 
-    from : (x : Bool) → isRule rule ≡ x → pick x (afterReading (ruleOf rule) m (vectorOf v) r) (refusedWith (nowhere 12)) .refusal .number ≡ 0
+    from : (x : Bool) → isRule rule ≡ x → pick x (afterReading quickly (ruleOf rule) m (vectorOf v) r) (refusedWith (nowhere 12)) .refusal .number ≡ 0
         → Doable rule form u v blockRows rangeRows m
     from true e h =
         let (read, ends, why) = after-zero (ruleOf rule) m v r h in

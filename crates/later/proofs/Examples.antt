@@ -40,7 +40,7 @@ use Rattle.sorting.specs.Sorted as outcomes
 use Rattle.sort_answers.specs.Answers as answers
 use Rattle.sort_answers.specs.Answers.{Sort}
 use Rattle.sorts.specs.Promises as sort-promises
-use Rattle.sorts.specs.Promises.{sortOf, afterReading}
+use Rattle.sorts.specs.Promises.{quickly, sortBy, afterReading}
 use Rattle.later.specs.Examples.{waiter, second, early, late, units, only, takes, waits, Rises}
 
 -- ---- both are read
@@ -52,7 +52,7 @@ read = (refl, refl)
 -- ---- and sorted
 
 abbrev against : ℕ → List ℕ → Block → Sort
-against rule v b = afterReading (ruleOf rule) (record { order = 1; counts = 2; reaches = 4; pending = 3 }) (vectorOf v) (only b)
+against rule v b = afterReading quickly (ruleOf rule) (record { order = 1; counts = 2; reaches = 4; pending = 3 }) (vectorOf v) (only b)
 
 abbrev Sorted : ℕ → Type 0
 Sorted rule =
@@ -72,12 +72,12 @@ cut-off = refl
 
 module _ (rule : ℕ) (is : answers.isRule rule ≡ answers.isRule 28) (s : Sorted rule) where
   rises : Rises rule
-  unfolding sortOf diffOf promises.known answers.isRule
+  unfolding sortBy diffOf promises.known answers.isRule
   rises = record {
-    asked = rw is (ap (afterReading (ruleOf rule) (record { order = 1; counts = 2; reaches = 4; pending = 3 }) (vectorOf early)) (read .0) ∙ s .0);
-    later = rw is (ap (afterReading (ruleOf rule) (record { order = 1; counts = 2; reaches = 4; pending = 3 }) (vectorOf late)) (read .0) ∙ s .1);
+    asked = rw is (ap (afterReading quickly (ruleOf rule) (record { order = 1; counts = 2; reaches = 4; pending = 3 }) (vectorOf early)) (read .0) ∙ s .0);
+    later = rw is (ap (afterReading quickly (ruleOf rule) (record { order = 1; counts = 2; reaches = 4; pending = 3 }) (vectorOf late)) (read .0) ∙ s .1);
     diff = ap (diffs.afterReading waiter (vectorOf early) 1 1 9) (read .0) ∙ cut-off;
-    sorted = rw is (ap (afterReading (ruleOf rule) (record { order = 1; counts = 2; reaches = 4; pending = 3 }) (vectorOf early)) (read .1) ∙ s .2);
+    sorted = rw is (ap (afterReading quickly (ruleOf rule) (record { order = 1; counts = 2; reaches = 4; pending = 3 }) (vectorOf early)) (read .1) ∙ s .2);
   }
 
 pub rises-28 : Rises 28

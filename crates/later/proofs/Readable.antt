@@ -18,7 +18,7 @@ use Rattle.sorting.specs.Named.{ruleOf}
 use Rattle.updates.specs.declared.Update.{Update}
 use Rattle.updates.specs.Promises.{Reading, known, early, reading, answer}
 use Rattle.sort_answers.specs.Answers.{isRule, Sort, refusedWith, Room, whyNot}
-use Rattle.sorts.specs.Promises.{whole, whySort, fitting, against, afterReading, sortOf}
+use Rattle.sorts.specs.Promises.{quickly, whole, whySort, fitting, against, afterReading, sortBy, sortOf}
 use Rattle.rereading.specs.Vectors.{Reads, entriesIn}
 use Rattle.rereading.proofs.Done.{done}
 use Rattle.later.specs.Calls.{DiffCall, writtenBy, ReadCall}
@@ -39,34 +39,34 @@ module _ (R : Rule ℕ) (room : Room) (v : List ℕ) (r : Reading) where
       go false false false true = inr (inr refl)
       go false false false false = inl refl
 
-  fitting-why : ForWords (fitting room (whole R (entriesIn v) r) .refusal .number)
+  fitting-why : ForWords (fitting room (whole quickly R (entriesIn v) r) .refusal .number)
   unfolding fitting whole
-  fitting-why = go (eqb (whySort room (whole R (entriesIn v) r)) 0) (words-why (whole R (entriesIn v) r))
+  fitting-why = go (eqb (whySort room (whole quickly R (entriesIn v) r)) 0) (words-why (whole quickly R (entriesIn v) r))
     where
-      go : (x : Bool) → ForWords (whySort room (whole R (entriesIn v) r))
-          → ForWords (pick x (whole R (entriesIn v) r) (refusedWith (nowhere (whySort room (whole R (entriesIn v) r)))) .refusal .number)
+      go : (x : Bool) → ForWords (whySort room (whole quickly R (entriesIn v) r))
+          → ForWords (pick x (whole quickly R (entriesIn v) r) (refusedWith (nowhere (whySort room (whole quickly R (entriesIn v) r)))) .refusal .number)
       go true w = inl refl
       go false w = w
 
-  against-why : Reads v → ForWords (against R room (vectorOf v) r .refusal .number)
+  against-why : Reads v → ForWords (against quickly R room (vectorOf v) r .refusal .number)
   unfolding against
   against-why reads =
-      subst (λ (s : Sort). ForWords (s .refusal .number)) (sym (by-number v (fitting room (whole R (entriesIn v) r)) (λ n. refusedWith (nowhere n))))
+      subst (λ (s : Sort). ForWords (s .refusal .number)) (sym (by-number v (fitting room (whole quickly R (entriesIn v) r)) (λ n. refusedWith (nowhere n))))
       (go (eqb (whyVector v) 0) (sym (by-number v true (λ n. false)) ∙ reads))
     where
       go : (x : Bool) → pick x true false ≡ true
-          → ForWords (pick x (fitting room (whole R (entriesIn v) r)) (refusedWith (nowhere (whyVector v))) .refusal .number)
+          → ForWords (pick x (fitting room (whole quickly R (entriesIn v) r)) (refusedWith (nowhere (whyVector v))) .refusal .number)
       go true e = fitting-why
       go false e = absurd (let z : _≡_ {A = ℕ} 0 1 = cc in omega arith)
 
-  after-why : r .refusal .number ≡ 0 → Reads v → ForWords (afterReading R room (vectorOf v) r .refusal .number)
+  after-why : r .refusal .number ≡ 0 → Reads v → ForWords (afterReading quickly R room (vectorOf v) r .refusal .number)
   unfolding afterReading
   after-why z reads = rw (eq-eqb (r .refusal .number) 0 z) (against-why reads)
 
 -- what is read, and whose vector reads, is refused for words alone
 sorted-why : (rule form : ℕ) (u v : List ℕ) (m n : ℕ) (room : Room) → isRule rule ≡ true → reading form u m n .refusal .number ≡ 0 → Reads v
     → ForWords (sortOf rule form u v m n room .refusal .number)
-unfolding sortOf
+unfolding sortBy
 sorted-why rule form u v m n room e z reads = rw e (after-why (ruleOf rule) room v (reading form u m n) z reads)
 
 -- a diff that is written and reads
@@ -81,5 +81,5 @@ diff-sorts rule form u v to d r room e =
 -- one that is too long
 pub too-long : (rule form : ℕ) (u v : List ℕ) (m n : ℕ) (room : Room) → isRule rule ≡ true → known form ≡ true → maxUpdate < length u
     → sortOf rule form u v m n room ≡ refusedWith (nowhere 3)
-unfolding sortOf afterReading reading early
+unfolding sortBy afterReading reading early
 too-long rule form u v m n room e k long = rw (e, k, lt-ltb maxUpdate (length u) long) refl

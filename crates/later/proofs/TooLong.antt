@@ -62,7 +62,7 @@ use Rattle.sorting.specs.Sorted as outcomes
 use Rattle.sort_answers.specs.Answers as answers
 use Rattle.sort_answers.specs.Answers.{isRule}
 use Rattle.sorts.specs.Promises as sort-promises
-use Rattle.sorts.specs.Promises.{sortOf, afterReading}
+use Rattle.sorts.specs.Promises.{quickly, sortBy, afterReading}
 use Rattle.later.specs.Examples.{early, only, takes}
 use Rattle.later.specs.TooLong.{most, longest, binary, NotRead}
 use Rattle.later.proofs.Readable.{too-long}
@@ -129,7 +129,7 @@ module _ (t : List ℕ) (size : length t ≡ most) where
 
 abbrev Taken : ℕ → Type 0
 Taken rule =
-    afterReading (ruleOf rule) (record { order = 1; counts = 2; reaches = 4; pending = 3 }) (vectorOf early) (only binary) ≡ takes (5 ∷ 2 ∷ []) binary
+    afterReading quickly (ruleOf rule) (record { order = 1; counts = 2; reaches = 4; pending = 3 }) (vectorOf early) (only binary) ≡ takes (5 ∷ 2 ∷ []) binary
 
 taken : Taken 28 × Taken 13
 unfolding words.among answers.whyNot sort-promises.whole sort-promises.whySort sort-promises.fitting sort-promises.against sort-promises.afterReading vector.holds vector.entries vector.aVector vector.vectorOf spelling.after spelt placed readUnsigned kept.remote outcomes.insert outcomes.insertAll outcomes.clients outcomes.order outcomes.outcome outcomes.numbersFrom outcomes.numbersBy outcomes.orderOf outcomes.countsIn outcomes.countsOf outcomes.reachesIn outcomes.reachesOf outcomes.pendingIn outcomes.pendingOf quick.order quick.left quick.best quick.quick steps.can steps.step steps.after rules.queue rules.deps rules.others rules.system rules.unmet rules.waits rules.report rules.byReaches rule28.asks28 rule13.asks13 rule13.before asksOf line.numberAt line.varAt line.bounded line.upTo line.byteAt line.restored line.deleteAt line.numberOf line.soMany line.bytesAt line.checked line.line grammar._>>=_ course.onDrawn course.run course.items course.ending
@@ -218,9 +218,9 @@ module _ (t : List ℕ) (size : length t ≡ most) where
       subst (λ (d : Diffed). maxUpdate < length (d .bytes)) (sym (diff-made 1 (longest t) early 2 1 0 room (doable room h))) (omega (arith, diff-length))
 
   not-read : (rule : ℕ) → isRule rule ≡ true → Taken rule → NotRead rule t
-  unfolding sortOf promises.known
+  unfolding sortBy promises.known
   not-read rule is takes-it = record {
-    sorted = rw is (ap (afterReading (ruleOf rule) (record { order = 1; counts = 2; reaches = 4; pending = 3 }) (vectorOf early)) (is-read t size) ∙ takes-it);
+    sorted = rw is (ap (afterReading quickly (ruleOf rule) (record { order = 1; counts = 2; reaches = 4; pending = 3 }) (vectorOf early)) (is-read t size) ∙ takes-it);
     written = λ room h. diff-done 1 (longest t) early 2 1 0 room (doable room h);
     refused = λ room m n w h. too-long rule 2 (diffOf 1 (longest t) early 2 1 0 room .bytes) early m n w is refl (too-much room h);
   }
