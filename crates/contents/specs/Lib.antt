@@ -1,2 +1,2 @@
--- What the public call `content` promises.
+-- What the public calls `content` and `look` promise.
 pub mod Promises

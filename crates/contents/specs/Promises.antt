@@ -29,6 +29,10 @@ whereOf form u n =
     (pick (ltb 2 form) (refusedWhere (nowhere 12))
     (pick (ltb maxUpdate (length u)) (refusedWhere (nowhere 3)) (whereFound (contentOf form u n))))
 
+-- what `look` answers for block n of the update u; so does C's `wairokabi_content`
+abbrev pub Looks : ℕ → List ℕ → ℕ → Where → Type 0
+Looks form u n r = r ≡ whereOf form u n
+
 -- in the update
 abbrev pub In : List ℕ → Part → Type 0
 In u p = p .place + p .bytes .0 ≤ length u

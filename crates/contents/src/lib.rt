@@ -7,7 +7,7 @@ use numbers::Refusal;
 use text::Bytes;
 use text::Part;
 ghost use mathlib.Core.Path.{_≡_};
-ghost use Rattle.contents.specs.Promises.{refusedWhere, whereOf, In, PartOf, Contents};
+ghost use Rattle.contents.specs.Promises.{refusedWhere, Looks, In, PartOf, Contents};
 
 // A refusal, zeros for done, and where the part lies that is handed back with it.
 #[repr(C)]
@@ -30,7 +30,7 @@ fn refused_where(why: Refusal) -> Where
 
 // All that is decided: the form, then the update's length, then what the update has. Public for C, which cannot be handed the part.
 pub fn look(form: u8, update: &[u8], n: usize) -> Where
-    ensures { λ r. ⌜ r ≡ whereOf form (now (update .entry)) n ⌝ }
+    ensures { λ r. ⌜ Looks form (now (update .entry)) n r ⌝ }
 {
     if form < 1 {
         return refused_where(Refusal {

@@ -1,11 +1,11 @@
--- No other answer fits: of each public call, two answers that keep its promise for the same inputs are the same, and so is what is lent back.
+-- No other answer fits: of each public call, two answers that keep its promise for the same inputs are the same, and so is what is lent back, whatever stood
+-- in what was lent, if it was as long.
 use Prim.Native.Nat.{ℕ}
 use mathlib.Core.Path.{_≡_, sym, _∙_}
 use mathlib.Core.List.{List}
 use mathlib.Core.Bool.{Bool}
-use Rattle.numbers.specs.declared.Written.{Written}
+use lib.ListN.{length}
 use Rattle.text.specs.declared.Units.{Units}
-use Rattle.vector.specs.declared.Vector.{Vector}
 use Rattle.columns.specs.declared.number.Place as number
 use Rattle.columns.specs.declared.difference.Place as difference
 use Rattle.columns.specs.declared.byte.Place as byte
@@ -16,15 +16,15 @@ use Rattle.wairokabi.specs.Promises.{ReadUnsigned, ReadSigned, Writes, W
 abbrev pub Only : {A : Type 0} → (A → Type 0) → Type 0
 Only {A = A} F = (r r′ : A) → F r → F r′ → r ≡ r′
 
--- at most one answer, with one final content of what was lent
-abbrev pub OnlyBoth : (Written → List ℕ → Type 0) → Type 0
-OnlyBoth F = (r r′ : Written) (x x′ : List ℕ) → F r x → F r′ x′ → (r ≡ r′) × (x ≡ x′)
+-- at most one answer, with one final content of what was lent, over any two entries of equal lengths
+abbrev pub OnlyBoth : {A : Type 0} → (List ℕ → A → List ℕ → Type 0) → Type 0
+OnlyBoth {A = A} F = (lent lent′ : List ℕ) (r r′ : A) (x x′ : List ℕ) → length lent ≡ length lent′ → F lent r x → F lent′ r′ x′ → (r ≡ r′) × (x ≡ x′)
 
 one : {A : Type 0} (a : A) → Only (λ (r : A). r ≡ a)
 one a r r′ p q = p ∙ sym q
 
-both : (why : ℕ) (b lent : List ℕ) → OnlyBoth (Writes why b lent)
-both why b lent r r′ x x′ p q = (p .0 ∙ sym (q .0), p .1 ∙ sym (q .1))
+both : (why : ℕ) (b : List ℕ) → OnlyBoth (Writes why b)
+both why b lent lent′ r r′ x x′ long p q = (cc, cc)
 
 pub only-read-unsigned : (s : List ℕ) (at : ℕ) → Only (ReadUnsigned s at)
 only-read-unsigned s at = one _
@@ -32,11 +32,11 @@ only-read-unsigned s at = one _
 pub only-read-signed : (s : List ℕ) (at : ℕ) → Only (ReadSigned s at)
 only-read-signed s at = one _
 
-pub only-write-unsigned : (lent : List ℕ) (v : ℕ) → OnlyBoth (WriteUnsigned lent v)
-only-write-unsigned lent v = both _ _ lent
+pub only-write-unsigned : (v : ℕ) → OnlyBoth (λ lent. WriteUnsigned lent v)
+only-write-unsigned v = both _ _
 
-pub only-write-signed : (lent : List ℕ) (m : Bool) (v : ℕ) → OnlyBoth (WriteSigned lent m v)
-only-write-signed lent m v = both _ _ lent
+pub only-write-signed : (m : Bool) (v : ℕ) → OnlyBoth (λ lent. WriteSigned lent m v)
+only-write-signed m v = both _ _
 
 pub only-count-units : (t : List ℕ) → Only (CountUnits t)
 only-count-units t = one _
@@ -71,17 +71,17 @@ only-open-text s at = one _
 pub only-next-text : (s : List ℕ) (c : string.Place) → Only (NextText s c)
 only-next-text s c = one _
 
-pub only-write-numbers : (lent vs : List ℕ) → OnlyBoth (WriteNumbers lent vs)
-only-write-numbers lent vs = both _ _ lent
+pub only-write-numbers : (vs : List ℕ) → OnlyBoth (λ lent. WriteNumbers lent vs)
+only-write-numbers vs = both _ _
 
-pub only-write-differences : (lent vs : List ℕ) → OnlyBoth (WriteDifferences lent vs)
-only-write-differences lent vs = both _ _ lent
+pub only-write-differences : (vs : List ℕ) → OnlyBoth (λ lent. WriteDifferences lent vs)
+only-write-differences vs = both _ _
 
-pub only-write-bytes : (lent vs : List ℕ) → OnlyBoth (WriteBytes lent vs)
-only-write-bytes lent vs = both _ _ lent
+pub only-write-bytes : (vs : List ℕ) → OnlyBoth (λ lent. WriteBytes lent vs)
+only-write-bytes vs = both _ _
 
-pub only-write-texts : (lent t us : List ℕ) → OnlyBoth (WriteTexts lent t us)
-only-write-texts lent t us = both _ _ lent
+pub only-write-texts : (t us : List ℕ) → OnlyBoth (λ lent. WriteTexts lent t us)
+only-write-texts t us = both _ _
 
-pub only-read-state-vector : (v lent : List ℕ) (r r′ : Vector) (x x′ : List ℕ) → ReadStateVector v lent r x → ReadStateVector v lent r′ x′ → (r ≡ r′) × (x ≡ x′)
-only-read-state-vector v lent r r′ x x′ p q = (p .0 ∙ sym (q .0), p .1 ∙ sym (q .1))
+pub only-read-state-vector : (v : List ℕ) → OnlyBoth (ReadStateVector v)
+only-read-state-vector v lent lent′ r r′ x x′ long p q = (cc, cc)
