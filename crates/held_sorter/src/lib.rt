@@ -29,10 +29,14 @@ fn pick_rows(
     order: &mut [u64],
 ) -> Look
     requires { ⌜ (3 * n ≤ length (now slots)) × Falling (slotsFrom (now slots) 0 n) × (3 * ranges ≤ length (now held)) ⌝ }
-    ensures { λ r. ⌜ (r ≡ allPicked 28 (slotsFrom (now (slots .entry)) 0 n) (rowsBy (now (held .entry)) ranges (slotsFrom (now (slots .entry)) 0 n) (now (rows .entry)) 0 (now (rows .entry))) blocks (now (reach .entry)) (now (fronts .entry)) (now (order .entry)) .at)
-        × (now (reach .exit) ≡ allPicked 28 (slotsFrom (now (slots .entry)) 0 n) (rowsBy (now (held .entry)) ranges (slotsFrom (now (slots .entry)) 0 n) (now (rows .entry)) 0 (now (rows .entry))) blocks (now (reach .entry)) (now (fronts .entry)) (now (order .entry)) .reach)
-        × (now (fronts .exit) ≡ allPicked 28 (slotsFrom (now (slots .entry)) 0 n) (rowsBy (now (held .entry)) ranges (slotsFrom (now (slots .entry)) 0 n) (now (rows .entry)) 0 (now (rows .entry))) blocks (now (reach .entry)) (now (fronts .entry)) (now (order .entry)) .fronts)
-        × (now (order .exit) ≡ allPicked 28 (slotsFrom (now (slots .entry)) 0 n) (rowsBy (now (held .entry)) ranges (slotsFrom (now (slots .entry)) 0 n) (now (rows .entry)) 0 (now (rows .entry))) blocks (now (reach .entry)) (now (fronts .entry)) (now (order .entry)) .order) ⌝ }
+    ensures { λ r. ⌜ (r ≡ allPicked 28 (slotsFrom (now (slots .entry)) 0 n) (rowsBy (now (held .entry)) ranges (slotsFrom (now (slots .entry)) 0 n) (now
+        (rows .entry)) 0 (now (rows .entry))) blocks (now (reach .entry)) (now (fronts .entry)) (now (order .entry)) .at)
+        × (now (reach .exit) ≡ allPicked 28 (slotsFrom (now (slots .entry)) 0 n) (rowsBy (now (held .entry)) ranges (slotsFrom (now (slots .entry)) 0 n)
+        (now (rows .entry)) 0 (now (rows .entry))) blocks (now (reach .entry)) (now (fronts .entry)) (now (order .entry)) .reach)
+        × (now (fronts .exit) ≡ allPicked 28 (slotsFrom (now (slots .entry)) 0 n) (rowsBy (now (held .entry)) ranges (slotsFrom (now (slots .entry)) 0 n)
+        (now (rows .entry)) 0 (now (rows .entry))) blocks (now (reach .entry)) (now (fronts .entry)) (now (order .entry)) .fronts)
+        × (now (order .exit) ≡ allPicked 28 (slotsFrom (now (slots .entry)) 0 n) (rowsBy (now (held .entry)) ranges (slotsFrom (now (slots .entry)) 0 n)
+        (now (rows .entry)) 0 (now (rows .entry))) blocks (now (reach .entry)) (now (fronts .entry)) (now (order .entry)) .order) ⌝ }
 {
     let mut p = picker::begin(28, fronts, reach, n, blocks);
     while p.row < rows.len() {
@@ -55,9 +59,12 @@ fn report_front(
     out: &mut [u64],
     at: usize,
 ) -> usize
-    requires { ⌜ (3 * n ≤ length (now slots)) × Falling (slotsFrom (now slots) 0 n) × (3 * ranges ≤ length (now held)) × (3 * (i + 1) ≤ length (now slots)) × (at ≤ 3 * i) ⌝ }
-    ensures { λ r. ⌜ (r ≡ at + length (waitingOf (slotsFrom (now (slots .entry)) 0 n) (now (reach .entry)) (now (rows .entry)) (rowsBy (now (held .entry)) ranges (slotsFrom (now (slots .entry)) 0 n) (now (rows .entry)) 0 (now (rows .entry))) (slotAt (now (slots .entry)) i) (frontAt (now (fronts .entry)) i)))
-        × (now (out .exit) ≡ sets (now (out .entry)) at (waitingOf (slotsFrom (now (slots .entry)) 0 n) (now (reach .entry)) (now (rows .entry)) (rowsBy (now (held .entry)) ranges (slotsFrom (now (slots .entry)) 0 n) (now (rows .entry)) 0 (now (rows .entry))) (slotAt (now (slots .entry)) i) (frontAt (now (fronts .entry)) i))) ⌝ }
+    requires { ⌜ (3 * n ≤ length (now slots)) × Falling (slotsFrom (now slots) 0 n) × (3 * ranges ≤ length (now held)) × (3 * (i + 1) ≤ length
+        (now slots)) × (at ≤ 3 * i) ⌝ }
+    ensures { λ r. ⌜ (r ≡ at + length (waitingOf (slotsFrom (now (slots .entry)) 0 n) (now (reach .entry)) (now (rows .entry)) (rowsBy (now
+        (held .entry)) ranges (slotsFrom (now (slots .entry)) 0 n) (now (rows .entry)) 0 (now (rows .entry))) (slotAt (now (slots .entry)) i) (frontAt (now (fronts .entry)) i)))
+        × (now (out .exit) ≡ sets (now (out .entry)) at (waitingOf (slotsFrom (now (slots .entry)) 0 n) (now (reach .entry)) (now (rows .entry)) (rowsBy
+        (now (held .entry)) ranges (slotsFrom (now (slots .entry)) 0 n) (now (rows .entry)) 0 (now (rows .entry))) (slotAt (now (slots .entry)) i) (frontAt (now (fronts .entry)) i))) ⌝ }
 {
     let f = picker::fronts::front_at(fronts, i);
     if awaited::is_left(f, rows.len()) {
@@ -81,8 +88,10 @@ fn report_pending(
     out: &mut [u64],
 ) -> usize
     requires { ⌜ (3 * n ≤ length (now slots)) × Falling (slotsFrom (now slots) 0 n) × (3 * ranges ≤ length (now held)) ⌝ }
-    ensures { λ r. ⌜ (r ≡ length (waitingFrom (slotsFrom (now (slots .entry)) 0 n) (now (reach .entry)) (now (fronts .entry)) (now (rows .entry)) (rowsBy (now (held .entry)) ranges (slotsFrom (now (slots .entry)) 0 n) (now (rows .entry)) 0 (now (rows .entry))) 0 (slotsFrom (now (slots .entry)) 0 n)))
-        × (now (out .exit) ≡ fitted (length (now (out .entry))) (waitingFrom (slotsFrom (now (slots .entry)) 0 n) (now (reach .entry)) (now (fronts .entry)) (now (rows .entry)) (rowsBy (now (held .entry)) ranges (slotsFrom (now (slots .entry)) 0 n) (now (rows .entry)) 0 (now (rows .entry))) 0 (slotsFrom (now (slots .entry)) 0 n))) ⌝ }
+    ensures { λ r. ⌜ (r ≡ length (waitingFrom (slotsFrom (now (slots .entry)) 0 n) (now (reach .entry)) (now (fronts .entry)) (now (rows .entry)) (rowsBy
+        (now (held .entry)) ranges (slotsFrom (now (slots .entry)) 0 n) (now (rows .entry)) 0 (now (rows .entry))) 0 (slotsFrom (now (slots .entry)) 0 n)))
+        × (now (out .exit) ≡ fitted (length (now (out .entry))) (waitingFrom (slotsFrom (now (slots .entry)) 0 n) (now (reach .entry)) (now
+        (fronts .entry)) (now (rows .entry)) (rowsBy (now (held .entry)) ranges (slotsFrom (now (slots .entry)) 0 n) (now (rows .entry)) 0 (now (rows .entry))) 0 (slotsFrom (now (slots .entry)) 0 n))) ⌝ }
 {
     let mut at = 0;
     let mut i = 0;
@@ -109,8 +118,10 @@ fn sort_slots(
     requires { ⌜ (3 * n ≤ length (now slots)) × Falling (slotsFrom (now slots) 0 n) × (3 * ranges ≤ length (now held)) ⌝ }
     ensures { λ r. ⌜ (r ≡ sortingBy (now (held .entry)) ranges (slotsFrom (now (slots .entry)) 0 n) (now (rows .entry)) blocks (now (order .entry)))
         × (now (order .exit) ≡ orderBy (now (held .entry)) ranges (slotsFrom (now (slots .entry)) 0 n) (now (rows .entry)) blocks (now (order .entry)))
-        × (now (counts .exit) ≡ fitted (length (now (counts .entry))) (countsBy (now (held .entry)) ranges (slotsFrom (now (slots .entry)) 0 n) (now (rows .entry)) blocks (now (order .entry))))
-        × (now (pending .exit) ≡ fitted (length (now (pending .entry))) (pendingBy (now (held .entry)) ranges (slotsFrom (now (slots .entry)) 0 n) (now (rows .entry)) blocks (now (order .entry)))) ⌝ }
+        × (now (counts .exit) ≡ fitted (length (now (counts .entry))) (countsBy (now (held .entry)) ranges (slotsFrom (now (slots .entry)) 0 n) (now
+        (rows .entry)) blocks (now (order .entry))))
+        × (now (pending .exit) ≡ fitted (length (now (pending .entry))) (pendingBy (now (held .entry)) ranges (slotsFrom (now (slots .entry)) 0 n) (now
+        (rows .entry)) blocks (now (order .entry)))) ⌝ }
 {
     let mut reached = [0u64; 128];
     let reach = &mut reached[..];
@@ -135,10 +146,14 @@ pub fn sort_kept(
     pending: &mut [u64],
 ) -> Sorting
     requires { ⌜ (blocks ≤ length (now rows)) × (3 * ranges ≤ length (now held)) ⌝ }
-    ensures { λ r. ⌜ (r ≡ sortingBy (now (held .entry)) ranges (slotsFor maxReaches (take blocks (now (rows .entry))) []) (now (rows .entry)) blocks (now (order .entry)))
-        × (now (order .exit) ≡ orderBy (now (held .entry)) ranges (slotsFor maxReaches (take blocks (now (rows .entry))) []) (now (rows .entry)) blocks (now (order .entry)))
-        × (now (counts .exit) ≡ fitted (length (now (counts .entry))) (countsBy (now (held .entry)) ranges (slotsFor maxReaches (take blocks (now (rows .entry))) []) (now (rows .entry)) blocks (now (order .entry))))
-        × (now (pending .exit) ≡ fitted (length (now (pending .entry))) (pendingBy (now (held .entry)) ranges (slotsFor maxReaches (take blocks (now (rows .entry))) []) (now (rows .entry)) blocks (now (order .entry)))) ⌝ }
+    ensures { λ r. ⌜ (r ≡ sortingBy (now (held .entry)) ranges (slotsFor maxReaches (take blocks (now (rows .entry))) []) (now (rows .entry)) blocks (now
+        (order .entry)))
+        × (now (order .exit) ≡ orderBy (now (held .entry)) ranges (slotsFor maxReaches (take blocks (now (rows .entry))) []) (now (rows .entry)) blocks
+        (now (order .entry)))
+        × (now (counts .exit) ≡ fitted (length (now (counts .entry))) (countsBy (now (held .entry)) ranges (slotsFor maxReaches (take blocks (now
+        (rows .entry))) []) (now (rows .entry)) blocks (now (order .entry))))
+        × (now (pending .exit) ≡ fitted (length (now (pending .entry))) (pendingBy (now (held .entry)) ranges (slotsFor maxReaches (take blocks (now
+        (rows .entry))) []) (now (rows .entry)) blocks (now (order .entry)))) ⌝ }
 {
     let mut words = [0u64; 384];
     let slots = &mut words[..];

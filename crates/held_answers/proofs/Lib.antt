@@ -1,0 +1,2 @@
+-- How held ids that were read are told.
+pub mod Givens

@@ -1,0 +1,2 @@
+-- What the public call that sorts by held ids answers.
+pub mod Answers

@@ -1,0 +1,122 @@
+-- What `sort_held` promises is demand 3 over held sets: a sort that refuses nothing is the one that demand 3 asks for.
+use Prim.Native.Nat.{ℕ, _≤_, _<_}
+use mathlib.Core.Path.{_≡_, refl, sym, ap, subst, _∙_}
+use mathlib.Core.Bool.{Bool, true, false}
+use mathlib.Core.List.{List, []}
+use native.Mathlib.Omega.{arith}
+use lib.Dec.{eqb}
+use lib.ListN.{length}
+use borrow.Author.Tests.{eqb-true, eqb-false}
+use Rattle.numbers.specs.declared.Refusal.{Refusal}
+use Rattle.numbers.specs.Number.{pick, none, nowhere}
+use Rattle.block.specs.declared.Block.{Block}
+use Rattle.grammar.specs.Course.{Course, item, over, stopped, fit, items, ending}
+use Rattle.ranges.specs.Ranges.{Range, normal}
+use Rattle.decoder.specs.Update.{deleteSet}
+use Rattle.sorting.specs.Steps.{State, start, after, Ends}
+use Rattle.sorting.specs.Rules.{queue, Rule}
+use Rattle.sorting.specs.Quick.{Listed}
+use Rattle.sorting.specs.Sorted.{steps, order, outcome, numbersBy, countsIn, pendingIn}
+use Rattle.sorting.specs.Held.{ruleHeld, heldIn, owners, orderHeld, countsHeld, pendingHeld}
+use Rattle.sorting.proofs.Rules.{RuleMonotone}
+use Rattle.sorting.proofs.Clients.{clients-blocks}
+use Rattle.sorting.proofs.Demand.{sorted, highest, is-order, left-waits}
+use Rattle.sorting.proofs.Taken.{whole-takes, whole-leaves, numbers-once, numbers-below}
+use Rattle.sorting.proofs.Held.{held-mono}
+use Rattle.updates.specs.Promises.{Reading, reading}
+use Rattle.sort_answers.specs.Answers.{Room}
+use Rattle.held_answers.specs.Answers.{SortHeld, refusedWith}
+use Rattle.grammar.specs.Numbered as grammar
+use Rattle.agreement.specs.Numbered.{Stops}
+use Rattle.agreement.proofs.Courses.{fit-stops}
+use Rattle.agreement.proofs.Numbered.{deletes-numbered}
+use Rattle.held_sorts.specs.Promises.{whole, whySort, fitting, against, afterReading, sortHeldOf}
+use Rattle.held_sorts.specs.Demand.{Demanded, Demand3Held}
+
+-- ---- of any rule under which more knowledge holds nothing back
+
+module _ {A : Type 0} (R : Rule A) (mono : RuleMonotone R) (bs : List Block) (κ : A → ℕ) (cs : List ℕ) (all : (c : ℕ) → 0 < length (queue bs c) → Listed c cs) where
+  abbrev by : List ℕ
+  by = order R bs cs κ
+
+  ends : Ends (steps R bs) (start κ) by
+  ends = sorted R mono bs cs all κ .ends
+
+  same : {X : Type 0} (f : State A → X) (ds : List ℕ) → Ends (steps R bs) (start κ) ds → f (outcome R bs cs κ) ≡ f (after (steps R bs) (start κ) ds)
+  unfolding outcome
+  same f ds e = ap f (sym (sorted R mono bs cs all κ .same ds e))
+
+  pub demanded : Demanded R bs κ cs (numbersBy R bs (start κ) by) (countsIn bs (outcome R bs cs κ) cs) (pendingIn R bs (outcome R bs cs κ) cs)
+  unfolding outcome
+  demanded = record {
+    run = by;
+    sorts = sorted R mono bs cs all κ;
+    highest = highest R mono bs cs all κ;
+    only = is-order R mono bs cs all κ;
+    numbers = refl;
+    taken = whole-takes R mono bs κ by ends;
+    missing = whole-leaves R mono bs κ by ends;
+    once = numbers-once R bs (start κ) by (ends .run);
+    inside = numbers-below R bs (start κ) by (ends .run);
+    counted = same (λ (s : State A). countsIn bs s cs);
+    waiting = same (λ (s : State A). pendingIn R bs s cs);
+    waits = left-waits R mono bs cs all κ;
+  }
+
+-- ---- what 0 says
+
+module _ (m : Room) (c : Course Range) (r : Reading) where
+  abbrev rs : List Range
+  rs = normal (items c)
+
+  fitting-done : (s : SortHeld) → fitting m s .refusal .number ≡ 0 → fitting m s ≡ s
+  unfolding fitting
+  fitting-done s h = go (eqb (whySort m s) 0) refl h
+    where
+      go : (x : Bool) → eqb (whySort m s) 0 ≡ x → pick x s (refusedWith (nowhere (whySort m s))) .refusal .number ≡ 0
+          → pick x s (refusedWith (nowhere (whySort m s))) ≡ s
+      go true e h = refl
+      go false e h = absurd (eqb-false (whySort m s) 0 e h)
+
+  whole-demanded : r .refusal .number ≡ 0 → ending c (λ _. true) (λ _. false) ≡ true → Demand3Held r c (whole rs r)
+  unfolding whole orderHeld countsHeld pendingHeld
+  whole-demanded z e = record {
+    read = (z, e);
+    reading = refl;
+    held = refl;
+    demanded = demanded ruleHeld held-mono (r .blocks) (heldIn rs) (owners (r .blocks)) (clients-blocks (r .blocks) []);
+  }
+
+-- ---- held ids that are read, as no refusal of theirs is 0
+
+module _ (m : Room) (r : Reading) where
+  read-whole : (rs : List Range) (c : Course Range) → Stops c
+      → ending c (λ s. fitting m (whole rs r)) (λ why. refusedWith (nowhere (why .number))) .refusal .number ≡ 0
+      → (ending c (λ _. true) (λ _. false) ≡ true) × (ending c (λ s. fitting m (whole rs r)) (λ why. refusedWith (nowhere (why .number))) ≡ whole rs r)
+  unfolding ending grammar.Stops
+  read-whole rs (item a p c) h e = read-whole rs c h e
+  read-whole rs (over x s) h e = (refl, fitting-done m (over x s) r (whole rs r) e)
+  read-whole rs (stopped why) h e = absurd (omega (arith, h .0, e))
+
+-- Demand 3 over held sets
+pub demand-3-held : (form : ℕ) (u v : List ℕ) (blockRows rangeRows heldRows : ℕ) (m : Room)
+    → sortHeldOf form u v blockRows rangeRows heldRows m .refusal .number ≡ 0
+    → Demand3Held (reading form u blockRows rangeRows) (fit heldRows (deleteSet 1 v 0)) (sortHeldOf form u v blockRows rangeRows heldRows m)
+unfolding sortHeldOf afterReading against
+demand-3-held form u v blockRows rangeRows heldRows m h = go (eqb (r .refusal .number) 0) refl h
+  where
+    r : Reading
+    r = reading form u blockRows rangeRows
+
+    c : Course Range
+    c = fit heldRows (deleteSet 1 v 0)
+
+    sort : SortHeld
+    sort = ending c (λ s. fitting m (whole (normal (items c)) r)) (λ why. refusedWith (nowhere (why .number)))
+
+    go : (x : Bool) → eqb (r .refusal .number) 0 ≡ x → pick x sort (refusedWith (r .refusal)) .refusal .number ≡ 0
+        → Demand3Held r c (pick x sort (refusedWith (r .refusal)))
+    go true e h =
+        let w = read-whole m r (normal (items c)) c (fit-stops heldRows (deleteSet 1 v 0) (deletes-numbered 1 v 0)) h in
+        subst (Demand3Held r c) (sym (w .1)) (whole-demanded m c r (eqb-true (r .refusal .number) 0 e) (w .0))
+    go false e h = absurd (eqb-false (r .refusal .number) 0 e h)
