@@ -10,6 +10,7 @@ use Rattle.numbers.specs.Number.{pick}
 use Rattle.numbers.specs.Limits.{maxClock, maxClients, maxBlocks}
 use Rattle.block.specs.declared.Id.{Id}
 use Rattle.block.specs.declared.Block.{Block}
+use Rattle.block.specs.Row.{leftId, rightId, parentId}
 use Rattle.ranges.specs.Ranges.{Range, Normal}
 use Rattle.ranges.specs.Table.{rowsFrom}
 use Rattle.vector.specs.Vector.{clientsIn}
@@ -107,7 +108,7 @@ module _ (bs : List Block) (fit : Fit bs) (rows : List Block) (back : take (leng
   clocks : All Clocks ns
   unfolding byNumber
   clocks = numbered-all is-gone placed-at (firstOf ss) Clocks maxBlocks
-      (λ k b l. (omega arith, placed-low _ (b .left), placed-low _ (b .right), placed-low _ (b .parent))) 0 bs (omega (arith, fit .count))
+      (λ k b l. (omega arith, placed-low _ (leftId b), placed-low _ (rightId b), placed-low _ (parentId b))) 0 bs (omega (arith, fit .count))
 
   pub slotted-so : Slotted ns [] ss
   slotted-so = record {
