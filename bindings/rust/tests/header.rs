@@ -27,7 +27,7 @@ fn c_name(name: &str) -> String {
 
 fn c_type(rust: &str) -> String {
     match rust {
-        "u8" | "u32" | "u64" => format!("uint{}_t", &rust[1..]),
+        "u8" | "u16" | "u32" | "u64" => format!("uint{}_t", &rust[1..]),
         "usize" => "size_t".to_string(),
         "bool" => "bool".to_string(),
         name => c_name(name),
