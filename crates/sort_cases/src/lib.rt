@@ -67,11 +67,29 @@ fn sort_by(
 ) -> Sorted {
     if slowly {
         return slow_sorts::sort_slowly(
-            rule, form, update, vector, rows, words, order, counts, reaches, pending,
+            rule,
+            form,
+            update,
+            vector,
+            rows,
+            words,
+            order,
+            counts,
+            reaches,
+            pending,
         );
     }
     sorts::sort(
-        rule, form, update, vector, rows, words, order, counts, reaches, pending,
+        rule,
+        form,
+        update,
+        vector,
+        rows,
+        words,
+        order,
+        counts,
+        reaches,
+        pending,
     )
 }
 

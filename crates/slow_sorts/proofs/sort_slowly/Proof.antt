@@ -51,9 +51,9 @@ use Rattle.sorter.proofs.Sorts.{sorting}
 use Rattle.sorts.proofs.Sorts.{sorted}
 use Rattle.table.proofs.Sorts.{block}
 use Rattle.updates.proofs.Sorts.{update, update-refusal, update-blocks}
-use Rattle.slow_sorts.proofs.Cards.{Slow-sorter·sweep-read, slow-sorter·sweep-read-rows!}
-use Rattle.sorts.proofs.Cards.{Sort-answers·is-rule, Sorts·refuse, Sort-answers·judge, Sort-answers·done, sort-answers·is-rule!, sorts·refuse!, sort-answers·judge!, sort-answers·done!}
-use Rattle.updates.proofs.Cards.{Updates·read-update, updates·read-update!}
+use Rattle.slow_sorts.proofs.Cards.{Slow-sorter·sweep-read, slow-sorter·sweep-read-rows! }
+use Rattle.sorts.proofs.Cards.{Sort-answers·is-rule, Sorts·refuse, Sort-answers·judge, Sort-answers·done, sort-answers·is-rule!, sorts·refuse!, sort-answers·judge!, sort-answers·done! }
+use Rattle.updates.proofs.Cards.{Updates·read-update, updates·read-update! }
 use Rattle.sort_answers.proofs.is_rule.Symbol as sort-answers·is-rule-def
 use Rattle.sort_answers.proofs.is_rule.Symbol.{name as #sort-answers·is-rule}
 use Rattle.sort_answers.proofs.is_rule.Met as sort-answers·is-rule-thm
@@ -164,7 +164,6 @@ module _ {M : Type 1} (𝓤 : URA M) (H : Heap 𝓤) (A : Atoms 𝓤) (W : Given
   exits : (r : Sorted) (rows₁ : List Block) (ranges₁ : List ℕ) (order₁ : List ℕ) (counts₁ : List ℕ) (reaches₁ : List ℕ) (pending₁ : List ℕ) → Has sorted r → Right r rows₁ ranges₁ order₁ counts₁ reaches₁ pending₁ → ent 𝓤 (sem 𝓤 H A (refs (hs rows₁ ranges₁ order₁ counts₁ reaches₁ pending₁))) (Post (sorted .val r))
   exits r rows₁ ranges₁ order₁ counts₁ reaches₁ pending₁ g e = leaves 𝓤 H A W (ps rows₁ ranges₁ order₁ counts₁ reaches₁ pending₁) (refl, (refl, (refl, (refl, (refl, (refl, tt)))))) sorted r g (Right r rows₁ ranges₁ order₁ counts₁ reaches₁ pending₁) e (Post (sorted .val r)) (λ fit. ends-at 𝓤 H A f.ended (stays fs) (f.clauses 𝓤 H A mem run) W ((κs, qs, bounds, a, at-entry), tt) (sorted .val r) r (ends (ps rows₁ ranges₁ order₁ counts₁ reaches₁ pending₁)) fit)
 
-
   module _ (𝓣 : Tables 𝓤 H) (known-sort-answers·is-rule : Triple 𝓤 (𝓣 .C #sort-answers·is-rule) (Sort-answers·is-rule 𝓤 H A mem run)) (known-sorts·refuse : Triple 𝓤 (𝓣 .C #sorts·refuse) (Sorts·refuse 𝓤 H A mem run)) (known-updates·read-update : Triple 𝓤 (𝓣 .C #updates·read-update) (Updates·read-update 𝓤 H A mem run)) (known-slow-sorter·sweep-read : Triple 𝓤 (𝓣 .C #slow-sorter·sweep-read) (Slow-sorter·sweep-read 𝓤 H A mem run)) (known-sort-answers·judge : Triple 𝓤 (𝓣 .C #sort-answers·judge) (Sort-answers·judge 𝓤 H A mem run)) (known-sort-answers·done : Triple 𝓤 (𝓣 .C #sort-answers·done) (Sort-answers·done 𝓤 H A mem run)) where
     walk : ent 𝓤 (onEntry 𝓤 H A f.signature κs qs a at-entry) (WpFn 𝓤 H (𝓣 .C) (𝓣 .Λ) fn (vals (ps rows₀ ranges₀ order₀ counts₀ reaches₀ pending₀)) Post)
     unfolding answer
@@ -177,7 +176,7 @@ module _ {M : Type 1} (𝓤 : URA M) (H : Heap 𝓤) (A : Atoms 𝓤) (W : Given
         calls-by ! (fmOf 𝓤 H (W .laws) 𝓣) ([]) (hs rows₀ ranges₀ order₀ counts₀ reaches₀ pending₀) (sort-answers·is-rule! 𝓤 H A mem run (𝓣 .C) known-sort-answers·is-rule rule₀ (are .0)) refl (λ P. and-then ! (load ! (from ! (stop !)) (look ! 141 refl)) (no-more !)) (λ g₁.
         land ! (from ! (stop !)) (init ! 115 refl (g₁ .1 .0)) $
         assigns ! (un ! (load ! (from ! (stop !)) (look ! 115 refl)) tt) (from ! (stop !)) (init ! 113 refl (tt, tt)) $
-        tests ! (load ! (from ! (stop !)) (look ! 113 refl))   -- not (isRule rule₀)
+        tests ! (load ! (from ! (stop !)) (look ! 113 refl))  -- not (isRule rule₀)
         (λ y₂.
         flat ! $
         assigns ! (addr ! (from ! (fld ! refl (hop ! (look-in ! 133 (sub ! 0 refl (whole !))) (stop !))))) (from ! (stop !)) (init ! 111 refl (tt, tt)) $
@@ -219,7 +218,7 @@ module _ {M : Type 1} (𝓤 : URA M) (H : Heap 𝓤) (A : Atoms 𝓤) (W : Given
         calls-by ! (fmOf 𝓤 H (W .laws) 𝓣) (0 ∷ 2 ∷ 3 ∷ []) (hs rows₀ ranges₀ order₀ counts₀ reaches₀ pending₀) (updates·read-update! 𝓤 H A mem run (𝓣 .C) known-updates·read-update form₀ (are .1 .0) at-update update₀ at-rows rows₀ at-ranges ranges₀) refl (λ P. and-then ! (load ! (from ! (stop !)) (look ! 139 refl)) (and-then ! (load ! (from ! (stop !)) (look ! 137 refl)) (and-then ! (load ! (from ! (stop !)) (look ! 83 refl)) (and-then ! (load ! (from ! (stop !)) (look ! 79 refl)) (no-more !))))) (λ g₄.
         land ! (from ! (stop !)) (init ! 121 refl (g₄ .1 .0)) $
         assigns ! (bin ! (load ! (from ! (fld ! refl (fld ! refl (stop !)))) (look-in ! 121 (sub ! 0 refl (sub ! 0 refl (whole !))))) (lit ! tt) tt) (from ! (stop !)) (store ! 115 refl (tt, tt)) $
-        tests ! (load ! (from ! (stop !)) (look ! 115 refl))   -- not (eqb (((answer (reading form₀ update₀ (length rows₀) (length ranges₀ / 3))) .refusal) .number) 0)
+        tests ! (load ! (from ! (stop !)) (look ! 115 refl))  -- not (eqb (((answer (reading form₀ update₀ (length rows₀) (length ranges₀ / 3))) .refusal) .number) 0)
         (λ y₅.
         flat ! $
         assigns ! (addr ! (from ! (fld ! refl (hop ! (look-in ! 133 (sub ! 0 refl (whole !))) (stop !))))) (from ! (stop !)) (init ! 77 refl (tt, tt)) $
@@ -271,7 +270,7 @@ module _ {M : Type 1} (𝓤 : URA M) (H : Heap 𝓤) (A : Atoms 𝓤) (W : Given
         calls-by ! (fmOf 𝓤 H (W .laws) 𝓣) ([]) (hs (rowsOf (length rows₀) (reading form₀ update₀ (length rows₀) (length ranges₀ / 3))) (wordsOf (length ranges₀) (reading form₀ update₀ (length rows₀) (length ranges₀ / 3))) ((sweptRead rule₀ (vectorOf vector₀) (rowsOf (length rows₀) (reading form₀ update₀ (length rows₀) (length ranges₀ / 3))) ((answer (reading form₀ update₀ (length rows₀) (length ranges₀ / 3))) .blocks) order₀ counts₀ reaches₀ pending₀) .order) ((sweptRead rule₀ (vectorOf vector₀) (rowsOf (length rows₀) (reading form₀ update₀ (length rows₀) (length ranges₀ / 3))) ((answer (reading form₀ update₀ (length rows₀) (length ranges₀ / 3))) .blocks) order₀ counts₀ reaches₀ pending₀) .counts) ((sweptRead rule₀ (vectorOf vector₀) (rowsOf (length rows₀) (reading form₀ update₀ (length rows₀) (length ranges₀ / 3))) ((answer (reading form₀ update₀ (length rows₀) (length ranges₀ / 3))) .blocks) order₀ counts₀ reaches₀ pending₀) .reaches) ((sweptRead rule₀ (vectorOf vector₀) (rowsOf (length rows₀) (reading form₀ update₀ (length rows₀) (length ranges₀ / 3))) ((answer (reading form₀ update₀ (length rows₀) (length ranges₀ / 3))) .blocks) order₀ counts₀ reaches₀ pending₀) .pending)) (sort-answers·judge! 𝓤 H A mem run (𝓣 .C) known-sort-answers·judge ((sweptRead rule₀ (vectorOf vector₀) (rowsOf (length rows₀) (reading form₀ update₀ (length rows₀) (length ranges₀ / 3))) ((answer (reading form₀ update₀ (length rows₀) (length ranges₀ / 3))) .blocks) order₀ counts₀ reaches₀ pending₀) .sorting) (g₇ .0) (at-order .count) (refl, are .1 .1 .1 .1 .1 .1 .0 .0 .1 .0) (at-counts .count) (refl, are .1 .1 .1 .1 .1 .1 .1 .0 .0 .1 .0) (at-reaches .count) (refl, are .1 .1 .1 .1 .1 .1 .1 .1 .0 .0 .1 .0) (at-pending .count) (refl, are .1 .1 .1 .1 .1 .1 .1 .1 .1 .0 .0 .1 .0)) refl (λ P. and-then ! (load ! (from ! (stop !)) (look ! 119 refl)) (and-then ! (load ! (from ! (stop !)) (look ! 33 refl)) (and-then ! (load ! (from ! (stop !)) (look ! 31 refl)) (and-then ! (load ! (from ! (stop !)) (look ! 29 refl)) (and-then ! (load ! (from ! (stop !)) (look ! 27 refl)) (no-more !)))))) (λ g₈.
         land ! (from ! (stop !)) (init ! 117 refl (g₈ .1 .0)) $
         assigns ! (bin ! (load ! (from ! (stop !)) (look ! 117 refl)) (lit ! tt) tt) (from ! (stop !)) (store ! 113 refl (tt, tt)) $
-        tests ! (load ! (from ! (stop !)) (look ! 113 refl))   -- not (eqb (judged ((sweptRead rule₀ (vectorOf vector₀) (rowsOf (length rows₀) (reading form₀ update₀ (length rows₀) (length ranges₀ / 3))) ((answer (reading form₀ update₀ (length rows₀) (length ranges₀ / 3))) .blocks) order₀ counts₀ reaches₀ pending₀) .sorting) (at-order .count) (at-counts .count) (at-reaches .count) (at-pending .count)) 0)
+        tests ! (load ! (from ! (stop !)) (look ! 113 refl))  -- not (eqb (judged ((sweptRead rule₀ (vectorOf vector₀) (rowsOf (length rows₀) (reading form₀ update₀ (length rows₀) (length ranges₀ / 3))) ((answer (reading form₀ update₀ (length rows₀) (length ranges₀ / 3))) .blocks) order₀ counts₀ reaches₀ pending₀) .sorting) (at-order .count) (at-counts .count) (at-reaches .count) (at-pending .count)) 0)
         (λ y₉.
         flat ! $
         assigns ! (addr ! (from ! (fld ! refl (hop ! (look-in ! 133 (sub ! 0 refl (whole !))) (stop !))))) (from ! (stop !)) (init ! 25 refl (tt, tt)) $

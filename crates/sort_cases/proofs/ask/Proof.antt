@@ -41,8 +41,8 @@ use Rattle.walks.proofs.Flow.{flat, tests, skip-on, return-on}
 use Rattle.sorts.proofs.Sorts.{sorted, sorted-blocks}
 use Rattle.table.proofs.Sorts.{block}
 use Rattle.update_cases.proofs.Sorts.{told, told-used}
-use Rattle.sort_cases.proofs.Cards.{Sort-cases·sort-by, Sort-cases·begin, Sort-cases·end, sort-cases·sort-by!, sort-cases·begin-order-counts-reaches-pending!, sort-cases·end-words!}
-use Rattle.update_cases.proofs.Cards.{Update-cases·rows·full, Update-cases·tables·put-rows, update-cases·rows·full!, update-cases·tables·put-rows-rows!}
+use Rattle.sort_cases.proofs.Cards.{Sort-cases·sort-by, Sort-cases·begin, Sort-cases·end, sort-cases·sort-by!, sort-cases·begin-order-counts-reaches-pending!, sort-cases·end-words! }
+use Rattle.update_cases.proofs.Cards.{Update-cases·rows·full, Update-cases·tables·put-rows, update-cases·rows·full!, update-cases·tables·put-rows-rows! }
 use Rattle.update_cases.proofs.rows.full.Symbol as update-cases·rows·full-def
 use Rattle.update_cases.proofs.rows.full.Symbol.{name as #update-cases·rows·full}
 use Rattle.update_cases.proofs.rows.full.Met as update-cases·rows·full-thm
@@ -159,7 +159,7 @@ module _ {M : Type 1} (𝓤 : URA M) (H : Heap 𝓤) (A : Atoms 𝓤) (W : Given
         params1 ! $ pass1 ! (init ! 96 refl (bool-kind .lawful M 𝓤 H A W .typed slowly₀ _ (are .0) .0)) $ pass1 ! (init ! 94 refl (byte .lawful M 𝓤 H A W .typed rule₀ _ (are .1 .0) .0)) $ pass1 ! (init ! 92 refl (byte .lawful M 𝓤 H A W .typed form₀ _ (are .1 .1 .0) .0)) $ pass1 ! (init ! 90 refl (tt, (tt, (record { fits = are .1 .1 .1 .0 .0 .1 .0 }, tt)))) $ pass1 ! (init ! 88 refl (tt, (tt, (record { fits = are .1 .1 .1 .1 .0 .0 .1 .0 }, tt)))) $ pass1 ! (init ! 86 refl (word .lawful M 𝓤 H A W .typed n₀ _ (are .1 .1 .1 .1 .1 .0) .0)) $ pass1 ! (init ! 84 refl (tt, (tt, (record { fits = are .1 .1 .1 .1 .1 .1 .0 .0 .1 .0 }, tt)))) $ pass1 ! (init ! 82 refl (tt, (tt, (record { fits = are .1 .1 .1 .1 .1 .1 .1 .0 .0 .1 .0 }, tt)))) $ pass1 ! (init ! 80 refl (tt, (tt, (record { fits = are .1 .1 .1 .1 .1 .1 .1 .1 .0 .0 .1 .0 }, tt)))) $ pass1 ! (init ! 78 refl (tt, (tt, (record { fits = are .1 .1 .1 .1 .1 .1 .1 .1 .1 .0 .0 .1 .0 }, tt)))) $ pass1 ! (init ! 76 refl (tt, (tt, (record { fits = are .1 .1 .1 .1 .1 .1 .1 .1 .1 .1 .0 .0 .1 .0 }, tt)))) $ pass1 ! (init ! 74 refl (tt, (tt, (record { fits = are .1 .1 .1 .1 .1 .1 .1 .1 .1 .1 .1 .0 .0 .1 .0 }, tt)))) $ pass1 ! (init ! 72 refl (word .lawful M 𝓤 H A W .typed used₀ _ (are .1 .1 .1 .1 .1 .1 .1 .1 .1 .1 .1 .1 .0) .0)) $ pass0 ! $ move ! (100 ∷ []) $
         -- [the references; _49 at 1; _48 at 3; _47 at 5; _46 at 7; _45 at 9; _44 at 11; _43 at 13; _42 at 15; _41 at 17; _40 at 19; _39 at 21; _38 at 23; _37 at 25; _36 at 27; _35 at 29; _34 at 31; _33 at 33; _32 at 35; _31 at 37; _30 at 39; _29 at 41; _28 at 43; _27 at 45; _26 at 47; _25 at 49; _24 at 51; _23 at 53; _22 at 55; _21 at 57; _20 at 59; _19 at 61; _18 at 63; _17 at 65; _16 at 67; _15 at 69; _14 at 71; _13 at 73; _12 at 75; _11 at 77; _10 at 79; _9 at 81; _8 at 83; _7 at 85; _6 at 87; _5 at 89; _4 at 91; _3 at 93; _2 at 95; _1 at 97; _0 at 99]
         assigns ! (bin ! (lit ! tt) (load ! (from ! (stop !)) (look ! 87 refl)) tt) (from ! (stop !)) (init ! 61 refl (tt, tt)) $
-        tests ! (load ! (from ! (stop !)) (look ! 61 refl))   -- ltb 512 n₀
+        tests ! (load ! (from ! (stop !)) (look ! 61 refl))  -- ltb 512 n₀
         (λ y₁.
         flat ! $
         assigns ! (of-opd ! (load ! (from ! (stop !)) (look ! 73 refl))) (from ! (stop !)) (init ! 99 refl (word .lawful M 𝓤 H A W .typed used₀ _ (are .1 .1 .1 .1 .1 .1 .1 .1 .1 .1 .1 .1 .0) .0)) $

@@ -44,7 +44,7 @@ use Rattle.sorts.specs.Promises.{lent, sortOf}
 use Rattle.updates.specs.Promises.{reading, rowsOf, wordsOf}
 use Rattle.sorts.proofs.Sorts.{sorted}
 use Rattle.table.proofs.Sorts.{block}
-use Rattle.sort_cases.proofs.Cards.{Sorts·sort, Slow-sorts·sort-slowly, sorts·sort!, slow-sorts·sort-slowly!}
+use Rattle.sort_cases.proofs.Cards.{Sorts·sort, Slow-sorts·sort-slowly, sorts·sort!, slow-sorts·sort-slowly! }
 use Rattle.slow_sorts.proofs.sort_slowly.Symbol as slow-sorts·sort-slowly-def
 use Rattle.slow_sorts.proofs.sort_slowly.Symbol.{name as #slow-sorts·sort-slowly}
 use Rattle.slow_sorts.proofs.sort_slowly.Met as slow-sorts·sort-slowly-thm
@@ -146,7 +146,7 @@ module _ {M : Type 1} (𝓤 : URA M) (H : Heap 𝓤) (A : Atoms 𝓤) (W : Given
         params1 ! $ pass1 ! (init ! 70 refl (bool-kind .lawful M 𝓤 H A W .typed slowly₀ _ (are .0) .0)) $ pass1 ! (init ! 68 refl (byte .lawful M 𝓤 H A W .typed rule₀ _ (are .1 .0) .0)) $ pass1 ! (init ! 66 refl (byte .lawful M 𝓤 H A W .typed form₀ _ (are .1 .1 .0) .0)) $ pass1 ! (init ! 64 refl (tt, (tt, (record { fits = are .1 .1 .1 .0 .0 .1 .0 }, tt)))) $ pass1 ! (init ! 62 refl (tt, (tt, (record { fits = are .1 .1 .1 .1 .0 .0 .1 .0 }, tt)))) $ pass1 ! (init ! 60 refl (tt, (tt, (record { fits = are .1 .1 .1 .1 .1 .0 .0 .1 .0 }, tt)))) $ pass1 ! (init ! 58 refl (tt, (tt, (record { fits = are .1 .1 .1 .1 .1 .1 .0 .0 .1 .0 }, tt)))) $ pass1 ! (init ! 56 refl (tt, (tt, (record { fits = are .1 .1 .1 .1 .1 .1 .1 .0 .0 .1 .0 }, tt)))) $ pass1 ! (init ! 54 refl (tt, (tt, (record { fits = are .1 .1 .1 .1 .1 .1 .1 .1 .0 .0 .1 .0 }, tt)))) $ pass1 ! (init ! 52 refl (tt, (tt, (record { fits = are .1 .1 .1 .1 .1 .1 .1 .1 .1 .0 .0 .1 .0 }, tt)))) $ pass1 ! (init ! 50 refl (tt, (tt, (record { fits = are .1 .1 .1 .1 .1 .1 .1 .1 .1 .1 .0 .0 .1 .0 }, tt)))) $ pass0 ! $ move ! (74 ∷ []) $
         -- [the references; _36 at 1; _35 at 3; _34 at 5; _33 at 7; _32 at 9; _31 at 11; _30 at 13; _29 at 15; _28 at 17; _27 at 19; _26 at 21; _25 at 23; _24 at 25; _23 at 27; _22 at 29; _21 at 31; _20 at 33; _19 at 35; _18 at 37; _17 at 39; _16 at 41; _15 at 43; _14 at 45; _13 at 47; _12 at 49; _11 at 51; _10 at 53; _9 at 55; _8 at 57; _7 at 59; _6 at 61; _5 at 63; _4 at 65; _3 at 67; _2 at 69; _1 at 71; _0 at 73]
         assigns ! (of-opd ! (load ! (from ! (stop !)) (look ! 71 refl))) (from ! (stop !)) (init ! 49 refl (bool-kind .lawful M 𝓤 H A W .typed slowly₀ _ (are .0) .0)) $
-        tests ! (load ! (from ! (stop !)) (look ! 49 refl))   -- slowly₀
+        tests ! (load ! (from ! (stop !)) (look ! 49 refl))  -- slowly₀
         (λ y₁.
         flat ! $
         assigns ! (addr ! (from ! (fld ! refl (hop ! (look-in ! 61 (sub ! 0 refl (whole !))) (stop !))))) (from ! (stop !)) (init ! 47 refl (tt, tt)) $
