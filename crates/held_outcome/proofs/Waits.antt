@@ -12,7 +12,7 @@ use borrow.Author.Tests.{ltb-true, ltb-false, lt-ltb, le-ltb, eq-eqb, ne-eqb}
 use Rattle.numbers.specs.Number.{pick}
 use Rattle.block.specs.declared.Id.{Id}
 use Rattle.block.specs.declared.Block.{Block}
-use Rattle.block.specs.Row.{noId, noBlock}
+use Rattle.block.specs.Row.{noId, noBlock, leftId, rightId, parentId}
 use Rattle.ranges.specs.Ranges.{Normal}
 use Rattle.ranges.specs.Table.{rowsFrom}
 use Rattle.slots.specs.Slots.{Slot, slot}
@@ -70,15 +70,15 @@ unfolding others unmet
 unmet-none f c = refl
 
 unmet-three : (f : Id → Bool) (c : ℕ) (a : Block)
-    → unmet f (others c (deps a)) ≡ pick (stops f c (a .«has_left») (a .left)) (some (a .left))
-    (pick (stops f c (a .«has_right») (a .right)) (some (a .right)) (pick (stops f c (a .«has_parent») (a .parent)) (some (a .parent)) none))
+    → unmet f (others c (deps a)) ≡ pick (stops f c (a .«has_left») (leftId a)) (some (leftId a))
+    (pick (stops f c (a .«has_right») (rightId a)) (some (rightId a)) (pick (stops f c (a .«has_parent») (parentId a)) (some (parentId a)) none))
 unfolding deps
 unmet-three f c a =
-    unmet-one f c (a .«has_left») (a .left) _
-    ∙ ap (pick (stops f c (a .«has_left») (a .left)) (some (a .left)))
-    (unmet-one f c (a .«has_right») (a .right) _
-    ∙ ap (pick (stops f c (a .«has_right») (a .right)) (some (a .right)))
-    (unmet-one f c (a .«has_parent») (a .parent) [] ∙ ap (pick (stops f c (a .«has_parent») (a .parent)) (some (a .parent))) (unmet-none f c)))
+    unmet-one f c (a .«has_left») (leftId a) _
+    ∙ ap (pick (stops f c (a .«has_left») (leftId a)) (some (leftId a)))
+    (unmet-one f c (a .«has_right») (rightId a) _
+    ∙ ap (pick (stops f c (a .«has_right») (rightId a)) (some (rightId a)))
+    (unmet-one f c (a .«has_parent») (parentId a) [] ∙ ap (pick (stops f c (a .«has_parent») (parentId a)) (some (parentId a))) (unmet-none f c)))
 
 three : (x y z : Bool) (l r p e : Id) → pick x (some l) (pick y (some r) (pick z (some p) none)) ≡ some e → pick x l (pick y r p) ≡ e
 three true y z l r p e h = let q : l ≡ e = cc in q
@@ -125,31 +125,31 @@ module _ (us : List Slot) (reach : List ℕ) (κ : ℕ → ℕ) (shows : Shows u
           off false i = refl
       go true false p false q = rw p (met (below κ n) q (met-below 28 shows n))
 
-  left-id : stageAt 28 a 0 .id ≡ a .left
+  left-id : stageAt 28 a 0 .id ≡ leftId a
   unfolding other
   left-id = ap (λ (x : Dependency). x .id) (stage-left a) ∙ rw item refl
 
-  right-id : stageAt 28 a 1 .id ≡ a .right
+  right-id : stageAt 28 a 1 .id ≡ rightId a
   unfolding other
   right-id = ap (λ (x : Dependency). x .id) (stage-right a) ∙ rw item refl
 
-  parent-id : stageAt 28 a 2 .id ≡ a .parent
+  parent-id : stageAt 28 a 2 .id ≡ parentId a
   unfolding other
   parent-id = ap (λ (x : Dependency). x .id) (stage-parent a) ∙ rw item refl
 
-  holds-left : holds us reach (stageAt 28 (byNumber gone place k a) 0) ≡ stops f (a .client) (a .«has_left») (a .left)
+  holds-left : holds us reach (stageAt 28 (byNumber gone place k a) 0) ≡ stops f (a .client) (a .«has_left») (leftId a)
   unfolding byNumber
-  holds-left = ap (holds us reach) (stage-left (byNumber gone place k a)) ∙ hold-one (a .«has_left») (a .left)
+  holds-left = ap (holds us reach) (stage-left (byNumber gone place k a)) ∙ hold-one (a .«has_left») (leftId a)
 
-  holds-right : holds us reach (stageAt 28 (byNumber gone place k a) 1) ≡ stops f (a .client) (a .«has_right») (a .right)
+  holds-right : holds us reach (stageAt 28 (byNumber gone place k a) 1) ≡ stops f (a .client) (a .«has_right») (rightId a)
   unfolding byNumber
-  holds-right = ap (holds us reach) (stage-right (byNumber gone place k a)) ∙ hold-one (a .«has_right») (a .right)
+  holds-right = ap (holds us reach) (stage-right (byNumber gone place k a)) ∙ hold-one (a .«has_right») (rightId a)
 
   pub first-is : (e : Id) → unmet f (others (a .client) (deps a)) ≡ some e → firstUnmet us reach a (byNumber gone place k a) ≡ e
   unfolding firstUnmet
   first-is e h = rw (holds-left, holds-right, left-id, right-id, parent-id)
-      (three (stops f (a .client) (a .«has_left») (a .left)) (stops f (a .client) (a .«has_right») (a .right)) (stops f (a .client) (a .«has_parent») (a .parent))
-      (a .left) (a .right) (a .parent) e (sym (unmet-three f (a .client) a) ∙ h))
+      (three (stops f (a .client) (a .«has_left») (leftId a)) (stops f (a .client) (a .«has_right») (rightId a)) (stops f (a .client) (a .«has_parent») (parentId a))
+      (leftId a) (rightId a) (parentId a) e (sym (unmet-three f (a .client) a) ∙ h))
 
 -- ---- slot after slot
 
