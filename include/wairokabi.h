@@ -257,6 +257,33 @@ wairokabi_sorted wairokabi_sort_slowly(
     uint64_t *reaches, size_t reaches_count,
     uint64_t *pending, size_t pending_count);
 
+// How many blocks are taken, how many clients each report names, how many blocks and delete ranges were read, and how many held ranges in normal form.
+typedef struct wairokabi_sorted_held {
+    wairokabi_refusal refusal;
+    size_t steps;
+    size_t counts;
+    size_t pending;
+    size_t blocks;
+    size_t ranges;
+    size_t held;
+} wairokabi_sorted_held;
+
+// Sorts an update's blocks by held ids, which are laid out as a form 1 delete set: a block waits for its dependencies on other clients until each is held, by
+// what was given or by a taken block that is no Skip. No reach decides anything. `order` and `counts` as `sort` fills them, `counts` of clients with blocks;
+// in `pending` each client with blocks left and its first id that is not held, client and clock, three words. The held ids go into `given` in normal form,
+// three words a range; the tables are filled as `read_update` fills them. 12, 3, reading's, then those of a delete set at place 0 (1, 2, 3, and 8 where `given`
+// is too short), then 8 for the order and 10 for a report.
+wairokabi_sorted_held wairokabi_sort_held(
+    uint8_t form,
+    const uint8_t *update, size_t update_count,
+    const uint8_t *held, size_t held_count,
+    wairokabi_block *rows, size_t rows_count,
+    uint64_t *ranges, size_t ranges_count,
+    uint64_t *given, size_t given_count,
+    uint64_t *order, size_t order_count,
+    uint64_t *counts, size_t counts_count,
+    uint64_t *pending, size_t pending_count);
+
 // Writes the listing of an update as text. `input` is a form byte, then the update. A refusal of reading is text too (`refused 3 at 17`, the place counted
 // in the update); 10 where the text does not fit, which never happens with WAIROKABI_MAX_TEXT bytes.
 wairokabi_written wairokabi_list(

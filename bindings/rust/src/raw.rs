@@ -96,6 +96,17 @@ pub struct Sorted {
 }
 
 #[repr(C)]
+pub struct SortedHeld {
+    pub refusal: Refusal,
+    pub steps: usize,
+    pub counts: usize,
+    pub pending: usize,
+    pub blocks: usize,
+    pub ranges: usize,
+    pub held: usize,
+}
+
+#[repr(C)]
 pub struct Vector {
     pub refusal: Refusal,
     pub count: usize,
@@ -335,6 +346,26 @@ extern "C" {
         pending: *mut u64,
         pending_count: usize,
     ) -> Sorted;
+
+    pub fn wairokabi_sort_held(
+        form: u8,
+        update: *const u8,
+        update_count: usize,
+        held: *const u8,
+        held_count: usize,
+        rows: *mut Block,
+        rows_count: usize,
+        ranges: *mut u64,
+        ranges_count: usize,
+        given: *mut u64,
+        given_count: usize,
+        order: *mut u64,
+        order_count: usize,
+        counts: *mut u64,
+        counts_count: usize,
+        pending: *mut u64,
+        pending_count: usize,
+    ) -> SortedHeld;
 
     pub fn wairokabi_list(input: *const u8, input_count: usize, out: *mut u8, out_count: usize) -> Written;
 

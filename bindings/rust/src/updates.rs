@@ -58,6 +58,17 @@ pub struct Pending {
 
 unsafe impl Row for Pending {}
 
+/// A client with blocks left, and the first id that it waits for, which is not held.
+#[repr(C)]
+#[derive(Clone, Copy, Debug, Default, PartialEq, Eq, Hash)]
+pub struct Missing {
+    pub client: u64,
+    pub waits_for: u64,
+    pub clock: u64,
+}
+
+unsafe impl Row for Missing {}
+
 /// Zero rows, enough for all blocks of any update of this form and length: in form 1 a block has two bytes at least, in form 2 it may have none.
 pub fn rows_for(form: u8, update: &[u8]) -> Vec<Block> {
     let most = if form == 1 { update.len() / 2 } else { MAX_BLOCKS };
@@ -443,6 +454,89 @@ fn sorted<'t>(
         pending: &pending[..answer.pending],
         update: Update { blocks: &rows[..answer.blocks], ranges: &ranges[..answer.ranges] },
     }
+}
+
+/// The blocks of an update, sorted by held ids, and the update that was read for it. Each is the first rows of what was lent; the others are zero.
+#[derive(Clone, Copy, Debug, PartialEq, Eq)]
+pub struct SortedHeld<'t> {
+    /// The numbers of the blocks that are taken, in order: each step takes the highest client whose front is ready.
+    pub order: &'t [u64],
+    /// Each client with blocks, highest first, and how many of them are taken.
+    pub counts: &'t [Count],
+    /// Each client with blocks left, highest first, and the first id that it waits for.
+    pub pending: &'t [Missing],
+    /// The held ids that were given, in normal form.
+    pub held: &'t [Range],
+    pub update: Update<'t>,
+}
+
+/// Sorts an update's blocks by held ids, laid out as a form 1 delete set: a block waits for its dependencies on other clients until each is held, by what was
+/// given or by a taken block that is no Skip. Refused by 12, 3, reading's, then those of a delete set, which blame no byte, then 8 for the order and 10 for a
+/// report.
+///
+/// A block of 5 hangs on (9,1), which lies in a hole of 9: it waits, though 9 was taken to clock 3.
+///
+/// ```
+/// use wairokabi::{sort_held, Block, Count, Missing, Range};
+///
+/// let hole = [
+///     0x02, 0x03, 0x09, 0x00, 0x04, 0x01, 0x01, 0x74, 0x01, 0x61, 0x0a, 0x01, 0x04, 0x01, 0x01, 0x74, 0x01, 0x62, 0x01, 0x05, 0x00, 0x84, 0x09, 0x01,
+///     0x01, 0x78, 0x00,
+/// ];
+/// let (mut rows, mut ranges, mut given) = ([Block::default(); 4], [Range::default(); 4], [Range::default(); 4]);
+/// let (mut order, mut counts, mut pending) = ([0; 4], [Count::default(); 64], [Missing::default(); 64]);
+///
+/// let sorted = sort_held(1, &hole, &[0x00], &mut rows, &mut ranges, &mut given, &mut order, &mut counts, &mut pending)?;
+/// assert_eq!(sorted.order, [0, 1, 2]);
+/// assert_eq!(sorted.pending, [Missing { client: 5, waits_for: 9, clock: 1 }]);
+///
+/// let held = [0x01, 0x09, 0x01, 0x01, 0x01];
+/// let sorted = sort_held(1, &hole, &held, &mut rows, &mut ranges, &mut given, &mut order, &mut counts, &mut pending)?;
+/// assert_eq!(sorted.order, [0, 1, 2, 3]);
+/// assert_eq!(sorted.held.len(), 1);
+/// # Ok::<(), wairokabi::Refused>(())
+/// ```
+#[allow(clippy::too_many_arguments)] // the header's
+pub fn sort_held<'t>(
+    form: u8,
+    update: &[u8],
+    held: &[u8],
+    rows: &'t mut [Block],
+    ranges: &'t mut [Range],
+    given: &'t mut [Range],
+    order: &'t mut [u64],
+    counts: &'t mut [Count],
+    pending: &'t mut [Missing],
+) -> Result<SortedHeld<'t>, Refused> {
+    let answer = unsafe {
+        raw::wairokabi_sort_held(
+            form,
+            update.as_ptr(),
+            update.len(),
+            held.as_ptr(),
+            held.len(),
+            rows.as_mut_ptr(),
+            rows.len(),
+            words(ranges),
+            count(ranges),
+            words(given),
+            count(given),
+            words(order),
+            count(order),
+            words(counts),
+            count(counts),
+            words(pending),
+            count(pending),
+        )
+    };
+    done_reading(answer.refusal, form, update)?;
+    Ok(SortedHeld {
+        order: &order[..answer.steps],
+        counts: &counts[..answer.counts],
+        pending: &pending[..answer.pending],
+        held: &given[..answer.held],
+        update: Update { blocks: &rows[..answer.blocks], ranges: &ranges[..answer.ranges] },
+    })
 }
 
 /// Writes the listing of an update as text. `input` is a form byte, then the update. A refusal of reading is text too (`refused 3 at 17`,
