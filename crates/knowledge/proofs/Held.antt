@@ -31,7 +31,7 @@ at-most-one (r ∷ rs) d = go (within (r .client) (r .clock) (r .len) d) (at-mos
 abbrev pub Larger : List Range → List Range → Type 0
 Larger rs rs′ = (c k : ℕ) → Deleted rs c k → Deleted rs′ c k
 
-larger-knows : (rs rs′ : List Range) → Larger rs rs′ → AtLeast (heldIn rs) (heldIn rs′)
+pub larger-knows : (rs rs′ : List Range) → Larger rs rs′ → AtLeast (heldIn rs) (heldIn rs′)
 larger-knows rs rs′ more d = go (below-or 0 (heldIn rs d))
   where
     go : (0 < heldIn rs d) ⊎ (heldIn rs d ≤ 0) → heldIn rs d ≤ heldIn rs′ d

@@ -28,7 +28,7 @@ use Rattle.sorts.specs.Promises.{lent}
 use Rattle.later.specs.Calls.{Call, takenBy, reachAt, reachBy}
 use Rattle.later.specs.Sorters.{Ended}
 
-front-padded : (n : ℕ) (ws : List ℕ) → take (length ws) (padded n ws) ≡ ws
+pub front-padded : (n : ℕ) (ws : List ℕ) → take (length ws) (padded n ws) ≡ ws
 unfolding padded
 front-padded n ws = take-append-seam ws (replicate (n - length ws) 0)
 
