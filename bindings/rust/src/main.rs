@@ -64,6 +64,7 @@ struct Words {
     slowly: bool,
     to: Option<String>,
     rule: Option<String>,
+    held: Option<String>,
     out: Option<String>,
 }
 
@@ -81,6 +82,7 @@ impl Words {
                 "--slowly" => words.slowly = true,
                 "--to" => words.to = Some(next()?.ok_or_else(|| not_run("--to needs a form"))?),
                 "--rule" => words.rule = Some(next()?.ok_or_else(|| not_run("--rule needs a rule"))?),
+                "--held" => words.held = Some(next()?.ok_or_else(|| not_run("--held needs a file"))?),
                 "--out" => words.out = Some(next()?.ok_or_else(|| not_run("--out needs a file"))?),
                 option if option.starts_with("--") => return Err(not_run(format!("{option}: no such option; see --help"))),
                 _ => words.plain.push(word),
@@ -192,6 +194,7 @@ fn run(words: Words) -> Result<Vec<u8>, Stop> {
         ("--to", words.to.is_some(), "diff"),
         ("--rule", words.rule.is_some(), "sort"),
         ("--slowly", words.slowly, "sort"),
+        ("--held", words.held.is_some(), "sort"),
         ("--out", words.out.is_some(), "diff content summary"),
     ];
     if let Some((option, ..)) = misplaced.iter().find(|(_, given, of)| *given && !of.split(' ').any(|c| c == command)) {
@@ -207,6 +210,9 @@ fn run(words: Words) -> Result<Vec<u8>, Stop> {
         }
         ["diff", form, update] => diff(&Asked::of(form, update, None)?, &words),
         ["diff", form, update, vector] => diff(&Asked::of(form, update, Some(vector))?, &words),
+        ["sort", ..] if words.held.is_some() && words.rule.is_some() => Err(not_run("held ids are sorted by no rule; see --help")),
+        ["sort", form, update] if words.held.is_some() => sorted_held(&Asked::of(form, update, None)?, words.held.as_deref().unwrap_or("-")),
+        ["sort", _, _, _] if words.held.is_some() => Err(not_run("held ids stand in place of a vector; see --help")),
         ["sort", form, update] => sorted(&Asked::of(form, update, None)?, &words),
         ["sort", form, update, vector] => sorted(&Asked::of(form, update, Some(vector))?, &words),
         ["summary", summary] if words.read => summary_rows(&Input::of("summary", summary)?),
@@ -394,6 +400,41 @@ fn sorted(asked: &Asked, words: &Words) -> Result<Vec<u8>, Stop> {
     let _ = writeln!(text, "pending: {}", many(sorted.pending.len(), "client"));
     for p in sorted.pending {
         let _ = writeln!(text, "  client {} waits for client {}, which reaches {}", p.client, p.waits_for, p.reach);
+    }
+    Ok(text.into())
+}
+
+/// The same by held ids; a refusal that the update does not have is theirs or the tables'.
+fn sorted_held(asked: &Asked, held: &str) -> Result<Vec<u8>, Stop> {
+    if held == "-" && asked.update.name == "update -" {
+        return Err(not_run("standard input can be the update or the held ids, not both"));
+    }
+    let held = Input::of("held ids", held)?;
+    let (form, bytes) = (asked.form, &asked.update.bytes);
+    let (mut rows, mut ranges) = asked.tables();
+    let mut given = ranges_for(&held.bytes);
+    let (mut order, mut counts, mut pending) = (vec![0; rows.len()], [Count::default(); MAX_CLIENTS], [Missing::default(); MAX_CLIENTS]);
+    let sorted = sort_held(form, bytes, &held.bytes, &mut rows, &mut ranges, &mut given, &mut order, &mut counts, &mut pending).map_err(|r| {
+        let (mut rows, mut ranges) = asked.tables();
+        match read_update(form, bytes, &mut rows, &mut ranges) {
+            Ok(_) => Stop { status: REFUSED, words: format!("{}: {r}", held.name) },
+            Err(_) => asked.refused(r),
+        }
+    })?;
+    let blocks = sorted.update.blocks;
+    let mut text = format!("taken, in order: {} of {}\n", sorted.order.len(), many(blocks.len(), "block"));
+    for n in sorted.order {
+        let _ = writeln!(text, "  block {n}: {}", described(form, &blocks[*n as usize], bytes));
+    }
+    text.push_str("of each client\n");
+    for count in sorted.counts {
+        let of = blocks.iter().filter(|b| b.client == count.client).count();
+        let _ = writeln!(text, "  client {}: {} of {}", count.client, count.taken, many(of, "block"));
+    }
+    let _ = writeln!(text, "held: {}", many(sorted.held.len(), "range"));
+    let _ = writeln!(text, "pending: {}", many(sorted.pending.len(), "client"));
+    for p in sorted.pending {
+        let _ = writeln!(text, "  client {} waits for {} of client {}, which is not held", p.client, p.clock, p.waits_for);
     }
     Ok(text.into())
 }
