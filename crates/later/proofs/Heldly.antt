@@ -5,9 +5,10 @@ use mathlib.Core.Path.{_≡_, sym, subst, ap, _∙_}
 use mathlib.Core.List.{List}
 use lib.ListN.{length, take}
 use Rattle.block.specs.declared.Block.{Block}
-use Rattle.grammar.specs.Course.{items}
-use Rattle.decoder.specs.Update.{blocksOf}
-use Rattle.ranges.specs.Ranges.{Range}
+use Rattle.grammar.specs.Course.{fit, items}
+use Rattle.decoder.specs.Update.{blocksOf, deleteSet}
+use Rattle.ranges.specs.Ranges.{Range, normal}
+use Rattle.updates.specs.Promises.{reading}
 use Rattle.sorting.specs.Quick.{Listed}
 use Rattle.sorting.specs.Held.{ruleHeld, heldIn}
 use Rattle.sorting.proofs.Held.{held-mono}
@@ -39,8 +40,11 @@ module _ {form : ℕ} {u v : List ℕ} (a : HeldCall form u v) where
       let m = length (a .rows) in
       let n = length (a .ranges) / 3 in
       let d = demand-3-held form u v m n (length (a .held) / 3) (lent (a .order) (a .counts) (a .pending)) call-done in
-      let all = subst (λ (rs : List Range). Ran ruleHeld _ (heldIn rs) (heldSort a .order)) (sym (d .held))
-      (record { run = d .demanded .run; whole = d .demanded .sorts .ends; order = d .demanded .numbers }) in
+      let bs = reading form u m n .blocks in
+      let first : Ran ruleHeld bs (heldIn (normal (items (fit (length (a .held) / 3) (deleteSet 1 v 0))))) (heldSort a .order) =
+      record { run = d .demanded .run; whole = d .demanded .sorts .ends; order = d .demanded .numbers } in
+      let all : Ran ruleHeld bs (heldIn (givenHeld a)) (heldSort a .order) =
+      subst (λ (rs : List Range). Ran ruleHeld bs (heldIn rs) (heldSort a .order)) (sym (d .held)) first in
       subst (λ (bs : List Block). Ran ruleHeld bs (heldIn (givenHeld a)) (heldSort a .order)) (all-read form u m n (d .read .0) .blocks) all
 
 -- W-212
