@@ -1,5 +1,5 @@
--- What a sorter by held ids does with rows and h held ranges, in words w: slots and fronts, all looks at the rows by number, and the reports. Crate `held_outcome`
--- says that this is sorting by held ids.
+-- What a sorter by held ids does with rows and h held ranges, in words w: slots and fronts, all looks at the rows by number, and the reports. Crate
+-- `held_outcome` says that this is sorting by held ids.
 use Prim.Native.Nat.{ℕ}
 use mathlib.Core.List.{List}
 use lib.ListN.{length, replicate}

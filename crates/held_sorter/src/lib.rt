@@ -62,9 +62,11 @@ fn report_front(
     requires { ⌜ (3 * n ≤ length (now slots)) × Falling (slotsFrom (now slots) 0 n) × (3 * ranges ≤ length (now held)) × (3 * (i + 1) ≤ length
         (now slots)) × (at ≤ 3 * i) ⌝ }
     ensures { λ r. ⌜ (r ≡ at + length (waitingOf (slotsFrom (now (slots .entry)) 0 n) (now (reach .entry)) (now (rows .entry)) (rowsBy (now
-        (held .entry)) ranges (slotsFrom (now (slots .entry)) 0 n) (now (rows .entry)) 0 (now (rows .entry))) (slotAt (now (slots .entry)) i) (frontAt (now (fronts .entry)) i)))
+        (held .entry)) ranges (slotsFrom (now (slots .entry)) 0 n) (now (rows .entry)) 0 (now (rows .entry))) (slotAt (now (slots .entry)) i)
+        (frontAt (now (fronts .entry)) i)))
         × (now (out .exit) ≡ sets (now (out .entry)) at (waitingOf (slotsFrom (now (slots .entry)) 0 n) (now (reach .entry)) (now (rows .entry)) (rowsBy
-        (now (held .entry)) ranges (slotsFrom (now (slots .entry)) 0 n) (now (rows .entry)) 0 (now (rows .entry))) (slotAt (now (slots .entry)) i) (frontAt (now (fronts .entry)) i))) ⌝ }
+        (now (held .entry)) ranges (slotsFrom (now (slots .entry)) 0 n) (now (rows .entry)) 0 (now (rows .entry))) (slotAt (now
+        (slots .entry)) i) (frontAt (now (fronts .entry)) i))) ⌝ }
 {
     let f = picker::fronts::front_at(fronts, i);
     if awaited::is_left(f, rows.len()) {
@@ -91,7 +93,8 @@ fn report_pending(
     ensures { λ r. ⌜ (r ≡ length (waitingFrom (slotsFrom (now (slots .entry)) 0 n) (now (reach .entry)) (now (fronts .entry)) (now (rows .entry)) (rowsBy
         (now (held .entry)) ranges (slotsFrom (now (slots .entry)) 0 n) (now (rows .entry)) 0 (now (rows .entry))) 0 (slotsFrom (now (slots .entry)) 0 n)))
         × (now (out .exit) ≡ fitted (length (now (out .entry))) (waitingFrom (slotsFrom (now (slots .entry)) 0 n) (now (reach .entry)) (now
-        (fronts .entry)) (now (rows .entry)) (rowsBy (now (held .entry)) ranges (slotsFrom (now (slots .entry)) 0 n) (now (rows .entry)) 0 (now (rows .entry))) 0 (slotsFrom (now (slots .entry)) 0 n))) ⌝ }
+        (fronts .entry)) (now (rows .entry)) (rowsBy (now (held .entry)) ranges (slotsFrom (now (slots .entry)) 0 n) (now (rows .entry)) 0
+        (now (rows .entry))) 0 (slotsFrom (now (slots .entry)) 0 n))) ⌝ }
 {
     let mut at = 0;
     let mut i = 0;

@@ -35,10 +35,10 @@ fn refuse(
     held_answers::none(why)
 }
 
-// The blocks of an update of one form, sorted by held ids, which are laid out as a form 1 delete set: their numbers in the order in which they are taken (a word
-// each); and, highest client first, how many blocks were taken of each client that has any (two words each), and what each client waits for that has blocks
-// left: the first id that is not held, its client and its clock (three words). A block waits for its dependencies on other clients until each is held: by
-// what was given, or by a taken block that is no Skip. All three tables are filled with what was read; the held ranges are in normal form.
+// The blocks of an update of one form, sorted by held ids, which are laid out as a form 1 delete set: their numbers in the order in which they are taken
+// (a word each); and, highest client first, how many blocks were taken of each client that has any (two words each), and what each client waits for that
+// has blocks left: the first id that is not held, its client and its clock (three words). A block waits for its dependencies on other clients until each
+// is held: by what was given, or by a taken block that is no Skip. All three tables are filled with what was read; the held ranges are in normal form.
 pub fn sort_held(
     form: u8,
     update: &[u8],

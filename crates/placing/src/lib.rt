@@ -1,5 +1,5 @@
-// What a sorter by held ids finds by halving, and makes of it: whether ranges hold an id; which rows a client has, and which of two halves is left of them; and a
-// block that hangs on the numbers of other blocks in place of ids.
+// What a sorter by held ids finds by halving, and makes of it: whether ranges hold an id; which rows a client has, and which of two halves is left of
+// them; and a block that hangs on the numbers of other blocks in place of ids.
 use block::Block;
 use block::Id;
 use picker::stages::Dependency;

@@ -1,5 +1,5 @@
 -- Taking blocks from queues, one front after another. No sorter stands here: a step, a run of steps, and where none is possible.
--- A queue is named by a number, its client. What is known is a number for each place of A: for reaches a place is a client (for W-206's held ids it will be an id).
+-- A queue is named by a number, its client. What is known is a number for each place of A: for reaches a place is a client, for held ids it is an id.
 use mathlib.Core.Path.{_≡_}
 use mathlib.Core.Logic.{_⊎_, _↔_}
 use mathlib.Core.Bool.{Bool, cond, _&&_}
