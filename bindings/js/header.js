@@ -22,28 +22,27 @@ typedef struct wairokabi_refusal {
     uint8_t number;
     size_t place;
 } wairokabi_refusal;
-typedef struct wairokabi_id {
-    uint64_t client;
-    uint32_t clock;
-} wairokabi_id;
 typedef struct wairokabi_block {
     uint64_t client;
+    uint64_t left_client;
+    uint64_t right_client;
+    uint64_t parent_client;
     wairokabi_units length;
-    wairokabi_id left;
-    wairokabi_id right;
-    wairokabi_id parent;
     wairokabi_part name;
     wairokabi_part key;
     wairokabi_part part;
     wairokabi_part mark;
     uint32_t clock;
+    uint32_t left_clock;
+    uint32_t right_clock;
+    uint32_t parent_clock;
     uint8_t kind;
     bool has_left;
     bool has_right;
     bool has_parent;
     bool has_name;
     bool has_key;
-    uint8_t type_number;
+    uint16_t type_number;
 } wairokabi_block;
 #define WAIROKABI_GC 1
 #define WAIROKABI_SKIP 2
@@ -120,6 +119,36 @@ wairokabi_sorted wairokabi_sort(
     uint64_t *order, size_t order_count,
     uint64_t *counts, size_t counts_count,
     uint64_t *reaches, size_t reaches_count,
+    uint64_t *pending, size_t pending_count);
+wairokabi_sorted wairokabi_sort_slowly(
+    uint8_t rule,
+    uint8_t form,
+    const uint8_t *update, size_t update_count,
+    const uint8_t *vector, size_t vector_count,
+    wairokabi_block *rows, size_t rows_count,
+    uint64_t *ranges, size_t ranges_count,
+    uint64_t *order, size_t order_count,
+    uint64_t *counts, size_t counts_count,
+    uint64_t *reaches, size_t reaches_count,
+    uint64_t *pending, size_t pending_count);
+typedef struct wairokabi_sorted_held {
+    wairokabi_refusal refusal;
+    size_t steps;
+    size_t counts;
+    size_t pending;
+    size_t blocks;
+    size_t ranges;
+    size_t held;
+} wairokabi_sorted_held;
+wairokabi_sorted_held wairokabi_sort_held(
+    uint8_t form,
+    const uint8_t *update, size_t update_count,
+    const uint8_t *held, size_t held_count,
+    wairokabi_block *rows, size_t rows_count,
+    uint64_t *ranges, size_t ranges_count,
+    uint64_t *given, size_t given_count,
+    uint64_t *order, size_t order_count,
+    uint64_t *counts, size_t counts_count,
     uint64_t *pending, size_t pending_count);
 wairokabi_written wairokabi_list(
     const uint8_t *input, size_t input_count,
@@ -229,6 +258,42 @@ typedef struct wairokabi_text_next {
     wairokabi_string_place place;
 } wairokabi_text_next;
 wairokabi_text_next wairokabi_next_text(const uint8_t *column, size_t column_count, wairokabi_string_place place);
+typedef struct wairokabi_numbers_read {
+    wairokabi_refusal refusal;
+    size_t count;
+    wairokabi_number_place place;
+} wairokabi_numbers_read;
+wairokabi_numbers_read wairokabi_read_numbers(
+    const uint8_t *column, size_t column_count,
+    wairokabi_number_place place,
+    uint64_t *out, size_t out_count);
+typedef struct wairokabi_differences_read {
+    wairokabi_refusal refusal;
+    size_t count;
+    wairokabi_difference_place place;
+} wairokabi_differences_read;
+wairokabi_differences_read wairokabi_read_differences(
+    const uint8_t *column, size_t column_count,
+    wairokabi_difference_place place,
+    uint64_t *out, size_t out_count);
+typedef struct wairokabi_bytes_read {
+    wairokabi_refusal refusal;
+    size_t count;
+    wairokabi_byte_place place;
+} wairokabi_bytes_read;
+wairokabi_bytes_read wairokabi_read_bytes(
+    const uint8_t *column, size_t column_count,
+    wairokabi_byte_place place,
+    uint8_t *out, size_t out_count);
+typedef struct wairokabi_texts_read {
+    wairokabi_refusal refusal;
+    size_t count;
+    wairokabi_string_place place;
+} wairokabi_texts_read;
+wairokabi_texts_read wairokabi_read_texts(
+    const uint8_t *column, size_t column_count,
+    wairokabi_string_place place,
+    uint64_t *out, size_t out_count);
 wairokabi_written wairokabi_write_numbers(
     uint8_t *out, size_t out_count,
     const uint64_t *values, size_t values_count);

@@ -1,6 +1,6 @@
 // The case stream through the binding: every case on updates, vectors, summaries and columns that are read, made with the real Yjs and by hand, held to the line
 // that is expected of it (crates/cases/stdout). Passed over are cases that the binding cannot be asked: of numbers and of columns that are written (operations 1
-// to 4 and 9 to 12), with less room or fewer rows for a summary than it lends, a block's number over 2^53-1, and a listing of no bytes.
+// to 4 and 9 to 12), slow sorts and texts by themselves (26, 30 to 32), with less room or fewer rows for a summary than it lends, a block's number over 2^53-1, and a listing of no bytes.
 import assert from 'node:assert/strict'
 import { readFileSync } from 'node:fs'
 import { test } from 'node:test'
