@@ -265,9 +265,10 @@ export const open = async wasm => {
       else return done(answer, given)
     }
   }
+  const rangesIn = (view, piece, count) => view.rows(piece, count, 3).map(([client, clock, length]) => ({ client, clock, length }))
   const tables = ({ view, pieces, blocks, ranges }) => ({
     blocks: Array.from({ length: blocks }, (_, n) => blockAt(view.numbers, pieces.rows, n)),
-    ranges: view.rows(pieces.ranges, ranges, 3).map(([client, clock, length]) => ({ client, clock, length }))
+    ranges: rangesIn(view, pieces.ranges, ranges)
   })
   const given = (form, update) => ({ form: byteOf(form, 'the form'), update: bytesOf(update, 'the update') })
 
@@ -298,6 +299,22 @@ export const open = async wasm => {
   }
   /** The words of each report: no sort has more clients. */
   const REPORTS = { counts: 2 * MAX_CLIENTS, reaches: 2 * 2 * MAX_CLIENTS, pending: 3 * MAX_CLIENTS }
+  /** What every sort reports: the order, and how many blocks of each client were taken. */
+  const taken = ({ view, pieces, steps, counts }) => ({
+    order: view.rows(pieces.order, steps, 1).map(([n]) => n),
+    counts: view.rows(pieces.counts, counts, 2).map(([client, taken]) => ({ client, taken }))
+  })
+  const sorting = name => (rule, form, update, vector = NO_CLIENT, lent) => {
+    const asking = { rule: byteOf(rule, 'the rule'), ...given(form, update), vector: bytesOf(vector, 'the vector') }
+    const answer = onUpdate(name, { ...asking, ...REPORTS }, lent)
+    const { view, pieces, reaches, pending } = answer
+    return {
+      ...taken(answer),
+      reaches: view.rows(pieces.reaches, reaches, 2).map(([client, clock]) => ({ client, clock })),
+      pending: view.rows(pieces.pending, pending, 3).map(([client, waitsFor, reach]) => ({ client, waitsFor, reach })),
+      ...tables(answer)
+    }
+  }
 
   return Object.freeze({
     read: (form, update, lent) => tables(onUpdate('read_update', given(form, update), lent)),
@@ -322,15 +339,17 @@ export const open = async wasm => {
       diffed('encode_diff', { ...given(form, update), vector: bytesOf(vector, 'the vector'), to: byteOf(to, 'the form') }, lent),
     convert: (form, update, to, lent) => diffed('encode_update', { ...given(form, update), to: byteOf(to, 'the form') }, lent),
 
-    sort: (rule, form, update, vector = NO_CLIENT, lent) => {
-      const asking = { rule: byteOf(rule, 'the rule'), ...given(form, update), vector: bytesOf(vector, 'the vector') }
-      const answer = onUpdate('sort', { ...asking, ...REPORTS }, lent)
-      const { view, pieces, steps, counts, reaches, pending } = answer
+    sort: sorting('sort'),
+    sortSlowly: sorting('sort_slowly'),
+
+    sortHeld: (form, update, held, lent) => {
+      const bytes = bytesOf(held, 'the held ids')
+      const asking = { ...given(form, update), held: bytes, given: 3 * Math.ceil(bytes.length / 2) } // a range takes two bytes at least
+      const answer = onUpdate('sort_held', { ...asking, ...REPORTS }, lent)
       return {
-        order: view.rows(pieces.order, steps, 1).map(([n]) => n),
-        counts: view.rows(pieces.counts, counts, 2).map(([client, taken]) => ({ client, taken })),
-        reaches: view.rows(pieces.reaches, reaches, 2).map(([client, clock]) => ({ client, clock })),
-        pending: view.rows(pieces.pending, pending, 3).map(([client, waitsFor, reach]) => ({ client, waitsFor, reach })),
+        ...taken(answer),
+        pending: answer.view.rows(answer.pieces.pending, answer.pending, 3).map(([client, waitsFor, clock]) => ({ client, waitsFor, clock })),
+        held: rangesIn(answer.view, answer.pieces.given, answer.held),
         ...tables(answer)
       }
     },

@@ -61,6 +61,17 @@ export interface Entry {
   clock: number
 }
 
+export interface SortedHeld extends Update {
+  /** The numbers of the blocks that are taken, in order: each step takes the highest client whose front is ready. */
+  order: number[]
+  /** Each client with blocks, highest first, and how many of them are taken. */
+  counts: { client: number; taken: number }[]
+  /** Each client with blocks left, highest first, and the first id that it waits for. */
+  pending: { client: number; waitsFor: number; clock: number }[]
+  /** The held ids that were given, in normal form. */
+  held: Range[]
+}
+
 export interface Sorted extends Update {
   /** The numbers of the blocks that are taken, in order: each step takes the highest client whose front is ready. */
   order: number[]
@@ -137,6 +148,11 @@ export interface Wairokabi {
   /** Sorts an update's blocks by a rule into those that can be applied and those that wait, against a state vector, or one that names no client. Refused by 12
    * (form or rule), 3, reading's, then the vector's. */
   sort(rule: Rule, form: Form, update: Uint8Array, vector?: Uint8Array, lent?: Lent): Sorted
+  /** The same by the slow plain sorter: only the order differs, sweeps over all clients, lowest first, each one's fronts taken while they are ready. */
+  sortSlowly(rule: Rule, form: Form, update: Uint8Array, vector?: Uint8Array, lent?: Lent): Sorted
+  /** Sorts by held ids, laid out as a form 1 delete set: a dependency on another client is met where it is held, by what is given or by a taken block that is no Skip.
+   * Refused by 12, 3, reading's, then those of a delete set. */
+  sortHeld(form: Form, update: Uint8Array, held: Uint8Array, lent?: Lent): SortedHeld
   /** The draws from a column that begins at `at` (0) and ends with these bytes, so many (65,535) at most: of texts the part that each has. `end` is the refusal that they
    * end with, which is 1 at the end of a column that is whole; null where `most` were drawn, or where the last value of a column of bytes stands without end. */
   draws(kind: 'texts', column: Uint8Array, at?: number, most?: number): { draws: Part[]; end: Refused | null; endless: boolean }

@@ -1,6 +1,6 @@
 // The case stream through the binding: every case on updates, vectors, summaries and columns that are read, made with the real Yjs and by hand, held to the line
 // that is expected of it (crates/cases/stdout). Passed over are cases that the binding cannot be asked: of numbers and of columns that are written (operations 1
-// to 4 and 9 to 12), slow sorts and texts by themselves (26, 30 to 32), with less room or fewer rows for a summary than it lends, a block's number over 2^53-1, and a listing of no bytes.
+// to 4 and 9 to 12), texts by themselves (30 to 32), with less room or fewer rows for a summary than it lends, a block's number over 2^53-1, and a listing of no bytes.
 import assert from 'node:assert/strict'
 import { readFileSync } from 'node:fs'
 import { test } from 'node:test'
@@ -35,7 +35,8 @@ const line = (call, ...last) => {
 const MOST_SUMMARY = 1050
 const MOST_CLIENTS = 64
 const reading = call => (form, rows, ranges, update) => line(() => tables(call(form, update, { rows, ranges })), 'zero')
-const sorting = (rule, form, rows, ranges, order, update, vector) => line(() => sorted(w.sort(rule, form, update, vector, { rows, ranges, order })), 'zero')
+const sortingBy = sort => (rule, form, rows, ranges, order, update, vector) => line(() => sorted(sort(rule, form, update, vector, { rows, ranges, order })), 'zero')
+const sorting = sortingBy(w.sort)
 /** A column's values as they are drawn; where the last stands without end, it stands for all that are asked for. */
 const drawing = (kind, shown) => (column, times) => {
   const { draws, end, endless } = w.draws(kind, column, 0, times)
@@ -62,7 +63,8 @@ const operations = {
   },
   20: (rows, summary) => rows < MOST_CLIENTS ? null : line(() => w.readSummary(summary).map(r => [r.client, r.first, r.end, r.blocks].join(':')), 'zero'),
   21: reading(w.readStrict),
-  25: sorting
+  25: sorting,
+  26: sortingBy(w.sortSlowly)
 }
 
 test('the case stream', t => {

@@ -72,6 +72,26 @@ test('diffs and forms', () => {
   assert.deepEqual(w.convert(1, C, 2, { out: 23 }), D)
 })
 
+test('sorts by held ids', () => {
+  // W-206: client 9 has clocks 0 and 2 and a Skip between; client 5 hangs on (9, 1), which nobody has
+  const update = Uint8Array.from(Buffer.from('020309000401017401610a010401017401620105008409010178' + '00', 'hex'))
+  const none = w.sortHeld(1, update, Uint8Array.of(0))
+  assert.deepEqual([none.order, none.pending, none.held], [[0, 1, 2], [{ client: 5, waitsFor: 9, clock: 1 }], []])
+  const held = w.sortHeld(1, update, Uint8Array.of(1, 9, 2, 1, 1, 0, 1))
+  assert.deepEqual([held.order, held.pending, held.held], [[0, 1, 2, 3], [], [{ client: 9, clock: 0, length: 2 }]])
+  assert.throws(() => w.sortHeld(1, update, Uint8Array.of(1)), { number: 1 })
+})
+
+test('sorts slowly', () => {
+  // W-211: quick takes the highest client first, slow the lowest
+  const update = Uint8Array.from(Buffer.from('0201090000010205000001000100', 'hex'))
+  assert.deepEqual(w.sort(28, 1, update).order, [0, 1, 2])
+  const { order, ...slow } = w.sortSlowly(28, 1, update)
+  assert.deepEqual(order, [1, 2, 0])
+  const { order: _, ...quick } = w.sort(28, 1, update)
+  assert.deepEqual(slow, quick)
+})
+
 test('sorts', () => {
   const both = w.sort(28, 1, BOTH)
   assert.deepEqual([both.order, both.counts, both.pending], [[0, 1], [{ client: 9, taken: 1 }, { client: 5, taken: 1 }], []])
