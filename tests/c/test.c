@@ -342,6 +342,28 @@ static void sorts_slowly(void) {
     EXPECT(refused(s.refusal, 12, 0) && s.steps == 0 && zero_rows(0));
 }
 
+// W-206: client 9 has clocks 0 and 2 and a Skip between; client 5 hangs on (9, 1), which nobody has, though 9 reaches 3.
+static void sorts_by_held_ids(void) {
+    static const uint8_t gap[] = {0x02, 0x03, 0x09, 0x00, 0x04, 0x01, 0x01, 0x74, 0x01, 0x61, 0x0a, 0x01, 0x04, 0x01,
+                                  0x01, 0x74, 0x01, 0x62, 0x01, 0x05, 0x00, 0x84, 0x09, 0x01, 0x01, 0x78, 0x00};
+    static const uint8_t none[] = {0x00}, some[] = {0x01, 0x09, 0x02, 0x01, 0x01, 0x00, 0x01}, cut[] = {0x01};
+    uint64_t given[6], order[4], counts[4], pending[6];
+    fill();
+    wairokabi_sorted_held s =
+        wairokabi_sort_held(1, gap, sizeof gap, none, sizeof none, rows, ROWS, words, WORDS, given, 6, order, 4, counts, 4, pending, 6);
+    EXPECT(done(s.refusal) && s.steps == 3 && s.counts == 2 && s.pending == 1 && s.blocks == 4 && s.ranges == 0 && s.held == 0);
+    EXPECT(same_words(order, (uint64_t[]){0, 1, 2, 0}, 4) && same_words(counts, (uint64_t[]){9, 3, 5, 0}, 4));
+    EXPECT(same_words(pending, (uint64_t[]){5, 9, 1, 0, 0, 0}, 6) && same_words(given, (uint64_t[]){0, 0, 0, 0, 0, 0}, 6));
+    fill();
+    s = wairokabi_sort_held(1, gap, sizeof gap, some, sizeof some, rows, ROWS, words, WORDS, given, 6, order, 4, counts, 4, pending, 6);
+    EXPECT(done(s.refusal) && s.steps == 4 && s.pending == 0 && s.held == 1 && rows[3].client == 5 && zero_rows(4) && zero_words(0));
+    EXPECT(same_words(order, (uint64_t[]){0, 1, 2, 3}, 4) && same_words(given, (uint64_t[]){9, 0, 2, 0, 0, 0}, 6));
+    s = wairokabi_sort_held(1, gap, sizeof gap, some, sizeof some, rows, ROWS, words, WORDS, given, 3, order, 4, counts, 4, pending, 6);
+    EXPECT(refused(s.refusal, 8, 0) && s.steps == 0 && s.held == 0 && zero_rows(0) && given[0] == 0 && order[0] == 0 && counts[0] == 0);
+    s = wairokabi_sort_held(1, gap, sizeof gap, cut, sizeof cut, rows, ROWS, words, WORDS, given, 6, order, 4, counts, 4, pending, 6);
+    EXPECT(refused(s.refusal, 1, 0) && s.blocks == 0 && zero_rows(0) && given[2] == 0 && pending[0] == 0);
+}
+
 static void others(void) {
     static const uint8_t input[] = {0x01, 0x01, 0x01, 0x05, 0x00, 0x04, 0x01, 0x01, 0x74, 0x02, 0x68, 0x69, 0x00};
     static const char listing[] = "update form 1 blocks 1 ranges 0\n5 0 2 text\nend\n", short_listing[] = "refused 1 at 11\n";
@@ -577,6 +599,7 @@ int main(void) {
     marks();
     sorts();
     sorts_slowly();
+    sorts_by_held_ids();
     summaries();
     refusals();
     places();
