@@ -1,6 +1,8 @@
 -- The row that has no block, and the ids that a row has.
-use mathlib.Core.Bool.{false}
+use Prim.Native.Nat.{ℕ}
+use mathlib.Core.Bool.{Bool, false}
 use Rattle.text.specs.declared.Part.{Part}
+use Rattle.text.specs.declared.Units.{Units}
 use Rattle.block.specs.declared.Id.{Id}
 use Rattle.block.specs.declared.Block.{Block}
 
@@ -10,30 +12,36 @@ noId = record { client = 0; clock = 0 }
 abbrev pub noPart : Part
 noPart = record { place = 0; bytes = record { 0 = 0 } }
 
-abbrev pub noBlock : Block
-noBlock =
+-- ---- a row by all that it has: every field is named here
+
+-- client, clock, length and kind; a left id, a right id, a parent by its id, by its name, and a key, each if it is there; part, mark and type number
+abbrev pub row : ℕ → ℕ → Units → ℕ → Bool → Id → Bool → Id → Bool → Id → Bool → Part → Bool → Part → Part → Part → ℕ → Block
+row client clock n kind l left r right h parent m name k key part mark type =
     record {
-      client = 0;
-      clock = 0;
-      length = record { 0 = 0 };
-      kind = 0;
-      «has_left» = false;
-      «left_client» = 0;
-      «left_clock» = 0;
-      «has_right» = false;
-      «right_client» = 0;
-      «right_clock» = 0;
-      «has_parent» = false;
-      «parent_client» = 0;
-      «parent_clock» = 0;
-      «has_name» = false;
-      name = noPart;
-      «has_key» = false;
-      key = noPart;
-      part = noPart;
-      mark = noPart;
-      «type_number» = 0;
+      client = client;
+      clock = clock;
+      length = n;
+      kind = kind;
+      «has_left» = l;
+      «left_client» = left .client;
+      «left_clock» = left .clock;
+      «has_right» = r;
+      «right_client» = right .client;
+      «right_clock» = right .clock;
+      «has_parent» = h;
+      «parent_client» = parent .client;
+      «parent_clock» = parent .clock;
+      «has_name» = m;
+      name = name;
+      «has_key» = k;
+      key = key;
+      part = part;
+      mark = mark;
+      «type_number» = type;
     }
+
+abbrev pub noBlock : Block
+noBlock = row 0 0 (record { 0 = 0 }) 0 false noId false noId false noId false noPart false noPart noPart noPart 0
 
 -- ---- the ids of a row, whose clients and clocks stand apart
 

@@ -1,144 +1,44 @@
--- A row with something set. Five setters name every field: what stands first in a row, its ids, its root, its part, its mark. All others are made of them, and
--- so is every record of a block, from the row that has no block or from another: a field more is said here.
+-- A row with something set. Five setters have every field: what stands first in a row, its ids, its root, its part, its mark. All others are made of them,
+-- and so is every record of a block, from the row that has no block or from another: a field more is said in `row` and here.
 use Prim.Native.Nat.{ℕ}
 use mathlib.Core.Bool.{Bool, true, false}
 use Rattle.text.specs.declared.Part.{Part}
 use Rattle.text.specs.declared.Units.{Units}
 use Rattle.block.specs.declared.Id.{Id}
 use Rattle.block.specs.declared.Block.{Block}
-use Rattle.block.specs.Row.{noId, noPart, noBlock, leftId, rightId, parentId}
+use Rattle.block.specs.Row.{noId, noPart, row, noBlock, leftId, rightId, parentId}
 
 -- ---- every field
 
 -- client, clock, length and kind
 abbrev pub headIs : ℕ → ℕ → Units → ℕ → Block → Block
 headIs client clock n kind b =
-    record {
-      client = client;
-      clock = clock;
-      length = n;
-      kind = kind;
-      «has_left» = b .«has_left»;
-      «left_client» = b .«left_client»;
-      «left_clock» = b .«left_clock»;
-      «has_right» = b .«has_right»;
-      «right_client» = b .«right_client»;
-      «right_clock» = b .«right_clock»;
-      «has_parent» = b .«has_parent»;
-      «parent_client» = b .«parent_client»;
-      «parent_clock» = b .«parent_clock»;
-      «has_name» = b .«has_name»;
-      name = b .name;
-      «has_key» = b .«has_key»;
-      key = b .key;
-      part = b .part;
-      mark = b .mark;
-      «type_number» = b .«type_number»;
-    }
+    row client clock n kind (b .«has_left») (leftId b) (b .«has_right») (rightId b)
+    (b .«has_parent») (parentId b) (b .«has_name») (b .name) (b .«has_key») (b .key) (b .part) (b .mark) (b .«type_number»)
 
 -- a left and a right id, each if it is there
 abbrev pub idsAre : Bool → Id → Bool → Id → Block → Block
 idsAre l i r j b =
-    record {
-      client = b .client;
-      clock = b .clock;
-      length = b .length;
-      kind = b .kind;
-      «has_left» = l;
-      «left_client» = i .client;
-      «left_clock» = i .clock;
-      «has_right» = r;
-      «right_client» = j .client;
-      «right_clock» = j .clock;
-      «has_parent» = b .«has_parent»;
-      «parent_client» = b .«parent_client»;
-      «parent_clock» = b .«parent_clock»;
-      «has_name» = b .«has_name»;
-      name = b .name;
-      «has_key» = b .«has_key»;
-      key = b .key;
-      part = b .part;
-      mark = b .mark;
-      «type_number» = b .«type_number»;
-    }
+    row (b .client) (b .clock) (b .length) (b .kind) l i r j
+    (b .«has_parent») (parentId b) (b .«has_name») (b .name) (b .«has_key») (b .key) (b .part) (b .mark) (b .«type_number»)
 
 -- a parent by its id, a parent by its name, and a key
 abbrev pub rootIs : Bool → Id → Bool → Part → Bool → Part → Block → Block
 rootIs h i n p k q b =
-    record {
-      client = b .client;
-      clock = b .clock;
-      length = b .length;
-      kind = b .kind;
-      «has_left» = b .«has_left»;
-      «left_client» = b .«left_client»;
-      «left_clock» = b .«left_clock»;
-      «has_right» = b .«has_right»;
-      «right_client» = b .«right_client»;
-      «right_clock» = b .«right_clock»;
-      «has_parent» = h;
-      «parent_client» = i .client;
-      «parent_clock» = i .clock;
-      «has_name» = n;
-      name = p;
-      «has_key» = k;
-      key = q;
-      part = b .part;
-      mark = b .mark;
-      «type_number» = b .«type_number»;
-    }
+    row (b .client) (b .clock) (b .length) (b .kind) (b .«has_left») (leftId b) (b .«has_right») (rightId b)
+    h i n p k q (b .part) (b .mark) (b .«type_number»)
 
 -- the stored part
 abbrev pub withPart : Part → Block → Block
 withPart p b =
-    record {
-      client = b .client;
-      clock = b .clock;
-      length = b .length;
-      kind = b .kind;
-      «has_left» = b .«has_left»;
-      «left_client» = b .«left_client»;
-      «left_clock» = b .«left_clock»;
-      «has_right» = b .«has_right»;
-      «right_client» = b .«right_client»;
-      «right_clock» = b .«right_clock»;
-      «has_parent» = b .«has_parent»;
-      «parent_client» = b .«parent_client»;
-      «parent_clock» = b .«parent_clock»;
-      «has_name» = b .«has_name»;
-      name = b .name;
-      «has_key» = b .«has_key»;
-      key = b .key;
-      part = p;
-      mark = b .mark;
-      «type_number» = b .«type_number»;
-    }
+    row (b .client) (b .clock) (b .length) (b .kind) (b .«has_left») (leftId b) (b .«has_right») (rightId b)
+    (b .«has_parent») (parentId b) (b .«has_name») (b .name) (b .«has_key») (b .key) p (b .mark) (b .«type_number»)
 
 -- the mark, and the type number
 abbrev pub markIs : Part → ℕ → Block → Block
 markIs p type b =
-    record {
-      client = b .client;
-      clock = b .clock;
-      length = b .length;
-      kind = b .kind;
-      «has_left» = b .«has_left»;
-      «left_client» = b .«left_client»;
-      «left_clock» = b .«left_clock»;
-      «has_right» = b .«has_right»;
-      «right_client» = b .«right_client»;
-      «right_clock» = b .«right_clock»;
-      «has_parent» = b .«has_parent»;
-      «parent_client» = b .«parent_client»;
-      «parent_clock» = b .«parent_clock»;
-      «has_name» = b .«has_name»;
-      name = b .name;
-      «has_key» = b .«has_key»;
-      key = b .key;
-      part = b .part;
-      mark = p;
-      «type_number» = type;
-    }
+    row (b .client) (b .clock) (b .length) (b .kind) (b .«has_left») (leftId b) (b .«has_right») (rightId b)
+    (b .«has_parent») (parentId b) (b .«has_name») (b .name) (b .«has_key») (b .key) (b .part) p type
 
 -- ---- one of them
 

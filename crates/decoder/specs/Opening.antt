@@ -13,7 +13,7 @@ use Rattle.string.specs.declared.Opened.the-variants as opened
 use Rattle.grammar.specs.Grammar.{byte, number, bytes as some-bytes, Grammar, done, draw, _>>=_}
 use Rattle.grammar.specs.Course.{Drawn, got, not, Run, item, over, stopped, run}
 use Rattle.decoder.specs.Line.{line}
-use Rattle.decoder.specs.States.{Numbers, Differences, Bytes, Texts, State, withText}
+use Rattle.decoder.specs.States.{Numbers, Differences, Bytes, Texts, State, state, withText}
 
 -- n columns more, behind those that are cut: each a length and so many bytes
 unfoldable pub cut : ℕ → List Part → Grammar (Unit {0}) (List Part)
@@ -44,7 +44,9 @@ textsFrom p = record { place = strings.placeAt 0 0 (numbers.startAt (p .place));
 abbrev pub standing : List Part → ℕ → State
 standing ps at =
     let column : ℕ → Part = λ k. getD ps k noPart in
-    record { at = at; key = differencesFrom (column 0); client = numbersFrom (column 1); left = differencesFrom (column 2); right = differencesFrom (column 3); info = bytesFrom (column 4); text = textsFrom (column 5); parent = bytesFrom (column 6); types = numbersFrom (column 7); len = numbersFrom (column 8); keys = [] }
+    state
+    at (differencesFrom (column 0)) (numbersFrom (column 1)) (differencesFrom (column 2)) (differencesFrom (column 3)) (bytesFrom (column 4))
+    (textsFrom (column 5)) (bytesFrom (column 6)) (numbersFrom (column 7)) (numbersFrom (column 8)) []
 
 -- ---- the text opened: it stands where the column begins, and its units behind it
 

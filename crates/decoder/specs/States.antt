@@ -41,180 +41,41 @@ pub record State : Type 0 where
   pub len : Numbers
   pub keys : List Part
 
--- ---- a state with one field put
+-- ---- a state by its fields, and with one of them put
+
+abbrev pub state : ℕ → Differences → Numbers → Differences → Differences → Bytes → Texts → Bytes → Numbers → Numbers → List Part → State
+state e k c l r i x p t n ks =
+    record { at = e; key = k; client = c; left = l; right = r; info = i; text = x; parent = p; types = t; len = n; keys = ks }
 
 abbrev pub movedTo : State → ℕ → State
-movedTo s e =
-    record {
-      at = e;
-      key = s .key;
-      client = s .client;
-      left = s .left;
-      right = s .right;
-      info = s .info;
-      text = s .text;
-      parent = s .parent;
-      types = s .types;
-      len = s .len;
-      keys = s .keys;
-    }
+movedTo s e = state e (s .key) (s .client) (s .left) (s .right) (s .info) (s .text) (s .parent) (s .types) (s .len) (s .keys)
 
 abbrev pub withKey : Differences → State → State
-withKey c s =
-    record {
-      at = s .at;
-      key = c;
-      client = s .client;
-      left = s .left;
-      right = s .right;
-      info = s .info;
-      text = s .text;
-      parent = s .parent;
-      types = s .types;
-      len = s .len;
-      keys = s .keys;
-    }
+withKey c s = state (s .at) c (s .client) (s .left) (s .right) (s .info) (s .text) (s .parent) (s .types) (s .len) (s .keys)
 
 abbrev pub withClient : Numbers → State → State
-withClient c s =
-    record {
-      at = s .at;
-      key = s .key;
-      client = c;
-      left = s .left;
-      right = s .right;
-      info = s .info;
-      text = s .text;
-      parent = s .parent;
-      types = s .types;
-      len = s .len;
-      keys = s .keys;
-    }
+withClient c s = state (s .at) (s .key) c (s .left) (s .right) (s .info) (s .text) (s .parent) (s .types) (s .len) (s .keys)
 
 abbrev pub withLeft : Differences → State → State
-withLeft c s =
-    record {
-      at = s .at;
-      key = s .key;
-      client = s .client;
-      left = c;
-      right = s .right;
-      info = s .info;
-      text = s .text;
-      parent = s .parent;
-      types = s .types;
-      len = s .len;
-      keys = s .keys;
-    }
+withLeft c s = state (s .at) (s .key) (s .client) c (s .right) (s .info) (s .text) (s .parent) (s .types) (s .len) (s .keys)
 
 abbrev pub withRight : Differences → State → State
-withRight c s =
-    record {
-      at = s .at;
-      key = s .key;
-      client = s .client;
-      left = s .left;
-      right = c;
-      info = s .info;
-      text = s .text;
-      parent = s .parent;
-      types = s .types;
-      len = s .len;
-      keys = s .keys;
-    }
+withRight c s = state (s .at) (s .key) (s .client) (s .left) c (s .info) (s .text) (s .parent) (s .types) (s .len) (s .keys)
 
 abbrev pub withInfo : Bytes → State → State
-withInfo c s =
-    record {
-      at = s .at;
-      key = s .key;
-      client = s .client;
-      left = s .left;
-      right = s .right;
-      info = c;
-      text = s .text;
-      parent = s .parent;
-      types = s .types;
-      len = s .len;
-      keys = s .keys;
-    }
+withInfo c s = state (s .at) (s .key) (s .client) (s .left) (s .right) c (s .text) (s .parent) (s .types) (s .len) (s .keys)
 
 abbrev pub withText : Texts → State → State
-withText c s =
-    record {
-      at = s .at;
-      key = s .key;
-      client = s .client;
-      left = s .left;
-      right = s .right;
-      info = s .info;
-      text = c;
-      parent = s .parent;
-      types = s .types;
-      len = s .len;
-      keys = s .keys;
-    }
+withText c s = state (s .at) (s .key) (s .client) (s .left) (s .right) (s .info) c (s .parent) (s .types) (s .len) (s .keys)
 
 abbrev pub withParent : Bytes → State → State
-withParent c s =
-    record {
-      at = s .at;
-      key = s .key;
-      client = s .client;
-      left = s .left;
-      right = s .right;
-      info = s .info;
-      text = s .text;
-      parent = c;
-      types = s .types;
-      len = s .len;
-      keys = s .keys;
-    }
+withParent c s = state (s .at) (s .key) (s .client) (s .left) (s .right) (s .info) (s .text) c (s .types) (s .len) (s .keys)
 
 abbrev pub withLen : Numbers → State → State
-withLen c s =
-    record {
-      at = s .at;
-      key = s .key;
-      client = s .client;
-      left = s .left;
-      right = s .right;
-      info = s .info;
-      text = s .text;
-      parent = s .parent;
-      types = s .types;
-      len = c;
-      keys = s .keys;
-    }
+withLen c s = state (s .at) (s .key) (s .client) (s .left) (s .right) (s .info) (s .text) (s .parent) (s .types) c (s .keys)
 
 abbrev pub withTypes : Numbers → State → State
-withTypes c s =
-    record {
-      at = s .at;
-      key = s .key;
-      client = s .client;
-      left = s .left;
-      right = s .right;
-      info = s .info;
-      text = s .text;
-      parent = s .parent;
-      types = c;
-      len = s .len;
-      keys = s .keys;
-    }
+withTypes c s = state (s .at) (s .key) (s .client) (s .left) (s .right) (s .info) (s .text) (s .parent) c (s .len) (s .keys)
 
 abbrev pub withKeys : List Part → State → State
-withKeys ps s =
-    record {
-      at = s .at;
-      key = s .key;
-      client = s .client;
-      left = s .left;
-      right = s .right;
-      info = s .info;
-      text = s .text;
-      parent = s .parent;
-      types = s .types;
-      len = s .len;
-      keys = ps;
-    }
+withKeys ps s = state (s .at) (s .key) (s .client) (s .left) (s .right) (s .info) (s .text) (s .parent) (s .types) (s .len) ps
