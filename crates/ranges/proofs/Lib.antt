@@ -3,6 +3,9 @@ pub mod Theory
 pub mod Flat
 pub mod Fines
 pub mod Rows
+pub mod Exchanges
+pub mod Stirs
+pub mod Packs
 pub mod Heaps
 pub mod Orders
 pub mod Inserts
