@@ -8,7 +8,6 @@ pub mod Stirs
 pub mod Packs
 pub mod Heaps
 pub mod Orders
-pub mod Inserts
 pub mod Splits
 pub mod Sides
 pub mod Joins
