@@ -3,9 +3,11 @@ pub mod Theory
 pub mod Flat
 pub mod Fines
 pub mod Rows
+pub mod Exchanges
+pub mod Stirs
+pub mod Packs
 pub mod Heaps
 pub mod Orders
-pub mod Inserts
 pub mod Splits
 pub mod Sides
 pub mod Joins

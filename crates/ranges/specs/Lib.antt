@@ -2,3 +2,4 @@
 pub mod Ranges
 pub mod Table
 pub mod Passes
+pub mod Packed
