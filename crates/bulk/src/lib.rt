@@ -1,6 +1,6 @@
 // Columns in bulk: as many values as what is lent has room for, or up to the first draw that is refused; zeros behind them. The answer says how many
 // and the place after them, and a refusal only where the very first draw is refused: then the place is as it was, and what was lent is all zero.
-// A draw is written here a second time, beside `columns`, with one caller each: so it becomes part of its loop (docs/DECISIONS.md).
+// A draw is written here a second time, beside `columns` and `string`, with one caller each: so it becomes part of its loop (docs/DECISIONS.md).
 use columns::byte;
 use columns::difference;
 use columns::number;
@@ -8,6 +8,8 @@ use numbers::Read;
 use numbers::Refusal;
 use numbers::Signed;
 use numbers::words;
+use text::Part;
+use text::Taken;
 ghost use mathlib.Core.Path.{_≡_};
 ghost use Prim.Native.Nat.{_≤_};
 ghost use lib.Dec.{eqb};
@@ -15,6 +17,7 @@ ghost use Rattle.numbers.specs.Number.{readSigned, pick, none};
 ghost use Rattle.columns.specs.Number as numbers;
 ghost use Rattle.columns.specs.Difference as differences;
 ghost use Rattle.columns.specs.Byte as bytes;
+ghost use Rattle.string.specs.String.{taken, nextText};
 ghost use Rattle.bulk.specs.Promises.{ReadNumbers, ReadDifferences, ReadBytes, ReadTexts};
 
 // The refusal that is told after i values.
@@ -396,6 +399,87 @@ pub struct TextsRead {
     pub place: string::Place,
 }
 
+// A draw of a unit length: as `next_number`, with a caller of its own.
+fn unit_run(column: &[u8], at: usize) -> number::Answer
+    ensures { λ r. ⌜ r ≡ numbers.begun (now (column .entry)) at (readSigned (now (column .entry)) at) ⌝ }
+{
+    let r = numbers::read_signed(column, at);
+    let Signed::Value(minus, x, e) = r else {
+        return number::Answer::Bad(numbers::why_signed(r));
+    };
+    if !minus {
+        return draw_number(number::Place {
+            at: e,
+            from: at,
+            last: x,
+            count: 1,
+        });
+    }
+    let k = numbers::read_unsigned(column, e);
+    let Read::Number(c, f) = k else {
+        return number::Answer::Bad(numbers::why_read(k));
+    };
+    if numbers::MAX_COUNT < c {
+        return number::Answer::Bad(Refusal {
+            number: 3,
+            place: e,
+        });
+    }
+    let times = (c + 2) as u32;
+    draw_number(number::Place {
+        at: f,
+        from: at,
+        last: x,
+        count: times,
+    })
+}
+
+fn next_unit(column: &[u8], place: number::Place) -> number::Answer
+    ensures { λ r. ⌜ r ≡ numbers.nextNumber (now (column .entry)) place ⌝ }
+{
+    let at = place.at;
+    if 0 < place.count {
+        return draw_number(place);
+    }
+    unit_run(column, at)
+}
+
+// The text of u units, and the place after it.
+fn take(column: &[u8], at: usize, end: usize, u: u64, units: number::Place) -> string::Answer
+    ensures { λ r. ⌜ r ≡ taken (now (column .entry)) at end u units ⌝ }
+{
+    match string::take_text(column, at, end, u) {
+        Taken::Took(bytes) => {
+            let next = at + bytes.0;
+            string::Answer::Next(
+                Part { place: at, bytes },
+                string::Place {
+                    at: next,
+                    end,
+                    units,
+                },
+            )
+        }
+        Taken::Refused(n) => string::Answer::Bad(Refusal {
+            number: n,
+            place: at,
+        }),
+    }
+}
+
+fn next_text(column: &[u8], place: string::Place) -> string::Answer
+    ensures { λ r. ⌜ r ≡ nextText (now (column .entry)) place ⌝ }
+{
+    let at = place.at;
+    let end = place.end;
+    let units = place.units;
+    let r = next_unit(column, units);
+    let number::Answer::Next(u, rest) = r else {
+        return string::Answer::Bad(number::why(r));
+    };
+    take(column, at, end, u, rest)
+}
+
 // Of each text two words, its place and its length in bytes.
 pub fn read_texts(column: &[u8], place: string::Place, out: &mut [u64]) -> TextsRead
     ensures { λ r. ⌜ ReadTexts (now (column .entry)) place (now (out .entry)) r (now (out .exit)) ⌝ }
@@ -405,7 +489,7 @@ pub fn read_texts(column: &[u8], place: string::Place, out: &mut [u64]) -> Texts
     let mut at = 0;
     let mut i = 0;
     while i < room {
-        let r = string::next(column, c);
+        let r = next_text(column, c);
         let string::Answer::Next(p, d) = r else {
             words::clear(out, at);
             let why = string::why(r);

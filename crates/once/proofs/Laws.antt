@@ -12,6 +12,7 @@ use lib.Seq.{sets, split-at, length-sets}
 use borrow.Author.Tests.{le-leb, lt-leb, leb-true, leb-false, lt-ltb, le-ltb, eqb-true, eqb-false, eq-eqb, ne-eqb}
 use Rattle.numbers.specs.declared.Written.{Written}
 use Rattle.numbers.specs.Number.{pick, spell, unsigned, signed}
+use Rattle.numbers.specs.Limits.{maxValue}
 use Rattle.numbers.specs.Output.{padded, refusal, written, put}
 use Rattle.numbers.proofs.Output.{verdict-why, verdict-room, refused-answer, refused-bytes}
 use Rattle.runs.specs.declared.Column.{Column}
@@ -289,6 +290,23 @@ module _ (col : Column) (e vs : List ℕ) (i at last key count : ℕ) (far : Boo
       go false q =
           let r = refused-by (whyOf col vs) (length e) (columnOf col vs) (sentence j) (sym said) (eqb-false (sentence j) 0 q) in
           (r .0, rw (h .size) (r .1))
+
+-- ---- the same of numbers, each its own key, none of them far
+
+module _ (e vs : List ℕ) (i at key count : ℕ) (out : List ℕ) (h : Wrote Number e vs i at key key count false out) (l : i < length vs) where
+  pub number-over : maxValue < getD vs i 0 → whyOf Number vs ≡ 3
+  unfolding coding
+  number-over m = wrote-over Number e vs i at key key count false out h l m
+
+  pub number-unfit : getD vs i 0 ≤ maxValue → pick (endsRun key count (getD vs i 0)) (coding Number .fits (count - 1)) true ≡ false → whyOf Number vs ≡ 3
+  unfolding coding
+  number-unfit m f = wrote-unfit Number e vs i at key key count false out h l m f
+
+  pub number-on : getD vs i 0 ≤ maxValue → pick (endsRun key count (getD vs i 0)) (coding Number .fits (count - 1)) true ≡ true
+      → Wrote Number e vs (i + 1) (wentTo (length out) at (endedRun Number key count (getD vs i 0))) (getD vs i 0) (getD vs i 0)
+      (pick (endsRun key count (getD vs i 0)) 1 (count + 1)) false (outAt out at (endedRun Number key count (getD vs i 0)))
+  unfolding coding
+  number-on m f = wrote-on Number e vs i at key key count false out h l m f
 
 -- ---- the same of bytes: each is its own key, and none is far
 

@@ -141,6 +141,40 @@ pub fn write_all(out: &mut [u8], column: Column, values: &[u64]) -> Written
     )
 }
 
+// The same of numbers, each its own key: it is asked for most, and knows its column.
+pub fn write_numbers(out: &mut [u8], values: &[u64]) -> Written
+    ensures { λ r. ⌜ (r ≡ written (whyOf Column.Number (now (values .entry))) (length (now (out .entry))) (columnOf Column.Number (now (values .entry)))) × (now (out .exit) ≡ put (whyOf Column.Number (now (values .entry))) (length (now (out .entry))) (columnOf Column.Number (now (values .entry)))) ⌝ }
+{
+    let mut at: usize = 0;
+    let mut key: u64 = 0;
+    let mut count: u64 = 0;
+    let mut i = 0;
+    while i < values.len() {
+        let v = values[i];
+        i += 1;
+        if numbers::MAX_VALUE < v {
+            return numbers::refuse(out, 3);
+        }
+        if !is_storable(Column::Number, key, count, v) {
+            return numbers::refuse(out, 3);
+        }
+        at = put_ended(out, Column::Number, at, key, count, v);
+        count = count_with(key, count, v);
+        key = v;
+    }
+    end(
+        out,
+        Writer {
+            column: Column::Number,
+            at,
+            last: key,
+            key,
+            count,
+        },
+        false,
+    )
+}
+
 fn wide(b: u8) -> u64
     ensures { λ r. ⌜ r ≡ b ⌝ }
 {

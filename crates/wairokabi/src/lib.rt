@@ -353,7 +353,7 @@ pub fn next_text(column: &[u8], place: string::Place) -> TextNext
 pub fn write_numbers(out: &mut [u8], values: &[u64]) -> Written
     ensures { λ r. ⌜ WriteNumbers (now (out .entry)) (now (values .entry)) r (now (out .exit)) ⌝ }
 {
-    once::write_all(out, Column::Number, values)
+    once::write_numbers(out, values)
 }
 
 pub fn write_differences(out: &mut [u8], values: &[u64]) -> Written

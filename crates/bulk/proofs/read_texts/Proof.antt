@@ -51,7 +51,7 @@ returns c =
     let n = c .before .before .before .before .before .before .before .before in
     let l = n .before .before .loop in
     let h = l .inv .0 in
-    let e = read-stop h _ (ap textDraw (sym (n .next .ensures)) ∙ refused _ _ (c .before .before .before .before .before .before .enum-told .given .1)) (n .before .loop-test .taken) in (
+    let e = read-stop h _ (ap textDraw (sym (n .next-text .ensures)) ∙ refused _ _ (c .before .before .before .before .before .before .enum-told .given .1)) (n .before .loop-test .taken) in (
       ap (λ (w : Refusal). make w (l .i) (l .c)) (c .told .ensures ∙ ap (λ (w : Refusal). pick (eqb (l .i) 0) w none) (c .before .why .ensures)) ∙ end-answer h _ e make,
       c .before .before .before .before .clear .ensures ∙ end-words h _ e,
     )
@@ -94,7 +94,7 @@ loop-again c =
     let n = c .before .before .before .before in
     let r = c .before .before .r .given in
     let p = r .0 .0 in (
-      rw add-one (read-on (l .inv .0) p (r .0 .1 .0) (p .place ∷ (p .bytes .0 ∷ [])) (parts-on p) (ap textDraw (sym (n .next .ensures)) ∙ drawn _ _ _ (r .1)) (n .before .loop-test .taken) (omega (arith, room (n .before), l .inv .0 .size))),
+      rw add-one (read-on (l .inv .0) p (r .0 .1 .0) (p .place ∷ (p .bytes .0 ∷ [])) (parts-on p) (ap textDraw (sym (n .next-text .ensures)) ∙ drawn _ _ _ (r .1)) (n .before .loop-test .taken) (omega (arith, room (n .before), l .inv .0 .size))),
       omega (arith, l .inv .1),
     )
 

@@ -1,0 +1,84 @@
+-- `once::write_numbers` meets its contract: the numbers so far are judged, and put or known to have no room.
+use Prim.Native.Nat.{_-_}
+use mathlib.Core.Path.{_≡_, sym, _∙_}
+use mathlib.Core.Bool.{true, false}
+use native.Mathlib.Omega.{arith}
+use lib.ListN.{length}
+use borrow.Author.Tests.{not-true, not-false}
+use Rattle.runs.specs.declared.Column.the-variants.{Number}
+use Rattle.runs.specs.Runs.{columnOf, whyOf}
+use Rattle.once.proofs.Laws.{refused-by, Wrote, wrote-begin, number-over, number-unfit, number-on, wrote-end}
+use borrow.Author.Needs.{needs}
+use Rattle.once.proofs.write_numbers.Statement.{statement}
+use Rattle.once.proofs.write_numbers.Tie as tie
+
+abbrev Inv-loop : tie.InvT-loop
+Inv-loop out₀ values at₀ key₀ count₀ i₀ out at key count i = Wrote Number out₀ values i at key key count false out
+
+abbrev μ-loop : tie.MeasureT-loop
+μ-loop out₀ values at₀ key₀ count₀ i₀ out at key count i = length values - i
+
+loop-holds : tie.Need-loop-holds Inv-loop μ-loop
+loop-holds c = let a = c .before .before .args in wrote-begin Number (a .out .now) (a .values .now)
+
+same-length : tie.Need-same-length Inv-loop μ-loop
+same-length c = c .before .before .refuse .kept .0 ∙ c .before .before .before .before .before .before .before .loop .inv .size
+
+returns : tie.Need-returns Inv-loop μ-loop
+returns c =
+    let a = c .before .before .before .before .before .before .before .before .before .before .args in
+    let l = c .before .before .before .before .before .before .before .loop in
+    let y = number-over (a .out .now) (a .values .now) (l .i) (l .at) (l .key) (l .count) (l .out) (l .inv) (c .before .before .before .before .before .before .loop-test .taken) (c .before .before .before .before .if1 .taken) in
+    let w = refused-by (whyOf Number (a .values .now)) (length (a .out .now)) (columnOf Number (a .values .now)) 3 y (λ z. omega arith) in
+    let r = c .before .before .refuse .ensures in
+    (r .0 ∙ w .0, rw (l .inv .size) at (r .1) ∙ w .1)
+
+same-length-2 : tie.Need-same-length-2 Inv-loop μ-loop
+same-length-2 c = c .before .before .refuse2 .kept .0 ∙ c .before .before .before .before .before .before .before .before .before .loop .inv .size
+
+returns-2 : tie.Need-returns-2 Inv-loop μ-loop
+returns-2 c =
+    let a = c .before .before .before .before .before .before .before .before .before .before .before .before .args in
+    let l = c .before .before .before .before .before .before .before .before .before .loop in
+    let s = c .before .before .before .before .before .is-storable in
+    let y = number-unfit (a .out .now) (a .values .now) (l .i) (l .at) (l .key) (l .count) (l .out) (l .inv) (c .before .before .before .before .before .before .before .before .loop-test .taken) (c .before .before .before .before .before .before .if1 .left) (sym (s .ensures) ∙ not-true (s .result) (c .before .before .before .before .if2 .taken)) in
+    let w = refused-by (whyOf Number (a .values .now)) (length (a .out .now)) (columnOf Number (a .values .now)) 3 y (λ z. omega arith) in
+    let r = c .before .before .refuse2 .ensures in
+    (r .0 ∙ w .0, rw (l .inv .size) at (r .1) ∙ w .1)
+
+put-ended-requires : tie.Need-put-ended-requires Inv-loop μ-loop
+put-ended-requires c κs = let h = c .before .before .before .before .before .before .loop .inv in (h .judged-so .sound .1, omega (arith, h .near, h .size))
+
+count-with-requires : tie.Need-count-with-requires Inv-loop μ-loop
+count-with-requires c κs = let h = c .before .before .before .before .before .before .before .before .before .loop .inv in omega (arith, h .judged-so .few, h .judged-so .here)
+
+loop-again : tie.Need-loop-again Inv-loop μ-loop
+loop-again c =
+    let a = c .before .before .before .before .before .before .before .before .before .before .before .before .before .args in
+    let l = c .before .before .before .before .before .before .before .before .before .before .loop in
+    let s = c .before .before .before .before .before .before .is-storable in
+    let p = c .before .before .before .put-ended .ensures in
+    rw (p .0, p .1, c .count-with .ensures)
+    (number-on (a .out .now) (a .values .now) (l .i) (l .at) (l .key) (l .count) (l .out) (l .inv) (c .before .before .before .before .before .before .before .before .before .loop-test .taken) (c .before .before .before .before .before .before .before .if1 .left) (sym (s .ensures) ∙ not-false (s .result) (c .before .before .before .before .before .if2 .left)))
+
+end-requires : tie.Need-end-requires Inv-loop μ-loop
+end-requires c κs = c .before .before .loop .inv .judged-so .sound
+
+same-length-3 : tie.Need-same-length-3 Inv-loop μ-loop
+same-length-3 c = c .before .before .end .kept .0 ∙ c .before .before .before .before .before .loop .inv .size
+
+returns-3 : tie.Need-returns-3 Inv-loop μ-loop
+returns-3 c =
+    let a = c .before .before .before .before .before .before .before .before .args in
+    let l = c .before .before .before .before .before .loop in
+    let w = wrote-end Number (a .out .now) (a .values .now) (l .i) (l .at) (l .key) (l .key) (l .count) false (l .out) (l .inv) (omega (arith, c .before .before .before .before .loop-test .left)) in
+    let r = c .before .before .end .ensures in
+    (r .0 ∙ w .0, r .1 ∙ w .1)
+
+pub write-numbers-spec : {M : Type 1} → statement M
+write-numbers-spec =
+    tie.close
+    (tie.spec
+    Inv-loop μ-loop loop-holds (λ c. search needs) (λ c. search needs) (λ c. search needs) (λ c κs. search needs) same-length returns (λ c κs. search needs)
+    (λ c κs. search needs) same-length-2 returns-2 put-ended-requires count-with-requires (λ c. search needs) loop-again end-requires same-length-3
+    returns-3)
