@@ -1,4 +1,5 @@
--- What a normal form of delete ranges is (Ranges), a table of them as words (Table), and what the passes over a table promise each other (Passes).
+-- What a normal form of delete ranges is (Ranges), a table of them as words (Table), what the passes over a table promise each other (Passes), and those
+-- over one word a range (Packed).
 pub mod Ranges
 pub mod Table
 pub mod Passes
