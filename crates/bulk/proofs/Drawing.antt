@@ -34,7 +34,7 @@ pub record ReadTo {A P : Type 0} (next : P → Draw A P) (spell : List A → Lis
   pub same : draws next k c₀ ≡ before drawn (draws next (k - i) c)
 
 module _ {A P : Type 0} (next : P → Draw A P) where
-  one-more : (k : ℕ) (c d : P) (v : A) → next c ≡ drew v d → draws next (suc k) c ≡ before (v ∷ []) (draws next k d)
+  pub one-more : (k : ℕ) (c d : P) (v : A) → next c ≡ drew v d → draws next (suc k) c ≡ before (v ∷ []) (draws next k d)
   unfolding draws andThen
   one-more k c d v e = ap (λ (x : Draw A P). andThen c x (λ y. draws next k y)) e
 
@@ -80,6 +80,22 @@ module _ {A P : Type 0} {next : P → Draw A P} {spell : List A → List ℕ} {n
 
       regroup : before (h .drawn) (before (v ∷ []) (draws next (k - (i + 1)) d)) ≡ before (h .drawn ++ (v ∷ [])) (draws next (k - (i + 1)) d)
       regroup = rw (append-assoc (h .drawn) (v ∷ []) (draws next (k - (i + 1)) d .values))
+
+  -- the same of many values, which stand there after those before
+  pub read-many : (vs : List A) (d : P) (out′ : List ℕ) (at′ : ℕ) → spell (h .drawn ++ vs) ≡ take at′ out′ → length out′ ≡ n → at′ ≤ n → i + length vs ≤ k
+      → draws next (k - i) c ≡ before vs (draws next (k - (i + length vs)) d) → ReadTo next spell n k c₀ out′ at′ (i + length vs) d
+  read-many vs d out′ at′ said size fits room e = record {
+    drawn = h .drawn ++ vs;
+    said = said;
+    many = length-append (h .drawn) vs ∙ ap (λ (m : ℕ). m + length vs) (h .many);
+    room = room;
+    size = size;
+    fits = fits;
+    same = h .same ∙ ap (before (h .drawn)) e ∙ regroup;
+  }
+    where
+      regroup : before (h .drawn) (before vs (draws next (k - (i + length vs)) d)) ≡ before (h .drawn ++ vs) (draws next (k - (i + length vs)) d)
+      regroup = rw (append-assoc (h .drawn) vs (draws next (k - (i + length vs)) d .values))
 
   -- a refused draw, and no room for another, end it
   pub read-stop : (why : Refusal) → next c ≡ stop why → i < k → draws next k c₀ ≡ ended (h .drawn) why c

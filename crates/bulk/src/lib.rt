@@ -8,16 +8,21 @@ use numbers::Read;
 use numbers::Refusal;
 use numbers::Signed;
 use numbers::words;
+use text::Bytes;
 use text::Part;
 use text::Taken;
 ghost use mathlib.Core.Path.{_≡_};
-ghost use Prim.Native.Nat.{_≤_};
+ghost use mathlib.Core.Bool.{true};
+ghost use mathlib.Core.List.{_++_};
+ghost use Prim.Native.Nat.{_+_, _-_, _≤_, _<_};
 ghost use lib.Dec.{eqb};
-ghost use Rattle.numbers.specs.Number.{readSigned, pick, none};
+ghost use lib.ListN.{length, take, drop, replicate};
+ghost use Rattle.numbers.specs.Number.{after, spelt, placed, readSigned, pick, none};
 ghost use Rattle.columns.specs.Number as numbers;
 ghost use Rattle.columns.specs.Difference as differences;
 ghost use Rattle.columns.specs.Byte as bytes;
 ghost use Rattle.string.specs.String.{taken, nextText};
+ghost use Rattle.bulk.specs.Bulk.{TookPlain};
 ghost use Rattle.bulk.specs.Promises.{ReadNumbers, ReadDifferences, ReadBytes, ReadTexts};
 
 // The refusal that is told after i values.
@@ -67,17 +72,69 @@ fn draw_number(c: number::Place) -> number::Answer
     )
 }
 
-fn number_run(column: &[u8], at: usize) -> number::Answer
-    ensures { λ r. ⌜ r ≡ numbers.begun (now (column .entry)) at (readSigned (now (column .entry)) at) ⌝ }
+// The rest of a signed number that began at `first`, its low six bits being `value`: as `numbers` has it, part of the loop.
+fn number_rest(s: &[u8], first: usize, at: usize, value: u64) -> Read
+    requires { ⌜ value < 64 ⌝ }
+    ensures { λ r. ⌜ r ≡ placed (now (s .entry)) first (after 64 value (spelt 8 at (drop at (now (s .entry))))) ⌝ }
 {
-    let r = numbers::read_signed(column, at);
-    let Signed::Value(minus, x, e) = r else {
-        return number::Answer::Bad(numbers::why_signed(r));
-    };
+    let mut i = at;
+    let mut left: usize = 8;
+    let mut unit: u64 = 64;
+    let mut value = value;
+    while 0 < left {
+        if s.len() <= i {
+            return Read::Refused(Refusal {
+                number: 1,
+                place: s.len(),
+            });
+        }
+        let b = s[i] as u64;
+        i += 1;
+        if b < 128 {
+            let last = unit * b;
+            let whole = value + last;
+            return Read::Number(whole, i);
+        }
+        value += unit * (b - 128);
+        unit *= 128;
+        left -= 1;
+    }
+    Read::Refused(Refusal {
+        number: 2,
+        place: first,
+    })
+}
+
+fn read_number(s: &[u8], at: usize) -> Signed
+    ensures { λ r. ⌜ r ≡ readSigned (now (s .entry)) at ⌝ }
+{
+    if s.len() <= at {
+        return Signed::Wrong(Refusal {
+            number: 1,
+            place: s.len(),
+        });
+    }
+    let b = s[at] as u64;
+    let next = at + 1;
+    let low = b % 64;
+    let minus = b / 64 % 2 == 1;
+    if b < 128 {
+        return Signed::Value(minus, low, next);
+    }
+    match number_rest(s, at, next, low) {
+        Read::Number(x, e) => Signed::Value(minus, x, e),
+        Read::Refused(why) => Signed::Wrong(why),
+    }
+}
+
+// A run whose number is read: where its count has more than one byte, or is not there.
+fn long_run(column: &[u8], from: usize, minus: bool, x: u64, e: usize) -> number::Answer
+    ensures { λ r. ⌜ r ≡ numbers.begun (now (column .entry)) from (Signed.Value minus x e) ⌝ }
+{
     if !minus {
         return draw_number(number::Place {
             at: e,
-            from: at,
+            from,
             last: x,
             count: 1,
         });
@@ -95,10 +152,47 @@ fn number_run(column: &[u8], at: usize) -> number::Answer
     let times = (c + 2) as u32;
     draw_number(number::Place {
         at: f,
-        from: at,
+        from,
         last: x,
         count: times,
     })
+}
+
+fn one_if(minus: bool) -> usize
+    ensures { λ r. ⌜ r ≡ pick minus 1 0 ⌝ }
+{
+    if minus { 1 } else { 0 }
+}
+
+// A run whose number is read. Whether a count follows is not asked but counted with: it is as often so as not, and a wrong guess takes longer.
+fn run_of(column: &[u8], from: usize, minus: bool, x: u64, e: usize) -> number::Answer
+    ensures { λ r. ⌜ r ≡ numbers.begun (now (column .entry)) from (Signed.Value minus x e) ⌝ }
+{
+    if e < column.len() {
+        let m = one_if(minus);
+        let c = m * column[e] as usize;
+        if c < 128 {
+            let next = e + m;
+            let times = (1 + m + c) as u32;
+            return draw_number(number::Place {
+                at: next,
+                from,
+                last: x,
+                count: times,
+            });
+        }
+    }
+    long_run(column, from, minus, x, e)
+}
+
+fn number_run(column: &[u8], at: usize) -> number::Answer
+    ensures { λ r. ⌜ r ≡ numbers.begun (now (column .entry)) at (readSigned (now (column .entry)) at) ⌝ }
+{
+    let r = read_number(column, at);
+    let Signed::Value(minus, x, e) = r else {
+        return number::Answer::Bad(numbers::why_signed(r));
+    };
+    run_of(column, at, minus, x, e)
 }
 
 fn next_number(column: &[u8], place: number::Place) -> number::Answer
@@ -109,6 +203,73 @@ fn next_number(column: &[u8], place: number::Place) -> number::Answer
         return draw_number(place);
     }
     number_run(column, at)
+}
+
+// How many of a run are put: the one that was drawn and those that are left, as far as there is room.
+fn as_many(left: u32, room: usize) -> usize
+    requires { ⌜ 1 ≤ room ⌝ }
+    ensures { λ r. ⌜ (1 ≤ r) × (r ≤ room) × (r ≤ left + 1) ⌝ }
+{
+    let more = left as usize;
+    if more < room {
+        return more + 1;
+    }
+    room
+}
+
+// The value v, n times from `at` on.
+fn fill(out: &mut [u64], at: usize, n: usize, v: u64)
+    requires { ⌜ at + n ≤ length (now out) ⌝ }
+    ensures { λ _. ⌜ take (at + n) (now (out .exit)) ≡ take at (now (out .entry)) ++ replicate n v ⌝ }
+{
+    let mut i: usize = 0;
+    while i < n {
+        out[at + i] = v;
+        i += 1;
+    }
+}
+
+fn fill_six(out: &mut [u64], at: usize, v: u64)
+    requires { ⌜ at + 6 ≤ length (now out) ⌝ }
+    ensures { λ _. ⌜ take (at + 6) (now (out .exit)) ≡ take at (now (out .entry)) ++ replicate 6 v ⌝ }
+{
+    let mut i: usize = 0;
+    while i < 6 {
+        out[at + i] = v;
+        i += 1;
+    }
+}
+
+// The same as `fill`, but a short run is put as six at once: what stands behind it is put later, or cleared, and how long it is need not be guessed.
+fn spread(out: &mut [u64], at: usize, n: usize, v: u64)
+    requires { ⌜ at + n ≤ length (now out) ⌝ }
+    ensures { λ _. ⌜ take (at + n) (now (out .exit)) ≡ take at (now (out .entry)) ++ replicate n v ⌝ }
+{
+    if n <= 6 {
+        let room = out.len() - at;
+        if 6 <= room {
+            fill_six(out, at, v);
+            return;
+        }
+    }
+    fill(out, at, n, v);
+}
+
+// The place after m more of the run.
+fn less_drawn(d: number::Place, m: usize) -> number::Place
+    requires { ⌜ m ≤ d .count ⌝ }
+    ensures { λ r. ⌜ r ≡ numbers.placeAt (d .at) (d .from) (d .last) (d .count - m) ⌝ }
+{
+    let at = d.at;
+    let from = d.from;
+    let last = d.last;
+    let count = d.count - m as u32;
+    number::Place {
+        at,
+        from,
+        last,
+        count,
+    }
 }
 
 pub fn read_numbers(column: &[u8], place: number::Place, out: &mut [u64]) -> NumbersRead
@@ -128,9 +289,12 @@ pub fn read_numbers(column: &[u8], place: number::Place, out: &mut [u64]) -> Num
                 place: c,
             };
         };
-        out[i] = v;
-        i += 1;
-        c = d;
+        let room = out.len() - i;
+        let left = d.count;
+        let n = as_many(left, room);
+        spread(out, i, n, v);
+        i += n;
+        c = less_drawn(d, n - 1);
     }
     NumbersRead {
         refusal: Refusal {
@@ -407,31 +571,7 @@ fn unit_run(column: &[u8], at: usize) -> number::Answer
     let Signed::Value(minus, x, e) = r else {
         return number::Answer::Bad(numbers::why_signed(r));
     };
-    if !minus {
-        return draw_number(number::Place {
-            at: e,
-            from: at,
-            last: x,
-            count: 1,
-        });
-    }
-    let k = numbers::read_unsigned(column, e);
-    let Read::Number(c, f) = k else {
-        return number::Answer::Bad(numbers::why_read(k));
-    };
-    if numbers::MAX_COUNT < c {
-        return number::Answer::Bad(Refusal {
-            number: 3,
-            place: e,
-        });
-    }
-    let times = (c + 2) as u32;
-    draw_number(number::Place {
-        at: f,
-        from: at,
-        last: x,
-        count: times,
-    })
+    long_run(column, at, minus, x, e)
 }
 
 fn next_unit(column: &[u8], place: number::Place) -> number::Answer
@@ -444,10 +584,43 @@ fn next_unit(column: &[u8], place: number::Place) -> number::Answer
     unit_run(column, at)
 }
 
-// The text of u units, and the place after it.
+// Whether the text of u units at `at`, among those up to `end`, is u plain bytes.
+fn is_plain(column: &[u8], at: usize, end: usize, u: u64) -> bool
+    ensures { λ r. ⌜ (r ≡ true → TookPlain (now (column .entry)) at end u) ⌝ }
+{
+    if column.len() < end {
+        return false;
+    }
+    if end < at {
+        return false;
+    }
+    let room = (end - at) as u64;
+    if room < u {
+        return false;
+    }
+    let stop = at + u as usize;
+    text::plain_to(column, at, stop) == stop
+}
+
+// The text of u units, and the place after it. Plain text is looked at here: what has many callers is handed its answer through memory.
 fn take(column: &[u8], at: usize, end: usize, u: u64, units: number::Place) -> string::Answer
     ensures { λ r. ⌜ r ≡ taken (now (column .entry)) at end u units ⌝ }
 {
+    if is_plain(column, at, end, u) {
+        let n = u as usize;
+        let next = at + n;
+        return string::Answer::Next(
+            Part {
+                place: at,
+                bytes: Bytes(n),
+            },
+            string::Place {
+                at: next,
+                end,
+                units,
+            },
+        );
+    }
     match string::take_text(column, at, end, u) {
         Taken::Took(bytes) => {
             let next = at + bytes.0;

@@ -12,15 +12,13 @@ use Rattle.columns.specs.declared.number.Answer.{Answer}
 use Rattle.columns.specs.declared.number.Answer.the-variants.{Next, Bad}
 use Rattle.columns.specs.Number.{nextNumber, whyNumber}
 use Rattle.bulk.specs.declared.NumbersRead.{NumbersRead}
-use Rattle.bulk.specs.Bulk.{drew, stop, numberDraw}
+use Rattle.bulk.specs.Bulk.{stop, numberDraw}
 use Rattle.bulk.specs.Promises.{numbersAnswer}
-use Rattle.bulk.proofs.Drawing.{ReadTo, read-begin, read-on, read-stop, read-end, end-answer, end-words, end-full, none-either}
+use Rattle.bulk.proofs.Drawing.{ReadTo, read-begin, read-stop, read-end, end-answer, end-words, end-full, none-either}
+use Rattle.bulk.proofs.Spreading.{itself, read-run}
 use borrow.Author.Needs.{needs}
 use Rattle.bulk.proofs.read_numbers.Statement.{statement}
 use Rattle.bulk.proofs.read_numbers.Tie as tie
-
-abbrev itself : List ℕ → List ℕ
-itself vs = vs
 
 abbrev make : Refusal → ℕ → Place → NumbersRead
 make w k d = record { refusal = w; count = k; place = d }
@@ -55,28 +53,35 @@ returns c =
       c .before .before .before .before .clear .ensures ∙ end-words (l .inv) _ e,
     )
 
-mul-out : tie.Need-mul-out Inv-loop μ-loop
-mul-out c = search needs
+as-many-requires : tie.Need-as-many-requires Inv-loop μ-loop
+as-many-requires c κs = omega (arith, c .before .before .before .before .loop-test .taken)
 
-slice-write-out : tie.Need-slice-write-out Inv-loop μ-loop
-slice-write-out c = omega arith
+spread-requires : tie.Need-spread-requires Inv-loop μ-loop
+spread-requires c κs = omega (arith, c .before .as-many .ensures .1, c .before .before .before .before .before .before .loop-test .taken)
 
 add-i : tie.Need-add-i Inv-loop μ-loop
-add-i c = omega arith
+add-i c = omega (arith, c .before .before .before .before .as-many .ensures .1, c .before .before .before .before .before .before .before .before .before .loop-test .taken)
+
+sub-less-drawn : tie.Need-sub-less-drawn Inv-loop μ-loop
+sub-less-drawn c = c .before .before .before .before .as-many .ensures .0
+
+less-drawn-requires : tie.Need-less-drawn-requires Inv-loop μ-loop
+less-drawn-requires c κs = omega (arith, c .before .before .before .before .as-many .ensures .2)
 
 loop-less : tie.Need-loop-less Inv-loop μ-loop
-loop-less c = let l = c .before .before .before .before .before .loop in omega (arith, l .inv .size)
-
-drawn : (r : Answer) (v : ℕ) (d : Place) → r ≡ Next v d → numberDraw r ≡ drew v d
-unfolding numberDraw
-drawn r v d e = rw e
+loop-less c =
+    let l = c .before .before .before .before .before .before .before .before .before .before .before .loop in
+    omega (arith, l .inv .size, c .before .before .before .before .before .as-many .ensures .0, c .before .before .before .before .before .before .before .before .before .before .loop-test .taken)
 
 loop-again : tie.Need-loop-again Inv-loop μ-loop
 loop-again c =
-    let l = c .before .before .before .before .before .loop in
-    let n = c .before .before .before in
-    let r = c .before .r .given in
-    read-on (l .inv) (r .0 .0) (r .0 .1 .0) (r .0 .0 ∷ []) (λ vs. refl) (ap numberDraw (sym (n .next-number .ensures)) ∙ drawn _ _ _ (r .1)) (omega (arith, l .inv .size)) (omega (arith, l .inv .size))
+    let a = c .before .before .before .before .before .before .before .before .before .before .before .before .before .before .args in
+    let l = c .before .before .before .before .before .before .before .before .before .before .before .loop in
+    let r = c .before .before .before .before .before .before .before .r .given in
+    let m = c .before .before .before .before .before .as-many in
+    let p = c .before .before .before .spread in
+    rw (c .less-drawn .ensures)
+    (read-run (a .column .now) (length (a .out .now)) (a .place) (l .out) (l .i) (l .c) (l .inv) (r .0 .0) (r .0 .1 .0) (sym (c .before .before .before .before .before .before .before .before .before .next-number .ensures) ∙ r .1) (m .result) (m .ensures .0) (omega (arith, m .ensures .1, l .inv .size, c .before .before .before .before .before .before .before .before .before .before .loop-test .taken)) (m .ensures .2) (p .last .0) (p .kept .0 ∙ l .inv .size) (p .ensures))
 
 same-length-2 : tie.Need-same-length-2 Inv-loop μ-loop
 same-length-2 c = c .before .loop .inv .size
@@ -93,4 +98,5 @@ read-numbers-spec =
     tie.close
     (tie.spec
     Inv-loop μ-loop loop-holds (λ c κs. search needs) (λ c. search needs) (λ c. search needs) clear-requires (λ c κs. search needs) (λ c κs. search needs)
-    same-length returns mul-out slice-write-out add-i loop-less loop-again same-length-2 returns-2)
+    same-length returns (λ c. search needs) as-many-requires spread-requires add-i sub-less-drawn less-drawn-requires loop-less loop-again same-length-2
+    returns-2)
