@@ -52,11 +52,11 @@ static file load(const char *name, const char *end) {
 
 static struct {
     uint8_t form, to, kind;
-    file update, vector, column, values, lengths;
-    size_t blocks, ranges; // rows lent
+    file update, vector, held, column, values, lengths;
+    size_t blocks, ranges, given; // rows lent
     size_t room, count;
     wairokabi_block *rows, *others;
-    uint64_t *words, *more, *order, *units, counts[128], reaches[384], pending[192];
+    uint64_t *words, *more, *order, *holds, *units, counts[128], reaches[384], pending[192];
     uint8_t *out, *copy;
     uint64_t answer[3];
 } on;
@@ -110,6 +110,17 @@ static void ours_sort(void) {
 static void rust_sort(void) {
     if (yrs_sort(on.form, on.update.bytes, on.update.count, none, 1, on.answer))
         on.answer[0] = (uint64_t)-2;
+}
+
+// against the held ids that are given, or against none
+static void ours_held(void) {
+    const uint8_t *held = on.held.bytes ? on.held.bytes : none;
+    const size_t bytes = on.held.bytes ? on.held.count : 1;
+    const wairokabi_sorted_held r = wairokabi_sort_held(on.form, on.update.bytes, on.update.count, held, bytes, on.rows, on.blocks, on.words, 3 * on.ranges,
+                                                        on.holds, 3 * on.given, on.order, on.blocks, on.counts, 128, on.pending, 192);
+    on.answer[0] = r.refusal.number ? (uint64_t)-1 : r.steps;
+    on.answer[1] = r.blocks - r.steps;
+    on.answer[2] = r.held;
 }
 
 // every message by itself, with 64 rows and 64 ranges lent
@@ -302,6 +313,15 @@ static void measure(const char *input, const char *work, void (*ours)(void), voi
 
 // ---- the work
 
+// Where nothing is held and no block is taken across a gap, both sorters take the same blocks in the same order.
+static void check_held(const char *input, const char *work) {
+    ours_sort();
+    const uint64_t steps = on.answer[0];
+    memcpy(on.others, on.order, 8 * on.blocks);
+    ours_held();
+    check(on.answer[0] == steps && memcmp(on.others, on.order, 8 * on.blocks) == 0, input, work, "the two sorters part");
+}
+
 // Both diffs, read again, have the same blocks and the same delete ranges. (The Rust writes the delete set's clients in another order, so bytes may part.)
 static void check_diff(const char *input, const char *work, size_t bytes) {
     uint64_t len;
@@ -342,8 +362,8 @@ static void give_back(void) {
 }
 
 static void update_work(const char *input, const char *work, size_t blocks, size_t ranges) {
-    char end[2] = {work[4], 0};
-    on.form = work[4] - '0';
+    const char end[2] = {work[strcspn(work, "12")], 0};
+    on.form = (uint8_t)(end[0] - '0');
     on.update = load(input, end);
     on.copy = some(on.update.count * 4 + 4096);
     if (!strncmp(work, "read", 4)) {
@@ -355,6 +375,23 @@ static void update_work(const char *input, const char *work, size_t blocks, size
     } else if (!strncmp(work, "sort", 4)) {
         lend(blocks, ranges);
         measure(input, work, ours_sort, rust_sort, 3, on.update.bytes, on.update.count);
+    } else if (!strncmp(work, "held", 4)) {
+        lend(blocks, ranges);
+        check_held(input, work);
+        measure(input, work, ours_held, 0, 3, on.update.bytes, on.update.count);
+    } else if (!strncmp(work, "given", 5)) {
+        on.held = load(input, "held");
+        on.given = 1000000;
+        on.holds = some(24 * on.given);
+        lend(blocks, ranges);
+        ours_held();
+        check(on.answer[0] == blocks && on.answer[2] == on.given, input, work, "not all are taken");
+        measure(input, work, ours_held, 0, 3, on.held.bytes, on.held.count);
+        free(on.holds);
+        free(on.held.bytes);
+        on.held.bytes = 0;
+        on.given = 0;
+        on.holds = 0;
     } else if (!strncmp(work, "diff", 4)) {
         lend(blocks, ranges);
         on.to = work[5] - '0';

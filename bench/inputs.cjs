@@ -15,7 +15,7 @@ const list = []
 const put = (name, bytes) => fs.writeFileSync(path.join(dir, name), bytes)
 const entry = (name, blocks, ranges, ...work) => list.push([name, blocks, ranges, work.join(',')].join('\t'))
 
-const BOTH = ['read1', 'read2', 'diff11', 'diff12', 'diff21', 'diff22', 'sort1', 'sort2']
+const BOTH = ['read1', 'read2', 'diff11', 'diff12', 'diff21', 'diff22', 'sort1', 'sort2', 'held1', 'held2']
 const words = ('wai ro kabi kōrero awa maunga rangi whenua moana te ngā me he ki o i a mai atu iho ake the of and to in that it was for on are with as ' +
   'line reading editor gateway analyst auditor proof 読み 編集 größe naïve Straße').split(' ')
 
@@ -83,7 +83,7 @@ const coloured = blocks => {
   }
   return doc
 }
-for (const n of [1000, 10000]) documentFor(['read1', 'read2', 'diff11', 'diff22', 'sort1', 'sort2'], `rich-${n}`, coloured(n))
+for (const n of [1000, 10000]) documentFor(['read1', 'read2', 'diff11', 'diff22', 'sort1', 'sort2', 'held1', 'held2'], `rich-${n}`, coloured(n))
 
 // ---- an editing session: three people type words letter by letter, go elsewhere, take back letters, delete and paste sentences, and hear from each other
 // every few hundred keys; `messages` has the update of each key
@@ -143,9 +143,9 @@ entry('messages', messages.length, 0, 'each1')
 // ---- worst cases
 
 // One delete-set client, a million ranges of one id, the last first; and a million in no order.
-const ranges = clocks => {
+const ranges = (clocks, client = 5) => {
   const e = lib0.createEncoder()
-  for (const n of [0, 1, 5, clocks.length]) lib0.writeVarUint(e, n)
+  for (const n of [0, 1, client, clocks.length]) lib0.writeVarUint(e, n)
   for (const clock of clocks) {
     lib0.writeVarUint(e, clock)
     lib0.writeVarUint(e, 1)
@@ -169,7 +169,7 @@ put('mixed.1', ranges(mixed))
 entry('mixed', 0, MILLION, 'read1')
 
 // 64 clients, 1 to 64. `left` gives the left id of block k of a client, [client, clock], or null for none: then its parent is the text t.
-const waiting = (name, counts, left) => {
+const waiting = (name, counts, left, ...work) => {
   const sections = counts.map((n, c) => ({
     client: c + 1,
     clock: 0,
@@ -180,20 +180,26 @@ const waiting = (name, counts, left) => {
   })).reverse()
   const total = counts.reduce((a, b) => a + b)
   put(`${name}.1`, Uint8Array.from(spelling.update(1, { sections })))
-  entry(name, total, 0, 'sort1')
+  entry(name, total, 0, ...work)
 }
 const even = many(64, c => c === 63 ? 1023 : 1024)
 // Each client's first block waits for the next client's first, round: nothing is taken.
-waiting('ring', even, (c, k) => k === 0 ? [c % 64 + 1, 0] : [c, k - 1])
+waiting('ring', even, (c, k) => k === 0 ? [c % 64 + 1, 0] : [c, k - 1], 'sort1', 'held1')
 // One client after the other, lowest first, one block each time: one front of 64 is ready at any time.
-waiting('turns', even, (c, k) => c > 1 ? [c - 1, k] : k > 0 ? [64, k - 1] : null)
+waiting('turns', even, (c, k) => c > 1 ? [c - 1, k] : k > 0 ? [64, k - 1] : null, 'sort1', 'held1')
 // The same, highest first.
-waiting('falling-turns', even, (c, k) => c < 64 ? (k < 1023 ? [c + 1, k] : [c, k - 1]) : k > 0 ? [1, k - 1] : null)
+waiting('falling-turns', even, (c, k) => c < 64 ? (k < 1023 ? [c + 1, k] : [c, k - 1]) : k > 0 ? [1, k - 1] : null, 'sort1', 'held1')
 // 63 clients wait for the last block of the lowest one.
 const behind = [65535 - 63, ...many(63, () => 1)]
-waiting('behind', behind, (c, k) => c > 1 ? [1, behind[0] - 1] : k > 0 ? [1, k - 1] : null)
+waiting('behind', behind, (c, k) => c > 1 ? [1, behind[0] - 1] : k > 0 ? [1, k - 1] : null, 'sort1', 'held1')
 // All of them ready at once: no block waits for another client.
-waiting('apart', even, (c, k) => k > 0 ? [c, k - 1] : null)
+waiting('apart', even, (c, k) => k > 0 ? [c, k - 1] : null, 'sort1', 'held1')
+
+// All of them hang on ids of client 1000, which has no blocks here, in no order; and a million held ranges have all of these ids, one each.
+for (const [name, clock] of [['held-rising', k => 2 * k], ['held-falling', k => 2 * (MILLION - 1 - k)], ['held-mixed', k => mixed[k]]]) {
+  put(`${name}.held`, ranges(many(MILLION, clock), 1000).slice(1))
+  waiting(name, even, (c, k) => [1000, mixed[1024 * (c - 1) + k]], 'given1')
+}
 
 // ---- columns: 100,000 values, in runs of one half of the time
 

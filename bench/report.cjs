@@ -65,6 +65,22 @@ const beyond = table(['beyond reading, per block', 'ours', 'Rust', 'ours / Rust'
   return [name, time(a), time(b), short(a / b)]
 }))
 
+// Sorting by held ids, of which there are none, beside sorting by rule 28 against no vector: both take the same blocks.
+const HELD = [
+  ...SIZES.map(n => [`size-${n}`, `${thousands(n)} blocks`]),
+  ['rich-10000', '10,000 blocks, with marks, maps, arrays and XML'],
+  ['session', 'the editing session'],
+  ['ring', '64 clients in a ring, none taken'],
+  ['turns', 'one of 64 fronts ready, lowest client first'],
+  ['falling-turns', 'the same, highest first'],
+  ['behind', '63 wait for the last block of the lowest'],
+  ['apart', '64 clients, none waits']
+].flatMap(([input, name]) => ['1', '2'].filter(form => at(input, `held${form}`) !== undefined).map(form => {
+  const [held, sort] = [at(input, `held${form}`), at(input, `sort${form}`)]
+  return [`${name}, form ${form}`, time(held.ours.time / list.get(input).blocks), time(held.ours.time), time(sort.ours.time), ratio(held.ours, sort.ours)]
+}))
+const held = table(['', 'by held ids, per block', 'by held ids, whole', 'by rule 28, whole', 'by held ids / by rule 28'], HELD)
+
 const WORST = [
   ['falling', 'read1', 'read: a million delete ranges, falling', 'range'],
   ['mixed', 'read1', 'read: a million, in no order', 'range'],
@@ -74,6 +90,9 @@ const WORST = [
   ['falling-turns', 'sort1', 'sort: the same, highest first', 'block'],
   ['behind', 'sort1', 'sort: 63 wait for the last block of the lowest', 'block'],
   ['apart', 'sort1', 'sort: 64 clients, none waits', 'block'],
+  ['held-rising', 'given1', 'sort by a million held ranges, in order', 'block'],
+  ['held-falling', 'given1', 'the same, falling', 'block'],
+  ['held-mixed', 'given1', 'the same, in no order', 'block'],
   ['size-100', 'lent1', 'read: 100 blocks, tables of 65,535 rows lent', 'block'],
   ['size-10000', 'lent1', 'read: 10,000 blocks, tables of 65,535 rows lent', 'block']
 ].map(([input, work, name]) => [name, at(input, work), list.get(input).blocks || list.get(input).ranges])
@@ -131,9 +150,13 @@ ${['rich-1000', 'rich-10000'].map(input => `${thousands(list.get(input).blocks)}
 
 ${grown}
 
+### Sorting by held ids
+
+${held}
+
 ### Worst cases
 
-The unit is a block, or a delete range where there are no blocks.
+The unit is a block, or a delete range where there are no blocks. Where there are held ranges, each block hangs on one of a million; memcpy copies these.
 
 ${compared(WORST, 'unit')}
 

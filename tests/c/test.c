@@ -364,6 +364,52 @@ static void sorts_by_held_ids(void) {
     EXPECT(refused(s.refusal, 1, 0) && s.blocks == 0 && zero_rows(0) && given[2] == 0 && pending[0] == 0);
 }
 
+static size_t put_number(uint8_t *at, uint64_t value) {
+    size_t n = 0;
+    for (; value > 127; value >>= 7)
+        at[n++] = (uint8_t)(value | 128);
+    at[n++] = (uint8_t)value;
+    return n;
+}
+
+// A million held ranges of one id each, the last first, and as many blocks as there may be, each of which hangs on one of these ids, in no order; the last
+// hangs on an id between two of them.
+static void many_held(void) {
+    enum { RANGES = 1000000, BLOCKS = 65535 };
+    static uint8_t held[5 * RANGES + 16], update[8 * BLOCKS + 16];
+    static uint64_t given[3 * RANGES], order[BLOCKS];
+    static wairokabi_block table[BLOCKS];
+    uint64_t counts[2], pending[3];
+    held[0] = 1;
+    held[1] = 9;
+    size_t n = 2, m = 1;
+    n += put_number(held + n, RANGES);
+    for (uint64_t k = RANGES; k-- > 0;) {
+        n += put_number(held + n, 2 * k);
+        held[n++] = 1;
+    }
+    update[0] = 1;
+    m += put_number(update + m, BLOCKS);
+    update[m++] = 5;
+    update[m++] = 0;
+    for (uint64_t k = 0; k < BLOCKS; k++) {
+        update[m++] = 0x84;
+        update[m++] = 9;
+        m += put_number(update + m, k + 1 < BLOCKS ? 2 * (k * 7919 % RANGES) : 7);
+        update[m++] = 1;
+        update[m++] = 0x78;
+    }
+    update[m++] = 0;
+    fill();
+    const clock_t begun = clock();
+    const wairokabi_sorted_held s =
+        wairokabi_sort_held(1, update, m, held, n, table, BLOCKS, words, 0, given, 3 * RANGES, order, BLOCKS, counts, 2, pending, 3);
+    EXPECT(clock() - begun < CLOCKS_PER_SEC);
+    EXPECT(done(s.refusal) && s.steps == BLOCKS - 1 && s.blocks == BLOCKS && s.held == RANGES && s.counts == 1 && s.pending == 1);
+    EXPECT(order[1] == 1 && order[BLOCKS - 2] == BLOCKS - 2 && counts[0] == 5 && counts[1] == BLOCKS - 1);
+    EXPECT(same_words(pending, (uint64_t[]){5, 9, 7}, 3) && same_words(given, (uint64_t[]){9, 0, 1, 9, 2, 1}, 6));
+}
+
 static void others(void) {
     static const uint8_t input[] = {0x01, 0x01, 0x01, 0x05, 0x00, 0x04, 0x01, 0x01, 0x74, 0x02, 0x68, 0x69, 0x00};
     static const char listing[] = "update form 1 blocks 1 ranges 0\n5 0 2 text\nend\n", short_listing[] = "refused 1 at 11\n";
@@ -600,6 +646,7 @@ int main(void) {
     sorts();
     sorts_slowly();
     sorts_by_held_ids();
+    many_held();
     summaries();
     refusals();
     places();

@@ -18,7 +18,7 @@ use Rattle.sorting.proofs.Held.{within-is, ranges-hold}
 use Rattle.sorting.proofs.Outcome.{below-or}
 use Rattle.placing.specs.Halving.{found}
 use Rattle.placing.specs.Placing.{isBefore, begins, isHeld}
-use Rattle.held_outcome.proofs.Borders.{Border, found-borders}
+use Rattle.placing.proofs.Borders.{Border, found-borders}
 
 module _ (d : Id) where
   abbrev Hits : Range → Type 0

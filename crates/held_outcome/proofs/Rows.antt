@@ -26,7 +26,7 @@ use Rattle.placing.specs.declared.Span.{Span}
 use Rattle.placing.specs.Halving.{span, clipped, found}
 use Rattle.placing.proofs.Halved.{found-done}
 use Rattle.placing.specs.Placing.{spanAt, spanOf, pastRow, capped, numberAt, sought, heldBy, firstOf}
-use Rattle.held_outcome.proofs.Borders.{Border, found-borders}
+use Rattle.placing.proofs.Borders.{Border, found-borders}
 
 module _ {bs : List Block} {ss : List Slot} (slotted : Slotted bs [] ss) (ordered : Ordered bs) (few : length bs ≤ maxBlocks) (rows : List Block)
     (back : take (length bs) rows ≡ bs) where

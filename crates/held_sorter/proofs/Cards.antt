@@ -13,16 +13,16 @@ use contract.Monad.{Fun, fact, factI}
 use denote.Triple.Statement.{Contract, Triple}
 use denote.Triple.Spec.{tripleOf}
 use denote.Triple.Clauses.{atExit}
-use Rattle.walks.proofs.Rows.{Has, word, bool-kind}
+use Rattle.walks.proofs.Rows.{Has, word, bool-kind, unit-kind}
 use Rattle.walks.proofs.Refs.{Seat, val, mut, read, pass, Card, since}
 use Rattle.block.specs.declared.Id.{Id}
 use Rattle.block.specs.declared.Block.{Block}
 use Rattle.picker.specs.declared.fronts.Front.{Front}
 use Rattle.awaited.specs.Awaited.{firstUnmet, isLeft, waitingFrom, waitingOf, waitingWords}
 use Rattle.block.specs.Row.{noBlock}
-use Rattle.held_sorter.specs.HeldSorter.{countsBy, orderBy, pendingBy, sortingBy}
+use Rattle.chaining.specs.Chaining.{Chains, chainsFrom, lookedBy}
+use Rattle.held_sorter.specs.HeldSorter.{countsBy, orderBy, pendingBy, picksBy, sortingBy}
 use Rattle.picker.specs.Fronts.{frontAt}
-use Rattle.picker.specs.Picker.{allPicked}
 use Rattle.placing.specs.Placing.{rowBy, rowsBy}
 use Rattle.reports.specs.Reports.{fitted}
 use Rattle.slots.specs.Slots.{Falling, slotAt, slotsFrom}
@@ -30,6 +30,12 @@ use lib.Seq.{sets}
 use Rattle.held_sorter.proofs.Sorts.{front, id}
 use Rattle.sorter.proofs.Sorts.{picker·look, sorting}
 use Rattle.table.proofs.Sorts.{block}
+use Rattle.nearby.proofs.chain_slots as nearby·chain-slots-fn
+use Rattle.nearby.proofs.chain_slots.Symbol.{name as #nearby·chain-slots}
+use Rattle.nearby.proofs.look_row as nearby·look-row-fn
+use Rattle.nearby.proofs.look_row.Symbol.{name as #nearby·look-row}
+use Rattle.held_sorter.proofs.pick_chained as held-sorter·pick-chained-fn
+use Rattle.held_sorter.proofs.pick_chained.Symbol.{name as #held-sorter·pick-chained}
 use Rattle.seeker.proofs.number_row as seeker·number-row-fn
 use Rattle.seeker.proofs.number_row.Symbol.{name as #seeker·number-row}
 use Rattle.held_sorter.proofs.pick_rows as held-sorter·pick-rows-fn
@@ -50,6 +56,15 @@ use Rattle.held_sorter.proofs.sort_slots as held-sorter·sort-slots-fn
 use Rattle.held_sorter.proofs.sort_slots.Symbol.{name as #held-sorter·sort-slots}
 
 module _ {M : Type 1} (𝓤 : URA M) (H : Heap 𝓤) (A : Atoms 𝓤) (mem : Memory → SProp 𝓤) (run : Routine → Fun 𝓤) where
+  abbrev pub Nearby·chain-slots : Contract 𝓤
+  Nearby·chain-slots = tripleOf 𝓤 H A nearby·chain-slots-fn.signature (nearby·chain-slots-fn.spec 𝓤 H A mem run)
+
+  abbrev pub Nearby·look-row : Contract 𝓤
+  Nearby·look-row = tripleOf 𝓤 H A nearby·look-row-fn.signature (nearby·look-row-fn.spec 𝓤 H A mem run)
+
+  abbrev pub Held-sorter·pick-chained : Contract 𝓤
+  Held-sorter·pick-chained = tripleOf 𝓤 H A held-sorter·pick-chained-fn.signature (held-sorter·pick-chained-fn.spec 𝓤 H A mem run)
+
   abbrev pub Seeker·number-row : Contract 𝓤
   Seeker·number-row = tripleOf 𝓤 H A seeker·number-row-fn.signature (seeker·number-row-fn.spec 𝓤 H A mem run)
 
@@ -78,6 +93,48 @@ module _ {M : Type 1} (𝓤 : URA M) (H : Heap 𝓤) (A : Atoms 𝓤) (mem : Mem
   Held-sorter·sort-slots = tripleOf 𝓤 H A held-sorter·sort-slots-fn.signature (held-sorter·sort-slots-fn.spec 𝓤 H A mem run)
 
   module _ (C : Calls 𝓤 H) where
+    pub nearby·chain-slots! : Triple 𝓤 (C #nearby·chain-slots) Nearby·chain-slots → (at-rows : Seat) (rows₀ : List Block) (at-slots : Seat) (slots₀ : List ℕ) (n₀ : ℕ) (g-n : Has word n₀) (at-chains : Seat) (chains₀ : List ℕ) → (3 * n₀ ≤ length slots₀) → Card 𝓤 H A C #nearby·chain-slots (pass block at-rows rows₀ ∷ pass word at-slots slots₀ ∷ val word n₀ g-n ∷ mut word at-chains chains₀ (chainsFrom 0 (slotsFrom slots₀ 0 n₀) rows₀ chains₀) ∷ []) unit-kind tt
+    nearby·chain-slots! known at-rows rows₀ at-slots slots₀ n₀ g-n at-chains chains₀ h = record {
+      contract = Nearby·chain-slots;
+      known = known;
+      ghost = λ x. (x, tt);
+      args = λ ns. refl;
+      asked = fact 𝓤 (3 * n₀ ≤ length slots₀);
+      asks = factI 𝓤 (3 * n₀ ≤ length slots₀) (emp 𝓤) h;
+      into = λ ns. id⊢ 𝓤 _;
+      ensured = λ x r ws. nearby·chain-slots-fn.clauses 𝓤 H A mem run (x .0) (x .3) .ensures tt r (atExit nearby·chain-slots-fn.ended (x .0) (x .3) ws);
+      out = λ ns v. id⊢ 𝓤 _;
+      said = λ ns r ws. since 𝓤 (λ e. (refl, (e, tt)));
+    }
+
+    pub nearby·look-row-reach! : Triple 𝓤 (C #nearby·look-row) Nearby·look-row → (at-rows : Seat) (rows₀ : List Block) (at-slots : Seat) (slots₀ : List ℕ) (n₀ : ℕ) (g-n : Has word n₀) (at-held : Seat) (held₀ : List ℕ) (ranges₀ : ℕ) (g-ranges : Has word ranges₀) (at-chains : Seat) (chains₀ : List ℕ) (at-reach : Seat) (reach₀ : List ℕ) (near₀ : ℕ) (g-near : Has word near₀) (i₀ : ℕ) (g-i : Has word i₀) → ((i₀ < length rows₀) × (3 * n₀ ≤ length slots₀) × Falling (slotsFrom slots₀ 0 n₀) × (3 * ranges₀ ≤ length held₀) × Chains (slotsFrom slots₀ 0 n₀) rows₀ chains₀) → Card 𝓤 H A C #nearby·look-row (pass block at-rows rows₀ ∷ pass word at-slots slots₀ ∷ val word n₀ g-n ∷ pass word at-held held₀ ∷ val word ranges₀ g-ranges ∷ pass word at-chains chains₀ ∷ read word at-reach reach₀ ∷ val word near₀ g-near ∷ val word i₀ g-i ∷ []) block (lookedBy held₀ ranges₀ (slotsFrom slots₀ 0 n₀) rows₀ reach₀ i₀ (getD rows₀ i₀ noBlock))
+    nearby·look-row-reach! known at-rows rows₀ at-slots slots₀ n₀ g-n at-held held₀ ranges₀ g-ranges at-chains chains₀ at-reach reach₀ near₀ g-near i₀ g-i h = record {
+      contract = Nearby·look-row;
+      known = known;
+      ghost = λ x. (x, tt);
+      args = λ ns. refl;
+      asked = fact 𝓤 ((i₀ < length rows₀) × (3 * n₀ ≤ length slots₀) × Falling (slotsFrom slots₀ 0 n₀) × (3 * ranges₀ ≤ length held₀) × Chains (slotsFrom slots₀ 0 n₀) rows₀ chains₀);
+      asks = factI 𝓤 ((i₀ < length rows₀) × (3 * n₀ ≤ length slots₀) × Falling (slotsFrom slots₀ 0 n₀) × (3 * ranges₀ ≤ length held₀) × Chains (slotsFrom slots₀ 0 n₀) rows₀ chains₀) (emp 𝓤) h;
+      into = λ ns. id⊢ 𝓤 _;
+      ensured = λ x r ws. nearby·look-row-fn.clauses 𝓤 H A mem run (x .0) (x .3) .ensures tt r (atExit nearby·look-row-fn.ended (x .0) (x .3) ws);
+      out = λ ns v. id⊢ 𝓤 _;
+      said = λ ns r ws. since 𝓤 (λ e. (e, tt));
+    }
+
+    pub held-sorter·pick-chained-chains! : Triple 𝓤 (C #held-sorter·pick-chained) Held-sorter·pick-chained → (at-rows : Seat) (rows₀ : List Block) (blocks₀ : ℕ) (g-blocks : Has word blocks₀) (at-slots : Seat) (slots₀ : List ℕ) (n₀ : ℕ) (g-n : Has word n₀) (at-held : Seat) (held₀ : List ℕ) (ranges₀ : ℕ) (g-ranges : Has word ranges₀) (at-chains : Seat) (chains₀ : List ℕ) (at-reach : Seat) (reach₀ : List ℕ) (at-fronts : Seat) (fronts₀ : List ℕ) (at-order : Seat) (order₀ : List ℕ) → ((3 * n₀ ≤ length slots₀) × Falling (slotsFrom slots₀ 0 n₀) × (3 * ranges₀ ≤ length held₀) × Chains (slotsFrom slots₀ 0 n₀) rows₀ chains₀) → Card 𝓤 H A C #held-sorter·pick-chained (pass block at-rows rows₀ ∷ val word blocks₀ g-blocks ∷ pass word at-slots slots₀ ∷ val word n₀ g-n ∷ pass word at-held held₀ ∷ val word ranges₀ g-ranges ∷ read word at-chains chains₀ ∷ mut word at-reach reach₀ ((picksBy held₀ ranges₀ (slotsFrom slots₀ 0 n₀) rows₀ blocks₀ reach₀ fronts₀ order₀) .reach) ∷ mut word at-fronts fronts₀ ((picksBy held₀ ranges₀ (slotsFrom slots₀ 0 n₀) rows₀ blocks₀ reach₀ fronts₀ order₀) .fronts) ∷ mut word at-order order₀ ((picksBy held₀ ranges₀ (slotsFrom slots₀ 0 n₀) rows₀ blocks₀ reach₀ fronts₀ order₀) .order) ∷ []) picker·look ((picksBy held₀ ranges₀ (slotsFrom slots₀ 0 n₀) rows₀ blocks₀ reach₀ fronts₀ order₀) .at)
+    held-sorter·pick-chained-chains! known at-rows rows₀ blocks₀ g-blocks at-slots slots₀ n₀ g-n at-held held₀ ranges₀ g-ranges at-chains chains₀ at-reach reach₀ at-fronts fronts₀ at-order order₀ h = record {
+      contract = Held-sorter·pick-chained;
+      known = known;
+      ghost = λ x. (x, tt);
+      args = λ ns. refl;
+      asked = fact 𝓤 ((3 * n₀ ≤ length slots₀) × Falling (slotsFrom slots₀ 0 n₀) × (3 * ranges₀ ≤ length held₀) × Chains (slotsFrom slots₀ 0 n₀) rows₀ chains₀);
+      asks = factI 𝓤 ((3 * n₀ ≤ length slots₀) × Falling (slotsFrom slots₀ 0 n₀) × (3 * ranges₀ ≤ length held₀) × Chains (slotsFrom slots₀ 0 n₀) rows₀ chains₀) (emp 𝓤) h;
+      into = λ ns. id⊢ 𝓤 _;
+      ensured = λ x r ws. held-sorter·pick-chained-fn.clauses 𝓤 H A mem run (x .0) (x .3) .ensures tt r (atExit held-sorter·pick-chained-fn.ended (x .0) (x .3) ws);
+      out = λ ns v. id⊢ 𝓤 _;
+      said = λ ns r ws. since 𝓤 (λ e. (e .0, (e .1, (e .2, (e .3, tt)))));
+    }
+
     pub seeker·number-row! : Triple 𝓤 (C #seeker·number-row) Seeker·number-row → (at-rows : Seat) (rows₀ : List Block) (at-slots : Seat) (slots₀ : List ℕ) (n₀ : ℕ) (g-n : Has word n₀) (at-held : Seat) (held₀ : List ℕ) (ranges₀ : ℕ) (g-ranges : Has word ranges₀) (near₀ : ℕ) (g-near : Has word near₀) (i₀ : ℕ) (g-i : Has word i₀) → ((i₀ < length rows₀) × (3 * n₀ ≤ length slots₀) × Falling (slotsFrom slots₀ 0 n₀) × (3 * ranges₀ ≤ length held₀)) → Card 𝓤 H A C #seeker·number-row (pass block at-rows rows₀ ∷ pass word at-slots slots₀ ∷ val word n₀ g-n ∷ pass word at-held held₀ ∷ val word ranges₀ g-ranges ∷ val word near₀ g-near ∷ val word i₀ g-i ∷ []) block (rowBy held₀ ranges₀ (slotsFrom slots₀ 0 n₀) rows₀ i₀ (getD rows₀ i₀ noBlock))
     seeker·number-row! known at-rows rows₀ at-slots slots₀ n₀ g-n at-held held₀ ranges₀ g-ranges near₀ g-near i₀ g-i h = record {
       contract = Seeker·number-row;
@@ -92,7 +149,7 @@ module _ {M : Type 1} (𝓤 : URA M) (H : Heap 𝓤) (A : Atoms 𝓤) (mem : Mem
       said = λ ns r ws. since 𝓤 (λ e. (e, tt));
     }
 
-    pub held-sorter·pick-rows! : Triple 𝓤 (C #held-sorter·pick-rows) Held-sorter·pick-rows → (at-rows : Seat) (rows₀ : List Block) (blocks₀ : ℕ) (g-blocks : Has word blocks₀) (at-slots : Seat) (slots₀ : List ℕ) (n₀ : ℕ) (g-n : Has word n₀) (at-held : Seat) (held₀ : List ℕ) (ranges₀ : ℕ) (g-ranges : Has word ranges₀) (at-reach : Seat) (reach₀ : List ℕ) (at-fronts : Seat) (fronts₀ : List ℕ) (at-order : Seat) (order₀ : List ℕ) → ((3 * n₀ ≤ length slots₀) × Falling (slotsFrom slots₀ 0 n₀) × (3 * ranges₀ ≤ length held₀)) → Card 𝓤 H A C #held-sorter·pick-rows (pass block at-rows rows₀ ∷ val word blocks₀ g-blocks ∷ pass word at-slots slots₀ ∷ val word n₀ g-n ∷ pass word at-held held₀ ∷ val word ranges₀ g-ranges ∷ mut word at-reach reach₀ (allPicked 28 (slotsFrom slots₀ 0 n₀) (rowsBy held₀ ranges₀ (slotsFrom slots₀ 0 n₀) rows₀ 0 rows₀) blocks₀ reach₀ fronts₀ order₀ .reach) ∷ mut word at-fronts fronts₀ (allPicked 28 (slotsFrom slots₀ 0 n₀) (rowsBy held₀ ranges₀ (slotsFrom slots₀ 0 n₀) rows₀ 0 rows₀) blocks₀ reach₀ fronts₀ order₀ .fronts) ∷ mut word at-order order₀ (allPicked 28 (slotsFrom slots₀ 0 n₀) (rowsBy held₀ ranges₀ (slotsFrom slots₀ 0 n₀) rows₀ 0 rows₀) blocks₀ reach₀ fronts₀ order₀ .order) ∷ []) picker·look (allPicked 28 (slotsFrom slots₀ 0 n₀) (rowsBy held₀ ranges₀ (slotsFrom slots₀ 0 n₀) rows₀ 0 rows₀) blocks₀ reach₀ fronts₀ order₀ .at)
+    pub held-sorter·pick-rows! : Triple 𝓤 (C #held-sorter·pick-rows) Held-sorter·pick-rows → (at-rows : Seat) (rows₀ : List Block) (blocks₀ : ℕ) (g-blocks : Has word blocks₀) (at-slots : Seat) (slots₀ : List ℕ) (n₀ : ℕ) (g-n : Has word n₀) (at-held : Seat) (held₀ : List ℕ) (ranges₀ : ℕ) (g-ranges : Has word ranges₀) (at-reach : Seat) (reach₀ : List ℕ) (at-fronts : Seat) (fronts₀ : List ℕ) (at-order : Seat) (order₀ : List ℕ) → ((3 * n₀ ≤ length slots₀) × Falling (slotsFrom slots₀ 0 n₀) × (3 * ranges₀ ≤ length held₀)) → Card 𝓤 H A C #held-sorter·pick-rows (pass block at-rows rows₀ ∷ val word blocks₀ g-blocks ∷ pass word at-slots slots₀ ∷ val word n₀ g-n ∷ pass word at-held held₀ ∷ val word ranges₀ g-ranges ∷ mut word at-reach reach₀ ((picksBy held₀ ranges₀ (slotsFrom slots₀ 0 n₀) rows₀ blocks₀ reach₀ fronts₀ order₀) .reach) ∷ mut word at-fronts fronts₀ ((picksBy held₀ ranges₀ (slotsFrom slots₀ 0 n₀) rows₀ blocks₀ reach₀ fronts₀ order₀) .fronts) ∷ mut word at-order order₀ ((picksBy held₀ ranges₀ (slotsFrom slots₀ 0 n₀) rows₀ blocks₀ reach₀ fronts₀ order₀) .order) ∷ []) picker·look ((picksBy held₀ ranges₀ (slotsFrom slots₀ 0 n₀) rows₀ blocks₀ reach₀ fronts₀ order₀) .at)
     held-sorter·pick-rows! known at-rows rows₀ blocks₀ g-blocks at-slots slots₀ n₀ g-n at-held held₀ ranges₀ g-ranges at-reach reach₀ at-fronts fronts₀ at-order order₀ h = record {
       contract = Held-sorter·pick-rows;
       known = known;

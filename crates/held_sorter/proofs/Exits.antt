@@ -20,6 +20,8 @@ use Rattle.picker.specs.Picker.{Desk, desk, nowhere, looks, pointed, offered, a
 use Rattle.reports.specs.Reports.{countsFrom, fitted}
 use Rattle.reports.proofs.Turns.{Report, Underway, begun, turn, ended-place, ended-words}
 use Rattle.placing.specs.Placing.{rowBy, rowsBy}
+use Rattle.chaining.specs.Chaining.{lookedBy}
+use Rattle.chaining.proofs.Light.{offered-same}
 use Rattle.awaited.specs.Awaited.{isLeft, firstUnmet, waitingWords, waitingOf, waitingFrom}
 use Rattle.sorter.specs.Sorter.{maxReaches, slotWords, frontWords, frontsAt, cleared, sortingOf, notedBy, slotsFor}
 use Rattle.sorter.proofs.Looking.{Looking, begins, turns, falls, ended}
@@ -67,14 +69,27 @@ module _ (w : List ℕ) (h : ℕ) (ss : List Slot) (rows : List Block) where
           under : p .row < length (numberedIn w h ss rows)
           under = omega (arith, long)
 
-          pub look-turns : Looks (next (rowBy w h ss rows (p .row) (getD rows (p .row) noBlock)) .at) (next (rowBy w h ss rows (p .row) (getD rows (p .row) noBlock)) .reach)
+          look-turns : Looks (next (rowBy w h ss rows (p .row) (getD rows (p .row) noBlock)) .at) (next (rowBy w h ss rows (p .row) (getD rows (p .row) noBlock)) .reach)
               (next (rowBy w h ss rows (p .row) (getD rows (p .row) noBlock)) .fronts) (next (rowBy w h ss rows (p .row) (getD rows (p .row) noBlock)) .order)
           look-turns = subst (λ (b : Block). Looks (next b .at) (next b .reach) (next b .fronts) (next b .order)) (row-at (p .row) l)
               (turns 28 (numberedIn w h ss rows) blocks ss reach₀ fronts₀ order₀ short p reach fronts order g under)
 
-          pub look-falls : next (rowBy w h ss rows (p .row) (getD rows (p .row) noBlock)) .at .left < p .left
+          look-falls : next (rowBy w h ss rows (p .row) (getD rows (p .row) noBlock)) .at .left < p .left
           look-falls = subst (λ (b : Block). next b .at .left < p .left) (row-at (p .row) l)
               (falls 28 (numberedIn w h ss rows) blocks ss reach₀ fronts₀ order₀ short p reach fronts order g under)
+
+          -- the row that hangs only on what is not met comes to the same
+          abbrev light : Block
+          light = lookedBy w h ss rows reach (p .row) (getD rows (p .row) noBlock)
+
+          same : next light ≡ next (rowBy w h ss rows (p .row) (getD rows (p .row) noBlock))
+          same = offered-same w h ss rows (desk p reach fronts order) (p .row) (getD rows (p .row) noBlock)
+
+          pub light-turns : Looks (next light .at) (next light .reach) (next light .fronts) (next light .order)
+          light-turns = subst (λ (d : Desk). Looks (d .at) (d .reach) (d .fronts) (d .order)) (sym same) look-turns
+
+          pub light-falls : next light .at .left < p .left
+          light-falls = subst (λ (d : Desk). d .at .left < p .left) (sym same) look-falls
 
         pub look-ended : length rows ≤ p .row → desk p reach fronts order ≡ allPicked 28 ss (numberedIn w h ss rows) blocks reach₀ fronts₀ order₀
         look-ended l = ended 28 (numberedIn w h ss rows) blocks ss reach₀ fronts₀ order₀ short p reach fronts order g (omega (arith, long))

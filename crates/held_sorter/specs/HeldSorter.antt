@@ -1,10 +1,12 @@
 -- What a sorter by held ids does with rows and h held ranges, in words w: slots and fronts, all looks at the rows by number, and the reports. Crate
 -- `held_outcome` says that this is sorting by held ids.
 use Prim.Native.Nat.{ℕ}
+use mathlib.Core.Path.{_≡_}
 use mathlib.Core.List.{List}
 use lib.ListN.{length, replicate}
 use Rattle.block.specs.declared.Block.{Block}
 use Rattle.slots.specs.Slots.{Slot}
+use Rattle.picker.specs.declared.Look.{Look}
 use Rattle.picker.specs.Picker.{Desk, allPicked}
 use Rattle.reports.specs.Reports.{countsFrom}
 use Rattle.placing.specs.Placing.{rowsBy}
@@ -15,6 +17,13 @@ use Rattle.sorter.specs.Sorter.{maxReaches, frontsAt, cleared, sortingOf}
 -- the rows by number
 abbrev pub numberedIn : List ℕ → ℕ → List Slot → List Block → List Block
 numberedIn w h ss rows = rowsBy w h ss rows 0 rows
+
+-- all looks at them, and what these leave
+abbrev pub picksBy : List ℕ → ℕ → List Slot → List Block → ℕ → List ℕ → List ℕ → List ℕ → Desk
+picksBy w h ss rows blocks reach fronts order = allPicked 28 ss (numberedIn w h ss rows) blocks reach fronts order
+
+abbrev pub Picks : Desk → Look → List ℕ → List ℕ → List ℕ → Type 0
+Picks d r reach₁ fronts₁ order₁ = (r ≡ d .at) × (reach₁ ≡ d .reach) × (fronts₁ ≡ d .fronts) × (order₁ ≡ d .order)
 
 -- nothing is taken before the first look, so all counts are 0
 unfoldable pub deskBy : List ℕ → ℕ → List Slot → List Block → ℕ → List ℕ → Desk

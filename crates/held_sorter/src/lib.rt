@@ -9,12 +9,38 @@ ghost use lib.ListN.{length, take};
 ghost use lib.Seq.{sets};
 ghost use Rattle.slots.specs.Slots.{slotAt, slotsFrom, Falling};
 ghost use Rattle.picker.specs.Fronts.{frontAt};
-ghost use Rattle.picker.specs.Picker.{allPicked};
 ghost use Rattle.reports.specs.Reports.{fitted};
 ghost use Rattle.placing.specs.Placing.{rowsBy};
+ghost use Rattle.chaining.specs.Chaining.{Chains};
 ghost use Rattle.awaited.specs.Awaited.{waitingOf, waitingFrom};
 ghost use Rattle.sorter.specs.Sorter.{slotsFor, maxReaches};
-ghost use Rattle.held_sorter.specs.HeldSorter.{sortingBy, orderBy, countsBy, pendingBy};
+ghost use Rattle.held_sorter.specs.HeldSorter.{picksBy, Picks, sortingBy, orderBy, countsBy, pendingBy};
+
+// Fronts looked at until none can be taken, where these are the chains of the slots.
+fn pick_chained(
+    rows: &[Block],
+    blocks: usize,
+    slots: &[u64],
+    n: usize,
+    held: &[u64],
+    ranges: usize,
+    chains: &[u64],
+    reach: &mut [u64],
+    fronts: &mut [u64],
+    order: &mut [u64],
+) -> Look
+    requires { ⌜ (3 * n ≤ length (now slots)) × Falling (slotsFrom (now slots) 0 n) × (3 * ranges ≤ length (now held))
+        × Chains (slotsFrom (now slots) 0 n) (now rows) (now chains) ⌝ }
+    ensures { λ r. ⌜ Picks (picksBy (now (held .entry)) ranges (slotsFrom (now (slots .entry)) 0 n) (now (rows .entry)) blocks
+        (now (reach .entry)) (now (fronts .entry)) (now (order .entry))) r (now (reach .exit)) (now (fronts .exit)) (now (order .exit)) ⌝ }
+{
+    let mut p = picker::begin(28, fronts, reach, n, blocks);
+    while p.row < rows.len() {
+        let b = nearby::look_row(rows, slots, n, held, ranges, chains, reach, p.slot, p.row);
+        p = picker::offer(28, slots, n, p, reach, fronts, order, b);
+    }
+    p
+}
 
 // Fronts looked at until none can be taken.
 fn pick_rows(
@@ -29,21 +55,24 @@ fn pick_rows(
     order: &mut [u64],
 ) -> Look
     requires { ⌜ (3 * n ≤ length (now slots)) × Falling (slotsFrom (now slots) 0 n) × (3 * ranges ≤ length (now held)) ⌝ }
-    ensures { λ r. ⌜ (r ≡ allPicked 28 (slotsFrom (now (slots .entry)) 0 n) (rowsBy (now (held .entry)) ranges (slotsFrom (now (slots .entry)) 0 n) (now
-        (rows .entry)) 0 (now (rows .entry))) blocks (now (reach .entry)) (now (fronts .entry)) (now (order .entry)) .at)
-        × (now (reach .exit) ≡ allPicked 28 (slotsFrom (now (slots .entry)) 0 n) (rowsBy (now (held .entry)) ranges (slotsFrom (now (slots .entry)) 0 n)
-        (now (rows .entry)) 0 (now (rows .entry))) blocks (now (reach .entry)) (now (fronts .entry)) (now (order .entry)) .reach)
-        × (now (fronts .exit) ≡ allPicked 28 (slotsFrom (now (slots .entry)) 0 n) (rowsBy (now (held .entry)) ranges (slotsFrom (now (slots .entry)) 0 n)
-        (now (rows .entry)) 0 (now (rows .entry))) blocks (now (reach .entry)) (now (fronts .entry)) (now (order .entry)) .fronts)
-        × (now (order .exit) ≡ allPicked 28 (slotsFrom (now (slots .entry)) 0 n) (rowsBy (now (held .entry)) ranges (slotsFrom (now (slots .entry)) 0 n)
-        (now (rows .entry)) 0 (now (rows .entry))) blocks (now (reach .entry)) (now (fronts .entry)) (now (order .entry)) .order) ⌝ }
+    ensures { λ r. ⌜ Picks (picksBy (now (held .entry)) ranges (slotsFrom (now (slots .entry)) 0 n) (now (rows .entry)) blocks
+        (now (reach .entry)) (now (fronts .entry)) (now (order .entry))) r (now (reach .exit)) (now (fronts .exit)) (now (order .exit)) ⌝ }
 {
-    let mut p = picker::begin(28, fronts, reach, n, blocks);
-    while p.row < rows.len() {
-        let b = seeker::number_row(rows, slots, n, held, ranges, p.slot, p.row);
-        p = picker::offer(28, slots, n, p, reach, fronts, order, b);
-    }
-    p
+    let mut words = [0u64; 128];
+    let chains = &mut words[..];
+    nearby::chain_slots(rows, slots, n, chains);
+    pick_chained(
+        rows,
+        blocks,
+        slots,
+        n,
+        held,
+        ranges,
+        chains,
+        reach,
+        fronts,
+        order,
+    )
 }
 
 // What slot i waits for, from word `at` on. The place after.

@@ -1,3 +1,4 @@
--- Halving meets what it is for (Halved); the parts of what is sought, as the code tests them (Places).
+-- Halving meets what it is for (Halved), and where it ends (Borders); the parts of what is sought, as the code tests them (Places).
 pub mod Halved
+pub mod Borders
 pub mod Places

@@ -107,7 +107,7 @@ fn is_begun(words: &[u64], n: usize, i: usize, id: Id) -> bool
 }
 
 // Whether n ranges hold an id.
-fn is_held(words: &[u64], n: usize, id: Id) -> bool
+pub fn is_held(words: &[u64], n: usize, id: Id) -> bool
     requires { ⌜ 3 * n ≤ length (now words) ⌝ }
     ensures { λ r. ⌜ r ≡ isHeld (now (words .entry)) n id ⌝ }
 {
@@ -118,7 +118,7 @@ fn is_held(words: &[u64], n: usize, id: Id) -> bool
 // ---- rows of a client
 
 // The rows of slot p.
-fn span_at(slots: &[u64], p: usize) -> Span
+pub fn span_at(slots: &[u64], p: usize) -> Span
     requires { ⌜ 3 * (p + 1) ≤ length (now slots) ⌝ }
     ensures { λ r. ⌜ r ≡ spanAt (slotAt (now (slots .entry)) p) ⌝ }
 {
@@ -137,7 +137,7 @@ fn span_at(slots: &[u64], p: usize) -> Span
 }
 
 // The rows of a client, none if it has no slot.
-fn span_of(slots: &[u64], n: usize, client: u64) -> Span
+pub fn span_of(slots: &[u64], n: usize, client: u64) -> Span
     requires { ⌜ (3 * n ≤ length (now slots)) × Falling (slotsFrom (now slots) 0 n) ⌝ }
     ensures { λ r. ⌜ r ≡ spanOf (slotsFrom (now (slots .entry)) 0 n) client ⌝ }
 {
@@ -171,7 +171,7 @@ pub fn narrow_rows(s: Span, mid: usize, b: Block, clock: u32) -> Span
 }
 
 // A number as a clock; none is higher than a clock can be.
-fn cap(n: usize) -> u32
+pub fn cap(n: usize) -> u32
     ensures { λ r. ⌜ r ≡ capped n ⌝ }
 {
     if numbers::MAX_CLOCK < n as u64 {

@@ -23,7 +23,7 @@ fn seek(rows: &[Block], s: Span, clock: u32) -> usize
 }
 
 // The number of the row that holds a clock, among those of a span.
-fn number(rows: &[Block], s: Span, clock: u32) -> u32
+pub fn number(rows: &[Block], s: Span, clock: u32) -> u32
     ensures { λ r. ⌜ r ≡ heldBy (now (rows .entry)) s clock ⌝ }
 {
     let i = seek(rows, s, clock);

@@ -1,5 +1,5 @@
 -- Where halving ends: the row before is past, and the row there is not.
-use Prim.Native.Nat.{ℕ, zero, suc, _+_, _-_, _/_, _≤_, _<_}
+use Prim.Native.Nat.{ℕ, zero, suc, _+_, _-_, _≤_, _<_}
 use mathlib.Core.Path.{_≡_, refl, sym, subst}
 use mathlib.Core.Bool.{Bool, true, false}
 use mathlib.Core.Logic.{_⊎_, inl, inr}
@@ -7,8 +7,14 @@ use native.Mathlib.Omega.{arith}
 use lib.Dec.{ltb}
 use borrow.Author.Tests.{ltb-true, ltb-false}
 use Rattle.numbers.specs.Number.{pick}
-use Rattle.sorting.proofs.Outcome.{below-or}
 use Rattle.placing.specs.Halving.{middle, halved, found}
+
+pub below-or : (a b : ℕ) → (a < b) ⊎ (b ≤ a)
+below-or a b = go (ltb a b) refl
+  where
+    go : (x : Bool) → ltb a b ≡ x → (a < b) ⊎ (b ≤ a)
+    go true e = inl (ltb-true a b e)
+    go false e = inr (ltb-false a b e)
 
 pub record Border (past : ℕ → Bool) (lo hi r : ℕ) : Type 0 where
   pub from : lo ≤ r

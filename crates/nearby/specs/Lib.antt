@@ -1,0 +1,1 @@
+-- No definitions of its own: what is looked up, `chaining` defines.
