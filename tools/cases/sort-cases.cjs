@@ -1,9 +1,11 @@
 // A case of operation 17 with the line that is expected: from the model. Beside it a case of operation 25, the same by rule 13, which is compared with what
-// Yjs takes and leaves pending; and of every few a case of operation 26, the same by sweeps.
+// Yjs takes and leaves pending; and of every few a case of operation 26, the same by sweeps, or of operation 22, the same by held ids.
 'use strict'
 const model = require('./sort-model.cjs')
+const heldModel = require('./held-model.cjs')
+const s = require('./spelling.cjs')
 const { readVector } = require('./update-model.cjs')
-const { whole, tables } = require('./update-cases.cjs')
+const { whole, range, tables } = require('./update-cases.cjs')
 const yjs = require('./yjs.cjs')
 const yjsSorts = require('./yjs-sorts.cjs')
 const { limited, sized, LONG, SHORT, hex, first, begin } = require('./stream.cjs')
@@ -12,11 +14,9 @@ const { pick } = require('./random.cjs').begin(0x6c078965)
 const { add, stream, output, counts, refused, placed, told } = begin()
 const known = form => form === 1 || form === 2
 
-const reports = r => [
-  r.taken.map(([client, n]) => `${client}:${n}`),
-  r.reaches.map(([client, clock]) => `${client}:${clock}`),
-  r.pending.map(([client, missing, clock]) => `${client}>${missing}:${clock}`)
-]
+const taken = r => r.taken.map(([client, n]) => `${client}:${n}`)
+const pending = r => r.pending.map(([client, missing, clock]) => `${client}>${missing}:${clock}`)
+const reports = r => [taken(r), r.reaches.map(([client, clock]) => `${client}:${clock}`), pending(r)]
 const line = r => [first(r), ...(r.number === 0 ? [...[r.order, ...reports(r)].flatMap(words => [...words, ';']), ...tables(r.read)] : []), 'zero']
 
 // Sorting has one outcome: by other orders of steps, the lowest client first and any one, the same is taken and reported.
@@ -66,12 +66,66 @@ const slowly = (rule, form, update, vector, lent) => {
   return add(26, [limited('rule', rule, 255), ...asked(form, update, vector, lent)], line(slow))
 }
 
-// Every few sorts are asked slowly, too, by one rule and the other.
+// ---- by held ids
+
+// Held ids are laid out as a form 1 delete set: [client, [[clock, length], ..]] for each client.
+const heldBytes = (clients, loose = null) => [
+  ...s.u(clients.length, loose),
+  ...clients.flatMap(([client, ranges]) => [...s.u(client, loose), ...s.u(ranges.length, loose), ...ranges.flat().flatMap(n => s.u(n, loose))])
+]
+const heldLine = r => [
+  first(r),
+  ...(r.number === 0 ? [...[r.order, taken(r), pending(r), ['held', r.given.ranges.length, ...r.given.ranges.map(range)]].flatMap(words => [...words, ';']), ...tables(r.read)] : []),
+  'zero'
+]
+
+// The model's answer with rows without end. It has one outcome: by other orders of steps, the lowest client first and any one, and by sweeps, the same is taken
+// and reported.
+const heldAnswers = new Map()
+const heldAnswer = (form, update, held) => {
+  const key = [form, hex(update), hex(held)].join()
+  if (!heldAnswers.has(key)) {
+    if (known(form)) whole(form, update)
+    const r = heldModel.sort(form, update, held)
+    if (r.number === 0) {
+      const others = [ready => ready[ready.length - 1], pick, pick].map(choose => heldModel.sorted(r.read.blocks, r.given.ranges, choose))
+      for (const other of [...others, heldModel.sort(form, update, held, { slowly: true })]) {
+        if ([taken(other), pending(other)].join() !== [taken(r), pending(r)].join()) throw new Error(`two outcomes: ${hex(update)} against ${hex(held)}`)
+      }
+    }
+    heldAnswers.set(key, r)
+  }
+  return heldAnswers.get(key)
+}
+
+// Operation 22.
+const held = (form, update, bytes, { blockRows = 512, rangeRows = 1024, heldRows = 1024, orderRows = 512 } = {}) => {
+  heldAnswer(form, update, bytes)
+  return add(22, [
+    limited('form', form, 255), limited('block rows', blockRows, 512), limited('range rows', rangeRows, 1024), limited('held rows', heldRows, 1024),
+    limited('order rows', orderRows, 512), sized(update, LONG), sized(bytes, LONG)
+  ], heldLine(heldModel.sort(form, update, bytes, { blockRows, rangeRows, heldRows, orderRows })))
+}
+
+// By the ids that a vector has, each client's below its clock. Where nothing is taken across a gap, as much is taken, in the same order, and the same clients
+// are waited for. Where the vector is none, its own bytes are the held ids, whatever they say.
+const heldAs = (form, update, vector, lent) => {
+  const r = answer(form, update, vector)
+  const entries = readVector(vector).entries
+  const bytes = entries === undefined ? vector : heldBytes(entries.map(e => [e.client, [[0, e.clock]]]))
+  const h = heldAnswer(form, update, bytes)
+  const told = x => [x.order, taken(x), x.pending.map(([client, missing]) => [client, missing])].join(';')
+  if (r.number === 0 && !r.across && told(r) !== told(h)) throw new Error(`reaches and held ids part without a gap: ${hex(update)} against ${hex(vector)}`)
+  return held(form, update, bytes, lent)
+}
+
+// Every few sorts are asked slowly, too, by one rule and the other, or by held ids.
 const FEW = 3
 let asks = 0
 const sort = (form, update, vector, lent) => {
   answer(form, update, vector)
   if (asks++ % FEW === 0) slowly(asks % 2 === 0 ? 28 : 13, form, update, vector, lent)
+  if (asks % FEW === 0) heldAs(form, update, vector, lent)
   ruled(13, form, update, vector, lent)
   return add(17, asked(form, update, vector, lent), line(model.sort(form, update, vector, rows(lent))))
 }
@@ -93,10 +147,10 @@ const fitted = (random, form, update, vector, k) => {
 }
 
 module.exports = {
-  sort, ruled, slowly, fitted, answer, answer13, stream, output, counts, refused,
+  sort, ruled, slowly, held, heldBytes, heldAnswer, fitted, answer, answer13, stream, output, counts, refused,
   told: () => [
     `cases of an operation: ${told(counts)}`,
     `the number of a line: ${told(refused)}; at another place than 0: ${told(placed)}`,
-    `${answers.size} sorts, with Yjs ${yjs.version}: ${yjsSorts.told()}`
+    `${answers.size} sorts, with Yjs ${yjs.version}: ${yjsSorts.told()}; ${heldAnswers.size} by held ids`
   ].join('\n')
 }

@@ -70,7 +70,7 @@ const content = (form, n, update) => {
 const list = input => add(18, [sized(input, LONG)], ['0', hex(Buffer.from(model.listing(input), 'ascii')), 'zero'])
 
 module.exports = {
-  readVector, read, strict, content, list, whole, tables, stream, output, refused,
+  readVector, read, strict, content, list, whole, range, tables, stream, output, refused,
   told: () => [
     `cases of an operation: ${told(counts)}`,
     `the number of a line: ${told(refused)}; at another place than 0: ${told(placed)}`,

@@ -203,6 +203,28 @@ const joined = ranges => {
   return out
 }
 
+// ---- the delete set
+const deleteSet = (f, rangeRows, noted) => {
+  const ranges = []
+  const deleteClients = []
+  for (let named = f.rest.limited(CLIENTS, 'delete clients'); named > 0n; named--) {
+    const client = f.rest.limited(CLIENT, 'delete client')
+    deleteClients.push(client)
+    f.newDeleteClient()
+    for (let count = f.rest.unsigned(); count > 0n; count--) {
+      const { clock, length, place } = f.range()
+      within(clock + length, CLOCK, place, 'delete end')
+      if (length === 0n) {
+        noted.emptyRange = true
+        continue
+      }
+      if (ranges.length >= rangeRows) refuse(8, place)
+      ranges.push({ client, clock, length })
+    }
+  }
+  return { ranges: joined(ranges), rangesRead: ranges.length, deleteClients }
+}
+
 // ---- the update
 
 const NO_LIMIT = Infinity
@@ -240,26 +262,10 @@ const readUpdate = (form, update, blockRows = NO_LIMIT, rangeRows = NO_LIMIT, st
         blocks.push(block)
       }
     }
-    const ranges = []
-    const deleteClients = []
-    for (let named = rest.limited(CLIENTS, 'delete clients'); named > 0n; named--) {
-      const client = rest.limited(CLIENT, 'delete client')
-      deleteClients.push(client)
-      f.newDeleteClient()
-      for (let count = rest.unsigned(); count > 0n; count--) {
-        const { clock, length, place } = f.range()
-        within(clock + length, CLOCK, place, 'delete end')
-        if (length === 0n) {
-          noted.emptyRange = true
-          continue
-        }
-        if (ranges.length >= rangeRows) refuse(8, place)
-        ranges.push({ client, clock, length })
-      }
-    }
+    const deleted = deleteSet(f, rangeRows, noted)
     // strictly, no byte of the update may stay that nothing read
     if (strict && unread.size > 0) refuse(15, Math.min(...unread))
-    return { blocks, ranges: joined(ranges), rangesRead: ranges.length, deleteClients }
+    return { blocks, ...deleted }
   })
   return { ...r, ...noted }
 }
@@ -288,6 +294,12 @@ const readVector = vector => {
   return r.number !== 0 ? nowhere(r.number) : r
 }
 
+// ---- held ids (W-206): a form 1 delete set from byte 0 on. Its refusals have no place.
+const readHeld = (held, heldRows = NO_LIMIT) => {
+  const r = answer(() => deleteSet(form1(held, () => {}, {}), heldRows, {}))
+  return r.number !== 0 ? nowhere(r.number) : r
+}
+
 // ---- the listing program
 const EMPTY = { 1: [0, 0], 2: [0, 0, 0, 0, 0, 0, 1, 0, 0, 0, 0, 0, 0] }
 const equal = (a, b) => a.length === b.length && a.every((x, k) => x === b[k])
@@ -311,4 +323,4 @@ const listing = input => {
   return lines.map(line => line + '\n').join('')
 }
 
-module.exports = { readUpdate, content, readVector, listing, COLUMNS, EMPTY }
+module.exports = { readUpdate, content, readVector, readHeld, listing, COLUMNS, EMPTY }

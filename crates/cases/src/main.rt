@@ -27,6 +27,7 @@ fn case(
         19 => summary_cases::write(source, place, bytes, sink, used),
         20 => summary_cases::read(source, place, bytes, sink, used),
         21 => strict_cases::read(source, place, bytes, sink, used),
+        22 => held_cases::read(source, place, bytes, sink, used),
         25 => sort_cases::read_rule(source, place, bytes, sink, used),
         26 => sort_cases::read_slowly(source, place, bytes, sink, used),
         30..=32 => text_cases::case(operation, source, place, bytes, sink, used),

@@ -1,4 +1,4 @@
-// What the lines of operations 17 and 25 have beside rows: the order, clients with a number each, and what waits.
+// What the lines of sorts have beside rows: the order, clients with a number each, and what waits.
 use part_cases::vectors;
 use sort_answers::Sorted;
 use stream::line;
@@ -17,7 +17,7 @@ pub fn put_order(sink: &mut [u8], used: usize, steps: usize, order: &[u64]) -> T
 }
 
 // Clients, each with a number.
-fn put_entries(sink: &mut [u8], told: Told, count: usize, words: &[u64]) -> Told {
+pub fn put_entries(sink: &mut [u8], told: Told, count: usize, words: &[u64]) -> Told {
     let parted = line::text(sink, told.used, b" ;");
     let listed = vectors::entries(sink, parted, count, words);
     let zero = told.zero && lines::are_zero(words, listed.at);
@@ -27,11 +27,11 @@ fn put_entries(sink: &mut [u8], told: Told, count: usize, words: &[u64]) -> Told
     }
 }
 
-// A client that waits, with the space before it, the client that it waits for, and how far that reaches.
-fn wait(sink: &mut [u8], used: usize, client: u64, missing: u64, reach: u64) -> usize {
+// A client that waits, with the space before it, the client that it waits for, and how far that reaches, or the clock that is missing of it.
+fn wait(sink: &mut [u8], used: usize, client: u64, missing: u64, clock: u64) -> usize {
     let begun = line::number(sink, used, client);
     let parted = line::put(sink, begun, b'>');
-    lines::id(sink, parted, missing, reach)
+    lines::id(sink, parted, missing, clock)
 }
 
 fn waits(sink: &mut [u8], used: usize, count: usize, words: &[u64]) -> Listed {
@@ -49,7 +49,7 @@ fn waits(sink: &mut [u8], used: usize, count: usize, words: &[u64]) -> Listed {
     Listed { used, at }
 }
 
-fn put_pending(sink: &mut [u8], told: Told, count: usize, words: &[u64]) -> Told {
+pub fn put_pending(sink: &mut [u8], told: Told, count: usize, words: &[u64]) -> Told {
     let parted = line::text(sink, told.used, b" ;");
     let listed = waits(sink, parted, count, words);
     let zero = told.zero && lines::are_zero(words, listed.at);
@@ -72,6 +72,7 @@ pub fn put_reports(
     put_pending(sink, reached, answer.pending, pending)
 }
 
+// Whether all words lent for four things are zero.
 pub fn are_zero(order: &[u64], counts: &[u64], reaches: &[u64], pending: &[u64]) -> bool {
     lines::are_zero(order, 0)
         && lines::are_zero(counts, 0)

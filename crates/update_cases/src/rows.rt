@@ -109,7 +109,8 @@ pub fn begin(sink: &mut [u8], used: usize, answer: Update) -> usize {
     blocks(sink, begun, answer.blocks)
 }
 
-fn ranges(sink: &mut [u8], used: usize, count: usize, words: &[u64]) -> Listed {
+// So many ranges, three words each.
+pub fn ranges(sink: &mut [u8], used: usize, count: usize, words: &[u64]) -> Listed {
     let mut used = used;
     let mut at = 0;
     let mut left = count;

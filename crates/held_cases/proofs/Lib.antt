@@ -1,0 +1,3 @@
+-- What walks share.
+pub mod Sorts
+pub mod Cards
