@@ -7,8 +7,8 @@ use native.Mathlib.Nat.{add-zero, zero-add, suc-add, sub-zero}
 use native.Mathlib.Omega.{arith}
 use lib.Dec.{ltb, lit<}
 use lib.ListN.{length, take, getD, set, replicate, length-replicate, replicate-append-replicate}
-use lib.Seq.{slice, length-take-le, take-append-add, take-at, take-suc-set, take-take}
-use borrow.Author.Tests.{lt-ltb, le-ltb, ltb-true, ltb-false}
+use lib.Seq.{length-take-le, take-append-add, take-at, take-suc-set, take-take}
+use borrow.Author.Tests.{lt-ltb, le-ltb, ltb-false}
 use Rattle.numbers.specs.declared.Read.{Read}
 use Rattle.numbers.specs.declared.Read.the-variants as read
 use Rattle.numbers.specs.declared.Signed.{Signed}
@@ -16,8 +16,6 @@ use Rattle.numbers.specs.declared.Signed.the-variants as signed
 use Rattle.numbers.specs.Number.{pick, placed, readUnsigned, readSigned}
 use Rattle.numbers.specs.Limits.{maxValue, maxCount}
 use Rattle.numbers.proofs.Laws.{at-last}
-use Rattle.text.specs.Utf8.{start, took, takeFrom, takeUnits, Plain}
-use Rattle.text.proofs.Plain.{behind-take}
 use Rattle.columns.specs.declared.number.Place.{Place}
 use Rattle.columns.specs.declared.number.Answer.{Answer}
 use Rattle.columns.specs.declared.number.Answer.the-variants.{Next, Bad}
@@ -169,21 +167,3 @@ short-run s from true x e l h =
     let b : getD s e 0 < 128 = omega arith in
     rw (at-last s 9 e (lit< tt) (omega arith) b, le-ltb maxCount (getD s e 0) (omega arith)) (ap (λ (n : ℕ). drawn (placeAt (e + 1) from x n)) (omega arith))
 short-run s from false x e l h = rw add-zero (ap (λ (n : ℕ). drawn (placeAt e from x n)) (omega arith))
-
--- ---- a plain text
-
-took-all : (k : ℕ) (t : List ℕ) → takeFrom 7 start 0 k t ≡ took k
-unfolding takeFrom
-took-all k [] = refl
-took-all k (b ∷ t) = refl
-
-pub plain-took : (s : List ℕ) (at end u : ℕ) → at + u ≤ end → end ≤ length s → Plain (slice at (at + u) s) → takeUnits 7 u (slice at end s) ≡ took u
-plain-took s at end u l f p =
-    sym (behind-take s at (at + u) end (omega arith) l f p 7 u (omega arith))
-    ∙ ap (λ (n : ℕ). takeFrom 7 start n (at + u - at) (slice (at + u) end s)) none ∙ took-all (at + u - at) (slice (at + u) end s) ∙ ap took back
-  where
-    none : u - (at + u - at) ≡ 0
-    none = omega arith
-
-    back : at + u - at ≡ u
-    back = omega arith

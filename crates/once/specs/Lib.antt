@@ -1,2 +1,3 @@
--- One pass over a slice.
+-- One pass over a slice, and over a text with its unit lengths.
 pub mod Once
+pub mod Texts

@@ -1,5 +1,6 @@
 -- One pass over a slice: what a run's end writes, where room may be short, and what the end answers. The functions of `once` and their loops go by it.
 use Prim.Native.Nat.{ℕ, _+_, _-_}
+use mathlib.Core.Path.{_≡_}
 use mathlib.Core.List.{List, [], _++_}
 use mathlib.Core.Bool.{Bool, true, false}
 use lib.Dec.{leb, eqb}
@@ -11,7 +12,7 @@ use Rattle.numbers.specs.Output.{padded, refusal, written, put}
 use Rattle.runs.specs.declared.Column.{Column}
 use Rattle.runs.specs.declared.writer.Writer.{Writer}
 use Rattle.runs.specs.declared.judge.Judge.{Judge}
-use Rattle.runs.specs.Runs.{coding}
+use Rattle.runs.specs.Runs.{coding, columnOf, whyOf}
 use Rattle.runs.specs.Writer.{finished, sentence}
 
 -- the key k ends a run of `key`, which stood so often
@@ -29,6 +30,10 @@ wentTo n at b = pick (leb (at + length b) n) (at + length b) (n + 1)
 unfoldable pub outAt : List ℕ → ℕ → List ℕ → List ℕ
 outAt out at b = pick (leb (at + length b) (length out)) (sets out at b) out
 
+-- what a function that puts b leaves: the place, and the bytes lent
+abbrev pub PutAt : List ℕ → ℕ → List ℕ → ℕ → List ℕ → Type 0
+PutAt e at b r x = (r ≡ wentTo (length e) at b) × (x ≡ outAt e at b)
+
 -- the end, of values judged and put so far, as a state and whether a difference was far
 abbrev pub judgedSo : Writer → Bool → Judge
 judgedSo w far = record { writer = w; far = far; over = false }
@@ -43,3 +48,7 @@ unfoldable pub endBytes : List ℕ → Writer → Bool → List ℕ
 endBytes out w far =
     pick (eqb (sentence (judgedSo w far)) 0) (pick (leb (w .at) (length out)) (put 0 (length out) (take (w .at) out ++ finished w)) (padded (length out) []))
     (padded (length out) [])
+
+-- the writer of a column: its answer, and what the bytes lent hold then
+abbrev pub Writes : Column → List ℕ → List ℕ → Written → List ℕ → Type 0
+Writes col vs e r x = (r ≡ written (whyOf col vs) (length e) (columnOf col vs)) × (x ≡ put (whyOf col vs) (length e) (columnOf col vs))

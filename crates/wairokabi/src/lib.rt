@@ -7,7 +7,6 @@ use columns::number;
 use numbers::Read;
 use numbers::Refusal;
 use numbers::Written;
-use runs::Column;
 use text::Bytes;
 use text::Part;
 use text::Taken;
@@ -359,7 +358,7 @@ pub fn write_numbers(out: &mut [u8], values: &[u64]) -> Written
 pub fn write_differences(out: &mut [u8], values: &[u64]) -> Written
     ensures { λ r. ⌜ WriteDifferences (now (out .entry)) (now (values .entry)) r (now (out .exit)) ⌝ }
 {
-    once::write_all(out, Column::Difference, values)
+    once::write_differences(out, values)
 }
 
 pub fn write_bytes(out: &mut [u8], values: &[u8]) -> Written
@@ -371,7 +370,7 @@ pub fn write_bytes(out: &mut [u8], values: &[u8]) -> Written
 pub fn write_texts(out: &mut [u8], text: &[u8], units: &[u64]) -> Written
     ensures { λ r. ⌜ WriteTexts (now (out .entry)) (now (text .entry)) (now (units .entry)) r (now (out .exit)) ⌝ }
 {
-    string::write(out, text, units)
+    once::write_texts(out, text, units)
 }
 
 // ---- state vectors

@@ -5,7 +5,7 @@ use mathlib.Core.Bool.{Bool, true, false}
 use native.Mathlib.Omega.{arith}
 use borrow.Author.Needs.{needs}
 use borrow.Author.Tests.{eqb-true}
-use Rattle.bulk.proofs.Spreading.{plain-took}
+use Rattle.text.proofs.Plain.{plain-took}
 use Rattle.bulk.proofs.is_plain.Statement.{statement}
 use Rattle.bulk.proofs.is_plain.Tie as tie
 
@@ -18,7 +18,7 @@ returns-4 c z =
     let k = c .before .before .before .before .before in
     let p = c .plain-to .ensures in
     let e = eqb-true (c .plain-to .result) (k .args .at + k .args .u) z in
-    (omega arith, plain-took (k .args .column .now) (k .args .at) (k .args .end) (k .args .u) (omega arith) (omega arith) (rw e at (p .2)))
+    (omega arith, plain-took 7 (k .args .column .now) (k .args .at) (k .args .end) (k .args .u) (omega arith) (omega arith) (rw e at (p .2)))
 
 pub is-plain-spec : {M : Type 1} → statement M
 is-plain-spec =

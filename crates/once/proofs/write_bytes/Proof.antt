@@ -7,19 +7,19 @@ use lib.ListN.{length}
 use borrow.Author.Tests.{not-true, not-false}
 use Rattle.runs.specs.declared.Column.the-variants.{Byte}
 use Rattle.runs.specs.Runs.{columnOf, whyOf}
-use Rattle.once.proofs.Laws.{refused-by, Wrote, wrote-begin, byte-unfit, byte-on, wrote-end}
+use Rattle.once.proofs.Laws.{refused-by, Wrote, wrote-begin, byte-unfit, byte-on, wrote-whole}
 use borrow.Author.Needs.{needs}
 use Rattle.once.proofs.write_bytes.Statement.{statement}
 use Rattle.once.proofs.write_bytes.Tie as tie
 
 abbrev Inv-loop : tie.InvT-loop
-Inv-loop out₀ values at₀ key₀ count₀ i₀ out at key count i = Wrote Byte out₀ values i at key key count false out
+Inv-loop out₀ values at₀ key₀ count₀ i₀ out at key count i = Wrote Byte out₀ 0 values i at key key count false out
 
 abbrev μ-loop : tie.MeasureT-loop
 μ-loop out₀ values at₀ key₀ count₀ i₀ out at key count i = length values - i
 
 loop-holds : tie.Need-loop-holds Inv-loop μ-loop
-loop-holds c = let a = c .before .before .args in wrote-begin Byte (a .out .now) (a .values .now)
+loop-holds c = let a = c .before .before .args in wrote-begin Byte (a .out .now) 0 (a .values .now) (omega arith)
 
 same-length : tie.Need-same-length Inv-loop μ-loop
 same-length c = c .before .before .refuse .kept .0 ∙ c .before .before .before .before .before .before .before .before .before .loop .inv .size
@@ -62,7 +62,7 @@ returns-2 : tie.Need-returns-2 Inv-loop μ-loop
 returns-2 c =
     let a = c .before .before .before .before .before .before .before .before .args in
     let l = c .before .before .before .before .before .loop in
-    let w = wrote-end Byte (a .out .now) (a .values .now) (l .i) (l .at) (l .key) (l .key) (l .count) false (l .out) (l .inv) (omega (arith, c .before .before .before .before .loop-test .left)) in
+    let w = wrote-whole Byte (a .out .now) (a .values .now) (l .i) (l .at) (l .key) (l .key) (l .count) false (l .out) (l .inv) (omega (arith, c .before .before .before .before .loop-test .left)) in
     let r = c .before .before .end .ensures in
     (r .0 ∙ w .0, r .1 ∙ w .1)
 

@@ -7,19 +7,19 @@ use lib.ListN.{length}
 use borrow.Author.Tests.{not-true, not-false}
 use Rattle.runs.specs.declared.Column.the-variants.{Number}
 use Rattle.runs.specs.Runs.{columnOf, whyOf}
-use Rattle.once.proofs.Laws.{refused-by, Wrote, wrote-begin, number-over, number-unfit, number-on, wrote-end}
+use Rattle.once.proofs.Laws.{refused-by, Wrote, wrote-begin, number-over, number-unfit, number-on, wrote-whole}
 use borrow.Author.Needs.{needs}
 use Rattle.once.proofs.write_numbers.Statement.{statement}
 use Rattle.once.proofs.write_numbers.Tie as tie
 
 abbrev Inv-loop : tie.InvT-loop
-Inv-loop out₀ values at₀ key₀ count₀ i₀ out at key count i = Wrote Number out₀ values i at key key count false out
+Inv-loop out₀ values at₀ key₀ count₀ i₀ out at key count i = Wrote Number out₀ 0 values i at key key count false out
 
 abbrev μ-loop : tie.MeasureT-loop
 μ-loop out₀ values at₀ key₀ count₀ i₀ out at key count i = length values - i
 
 loop-holds : tie.Need-loop-holds Inv-loop μ-loop
-loop-holds c = let a = c .before .before .args in wrote-begin Number (a .out .now) (a .values .now)
+loop-holds c = let a = c .before .before .args in wrote-begin Number (a .out .now) 0 (a .values .now) (omega arith)
 
 same-length : tie.Need-same-length Inv-loop μ-loop
 same-length c = c .before .before .refuse .kept .0 ∙ c .before .before .before .before .before .before .before .loop .inv .size
@@ -28,7 +28,7 @@ returns : tie.Need-returns Inv-loop μ-loop
 returns c =
     let a = c .before .before .before .before .before .before .before .before .before .before .args in
     let l = c .before .before .before .before .before .before .before .loop in
-    let y = number-over (a .out .now) (a .values .now) (l .i) (l .at) (l .key) (l .count) (l .out) (l .inv) (c .before .before .before .before .before .before .loop-test .taken) (c .before .before .before .before .if1 .taken) in
+    let y = number-over (a .out .now) 0 (a .values .now) (l .i) (l .at) (l .key) (l .count) (l .out) (l .inv) (c .before .before .before .before .before .before .loop-test .taken) (c .before .before .before .before .if1 .taken) in
     let w = refused-by (whyOf Number (a .values .now)) (length (a .out .now)) (columnOf Number (a .values .now)) 3 y (λ z. omega arith) in
     let r = c .before .before .refuse .ensures in
     (r .0 ∙ w .0, rw (l .inv .size) at (r .1) ∙ w .1)
@@ -41,7 +41,7 @@ returns-2 c =
     let a = c .before .before .before .before .before .before .before .before .before .before .before .before .args in
     let l = c .before .before .before .before .before .before .before .before .before .loop in
     let s = c .before .before .before .before .before .is-storable in
-    let y = number-unfit (a .out .now) (a .values .now) (l .i) (l .at) (l .key) (l .count) (l .out) (l .inv) (c .before .before .before .before .before .before .before .before .loop-test .taken) (c .before .before .before .before .before .before .if1 .left) (sym (s .ensures) ∙ not-true (s .result) (c .before .before .before .before .if2 .taken)) in
+    let y = number-unfit (a .out .now) 0 (a .values .now) (l .i) (l .at) (l .key) (l .count) (l .out) (l .inv) (c .before .before .before .before .before .before .before .before .loop-test .taken) (c .before .before .before .before .before .before .if1 .left) (sym (s .ensures) ∙ not-true (s .result) (c .before .before .before .before .if2 .taken)) in
     let w = refused-by (whyOf Number (a .values .now)) (length (a .out .now)) (columnOf Number (a .values .now)) 3 y (λ z. omega arith) in
     let r = c .before .before .refuse2 .ensures in
     (r .0 ∙ w .0, rw (l .inv .size) at (r .1) ∙ w .1)
@@ -59,7 +59,7 @@ loop-again c =
     let s = c .before .before .before .before .before .before .is-storable in
     let p = c .before .before .before .put-ended .ensures in
     rw (p .0, p .1, c .count-with .ensures)
-    (number-on (a .out .now) (a .values .now) (l .i) (l .at) (l .key) (l .count) (l .out) (l .inv) (c .before .before .before .before .before .before .before .before .before .loop-test .taken) (c .before .before .before .before .before .before .before .if1 .left) (sym (s .ensures) ∙ not-false (s .result) (c .before .before .before .before .before .if2 .left)))
+    (number-on (a .out .now) 0 (a .values .now) (l .i) (l .at) (l .key) (l .count) (l .out) (l .inv) (c .before .before .before .before .before .before .before .before .before .loop-test .taken) (c .before .before .before .before .before .before .before .if1 .left) (sym (s .ensures) ∙ not-false (s .result) (c .before .before .before .before .before .if2 .left)))
 
 end-requires : tie.Need-end-requires Inv-loop μ-loop
 end-requires c κs = c .before .before .loop .inv .judged-so .sound
@@ -71,7 +71,7 @@ returns-3 : tie.Need-returns-3 Inv-loop μ-loop
 returns-3 c =
     let a = c .before .before .before .before .before .before .before .before .args in
     let l = c .before .before .before .before .before .loop in
-    let w = wrote-end Number (a .out .now) (a .values .now) (l .i) (l .at) (l .key) (l .key) (l .count) false (l .out) (l .inv) (omega (arith, c .before .before .before .before .loop-test .left)) in
+    let w = wrote-whole Number (a .out .now) (a .values .now) (l .i) (l .at) (l .key) (l .key) (l .count) false (l .out) (l .inv) (omega (arith, c .before .before .before .before .loop-test .left)) in
     let r = c .before .before .end .ensures in
     (r .0 ∙ w .0, r .1 ∙ w .1)
 
