@@ -1,0 +1,3 @@
+-- The draws that made a block's record, each with its origin.
+pub mod Watch
+pub mod Explanation

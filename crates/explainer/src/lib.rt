@@ -1,0 +1,1 @@
+// The draws that made a block, each with its origin.

@@ -1,0 +1,2 @@
+-- What the public call `explain` promises.
+pub mod Promises

@@ -1,0 +1,3 @@
+-- Where a value that was drawn from an update came from.
+pub mod Origins
+pub mod Telling

@@ -1,0 +1,2 @@
+-- The plan of an update's blocks, draw by draw.
+pub mod Roles

@@ -1,0 +1,144 @@
+-- What each draw of an update's blocks is drawn for: the role of the next one, by what was drawn before. A label for the grammar's draws, which stand in
+-- `grammar`; that the labels fit is proved (`explainer`, proofs).
+use Prim.Native.Nat.{ℕ, _+_, _-_, _%_, _≤_}
+use mathlib.Core.Bool.{Bool, true, false, not, _&&_}
+use lib.Dec.{ltb, eqb}
+use Rattle.numbers.specs.Number.{pick}
+use Rattle.numbers.specs.Limits.{maxBlocks, maxClock, maxClients}
+use Rattle.block.specs.Kinds.{maxType, isNamed}
+use Rattle.roles.specs.declared.Role.{Role}
+use Rattle.roles.specs.declared.Role.the-variants.{Sections, Blocks, Client, FirstClock, Info, SkipLength, GcLength, LeftClient, LeftClock, RightClient, RightClock, ParentInfo, ParentName, ParentClient, ParentClock, Key, DeletedLength, Binary, Text, MarkKey, MarkValue, TypeNumber, NodeName, ListLength, ListValues, Ended, Over}
+use Rattle.roles.specs.declared.Plan.{Plan}
+
+-- the plan before the first draw
+abbrev pub start : Plan
+start = record { role = Sections; sections = 0; blocks = 0; room = maxBlocks; first = 0; clock = 0; info = 0; place = 0; length = 0 }
+
+-- ---- how a plan goes on
+
+unfoldable pub goTo : Role → Plan → Plan
+goTo r q = record { role = r; sections = q .sections; blocks = q .blocks; room = q .room; first = q .first; clock = q .clock; info = q .info; place = q .place; length = q .length }
+
+-- so many sections
+unfoldable pub sectioned : ℕ → Plan → Plan
+sectioned n q = record { role = pick (eqb n 0) Over Blocks; sections = n; blocks = 0; room = q .room; first = 0; clock = 0; info = 0; place = 0; length = 0 }
+
+-- one section of them, with so many blocks
+unfoldable pub announced : ℕ → Plan → Plan
+announced k q = record { role = Client; sections = q .sections - 1; blocks = k; room = q .room - k; first = 0; clock = 0; info = 0; place = 0; length = 0 }
+
+-- behind a block, or a section's head: the next block of this section, which begins where the one before ended; where none is left, the next section
+unfoldable pub onward : Plan → Plan
+onward q = record { role = pick (eqb (q .blocks) 0) (pick (eqb (q .sections) 0) Over Blocks) Info; sections = q .sections; blocks = q .blocks - 1; room = q .room; first = q .first; clock = q .clock + q .length; info = 0; place = 0; length = 0 }
+
+-- the first clock
+unfoldable pub headed : ℕ → Plan → Plan
+headed c q = onward (record { role = Ended; sections = q .sections; blocks = q .blocks; room = q .room; first = c; clock = c; info = 0; place = 0; length = 0 })
+
+-- the info byte, and its place
+unfoldable pub informed : Role → ℕ → ℕ → Plan → Plan
+informed r i p q = record { role = r; sections = q .sections; blocks = q .blocks; room = q .room; first = q .first; clock = q .clock; info = i; place = p; length = 0 }
+
+-- the length
+unfoldable pub lengthened : Role → ℕ → Plan → Plan
+lengthened r n q = record { role = r; sections = q .sections; blocks = q .blocks; room = q .room; first = q .first; clock = q .clock; info = q .info; place = q .place; length = n }
+
+-- nothing more of this block is drawn, and it has so many clocks
+abbrev pub lasting : ℕ → Plan → Plan
+lasting n q = lengthened Ended n q
+
+-- ---- what an info byte announces
+
+-- exactly 10 is a Skip, exactly 0 a GC; else a left id, a right id, or neither, and then a parent
+unfoldable pub infoRole : ℕ → Role
+infoRole i = pick (eqb i 10) SkipLength (pick (eqb i 0) GcLength (pick (ltb i 64) ParentInfo (pick (ltb i 128) RightClient LeftClient)))
+
+-- by the low five bits
+unfoldable pub contentRole : ℕ → Role
+contentRole n =
+    pick (eqb n 1) DeletedLength
+    (pick (eqb n 3) Binary (pick (eqb n 4) Text (pick (eqb n 6) MarkKey (pick (eqb n 7) TypeNumber (pick (eqb n 8) ListLength Over)))))
+
+abbrev pub toContent : Plan → Plan
+toContent q = goTo (contentRole (q .info % 32)) q
+
+abbrev pub toKey : Plan → Plan
+toKey q = pick (ltb (q .info) 32) (toContent q) (goTo Key q)
+
+-- ---- behind a draw: v is the number drawn, or a text's units, and p the place that it is blamed at
+
+unfoldable pub behind : Role → Plan → ℕ → ℕ → Plan
+behind Sections q v p = sectioned v q
+behind Blocks q v p = announced v q
+behind Client q v p = goTo FirstClock q
+behind FirstClock q v p = headed v q
+behind Info q v p = informed (infoRole v) v p q
+behind SkipLength q v p = lasting v q
+behind GcLength q v p = lasting v q
+behind LeftClient q v p = goTo LeftClock q
+behind LeftClock q v p = pick (ltb (q .info % 128) 64) (toContent q) (goTo RightClient q)
+behind RightClient q v p = goTo RightClock q
+behind RightClock q v p = toContent q
+behind ParentInfo q v p = goTo (pick (eqb v 1) ParentName ParentClient) q
+behind ParentName q v p = toKey q
+behind ParentClient q v p = goTo ParentClock q
+behind ParentClock q v p = toKey q
+behind Key q v p = toContent q
+behind DeletedLength q v p = lasting v q
+behind Binary q v p = lasting 1 q
+behind Text q v p = lasting v q
+behind MarkKey q v p = goTo MarkValue q
+behind MarkValue q v p = lasting 1 q
+behind TypeNumber q v p = pick (ltb maxType v) (goTo Over q) (pick (isNamed v) (goTo NodeName q) (lasting 1 q))
+behind NodeName q v p = lasting 1 q
+behind ListLength q v p = lengthened ListValues v q
+behind ListValues q v p = goTo Ended q
+behind Ended q v p = q
+behind Over q v p = q
+
+unfoldable pub after : Plan → ℕ → ℕ → Plan
+after q v p = behind (q .role) q v p
+
+-- ---- what is told of a role
+
+-- its number: what a line's first word says. 5 is the block's own clock, which is not drawn, and 27 the text of a key that has a number
+unfoldable pub codeOf : Role → ℕ
+codeOf Sections = 1
+codeOf Blocks = 2
+codeOf Client = 3
+codeOf FirstClock = 4
+codeOf Info = 6
+codeOf SkipLength = 7
+codeOf GcLength = 8
+codeOf LeftClient = 9
+codeOf LeftClock = 10
+codeOf RightClient = 11
+codeOf RightClock = 12
+codeOf ParentInfo = 13
+codeOf ParentName = 14
+codeOf ParentClient = 15
+codeOf ParentClock = 16
+codeOf Key = 17
+codeOf DeletedLength = 18
+codeOf Binary = 19
+codeOf Text = 20
+codeOf MarkKey = 21
+codeOf MarkValue = 22
+codeOf TypeNumber = 23
+codeOf NodeName = 24
+codeOf ListLength = 25
+codeOf ListValues = 26
+codeOf Ended = 0
+codeOf Over = 28
+
+abbrev pub ownClock : ℕ
+ownClock = 5
+
+abbrev pub keyText : ℕ
+keyText = 27
+
+-- ---- from one block to the next
+
+-- what is drawn next, where a block has ended
+unfoldable pub settled : Plan → Plan
+settled q = pick (eqb (codeOf (q .role)) 0) (onward q) q

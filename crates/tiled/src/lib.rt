@@ -1,0 +1,1 @@
+// Theorems alone: every byte of a form 1 update is the byte of a draw.
