@@ -10,6 +10,7 @@ use roles::Plan;
 use text::Bytes;
 use text::Part;
 ghost use mathlib.Core.Path.{_≡_};
+ghost use mathlib.Core.Bool.{false};
 ghost use Prim.Native.Nat.{_≤_};
 ghost use lib.ListN.{length};
 ghost use Rattle.cells.specs.Cells.{stateIn, Small};
