@@ -1,29 +1,19 @@
 // Where a value that was drawn from an update came from: its bytes, its run, its base and its difference, as a line of words.
 use cells::AT;
-use cells::Drawn;
-use cells::Field;
-use cells::KEY_COUNT;
-use cells::PLACE;
 use numbers::Read;
 use numbers::Signed;
 use numbers::words;
-use roles::Plan;
-use roles::Role;
 use text::Bytes;
 use text::Part;
 ghost use mathlib.Core.Path.{_≡_};
-ghost use Prim.Native.Nat.{_+_, _-_, _*_, _≤_};
+ghost use Prim.Native.Nat.{_+_, _*_, _≤_};
 ghost use lib.ListN.{length};
 ghost use Rattle.numbers.specs.Number.{readUnsigned, readSigned};
 ghost use Rattle.block.specs.Row.{noPart};
-ghost use Rattle.grammar.specs.Grammar as grammar;
-ghost use Rattle.decoder.specs.Columned.{fields};
-ghost use Rattle.cells.specs.Cells.{atIn, numbersIn, differencesIn, bytesIn, stateIn, partIn, Small};
-ghost use Rattle.fields.specs.Fields.{Given, WordGiven};
-ghost use Rattle.roles.specs.Roles.{codeOf};
+ghost use Rattle.cells.specs.Cells.{numbersIn, differencesIn, bytesIn, stateIn, Small};
 ghost use Rattle.origins.specs.Origins as origins;
-ghost use Rattle.origins.specs.Telling as telling;
-ghost use Rattle.origins.specs.Asked.{numeral, stored, storedIn, asks};
+ghost use Rattle.origins.specs.Numerals.{numeral};
+ghost use Rattle.origins.specs.Sheets.{lineIn, Above};
 
 // Where a value stands: the place of its first byte in the update, of a run the run's first byte, and how many bytes it has there. Source 0: in line. 1: a run,
 // of which it is the `which`-th value of so many. 2: a byte that stands without end.
@@ -49,12 +39,6 @@ pub struct Line {
     pub stand: Stand,
     pub rise: Rise,
     pub part: Part,
-}
-
-// What the plan hears of a draw: the number, or a text's units; the place that the number is blamed at; and how many lines were told.
-pub enum Told {
-    Lines(u64, u64, usize),
-    Refused,
 }
 
 // ---- how many values a run has, by its bytes
@@ -224,7 +208,7 @@ fn rising(base: u64, key: u64) -> Rise
     }
 }
 
-// ---- what a plan asks for
+// ---- a number that was drawn
 
 // A number: from a column in form 2, or in line, up to so much.
 pub enum Number {
@@ -236,71 +220,6 @@ pub enum Number {
     Len,
     TypeNumber,
     UpTo(u64),
-}
-
-// Bytes in line: led by their length; a mark's value; so many plain values. These say the place that is blamed.
-pub enum Stored {
-    Bytes,
-    Value(u64),
-    Values(u64, u64),
-}
-
-pub enum Asked {
-    Number(Number),
-    Text,
-    Key,
-    Stored(Stored),
-}
-
-fn ask(q: Plan) -> Asked
-    ensures { λ r. ⌜ asks r ≡ telling.fieldAt q ⌝ }
-{
-    let role = q.role;
-    match role {
-        Role::Sections => Asked::Number(Number::UpTo(numbers::MAX_CLIENTS)),
-        Role::Blocks => Asked::Number(Number::UpTo(q.room)),
-        Role::Client => Asked::Number(Number::Client),
-        Role::FirstClock => Asked::Number(Number::UpTo(numbers::MAX_CLOCK)),
-        Role::Info => Asked::Number(Number::Info),
-        Role::SkipLength => Asked::Number(Number::UpTo(numbers::MAX_CLOCK)),
-        Role::GcLength => Asked::Number(Number::Len),
-        Role::LeftClient => Asked::Number(Number::Client),
-        Role::LeftClock => Asked::Number(Number::LeftClock),
-        Role::RightClient => Asked::Number(Number::Client),
-        Role::RightClock => Asked::Number(Number::RightClock),
-        Role::ParentInfo => Asked::Number(Number::ParentInfo),
-        Role::ParentName => Asked::Text,
-        Role::ParentClient => Asked::Number(Number::Client),
-        Role::ParentClock => Asked::Number(Number::LeftClock),
-        Role::Key => Asked::Text,
-        Role::DeletedLength => Asked::Number(Number::Len),
-        Role::Text => Asked::Text,
-        Role::MarkKey => Asked::Key,
-        Role::MarkValue => Asked::Stored(Stored::Value(q.place)),
-        Role::TypeNumber => Asked::Number(Number::TypeNumber),
-        Role::NodeName => Asked::Key,
-        Role::ListLength => Asked::Number(Number::Len),
-        Role::ListValues => Asked::Stored(Stored::Values(q.place, q.length)),
-        _ => Asked::Stored(Stored::Bytes),
-    }
-}
-
-// ---- a number that was drawn
-
-fn draw(form: u8, update: &[u8], w: &mut [u64], n: Number) -> Drawn
-    requires { ⌜ Small (now w) ⌝ }
-    ensures { λ r. ⌜ Given (now (w .entry)) (now (w .exit)) r (fields form (now (update .entry)) (grammar.number (numeral n)) (stateIn (now (w .entry)))) ⌝ }
-{
-    match n {
-        Number::Client => fields::read_client(form, update, w),
-        Number::LeftClock => fields::read_clock(form, update, w, 2),
-        Number::RightClock => fields::read_clock(form, update, w, 3),
-        Number::Info => fields::read_info(form, update, w),
-        Number::ParentInfo => fields::read_parent_info(form, update, w),
-        Number::Len => fields::read_len(form, update, w),
-        Number::TypeNumber => keyed::read_type(form, update, w),
-        Number::UpTo(most) => fields::read_var(update, w, most),
-    }
 }
 
 fn stand_in(update: &[u8], w: &[u64], n: Number, from: u64) -> Stand
@@ -319,7 +238,7 @@ fn stand_in(update: &[u8], w: &[u64], n: Number, from: u64) -> Stand
     }
 }
 
-fn base_of(w: &[u64], n: Number) -> u64
+pub fn base_of(w: &[u64], n: Number) -> u64
     requires { ⌜ Small (now w) ⌝ }
     ensures { λ r. ⌜ r ≡ origins.baseOf (numeral n) (stateIn (now (w .entry))) ⌝ }
 {
@@ -352,7 +271,7 @@ fn no_part() -> Part
     }
 }
 
-fn plain_line(code: u64, v: u64, from: u64, to: u64) -> Line
+pub fn plain_line(code: u64, v: u64, from: u64, to: u64) -> Line
     ensures { λ r. ⌜ r ≡ origins.plainLine code v from to ⌝ }
 {
     let stand = in_line(from, to);
@@ -367,7 +286,15 @@ fn plain_line(code: u64, v: u64, from: u64, to: u64) -> Line
     }
 }
 
-fn number_line(update: &[u8], w: &[u64], code: u64, n: Number, v: u64, from: u64, base: u64) -> Line
+pub fn number_line(
+    update: &[u8],
+    w: &[u64],
+    code: u64,
+    n: Number,
+    v: u64,
+    from: u64,
+    base: u64,
+) -> Line
     requires { ⌜ Small (now w) ⌝ }
     ensures { λ r. ⌜ r ≡ origins.numberLine (now (update .entry)) code (numeral n) v from base (stateIn (now (w .entry))) ⌝ }
 {
@@ -384,7 +311,7 @@ fn number_line(update: &[u8], w: &[u64], code: u64, n: Number, v: u64, from: u64
 }
 
 // Stored bytes, which begin where what leads them ends.
-fn stored_line(code: u64, v: u64, part: Part, from: u64) -> Line
+pub fn stored_line(code: u64, v: u64, part: Part, from: u64) -> Line
     ensures { λ r. ⌜ r ≡ origins.storedLine code v part from ⌝ }
 {
     let to = part.place as u64;
@@ -399,7 +326,7 @@ fn stored_line(code: u64, v: u64, part: Part, from: u64) -> Line
     }
 }
 
-fn text_line(update: &[u8], w: &[u64], code: u64, part: Part) -> Line
+pub fn text_line(update: &[u8], w: &[u64], code: u64, part: Part) -> Line
     requires { ⌜ Small (now w) ⌝ }
     ensures { λ r. ⌜ r ≡ origins.textLine (now (update .entry)) code part (stateIn (now (w .entry))) ⌝ }
 {
@@ -414,7 +341,7 @@ fn text_line(update: &[u8], w: &[u64], code: u64, part: Part) -> Line
     }
 }
 
-fn key_line(update: &[u8], w: &[u64], code: u64, part: Part, base: u64) -> Line
+pub fn key_line(update: &[u8], w: &[u64], code: u64, part: Part, base: u64) -> Line
     requires { ⌜ Small (now w) ⌝ }
     ensures { λ r. ⌜ r ≡ origins.keyLine (now (update .entry)) code part base (stateIn (now (w .entry))) ⌝ }
 {
@@ -432,7 +359,7 @@ fn key_line(update: &[u8], w: &[u64], code: u64, part: Part, base: u64) -> Line
 // Line i of a sheet, twelve words a line.
 pub fn put_line(sheet: &mut [u64], i: usize, l: Line)
     requires { ⌜ 12 * (i + 1) ≤ length (now sheet) ⌝ }
-    ensures { λ _. ⌜ telling.Above i (now (sheet .entry)) (now (sheet .exit)) × (telling.lineIn (now (sheet .exit)) i ≡ l) ⌝ }
+    ensures { λ _. ⌜ Above i (now (sheet .entry)) (now (sheet .exit)) × (lineIn (now (sheet .exit)) i ≡ l) ⌝ }
 {
     let b = 12 * i;
     let stand = l.stand;
@@ -451,174 +378,4 @@ pub fn put_line(sheet: &mut [u64], i: usize, l: Line)
     sheet[b + 9] = rise.size;
     sheet[b + 10] = part.place as u64;
     sheet[b + 11] = bytes.0 as u64;
-}
-
-// ---- a draw told
-
-fn tell_number(
-    form: u8,
-    update: &[u8],
-    w: &mut [u64],
-    sheet: &mut [u64],
-    i: usize,
-    code: u64,
-    n: Number,
-) -> Told
-    requires { ⌜ Small (now w) × (12 * (i + 1) ≤ length (now sheet)) ⌝ }
-    ensures { λ r. ⌜ telling.Tells form (now (update .entry)) code (grammar.number (numeral n)) (now (w .entry)) (now (w .exit))
-        (now (sheet .entry)) (now (sheet .exit)) i r ⌝ }
-{
-    let from = w[AT];
-    let base = base_of(w, n);
-    let Drawn::Number(v) = draw(form, update, w, n) else {
-        return Told::Refused;
-    };
-    let place = w[PLACE];
-    if form == 1 {
-        let l = plain_line(code, v, from, w[AT]);
-        put_line(sheet, i, l);
-        return Told::Lines(v, place, 1);
-    }
-    let l = number_line(update, w, code, n, v, from, base);
-    put_line(sheet, i, l);
-    Told::Lines(v, place, 1)
-}
-
-// The part that was read into the first two words of a row.
-fn part_in(r: &[u64]) -> Part
-    requires { ⌜ length (now r) ≡ 2 ⌝ }
-    ensures { λ p. ⌜ p ≡ partIn (now (r .entry)) 0 ⌝ }
-{
-    let place = r[0] as usize;
-    let bytes = r[1] as usize;
-    Part {
-        place,
-        bytes: Bytes(bytes),
-    }
-}
-
-fn tell_text(
-    form: u8,
-    update: &[u8],
-    w: &mut [u64],
-    part: &mut [u64],
-    sheet: &mut [u64],
-    i: usize,
-    code: u64,
-) -> Told
-    requires { ⌜ Small (now w) × (length (now part) ≡ 2) × (12 * (i + 1) ≤ length (now sheet)) ⌝ }
-    ensures { λ r. ⌜ telling.Tells form (now (update .entry)) code grammar.text (now (w .entry)) (now (w .exit))
-        (now (sheet .entry)) (now (sheet .exit)) i r × (length (now (part .exit)) ≡ 2) ⌝ }
-{
-    let from = w[AT];
-    let Drawn::Number(units) = fields::read_text(form, update, w, part, 0) else {
-        return Told::Refused;
-    };
-    let p = part_in(part);
-    if form == 1 {
-        let l = stored_line(code, units, p, from);
-        put_line(sheet, i, l);
-        return Told::Lines(units, 0, 1);
-    }
-    let l = text_line(update, w, code, p);
-    put_line(sheet, i, l);
-    Told::Lines(units, 0, 1)
-}
-
-fn read_stored(form: u8, update: &[u8], w: &mut [u64], part: &mut [u64], x: Stored) -> Field
-    requires { ⌜ Small (now w) × (length (now part) ≡ 2) ⌝ }
-    ensures { λ f. ⌜ WordGiven 0 (now (w .entry)) (now (w .exit)) (now (part .entry)) (now (part .exit)) f
-        (storedIn form (now (update .entry)) x (stateIn (now (w .entry)))) ⌝ }
-{
-    match x {
-        Stored::Bytes => fields::read_buf(update, w, part, 0),
-        Stored::Value(blame) => keyed::read_value(form, update, w, part, 0, blame as usize),
-        Stored::Values(blame, n) => {
-            keyed::read_values(form, update, w, part, 0, blame as usize, n)
-        }
-    }
-}
-
-fn tell_stored(
-    form: u8,
-    update: &[u8],
-    w: &mut [u64],
-    part: &mut [u64],
-    sheet: &mut [u64],
-    i: usize,
-    code: u64,
-    x: Stored,
-) -> Told
-    requires { ⌜ Small (now w) × (length (now part) ≡ 2) × (12 * (i + 1) ≤ length (now sheet)) ⌝ }
-    ensures { λ r. ⌜ telling.Tells form (now (update .entry)) code (stored x) (now (w .entry)) (now (w .exit))
-        (now (sheet .entry)) (now (sheet .exit)) i r × (length (now (part .exit)) ≡ 2) ⌝ }
-{
-    let from = w[AT];
-    let Field::Done = read_stored(form, update, w, part, x) else {
-        return Told::Refused;
-    };
-    let p = part_in(part);
-    let l = stored_line(code, part[1], p, from);
-    put_line(sheet, i, l);
-    Told::Lines(0, 0, 1)
-}
-
-// In form 2 a key has a number, and a text of its own where it is a new one.
-fn tell_key(
-    form: u8,
-    update: &[u8],
-    w: &mut [u64],
-    part: &mut [u64],
-    sheet: &mut [u64],
-    i: usize,
-    code: u64,
-) -> Told
-    requires { ⌜ Small (now w) × (length (now part) ≡ 2) × (12 * (i + 2) ≤ length (now sheet)) ⌝ }
-    ensures { λ r. ⌜ telling.Tells form (now (update .entry)) code grammar.key (now (w .entry)) (now (w .exit))
-        (now (sheet .entry)) (now (sheet .exit)) i r × (length (now (part .exit)) ≡ 2) ⌝ }
-{
-    let from = w[AT];
-    let base = w[2];
-    let keys = w[KEY_COUNT];
-    let Field::Done = keyed::read_key(form, update, w, part, 0) else {
-        return Told::Refused;
-    };
-    let p = part_in(part);
-    if form == 1 {
-        let l = stored_line(code, part[1], p, from);
-        put_line(sheet, i, l);
-        return Told::Lines(0, 0, 1);
-    }
-    let l = key_line(update, w, code, p, base);
-    put_line(sheet, i, l);
-    if w[KEY_COUNT] <= keys {
-        return Told::Lines(0, 0, 1);
-    }
-    let t = text_line(update, w, 27, p);
-    put_line(sheet, i + 1, t);
-    Told::Lines(0, 0, 2)
-}
-
-// Draws what the plan asks for, and tells it from line i of the sheet on.
-pub fn tell(
-    form: u8,
-    update: &[u8],
-    w: &mut [u64],
-    part: &mut [u64],
-    sheet: &mut [u64],
-    i: usize,
-    q: Plan,
-) -> Told
-    requires { ⌜ Small (now w) × (length (now part) ≡ 2) × (12 * (i + 2) ≤ length (now sheet)) ⌝ }
-    ensures { λ r. ⌜ telling.Tells form (now (update .entry)) (codeOf (q .role)) (telling.fieldAt q) (now (w .entry)) (now (w .exit))
-        (now (sheet .entry)) (now (sheet .exit)) i r × (length (now (part .exit)) ≡ 2) ⌝ }
-{
-    let role = q.role;
-    let code = roles::code_of(role);
-    match ask(q) {
-        Asked::Number(n) => tell_number(form, update, w, sheet, i, code, n),
-        Asked::Text => tell_text(form, update, w, part, sheet, i, code),
-        Asked::Key => tell_key(form, update, w, part, sheet, i, code),
-        Asked::Stored(x) => tell_stored(form, update, w, part, sheet, i, code, x),
-    }
 }
