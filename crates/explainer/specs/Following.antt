@@ -13,7 +13,7 @@ use Rattle.decoder.specs.Update.{blocksOf}
 use Rattle.roles.specs.declared.Plan.{Plan}
 use Rattle.roles.specs.Roles.{start, isKept}
 use Rattle.origins.specs.declared.Line.{Line}
-use Rattle.origins.specs.Telling.{linesOf}
+use Rattle.telling.specs.Telling.{linesOf}
 use Rattle.explainer.specs.Watch.{watch}
 use Rattle.explainer.specs.Explanation.{found, blank}
 

@@ -5,8 +5,8 @@ use cells::Drawn;
 use origins::Line;
 use origins::Rise;
 use origins::Stand;
-use origins::Told;
 use roles::Plan;
+use telling::Told;
 use text::Bytes;
 use text::Part;
 ghost use mathlib.Core.Path.{_≡_};
@@ -14,7 +14,7 @@ ghost use mathlib.Core.Bool.{false};
 ghost use Prim.Native.Nat.{_≤_};
 ghost use lib.ListN.{length};
 ghost use Rattle.cells.specs.Cells.{stateIn, Small};
-ghost use Rattle.origins.specs.Telling.{linesFrom};
+ghost use Rattle.origins.specs.Sheets.{linesFrom};
 ghost use Rattle.explainer.specs.Explanation.{explanation, clockLine};
 ghost use Rattle.explainer.specs.Following.{Readable, Reads, lineFor, isFound, aheadOf, followed};
 
@@ -106,7 +106,7 @@ fn follow(form: u8, update: &[u8], w: &mut [u64], n: usize, sheet: &mut [u64]) -
             }
             let role = q.role;
             let i = line_for(roles::code_of(role), own);
-            let Told::Lines(v, p, k) = origins::tell(form, update, w, &mut part, sheet, i, q) else {
+            let Told::Lines(v, p, k) = telling::tell(form, update, w, &mut part, sheet, i, q) else {
                 return 0;
             };
             own = i + k;
