@@ -15,7 +15,7 @@ use Rattle.grammar.specs.Grammar.{Number, Field, Answer, Grammar, ask, emit, st
 use Rattle.roles.specs.declared.Role.the-variants as role
 use Rattle.roles.specs.declared.Plan.{Plan}
 use Rattle.roles.specs.Roles.{codeOf, after, onward, settled, isEnded, isOver, isKept, blockRole, sectionRole}
-use Rattle.origins.specs.Telling.{fieldOf, fieldAt, heard}
+use Rattle.telling.specs.Telling.{fieldOf, fieldAt, heard}
 use Rattle.explainer.specs.Record.{rowed}
 
 -- what is known of an answer: a number in line is within its limit
@@ -64,7 +64,7 @@ Passed q = isEnded q ≡ true → (isKept q ≡ false) × (q .clock + q .length 
 module _ {A : Type 0} (P : Plan → Block → A → Type 0) where
   unfoldable pub Fits : Plan → Block → Grammar Block A → Type 0
   Fits q r (ask f k) =
-      Passed q × (fieldAt (settled q) ≡ f)
+      Passed q × (isOver (settled q) ≡ false) × (fieldAt (settled q) ≡ f)
       × ((a : Answer f) → Meets f a → Fits (after (settled q) (heard f a .0) (heard f a .1)) (told (settled q) f a r) (k a))
   Fits q r (emit e p x) =
       (isEnded q ≡ true) × (isKept q ≡ true) × (q .clock + q .length ≤ maxClock) × (q .first ≤ q .clock) × (e ≡ r) × Fits (onward q) r x
@@ -75,7 +75,7 @@ module _ {A : Type 0} (P : Plan → Block → A → Type 0) where
 pub fits-bind : {A B : Type 0} (P : Plan → Block → B → Type 0) (x : Grammar Block A) (g : A → Grammar Block B) (q : Plan) (r : Block)
     → Fits (λ q₁ r₁ a. Fits P q₁ r₁ (g a)) q r x → Fits P q r (x >>= g)
 unfolding Fits _>>=_
-fits-bind P (ask f k) g q r h = (h .0, h .1, λ a m. fits-bind P (k a) g _ _ (h .2 a m))
+fits-bind P (ask f k) g q r h = (h .0, h .1, h .2, λ a m. fits-bind P (k a) g _ _ (h .3 a m))
 fits-bind P (emit e p x) g q r h = (h .0, h .1, h .2, h .3, h .4, fits-bind P x g _ _ (h .5))
 fits-bind P (stop n p) g q r h = tt
 fits-bind P (done a) g q r h = h
@@ -84,7 +84,7 @@ fits-bind P (done a) g q r h = h
 pub fits-more : {A : Type 0} {P Q : Plan → Block → A → Type 0} → ((q : Plan) (r : Block) (a : A) → P q r a → Q q r a) → (x : Grammar Block A) (q : Plan) (r : Block)
     → Fits P q r x → Fits Q q r x
 unfolding Fits
-fits-more w (ask f k) q r h = (h .0, h .1, λ a m. fits-more w (k a) _ _ (h .2 a m))
+fits-more w (ask f k) q r h = (h .0, h .1, h .2, λ a m. fits-more w (k a) _ _ (h .3 a m))
 fits-more w (emit e p x) q r h = (h .0, h .1, h .2, h .3, h .4, fits-more w x _ _ (h .5))
 fits-more w (stop n p) q r h = tt
 fits-more w (done a) q r h = w q r a h
@@ -114,11 +114,20 @@ settled-ended q e = rw e refl
 pub never : {X : Type 0} → false ≡ true → X
 never e = absurd (not-both (sym e))
 
+-- and where a block has ended, what fits from there on fits from onward
+pub fits-onward : {A : Type 0} (P : Plan → Block → A → Type 0) (q : Plan) (r : Block) (f : Field) (k : Answer f → Grammar Block A)
+    → isEnded q ≡ true → Fits P q r (ask f k) → Fits P (onward q) r (ask f k)
+unfolding Fits
+fits-onward P q r f k e h = ((λ x. absurd (not-both (sym x ∙ onward-goes q))), ap isOver from ∙ h .1, ap (λ (x : Plan). fieldAt x) from ∙ h .2, λ a m. subst (λ (x : Plan). Fits P (after x (heard f a .0) (heard f a .1)) (told x f a r) (k a)) (sym from) (h .3 a m))
+  where
+    from : settled (onward q) ≡ settled q
+    from = settled-here (onward q) (onward-goes q) ∙ sym (settled-ended q e)
+
 -- a field that fits the plan that another is settled to fits that other
 pub fits-settled : {A : Type 0} (P : Plan → Block → A → Type 0) (p q : Plan) (r : Block) (f : Field) (k : Answer f → Grammar Block A)
     → Passed q → settled q ≡ p → isEnded p ≡ false → Fits P p r (ask f k) → Fits P q r (ask f k)
 unfolding Fits
-fits-settled P p q r f k passed s e h = (passed, ap (λ (x : Plan). fieldAt x) from ∙ h .1, λ a m. subst (λ (x : Plan). Fits P (after x (heard f a .0) (heard f a .1)) (told x f a r) (k a)) (sym from) (h .2 a m))
+fits-settled P p q r f k passed s e h = (passed, ap isOver from ∙ h .1, ap (λ (x : Plan). fieldAt x) from ∙ h .2, λ a m. subst (λ (x : Plan). Fits P (after x (heard f a .0) (heard f a .1)) (told x f a r) (k a)) (sym from) (h .3 a m))
   where
     from : settled q ≡ settled p
     from = s ∙ sym (settled-here p e)

@@ -20,7 +20,7 @@ use Rattle.roles.specs.declared.Role.{Role}
 use Rattle.roles.specs.declared.Role.the-variants as role
 use Rattle.roles.specs.declared.Plan.{Plan}
 use Rattle.roles.specs.Roles.{start, goTo, sectioned, announced, onward, headed, informed, lengthened, infoRole, contentRole, toRight, toParent, toNode, behind, after, codeOf, settled, isEnded, isOver, isKept, isBare, blockRole, sectionRole}
-use Rattle.origins.specs.Telling.{fieldOf, fieldAt, heard}
+use Rattle.telling.specs.Telling.{fieldOf, fieldAt, heard}
 use Rattle.explainer.specs.Record.{headRow, idRow, contentRow, nameRow, rowed}
 use Rattle.explainer.proofs.Fits.{Within, Meets, partOf, begun, told, Passed, Fits, fits-bind, fits-more, not-both, onward-goes, settled-here, settled-ended, never, fits-settled}
 
@@ -58,7 +58,7 @@ module _ (s k m first c i p client : ℕ) where
 
   module _ (item : isBare i ≡ false) where
     content-fits : (b : Block) → b .client ≡ client → Fits Ends here b (blocks.content i p b)
-    unfolding Fits planAt contentRole blocks.content blocks.contentOf blocks.deleted blocks.binary blocks.string blocks.format blocks.type blocks.node blocks.anyList _>>=_ settled isEnded codeOf after behind fieldOf heard partOf begun told rowed headRow idRow contentRow nameRow goTo lengthened toNode Meets Within isItem
+    unfolding Fits planAt contentRole blocks.content blocks.contentOf blocks.deleted blocks.binary blocks.string blocks.format blocks.type blocks.node blocks.anyList _>>=_ settled isEnded isOver codeOf after behind fieldOf heard partOf begun told rowed headRow idRow contentRow nameRow goTo lengthened toNode Meets Within isItem
     content-fits b o = go (eqb (i % 32) 1) (eqb (i % 32) 3) (eqb (i % 32) 4) (eqb (i % 32) 6) (eqb (i % 32) 7) (eqb (i % 32) 8)
       where
         type-row : ℕ → Block
@@ -67,51 +67,51 @@ module _ (s k m first c i p client : ℕ) where
         node : (high named : Bool) (v x : ℕ)
             → Fits Ends (pick high (at role.Over 0) (pick named (at role.NodeName 0) (at role.Ended 1))) (type-row v) (pick high (stop 5 p) (pick named (ask grammar.key (λ k. done (withMark k (type-row v)))) (done (type-row v))))
         node true named v x = tt
-        node false true v x = (never, refl, λ a _. record { plan = refl; kind = sym (ap not item); row = refl; of = o })
+        node false true v x = (never, refl, refl, λ a _. record { plan = refl; kind = sym (ap not item); row = refl; of = o })
         node false false v x = record { plan = refl; kind = sym (ap not item); row = refl; of = o }
 
         go : (b1 b3 b4 b6 b7 b8 : Bool)
             → Fits Ends (at (pick b1 role.DeletedLength (pick b3 role.Binary (pick b4 role.Text (pick b6 role.MarkKey (pick b7 role.TypeNumber (pick b8 role.ListLength role.Over)))))) 0) b
             (pick b1 (blocks.deleted b) (pick b3 (blocks.binary b) (pick b4 (blocks.string b) (pick b6 (blocks.format p b) (pick b7 (blocks.type p b) (pick b8 (blocks.anyList p b) (stop 5 p)))))))
-        go true b3 b4 b6 b7 b8 = (never, refl, λ a _. record { plan = refl; kind = sym (ap not item); row = refl; of = o })
-        go false true b4 b6 b7 b8 = (never, refl, λ a _. record { plan = refl; kind = sym (ap not item); row = refl; of = o })
-        go false false true b6 b7 b8 = (never, refl, λ a _. record { plan = refl; kind = sym (ap not item); row = refl; of = o })
-        go false false false true b7 b8 = (never, refl, λ a _. (never, refl, λ a₁ _. record { plan = refl; kind = sym (ap not item); row = refl; of = o }))
-        go false false false false true b8 = (never, refl, λ a _. node (ltb maxType (a .0)) (isNamed (a .0)) (a .0) (a .1))
-        go false false false false false true = (never, refl, λ a _. (never, refl, λ a₁ _. record { plan = refl; kind = sym (ap not item); row = refl; of = o }))
+        go true b3 b4 b6 b7 b8 = (never, refl, refl, λ a _. record { plan = refl; kind = sym (ap not item); row = refl; of = o })
+        go false true b4 b6 b7 b8 = (never, refl, refl, λ a _. record { plan = refl; kind = sym (ap not item); row = refl; of = o })
+        go false false true b6 b7 b8 = (never, refl, refl, λ a _. record { plan = refl; kind = sym (ap not item); row = refl; of = o })
+        go false false false true b7 b8 = (never, refl, refl, λ a _. (never, refl, refl, λ a₁ _. record { plan = refl; kind = sym (ap not item); row = refl; of = o }))
+        go false false false false true b8 = (never, refl, refl, λ a _. node (ltb maxType (a .0)) (isNamed (a .0)) (a .0) (a .1))
+        go false false false false false true = (never, refl, refl, λ a _. (never, refl, refl, λ a₁ _. record { plan = refl; kind = sym (ap not item); row = refl; of = o }))
         go false false false false false false = tt
 
   -- what stands before the content: then is what follows it
   module _ (P : Plan → Block → Block → Type 0) (then : (b : Block) → b .client ≡ client → P here b b) where
     key-fits : (b : Block) → b .client ≡ client → Fits P (pick (ltb i 32) here (at role.Key 0)) b (blocks.key i b)
-    unfolding Fits planAt blocks.key _>>=_ settled isEnded codeOf after behind fieldOf heard partOf begun told rowed headRow idRow contentRow nameRow goTo Meets
+    unfolding Fits planAt blocks.key _>>=_ settled isEnded isOver codeOf after behind fieldOf heard partOf begun told rowed headRow idRow contentRow nameRow goTo Meets
     key-fits b o = go (ltb i 32)
       where
         go : (x : Bool) → Fits P (pick x here (at role.Key 0)) b (pick x (done b) (ask grammar.text (λ a. done (withKey (a .0) b))))
         go true = then b o
-        go false = (never, refl, λ a _. then (withKey (a .0) b) o)
+        go false = (never, refl, refl, λ a _. then (withKey (a .0) b) o)
 
     right-fits : (b : Block) → b .client ≡ client → Fits P (pick (ltb (i % 128) 64) here (at role.RightClient 0)) b (blocks.right i b)
-    unfolding Fits planAt blocks.right blocks.anId _>>=_ settled isEnded codeOf after behind fieldOf heard partOf begun told rowed headRow idRow contentRow nameRow goTo Meets Within
+    unfolding Fits planAt blocks.right blocks.anId _>>=_ settled isEnded isOver codeOf after behind fieldOf heard partOf begun told rowed headRow idRow contentRow nameRow goTo Meets Within
     right-fits b o = go (ltb (i % 128) 64)
       where
         go : (x : Bool) → Fits P (pick x here (at role.RightClient 0)) b (pick x (done b) (blocks.anId grammar.rightClock >>= λ id. done (withRight id b)))
         go true = then b o
-        go false = (never, refl, λ a _. (never, refl, λ a₁ _. then (withRight (record { client = a .0; clock = a₁ .0 }) b) o))
+        go false = (never, refl, refl, λ a _. (never, refl, refl, λ a₁ _. then (withRight (record { client = a .0; clock = a₁ .0 }) b) o))
 
     left-fits : (b : Block) → b .client ≡ client → Fits P (at role.LeftClient 0) b ((blocks.anId grammar.leftClock >>= λ id. done (withLeft id b)) >>= blocks.right i)
-    unfolding Fits planAt blocks.anId _>>=_ settled isEnded codeOf after behind fieldOf heard partOf begun told rowed headRow idRow contentRow nameRow goTo toRight Meets Within
-    left-fits b o = (never, refl, λ a _. (never, refl, λ a₁ _. right-fits (withLeft (record { client = a .0; clock = a₁ .0 }) b) o))
+    unfolding Fits planAt blocks.anId _>>=_ settled isEnded isOver codeOf after behind fieldOf heard partOf begun told rowed headRow idRow contentRow nameRow goTo toRight Meets Within
+    left-fits b o = (never, refl, refl, λ a _. (never, refl, refl, λ a₁ _. right-fits (withLeft (record { client = a .0; clock = a₁ .0 }) b) o))
 
     parent-fits : (b : Block) → b .client ≡ client → Fits P (at role.ParentInfo 0) b (blocks.parent b >>= blocks.key i)
-    unfolding Fits planAt blocks.parent blocks.parentAfter blocks.anId _>>=_ settled isEnded codeOf after behind fieldOf heard partOf begun told rowed headRow idRow contentRow nameRow goTo toParent Meets Within
-    parent-fits b o = (never, refl, λ a _. go (eqb (a .0) 1))
+    unfolding Fits planAt blocks.parent blocks.parentAfter blocks.anId _>>=_ settled isEnded isOver codeOf after behind fieldOf heard partOf begun told rowed headRow idRow contentRow nameRow goTo toParent Meets Within
+    parent-fits b o = (never, refl, refl, λ a _. go (eqb (a .0) 1))
       where
         go : (x : Bool)
             → Fits P (pick x (at role.ParentName 0) (at role.ParentClient 0)) b
             (pick x (ask grammar.text (λ a. done (withName (a .0) b))) (blocks.anId grammar.leftClock >>= λ id. done (withParent id b)) >>= blocks.key i)
-        go true = (never, refl, λ a _. key-fits (withName (a .0) b) o)
-        go false = (never, refl, λ a _. (never, refl, λ a₁ _. key-fits (withParent (record { client = a .0; clock = a₁ .0 }) b) o))
+        go true = (never, refl, refl, λ a _. key-fits (withName (a .0) b) o)
+        go false = (never, refl, refl, λ a _. (never, refl, refl, λ a₁ _. key-fits (withParent (record { client = a .0; clock = a₁ .0 }) b) o))
 
     place-fits : (b : Block) → b .client ≡ client → Fits P (at (pick (ltb i 64) role.ParentInfo (pick (ltb i 128) role.RightClient role.LeftClient)) 0) b (blocks.place i b)
     unfolding blocks.place blocks.left _>>=_
@@ -132,14 +132,14 @@ module _ (s k m first c i p client : ℕ) where
   item-fits item b o = fits-bind Ends (blocks.place i b) (blocks.content i p) _ b (place-fits (λ q r b₁. Fits Ends q r (blocks.content i p b₁)) (content-fits item) b o)
 
   body-fits : Fits Ends (at (infoRole i) 0) (plain client c 0 0) (blocks.body client c i p)
-  unfolding Fits planAt infoRole blocks.body blocks.bare _>>=_ settled isEnded codeOf after behind fieldOf heard partOf begun told rowed headRow idRow contentRow nameRow lengthened Meets Within isItem isBare
+  unfolding Fits planAt infoRole blocks.body blocks.bare _>>=_ settled isEnded isOver codeOf after behind fieldOf heard partOf begun told rowed headRow idRow contentRow nameRow lengthened Meets Within isItem isBare
   body-fits = go (eqb i 10) refl (eqb i 0) refl
     where
       go : (x : Bool) → eqb i 10 ≡ x → (y : Bool) → eqb i 0 ≡ y
           → Fits Ends (at (pick x role.SkipLength (pick y role.GcLength (pick (ltb i 64) role.ParentInfo (pick (ltb i 128) role.RightClient role.LeftClient)))) 0) (plain client c 0 0)
           (pick x (blocks.bare client c SKIP (grammar.upTo maxClock)) (pick y (blocks.bare client c GC grammar.len) (blocks.anItem i p (plain client c 0 0))))
-      go true ex y ey = (never, refl, λ a _. record { plan = refl; kind = sym (ap not (either (eqb i 0) (eqb i 10) ex)); row = refl; of = refl })
-      go false ex true ey = (never, refl, λ a _. record { plan = refl; kind = sym (ap not (or-first (eqb i 0) (eqb i 10) ey)); row = refl; of = refl })
+      go true ex y ey = (never, refl, refl, λ a _. record { plan = refl; kind = sym (ap not (either (eqb i 0) (eqb i 10) ex)); row = refl; of = refl })
+      go false ex true ey = (never, refl, refl, λ a _. record { plan = refl; kind = sym (ap not (or-first (eqb i 0) (eqb i 10) ey)); row = refl; of = refl })
       go false ex false ey = item-fits (neither (eqb i 0) (eqb i 10) ey ex) (plain client c 0 0) refl
 
 -- ---- a block, and the place of its info byte
@@ -150,9 +150,10 @@ module _ (s k m first c client : ℕ) where
     pub ends : Ends s k m first c info (b .1) client q r (b .0)
 
   block-fits : (r : Block) → r .client ≡ client → Fits Block-ends (planAt s k m first c 0 0 role.Info 0) r (blocks.block client c)
-  unfolding Fits planAt blocks.block _>>=_ settled isEnded codeOf after behind fieldOf heard partOf begun told rowed headRow idRow contentRow nameRow informed Meets Within
+  unfolding Fits planAt blocks.block _>>=_ settled isEnded isOver codeOf after behind fieldOf heard partOf begun told rowed headRow idRow contentRow nameRow informed Meets Within
   block-fits r o = (
     never,
+    refl,
     refl,
     λ a _. fits-bind Block-ends (blocks.body client c (a .0) (a .1)) (λ b. done (b, a .1)) _ _
         (fits-more (λ q r₁ b e. record { info = a .0; ends = e }) (blocks.body client c (a .0) (a .1)) _ _
@@ -286,14 +287,14 @@ module _ (n m : ℕ) (seen : List ℕ)
 
   head-fits : (first c : ℕ) (r : Block)
       → Fits Final (planAt (suc n) 0 m first c 0 0 role.Blocks 0) r (ask (grammar.number (grammar.upTo m)) (λ a. ask (grammar.number grammar.client) (λ x. sectioned-rest (a .0) x)))
-  unfolding Fits planAt settled isEnded codeOf after behind fieldOf heard partOf begun told rowed headRow idRow contentRow nameRow goTo announced Meets Within
-  head-fits first c r = (never, refl, λ a _. (never, refl, λ x _. go (among (x .0) seen) (a .0) x))
+  unfolding Fits planAt settled isEnded isOver codeOf after behind fieldOf heard partOf begun told rowed headRow idRow contentRow nameRow goTo announced Meets Within
+  head-fits first c r = (never, refl, refl, λ a _. (never, refl, refl, λ x _. go (among (x .0) seen) (a .0) x))
     where
       go : (y : Bool) (k : ℕ) (x : ℕ × ℕ)
           → Fits Final (goTo role.FirstClock (announced k (planAt (suc n) 0 m first c 0 0 role.Blocks 0))) (plain (x .0) 0 0 0)
           (pick y (stop 4 (x .1)) (ask (grammar.number (grammar.upTo maxClock)) (λ a. blocks.blocks k (x .0) (a .0) >>= λ _. blocks.sections n (seen ++ (x .0 ∷ [])) (m - k))))
       go true k x = tt
-      go false k x = (never, refl, λ a _. blocks-then k (x .0) (a .0) (seen ++ (x .0 ∷ [])) (plain (x .0) 0 0 0) _ refl (behind-head n k m first c (a .0)))
+      go false k x = (never, refl, refl, λ a _. blocks-then k (x .0) (a .0) (seen ++ (x .0 ∷ [])) (plain (x .0) 0 0 0) _ refl (behind-head n k m first c (a .0)))
 
 none-over : (m first c : ℕ) → isOver (before 0 0 m first c) ≡ true
 unfolding isOver before blockRole sectionRole codeOf
@@ -312,8 +313,8 @@ sectioned-is n = refl
 
 -- all of them
 pub all-fit : (r : Block) → Fits Final start r blocks.allBlocks
-unfolding Fits blocks.allBlocks _>>=_ settled isEnded codeOf after behind fieldOf heard partOf begun told Meets Within
-all-fit r = (never, refl, λ a _. sections-fit (a .0) [] maxBlocks 0 0 _ _ (λ e. absurd (not-both (sym e ∙ goes-on (a .0)))) (settled-here _ (goes-on (a .0)) ∙ sectioned-is (a .0)))
+unfolding Fits blocks.allBlocks _>>=_ settled isEnded isOver codeOf after behind fieldOf heard partOf begun told Meets Within
+all-fit r = (never, refl, refl, λ a _. sections-fit (a .0) [] maxBlocks 0 0 _ _ (λ e. absurd (not-both (sym e ∙ goes-on (a .0)))) (settled-here _ (goes-on (a .0)) ∙ sectioned-is (a .0)))
   where
     goes-on : (n : ℕ) → isEnded (sectioned n start) ≡ false
     goes-on n = ap isEnded (sectioned-is n) ∙ before-goes n 0 maxBlocks 0 0

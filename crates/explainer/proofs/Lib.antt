@@ -2,3 +2,6 @@
 pub mod Fits
 pub mod Labels
 pub mod Seeking
+pub mod Going
+pub mod Sheets
+pub mod Holding
