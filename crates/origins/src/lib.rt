@@ -243,9 +243,14 @@ pub fn base_of(w: &[u64], n: Number) -> u64
     ensures { λ r. ⌜ r ≡ origins.baseOf (numeral n) (stateIn (now (w .entry))) ⌝ }
 {
     match n {
+        Number::Client => 0,
         Number::LeftClock => w[16],
         Number::RightClock => w[23],
-        _ => 0,
+        Number::Info => 0,
+        Number::ParentInfo => 0,
+        Number::Len => 0,
+        Number::TypeNumber => 0,
+        Number::UpTo(_) => 0,
     }
 }
 
@@ -254,9 +259,14 @@ fn rise_of(w: &[u64], n: Number, base: u64) -> Rise
     ensures { λ r. ⌜ r ≡ origins.riseOf (numeral n) base (stateIn (now (w .entry))) ⌝ }
 {
     match n {
+        Number::Client => no_rise(),
         Number::LeftClock => rising(base, w[19]),
         Number::RightClock => rising(base, w[26]),
-        _ => no_rise(),
+        Number::Info => no_rise(),
+        Number::ParentInfo => no_rise(),
+        Number::Len => no_rise(),
+        Number::TypeNumber => no_rise(),
+        Number::UpTo(_) => no_rise(),
     }
 }
 

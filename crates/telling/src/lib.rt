@@ -65,6 +65,7 @@ fn ask(q: Plan) -> Asked
         Role::ParentClock => Asked::Number(Number::LeftClock),
         Role::Key => Asked::Text,
         Role::DeletedLength => Asked::Number(Number::Len),
+        Role::Binary => Asked::Stored(Stored::Bytes),
         Role::Text => Asked::Text,
         Role::MarkKey => Asked::Key,
         Role::MarkValue => Asked::Stored(Stored::Value(q.place)),
@@ -72,7 +73,8 @@ fn ask(q: Plan) -> Asked
         Role::NodeName => Asked::Key,
         Role::ListLength => Asked::Number(Number::Len),
         Role::ListValues => Asked::Stored(Stored::Values(q.place, q.length)),
-        _ => Asked::Stored(Stored::Bytes),
+        Role::Ended => Asked::Stored(Stored::Bytes),
+        Role::Over => Asked::Stored(Stored::Bytes),
     }
 }
 

@@ -1,0 +1,2 @@
+-- What holds of lines in a sheet.
+pub mod Sheets
