@@ -1,2 +1,2 @@
--- What holds of lines in a sheet.
+-- What holds of the lines of a sheet.
 pub mod Sheets

@@ -1,17 +1,20 @@
 -- A line put into a sheet, word by word.
 use Prim.Native.Nat.{ℕ, zero, suc, _+_, _*_, _≤_, _<_}
 use mathlib.Core.Path.{_≡_, refl, sym, _∙_}
-use mathlib.Core.List.{List}
+use mathlib.Core.List.{List, [], _∷_}
 use mathlib.Core.Bool.{Bool, true, false}
 use native.Mathlib.Omega.{arith}
 use lib.Dec.{eqb}
 use lib.ListN.{length, getD, set, length-set}
 use lib.Seq.{getD-set-other, getD-set-same}
-use borrow.Author.Tests.{eqb-true, eqb-false}
-use Rattle.cells.specs.Cells.{partIn}
+use borrow.Author.Tests.{lt-ltb, le-ltb, eqb-true, eqb-false}
+use Rattle.text.specs.declared.Part.{Part}
+use Rattle.cells.specs.Cells.{keyCount, stateIn, partIn}
+use Rattle.cells.proofs.Keys.{keys-length}
+use Rattle.roles.specs.Roles.{keyText}
 use Rattle.origins.specs.declared.Line.{Line}
-use Rattle.origins.specs.Origins.{wordsOf}
-use Rattle.origins.specs.Sheets.{lineIn, Above}
+use Rattle.origins.specs.Origins.{textLine, keyLine, keyLines, wordsOf}
+use Rattle.origins.specs.Sheets.{lineIn, linesFrom, Above}
 
 -- the first n words of line i are those of c, and below the line nothing changed
 module _ (i : ℕ) (sh c : List ℕ) where
@@ -70,3 +73,22 @@ module _ (sh : List ℕ) (i : ℕ) (l : Line) where
       p 11 (b + 11) _ (omega arith) refl (p 10 (b + 10) _ (omega arith) refl (p 9 (b + 9) _ (omega arith) refl (p 8 (b + 8) _ (omega arith) refl
       (p 7 (b + 7) _ (omega arith) refl (p 6 (b + 6) _ (omega arith) refl (p 5 (b + 5) _ (omega arith) refl (p 4 (b + 4) _ (omega arith) refl
       (p 3 (b + 3) _ (omega arith) refl (p 2 (b + 2) _ (omega arith) refl (p 1 (b + 1) _ (omega arith) refl (p 0 b sh (omega arith) (omega arith) (held i sh c))))))))))))
+
+-- ---- one line more
+
+pub above-on : (i : ℕ) (sh v u : List ℕ) → Above i sh v → Above (i + 1) v u → Above i sh u
+above-on i sh v u a b = record { size = b .size ∙ a .size; same = λ j l. b .same j (omega arith) ∙ a .same j l }
+
+-- ---- the lines of a key
+
+module _ (u : List ℕ) (code : ℕ) (p : Part) (base keys : ℕ) (w sh : List ℕ) (i : ℕ) (l : lineIn sh i ≡ keyLine u code p base (stateIn w)) where
+  abbrev Lines : ℕ → Type 0
+  Lines n = linesFrom sh i n ≡ keyLines u code p base keys (stateIn w)
+
+  pub key-known : keyCount w ≤ keys → Lines 1
+  unfolding linesFrom keyLines stateIn
+  key-known few = rw (l, keys-length w, le-ltb keys (keyCount w) few) refl
+
+  pub key-new : keys < keyCount w → lineIn sh (i + 1) ≡ textLine u keyText p (stateIn w) → Lines 2
+  unfolding linesFrom keyLines stateIn
+  key-new more t = let e : suc i ≡ i + 1 = omega arith in rw (e, l, t, keys-length w, lt-ltb keys (keyCount w) more) refl

@@ -230,14 +230,8 @@ fn tell_key(
         origins::put_line(sheet, i, l);
         return Told::Lines(0, 0, 1);
     }
-    let l = origins::key_line(update, w, code, p, base);
-    origins::put_line(sheet, i, l);
-    if w[KEY_COUNT] <= keys {
-        return Told::Lines(0, 0, 1);
-    }
-    let t = origins::text_line(update, w, 27, p);
-    origins::put_line(sheet, i + 1, t);
-    Told::Lines(0, 0, 2)
+    let n = origins::put_key(update, w, sheet, i, code, p, base, keys);
+    Told::Lines(0, 0, n)
 }
 
 // Draws what the plan asks for, and tells it from line i of the sheet on.
