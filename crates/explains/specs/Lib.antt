@@ -1,2 +1,3 @@
 -- What the public call `explain` promises.
 pub mod Promises
+pub mod Whole
