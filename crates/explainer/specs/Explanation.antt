@@ -18,7 +18,7 @@ use Rattle.roles.specs.declared.Plan.{Plan}
 use Rattle.roles.specs.Roles.{start, codeOf, after, settled, ownClock}
 use Rattle.origins.specs.declared.Line.{Line}
 use Rattle.origins.specs.Origins.{inLine, linesInLine, linesIn, wordsOf}
-use Rattle.origins.specs.Telling.{heard}
+use Rattle.telling.specs.Telling.{heard}
 use Rattle.explainer.specs.Watch.{Seen, drew, kept, watch}
 
 -- the lines of this section's head, and of this block, as far as they were drawn

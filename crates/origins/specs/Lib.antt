@@ -1,3 +1,4 @@
 -- Where a value that was drawn from an update came from.
 pub mod Origins
-pub mod Telling
+pub mod Numerals
+pub mod Sheets

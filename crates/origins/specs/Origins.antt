@@ -86,18 +86,18 @@ noRise = record { base = 0; sign = 0; size = 0 }
 unfoldable pub rising : ℕ → ℕ → Rise
 rising base key = pick (ltb key zeroKey) (record { base = base; sign = 2; size = zeroKey - key }) (record { base = base; sign = 1; size = key - zeroKey })
 
-abbrev pub riseIn : Differences → Differences → Rise
-riseIn before behind = rising (before .place .last) (behind .place .key)
-
 -- ---- the lines of a draw, between two places in line
 
 -- stored bytes, led by their length or by nothing
 unfoldable pub storedLine : ℕ → ℕ → Part → ℕ → Line
 storedLine code v p from = record { field = code; value = v; stand = inLine from (p .place); rise = noRise; part = p }
 
+unfoldable pub plainLine : ℕ → ℕ → ℕ → ℕ → Line
+plainLine code v from to = record { field = code; value = v; stand = inLine from to; rise = noRise; part = noPart }
+
 -- a text's value is its units, that of other bytes their count
 unfoldable pub lineAt : ℕ → (f : Field) → Answer f → ℕ → ℕ → Line
-lineAt code (grammar.number n) a from to = record { field = code; value = a .0; stand = inLine from to; rise = noRise; part = noPart }
+lineAt code (grammar.number n) a from to = plainLine code (a .0) from to
 lineAt code grammar.text a from to = storedLine code (a .1 .0) (a .0) from
 lineAt code grammar.bytes p from to = storedLine code (p .bytes .0) p from
 lineAt code grammar.key p from to = storedLine code (p .bytes .0) p from
@@ -110,48 +110,70 @@ linesInLine code f a from to = lineAt code f a from to ∷ []
 
 -- ---- form 2: between two states
 
--- where a number stands
-unfoldable pub standIn : List ℕ → Number → State → State → Stand
-standIn u grammar.client s t = numberStand u (t .client)
-standIn u grammar.leftClock s t = differenceStand u (t .left)
-standIn u grammar.rightClock s t = differenceStand u (t .right)
-standIn u grammar.info s t = byteStand u (t .info)
-standIn u grammar.parentInfo s t = byteStand u (t .parent)
-standIn u grammar.len s t = numberStand u (t .len)
-standIn u grammar.typeNumber s t = numberStand u (t .types)
-standIn u grammar.byte s t = inLine (s .at) (t .at)
-standIn u (grammar.upTo most) s t = inLine (s .at) (t .at)
-standIn u grammar.any s t = inLine (s .at) (t .at)
-standIn u (grammar.deleteClock end) s t = inLine (s .at) (t .at)
-standIn u grammar.deleteLen s t = inLine (s .at) (t .at)
+-- where a number stands, which was drawn from place `from` in line, or from a column
+unfoldable pub standIn : List ℕ → Number → ℕ → State → Stand
+standIn u grammar.client from t = numberStand u (t .client)
+standIn u grammar.leftClock from t = differenceStand u (t .left)
+standIn u grammar.rightClock from t = differenceStand u (t .right)
+standIn u grammar.info from t = byteStand u (t .info)
+standIn u grammar.parentInfo from t = byteStand u (t .parent)
+standIn u grammar.len from t = numberStand u (t .len)
+standIn u grammar.typeNumber from t = numberStand u (t .types)
+standIn u grammar.byte from t = inLine from (t .at)
+standIn u (grammar.upTo most) from t = inLine from (t .at)
+standIn u grammar.any from t = inLine from (t .at)
+standIn u (grammar.deleteClock end) from t = inLine from (t .at)
+standIn u grammar.deleteLen from t = inLine from (t .at)
 
--- and what it is a difference from
-unfoldable pub riseOf : Number → State → State → Rise
-riseOf grammar.leftClock s t = riseIn (s .left) (t .left)
-riseOf grammar.rightClock s t = riseIn (s .right) (t .right)
-riseOf grammar.client s t = noRise
-riseOf grammar.info s t = noRise
-riseOf grammar.parentInfo s t = noRise
-riseOf grammar.len s t = noRise
-riseOf grammar.typeNumber s t = noRise
-riseOf grammar.byte s t = noRise
-riseOf (grammar.upTo most) s t = noRise
-riseOf grammar.any s t = noRise
-riseOf (grammar.deleteClock end) s t = noRise
-riseOf grammar.deleteLen s t = noRise
+-- the value before, where a number is a difference from it
+unfoldable pub baseOf : Number → State → ℕ
+baseOf grammar.leftClock s = s .left .place .last
+baseOf grammar.rightClock s = s .right .place .last
+baseOf grammar.client s = 0
+baseOf grammar.info s = 0
+baseOf grammar.parentInfo s = 0
+baseOf grammar.len s = 0
+baseOf grammar.typeNumber s = 0
+baseOf grammar.byte s = 0
+baseOf (grammar.upTo most) s = 0
+baseOf grammar.any s = 0
+baseOf (grammar.deleteClock end) s = 0
+baseOf grammar.deleteLen s = 0
+
+-- and the difference
+unfoldable pub riseOf : Number → ℕ → State → Rise
+riseOf grammar.leftClock base t = rising base (t .left .place .key)
+riseOf grammar.rightClock base t = rising base (t .right .place .key)
+riseOf grammar.client base t = noRise
+riseOf grammar.info base t = noRise
+riseOf grammar.parentInfo base t = noRise
+riseOf grammar.len base t = noRise
+riseOf grammar.typeNumber base t = noRise
+riseOf grammar.byte base t = noRise
+riseOf (grammar.upTo most) base t = noRise
+riseOf grammar.any base t = noRise
+riseOf (grammar.deleteClock end) base t = noRise
+riseOf grammar.deleteLen base t = noRise
 
 -- a text of the text column, and its units
 unfoldable pub textLine : List ℕ → ℕ → Part → State → Line
 textLine u code p t = record { field = code; value = t .text .place .units .last; stand = textStand u (t .text); rise = noRise; part = p }
 
--- a key's number, and its text where it is a new one
+-- a key's number, a difference from the number before
+unfoldable pub keyLine : List ℕ → ℕ → Part → ℕ → State → Line
+keyLine u code p base t = record { field = code; value = t .key .place .last; stand = differenceStand u (t .key); rise = rising base (t .key .place .key); part = p }
+
+-- and its text, where it is a new one
 unfoldable pub keyLines : List ℕ → ℕ → Part → State → State → List Line
 keyLines u code p s t =
-    record { field = code; value = t .key .place .last; stand = differenceStand u (t .key); rise = riseIn (s .key) (t .key); part = p }
-    ∷ pick (ltb (length (s .keys)) (length (t .keys))) (textLine u keyText p t ∷ []) []
+    keyLine u code p (s .key .place .last) t ∷ pick (ltb (length (s .keys)) (length (t .keys))) (textLine u keyText p t ∷ []) []
+
+-- a number
+unfoldable pub numberLine : List ℕ → ℕ → Number → ℕ → ℕ → ℕ → State → Line
+numberLine u code n v from base t = record { field = code; value = v; stand = standIn u n from t; rise = riseOf n base t; part = noPart }
 
 unfoldable pub linesIn : List ℕ → ℕ → (f : Field) → Answer f → State → State → List Line
-linesIn u code (grammar.number n) a s t = record { field = code; value = a .0; stand = standIn u n s t; rise = riseOf n s t; part = noPart } ∷ []
+linesIn u code (grammar.number n) a s t = numberLine u code n (a .0) (s .at) (baseOf n s) t ∷ []
 linesIn u code grammar.text a s t = textLine u code (a .0) t ∷ []
 linesIn u code grammar.bytes p s t = storedLine code (p .bytes .0) p (s .at) ∷ []
 linesIn u code grammar.key p s t = keyLines u code p s t

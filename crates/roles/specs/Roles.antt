@@ -1,10 +1,10 @@
 -- What each draw of an update's blocks is drawn for: the role of the next one, by what was drawn before. A label for the grammar's draws, which stand in
 -- `grammar`; that the labels fit is proved (`explainer`, proofs).
-use Prim.Native.Nat.{ℕ, _+_, _-_, _%_, _≤_}
-use mathlib.Core.Bool.{Bool, true, false, not, _&&_}
+use Prim.Native.Nat.{ℕ, _+_, _-_, _%_}
+use mathlib.Core.Bool.{Bool, true, _||_}
 use lib.Dec.{ltb, eqb}
 use Rattle.numbers.specs.Number.{pick}
-use Rattle.numbers.specs.Limits.{maxBlocks, maxClock, maxClients}
+use Rattle.numbers.specs.Limits.{maxBlocks}
 use Rattle.block.specs.Kinds.{maxType, isNamed}
 use Rattle.roles.specs.declared.Role.{Role}
 use Rattle.roles.specs.declared.Role.the-variants.{Sections, Blocks, Client, FirstClock, Info, SkipLength, GcLength, LeftClient, LeftClock, RightClient, RightClock, ParentInfo, ParentName, ParentClient, ParentClock, Key, DeletedLength, Binary, Text, MarkKey, MarkValue, TypeNumber, NodeName, ListLength, ListValues, Ended, Over}
@@ -19,17 +19,25 @@ start = record { role = Sections; sections = 0; blocks = 0; room = maxBlocks; fi
 unfoldable pub goTo : Role → Plan → Plan
 goTo r q = record { role = r; sections = q .sections; blocks = q .blocks; room = q .room; first = q .first; clock = q .clock; info = q .info; place = q .place; length = q .length }
 
+-- before so many sections
+unfoldable pub sectionRole : ℕ → Role
+sectionRole n = pick (eqb n 0) Over Blocks
+
 -- so many sections
 unfoldable pub sectioned : ℕ → Plan → Plan
-sectioned n q = record { role = pick (eqb n 0) Over Blocks; sections = n; blocks = 0; room = q .room; first = 0; clock = 0; info = 0; place = 0; length = 0 }
+sectioned n q = record { role = sectionRole n; sections = n; blocks = 0; room = q .room; first = 0; clock = 0; info = 0; place = 0; length = 0 }
 
 -- one section of them, with so many blocks
 unfoldable pub announced : ℕ → Plan → Plan
 announced k q = record { role = Client; sections = q .sections - 1; blocks = k; room = q .room - k; first = 0; clock = 0; info = 0; place = 0; length = 0 }
 
+-- before so many blocks, and then so many sections
+unfoldable pub blockRole : ℕ → ℕ → Role
+blockRole k n = pick (eqb k 0) (sectionRole n) Info
+
 -- behind a block, or a section's head: the next block of this section, which begins where the one before ended; where none is left, the next section
 unfoldable pub onward : Plan → Plan
-onward q = record { role = pick (eqb (q .blocks) 0) (pick (eqb (q .sections) 0) Over Blocks) Info; sections = q .sections; blocks = q .blocks - 1; room = q .room; first = q .first; clock = q .clock + q .length; info = 0; place = 0; length = 0 }
+onward q = record { role = blockRole (q .blocks) (q .sections); sections = q .sections; blocks = q .blocks - 1; room = q .room; first = q .first; clock = q .clock + q .length; info = 0; place = 0; length = 0 }
 
 -- the first clock
 unfoldable pub headed : ℕ → Plan → Plan
@@ -42,6 +50,9 @@ informed r i p q = record { role = r; sections = q .sections; blocks = q .blocks
 -- the length
 unfoldable pub lengthened : Role → ℕ → Plan → Plan
 lengthened r n q = record { role = r; sections = q .sections; blocks = q .blocks; room = q .room; first = q .first; clock = q .clock; info = q .info; place = q .place; length = n }
+
+abbrev pub ended : Role
+ended = Ended
 
 -- nothing more of this block is drawn, and it has so many clocks
 abbrev pub lasting : ℕ → Plan → Plan
@@ -65,6 +76,18 @@ toContent q = goTo (contentRole (q .info % 32)) q
 abbrev pub toKey : Plan → Plan
 toKey q = pick (ltb (q .info) 32) (toContent q) (goTo Key q)
 
+-- behind a left id: a right id, where the info byte has one
+unfoldable pub toRight : Plan → Plan
+toRight q = pick (ltb (q .info % 128) 64) (toContent q) (goTo RightClient q)
+
+-- a parent info of 1: a name; otherwise an id
+unfoldable pub toParent : ℕ → Plan → Plan
+toParent v q = pick (eqb v 1) (goTo ParentName q) (goTo ParentClient q)
+
+-- a type number too high ends the plan: it is refused
+unfoldable pub toNode : ℕ → Plan → Plan
+toNode v q = pick (ltb maxType v) (goTo Over q) (pick (isNamed v) (goTo NodeName q) (lasting 1 q))
+
 -- ---- behind a draw: v is the number drawn, or a text's units, and p the place that it is blamed at
 
 unfoldable pub behind : Role → Plan → ℕ → ℕ → Plan
@@ -76,10 +99,10 @@ behind Info q v p = informed (infoRole v) v p q
 behind SkipLength q v p = lasting v q
 behind GcLength q v p = lasting v q
 behind LeftClient q v p = goTo LeftClock q
-behind LeftClock q v p = pick (ltb (q .info % 128) 64) (toContent q) (goTo RightClient q)
+behind LeftClock q v p = toRight q
 behind RightClient q v p = goTo RightClock q
 behind RightClock q v p = toContent q
-behind ParentInfo q v p = goTo (pick (eqb v 1) ParentName ParentClient) q
+behind ParentInfo q v p = toParent v q
 behind ParentName q v p = toKey q
 behind ParentClient q v p = goTo ParentClock q
 behind ParentClock q v p = toKey q
@@ -89,7 +112,7 @@ behind Binary q v p = lasting 1 q
 behind Text q v p = lasting v q
 behind MarkKey q v p = goTo MarkValue q
 behind MarkValue q v p = lasting 1 q
-behind TypeNumber q v p = pick (ltb maxType v) (goTo Over q) (pick (isNamed v) (goTo NodeName q) (lasting 1 q))
+behind TypeNumber q v p = toNode v q
 behind NodeName q v p = lasting 1 q
 behind ListLength q v p = lengthened ListValues v q
 behind ListValues q v p = goTo Ended q
@@ -137,8 +160,22 @@ ownClock = 5
 abbrev pub keyText : ℕ
 keyText = 27
 
+unfoldable pub isEnded : Plan → Bool
+isEnded q = eqb (codeOf (q .role)) 0
+
+unfoldable pub isOver : Plan → Bool
+isOver q = eqb (codeOf (q .role)) 28
+
 -- ---- from one block to the next
+
+-- exactly 0 and exactly 10: a GC, a Skip
+unfoldable pub isBare : ℕ → Bool
+isBare i = eqb i 0 || eqb i 10
+
+-- of a block that ended: it is no item of length 0
+unfoldable pub isKept : Plan → Bool
+isKept q = pick (eqb (q .length) 0) (isBare (q .info)) true
 
 -- what is drawn next, where a block has ended
 unfoldable pub settled : Plan → Plan
-settled q = pick (eqb (codeOf (q .role)) 0) (onward q) q
+settled q = pick (isEnded q) (onward q) q

@@ -17,10 +17,11 @@ use Rattle.roles.specs.declared.Role.{Role}
 use Rattle.roles.specs.declared.Role.the-variants.{Sections, Blocks, Client, FirstClock, Info, SkipLength, GcLength, LeftClient, LeftClock, RightClient, RightClock, ParentInfo, ParentName, ParentClient, ParentClock, Key, DeletedLength, Binary, Text, MarkKey, MarkValue, TypeNumber, NodeName, ListLength, ListValues, Ended, Over}
 use Rattle.roles.specs.declared.Plan.{Plan}
 use Rattle.roles.specs.Roles.{codeOf}
 use Rattle.origins.specs.declared.Line.{Line}
-use Rattle.origins.specs.declared.Told as origins-told
-use Rattle.origins.specs.declared.Told.the-variants as told
+use Rattle.telling.specs.declared.Told as telling-told
+use Rattle.telling.specs.declared.Told.the-variants as told
 use Rattle.origins.specs.Origins.{linesInLine, linesIn}
+use Rattle.origins.specs.Sheets.{linesFrom, Above}
 
 -- ---- the field that a plan draws next
 
@@ -65,23 +66,6 @@ heard grammar.key a = (0, 0)
 heard (grammar.value blame) a = (0, 0)
 heard (grammar.values blame n) a = (0, 0)
 
--- ---- lines as the words of a sheet, twelve a line
-
-unfoldable pub lineIn : List ℕ → ℕ → Line
-lineIn sh i =
-    let word : ℕ → ℕ = λ k. getD sh (12 * i + k) 0 in
-    record { field = word 0; value = word 1; stand = record { place = word 2; bytes = word 3; source = word 4; which = word 5; of = word 6 }; rise = record { base = word 7; sign = word 8; size = word 9 }; part = partIn sh (12 * i + 10) }
-
--- n lines from line i on
-unfoldable pub linesFrom : List ℕ → ℕ → ℕ → List Line
-linesFrom sh i zero = []
-linesFrom sh i (suc n) = lineIn sh i ∷ linesFrom sh (suc i) n
-
--- only lines from line i on changed
-pub record Above (i : ℕ) (sh sh₁ : List ℕ) : Type 0 where
-  pub size : length sh₁ ≡ length sh
-  pub same : (j : ℕ) → j < i → lineIn sh₁ j ≡ lineIn sh j
-
 -- ---- a draw, from words w to words v, told from line i of the sheet sh on
 
 -- the lines of an answer, as the form has them
@@ -100,9 +84,9 @@ pub record Draws-not (form : ℕ) (u : List ℕ) (f : Field) (w : List ℕ) : Ty
   pub why : Refusal
   pub refused : fields form u f (stateIn w) ≡ not why
 
-unfoldable pub Says : ℕ → List ℕ → ℕ → Field → List ℕ → List ℕ → List ℕ → ℕ → origins-told.Told → Type 0
+unfoldable pub Says : ℕ → List ℕ → ℕ → Field → List ℕ → List ℕ → List ℕ → ℕ → telling-told.Told → Type 0
 Says form u code f w v sh i (told.Lines value place n) = Draws form u code f w v sh i value place n
 Says form u code f w v sh i told.Refused = Draws-not form u f w
 
-abbrev pub Tells : ℕ → List ℕ → ℕ → Field → List ℕ → List ℕ → List ℕ → List ℕ → ℕ → origins-told.Told → Type 0
+abbrev pub Tells : ℕ → List ℕ → ℕ → Field → List ℕ → List ℕ → List ℕ → List ℕ → ℕ → telling-told.Told → Type 0
 Tells form u code f w v sh sh₁ i x = Small v × Above i sh sh₁ × Says form u code f w v sh₁ i x

@@ -1,0 +1,45 @@
+-- The blocks of an update followed draw by draw, in either form over one state: what of it its loop decides, and what it finds.
+use Prim.Native.Nat.{ℕ, _-_}
+use mathlib.Core.Path.{_≡_}
+use mathlib.Core.Bool.{Bool, true, false}
+use mathlib.Core.List.{List}
+use lib.Dec.{eqb}
+use Rattle.numbers.specs.Number.{pick}
+use Rattle.grammar.specs.Course.{Run, ending, run}
+use Rattle.grammar.specs.Blocks.{allBlocks}
+use Rattle.decoder.specs.States.{State}
+use Rattle.decoder.specs.Columned.{fields}
+use Rattle.decoder.specs.Update.{blocksOf}
+use Rattle.roles.specs.declared.Plan.{Plan}
+use Rattle.roles.specs.Roles.{start, isKept}
+use Rattle.origins.specs.declared.Line.{Line}
+use Rattle.telling.specs.Telling.{linesOf}
+use Rattle.explainer.specs.Watch.{watch}
+use Rattle.explainer.specs.Explanation.{found, blank}
+
+-- it does not end in a refusal
+unfoldable pub isWhole : {S E A : Type 0} → Run S E A → Bool
+isWhole c = ending c (λ s. true) (λ why. false)
+
+-- all blocks of the update can be read
+abbrev pub Readable : ℕ → List ℕ → Type 0
+Readable form u = isWhole (blocksOf form u) ≡ true
+
+-- from a state on
+abbrev pub Reads : ℕ → List ℕ → State → Type 0
+Reads form u s = isWhole (run (fields form u) allBlocks s) ≡ true
+
+-- the line of a sheet that a draw is told at, by its role's number; `own` is the next of the block's own
+unfoldable pub lineFor : ℕ → ℕ → ℕ
+lineFor code own = pick (eqb code 1) 0 (pick (eqb code 2) 0 (pick (eqb code 3) 1 (pick (eqb code 4) 2 (pick (eqb code 6) 4 own))))
+
+-- where a block has ended: it is the one sought; how many are ahead of that behind it
+unfoldable pub isFound : Plan → ℕ → Bool
+isFound q ahead = pick (eqb ahead 0) (isKept q) false
+
+unfoldable pub aheadOf : Plan → ℕ → ℕ
+aheadOf q ahead = pick (isKept q) (ahead - 1) ahead
+
+-- the lines of kept block n, from a state on
+unfoldable pub followed : ℕ → List ℕ → ℕ → State → List Line
+followed form u n s = found (linesOf form u) start blank n (watch (fields form u) allBlocks s)

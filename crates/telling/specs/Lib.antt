@@ -1,0 +1,3 @@
+-- A draw, told.
+pub mod Asked
+pub mod Telling
