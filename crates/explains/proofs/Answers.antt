@@ -12,7 +12,7 @@ use Rattle.numbers.specs.Number.{none, nowhere}
 use Rattle.numbers.specs.Limits.{maxUpdate}
 use Rattle.numbers.specs.Output.{padded}
 use Rattle.numbers.proofs.Output.{padded-some}
-use Rattle.origins.specs.Telling.{linesFrom}
+use Rattle.origins.specs.Sheets.{linesFrom}
 use Rattle.explainer.specs.Explanation.{explanation, words}
 use Rattle.explains.specs.declared.Explained.{Explained}
 use Rattle.explains.specs.declared.Whole.the-variants.{Reads, Refused}
@@ -52,7 +52,7 @@ module _ (out sh : List ℕ) (n : ℕ) (any : n ≡ 0 → ⊥) (fits : 12 * n �
   as-long = ap length copied ∙ length-paste out 0 sh (12 * n) (omega (arith, fits)) long
 
   front : take (12 * n) out₁ ≡ words (linesFrom sh 0 n)
-  front = ap (take (12 * n)) copied ∙ take-paste out 0 sh (12 * n) (omega arith) long ∙ sym (sheet-words sh n long)
+  front = ap₂ take (let e : 12 * n ≡ 0 + 12 * n = omega arith in e) copied ∙ take-paste out 0 sh (12 * n) (omega arith) long ∙ sym (sheet-words sh n long)
 
   pub told : Gives (fitting (length out) (linesFrom sh 0 n)) out (record { refusal = none; lines = n }) out₂
   unfolding answerOf

@@ -8,7 +8,7 @@ use lib.Seq.{take-add, drop-drop, drop-cons}
 use Rattle.cells.specs.Cells.{partIn}
 use Rattle.origins.specs.declared.Line.{Line}
 use Rattle.origins.specs.Origins.{wordsOf}
-use Rattle.origins.specs.Telling.{lineIn, linesFrom}
+use Rattle.origins.specs.Sheets.{lineIn, linesFrom}
 use Rattle.explainer.specs.Explanation.{words}
 
 pub length-lines : (sh : List ℕ) (i n : ℕ) → length (linesFrom sh i n) ≡ n

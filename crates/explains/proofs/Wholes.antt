@@ -2,6 +2,7 @@
 use Prim.Native.Nat.{ℕ}
 use native.Mathlib.Omega.{arith}
 use mathlib.Core.Path.{_≡_, refl, sym, ap, _∙_}
+use mathlib.Core.Bool.{Bool, true, false}
 use mathlib.Core.List.{List}
 use Rattle.numbers.specs.declared.Refusal.{Refusal}
 use Rattle.block.specs.declared.Block.{Block}
@@ -13,6 +14,7 @@ use Rattle.deletes.specs.declared.Checked.the-variants as checked
 use Rattle.content.specs.declared.Scanned.the-variants as scanned
 use Rattle.content.specs.Content.{scannedOf}
 use Rattle.content.proofs.Seek.{scanned-row, scanned-refused}
+use Rattle.explainer.specs.Following.{isWhole, Readable}
 use Rattle.explains.specs.declared.Whole.{Whole}
 use Rattle.explains.specs.declared.Whole.the-variants.{Reads, Refused}
 use Rattle.explains.specs.Whole.{wholeOf}
@@ -75,3 +77,13 @@ pub by-whole : {X : Type 0} (form : ℕ) (u : List ℕ) (x : X) (g : Refusal →
     → ending (blocksOf form u) (λ at. ending (deleteSet form u at) (λ e. x) g) g ≡ onWhole x g w
 unfolding wholeOf
 by-whole form u x g w e = whole-ends (blocksOf form u) (deleteSet form u) x g ∙ ap (onWhole x g) (sym e)
+
+-- where all of it reads, its blocks do
+pub readable : (form : ℕ) (u : List ℕ) → Reads ≡ wholeOf form u → Readable form u
+unfolding wholeOf isWhole ending
+readable form u e = go (blocksOf form u) e
+  where
+    go : (c : Course Block) → Reads ≡ ending c (λ at. ending (deleteSet form u at) (λ v. Reads) (λ why. Refused why)) (λ why. Refused why) → ending c (λ s. true) (λ why. false) ≡ true
+    go (item a p c) h = go c h
+    go (over a s) h = refl
+    go (stopped why) h = absurd (let z : _≡_ {A = ℕ} 0 1 = cc in omega arith)

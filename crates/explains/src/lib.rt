@@ -9,7 +9,7 @@ ghost use Prim.Native.Nat.{_*_, _≤_};
 ghost use lib.ListN.{length};
 ghost use lib.Seq.{paste};
 ghost use Rattle.numbers.specs.Output.{padded};
-ghost use Rattle.origins.specs.Telling.{linesFrom};
+ghost use Rattle.origins.specs.Sheets.{linesFrom};
 ghost use Rattle.explainer.specs.Explanation.{words};
 ghost use Rattle.explains.specs.Promises.{refused, fitting, answerOf, Explains};
 ghost use Rattle.explains.specs.Whole.{wholeOf};

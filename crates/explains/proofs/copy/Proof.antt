@@ -1,6 +1,6 @@
 -- `explains::copy` meets its contract: as many words are the sheet's as were copied.
-use Prim.Native.Nat.{ℕ, _-_, _≤_}
-use mathlib.Core.Path.{_≡_, refl, ap, _∙_}
+use Prim.Native.Nat.{ℕ, suc, _+_, _-_, _≤_}
+use mathlib.Core.Path.{_≡_, refl, ap, ap₂, _∙_}
 use mathlib.Core.List.{List}
 use native.Mathlib.Omega.{arith}
 use lib.ListN.{length, getD, set, length-set}
@@ -24,7 +24,7 @@ loop-again c =
     let a = c .before .before .before .args in
     let h = c .before .before .before .pre in
     (omega arith,
-    ap (λ (x : List ℕ). set x (l .i) (getD (a .sheet .now) (l .i) 0)) (l .inv .1) ∙ paste-suc (a .out .now) 0 (a .sheet .now) (l .i) 0 (omega (arith, h)) (omega (arith, h)),
+    ap₂ (λ (x : List ℕ) (k : ℕ). set x k (getD (a .sheet .now) (l .i) 0)) (l .inv .1) (let e : l .i ≡ 0 + l .i = omega arith in e) ∙ paste-suc (a .out .now) 0 (a .sheet .now) (l .i) 0 (omega (arith, h)) (omega (arith, h)) ∙ ap (paste (a .out .now) 0 (a .sheet .now)) (let e : suc (l .i) ≡ l .i + 1 = omega arith in e),
     simp length-set (l .inv .2))
 
 same-length : tie.Need-same-length Inv-loop μ-loop
