@@ -163,10 +163,9 @@ textLine u code p t = record { field = code; value = t .text .place .units .last
 unfoldable pub keyLine : List ℕ → ℕ → Part → ℕ → State → Line
 keyLine u code p base t = record { field = code; value = t .key .place .last; stand = differenceStand u (t .key); rise = rising base (t .key .place .key); part = p }
 
--- and its text, where it is a new one
-unfoldable pub keyLines : List ℕ → ℕ → Part → State → State → List Line
-keyLines u code p s t =
-    keyLine u code p (s .key .place .last) t ∷ pick (ltb (length (s .keys)) (length (t .keys))) (textLine u keyText p t ∷ []) []
+-- and its text, where it is a new one: there were so many keys before
+unfoldable pub keyLines : List ℕ → ℕ → Part → ℕ → ℕ → State → List Line
+keyLines u code p base keys t = keyLine u code p base t ∷ pick (ltb keys (length (t .keys))) (textLine u keyText p t ∷ []) []
 
 -- a number
 unfoldable pub numberLine : List ℕ → ℕ → Number → ℕ → ℕ → ℕ → State → Line
@@ -176,7 +175,7 @@ unfoldable pub linesIn : List ℕ → ℕ → (f : Field) → Answer f → State
 linesIn u code (grammar.number n) a s t = numberLine u code n (a .0) (s .at) (baseOf n s) t ∷ []
 linesIn u code grammar.text a s t = textLine u code (a .0) t ∷ []
 linesIn u code grammar.bytes p s t = storedLine code (p .bytes .0) p (s .at) ∷ []
-linesIn u code grammar.key p s t = keyLines u code p s t
+linesIn u code grammar.key p s t = keyLines u code p (s .key .place .last) (length (s .keys)) t
 linesIn u code (grammar.value blame) p s t = storedLine code (p .bytes .0) p (s .at) ∷ []
 linesIn u code (grammar.values blame n) p s t = storedLine code (p .bytes .0) p (s .at) ∷ []
 

@@ -1,5 +1,6 @@
 // Where a value that was drawn from an update came from: its bytes, its run, its base and its difference, as a line of words.
 use cells::AT;
+use cells::KEY_COUNT;
 use numbers::Read;
 use numbers::Signed;
 use numbers::words;
@@ -13,7 +14,7 @@ ghost use Rattle.block.specs.Row.{noPart};
 ghost use Rattle.cells.specs.Cells.{numbersIn, differencesIn, bytesIn, stateIn, Small};
 ghost use Rattle.origins.specs.Origins as origins;
 ghost use Rattle.origins.specs.Numerals.{numeral};
-ghost use Rattle.origins.specs.Sheets.{lineIn, Above};
+ghost use Rattle.origins.specs.Sheets.{lineIn, linesFrom, Above};
 
 // Where a value stands: the place of its first byte in the update, of a run the run's first byte, and how many bytes it has there. Source 0: in line. 1: a run,
 // of which it is the `which`-th value of so many. 2: a byte that stands without end.
@@ -243,9 +244,14 @@ pub fn base_of(w: &[u64], n: Number) -> u64
     ensures { λ r. ⌜ r ≡ origins.baseOf (numeral n) (stateIn (now (w .entry))) ⌝ }
 {
     match n {
+        Number::Client => 0,
         Number::LeftClock => w[16],
         Number::RightClock => w[23],
-        _ => 0,
+        Number::Info => 0,
+        Number::ParentInfo => 0,
+        Number::Len => 0,
+        Number::TypeNumber => 0,
+        Number::UpTo(_) => 0,
     }
 }
 
@@ -254,9 +260,14 @@ fn rise_of(w: &[u64], n: Number, base: u64) -> Rise
     ensures { λ r. ⌜ r ≡ origins.riseOf (numeral n) base (stateIn (now (w .entry))) ⌝ }
 {
     match n {
+        Number::Client => no_rise(),
         Number::LeftClock => rising(base, w[19]),
         Number::RightClock => rising(base, w[26]),
-        _ => no_rise(),
+        Number::Info => no_rise(),
+        Number::ParentInfo => no_rise(),
+        Number::Len => no_rise(),
+        Number::TypeNumber => no_rise(),
+        Number::UpTo(_) => no_rise(),
     }
 }
 
@@ -341,7 +352,7 @@ pub fn text_line(update: &[u8], w: &[u64], code: u64, part: Part) -> Line
     }
 }
 
-pub fn key_line(update: &[u8], w: &[u64], code: u64, part: Part, base: u64) -> Line
+fn key_line(update: &[u8], w: &[u64], code: u64, part: Part, base: u64) -> Line
     requires { ⌜ Small (now w) ⌝ }
     ensures { λ r. ⌜ r ≡ origins.keyLine (now (update .entry)) code part base (stateIn (now (w .entry))) ⌝ }
 {
@@ -378,4 +389,30 @@ pub fn put_line(sheet: &mut [u64], i: usize, l: Line)
     sheet[b + 9] = rise.size;
     sheet[b + 10] = part.place as u64;
     sheet[b + 11] = bytes.0 as u64;
+}
+
+// A key of form 2 from line i on, its number and, where there were fewer keys before, its text; how many lines that is.
+pub fn put_key(
+    update: &[u8],
+    w: &[u64],
+    sheet: &mut [u64],
+    i: usize,
+    code: u64,
+    part: Part,
+    base: u64,
+    keys: u64,
+) -> usize
+    requires { ⌜ Small (now w) × (12 * (i + 2) ≤ length (now sheet)) ⌝ }
+    ensures { λ n. ⌜ Above i (now (sheet .entry)) (now (sheet .exit)) × (1 ≤ n) × (n ≤ 2)
+        × (linesFrom (now (sheet .exit)) i n ≡ origins.keyLines (now (update .entry)) code part base keys (stateIn (now (w .entry)))) ⌝ }
+{
+    let next = i + 1;
+    let l = key_line(update, w, code, part, base);
+    put_line(sheet, i, l);
+    if w[KEY_COUNT] <= keys {
+        return 1;
+    }
+    let t = text_line(update, w, 27, part);
+    put_line(sheet, next, t);
+    2
 }

@@ -65,6 +65,7 @@ fn ask(q: Plan) -> Asked
         Role::ParentClock => Asked::Number(Number::LeftClock),
         Role::Key => Asked::Text,
         Role::DeletedLength => Asked::Number(Number::Len),
+        Role::Binary => Asked::Stored(Stored::Bytes),
         Role::Text => Asked::Text,
         Role::MarkKey => Asked::Key,
         Role::MarkValue => Asked::Stored(Stored::Value(q.place)),
@@ -72,7 +73,8 @@ fn ask(q: Plan) -> Asked
         Role::NodeName => Asked::Key,
         Role::ListLength => Asked::Number(Number::Len),
         Role::ListValues => Asked::Stored(Stored::Values(q.place, q.length)),
-        _ => Asked::Stored(Stored::Bytes),
+        Role::Ended => Asked::Stored(Stored::Bytes),
+        Role::Over => Asked::Stored(Stored::Bytes),
     }
 }
 
@@ -228,14 +230,8 @@ fn tell_key(
         origins::put_line(sheet, i, l);
         return Told::Lines(0, 0, 1);
     }
-    let l = origins::key_line(update, w, code, p, base);
-    origins::put_line(sheet, i, l);
-    if w[KEY_COUNT] <= keys {
-        return Told::Lines(0, 0, 1);
-    }
-    let t = origins::text_line(update, w, 27, p);
-    origins::put_line(sheet, i + 1, t);
-    Told::Lines(0, 0, 2)
+    let n = origins::put_key(update, w, sheet, i, code, p, base, keys);
+    Told::Lines(0, 0, n)
 }
 
 // Draws what the plan asks for, and tells it from line i of the sheet on.

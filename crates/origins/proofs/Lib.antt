@@ -1,0 +1,2 @@
+-- What holds of the lines of a sheet.
+pub mod Sheets

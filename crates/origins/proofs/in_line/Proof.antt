@@ -1,0 +1,13 @@
+-- `origins::in_line` meets its contract.
+use mathlib.Core.Path.{refl}
+use Rattle.origins.specs.Origins.{inLine}
+use borrow.Author.Needs.{needs}
+use Rattle.origins.proofs.in_line.Statement.{statement}
+use Rattle.origins.proofs.in_line.Tie as tie
+
+returns : tie.Need-returns
+unfolding inLine
+returns c = rw (c .less .ensures) refl
+
+pub in-line-spec : {M : Type 1} → statement M
+in-line-spec = tie.close (tie.spec (λ c κs. search needs) returns)
