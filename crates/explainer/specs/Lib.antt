@@ -2,3 +2,4 @@
 pub mod Watch
 pub mod Explanation
 pub mod Following
+pub mod Record

@@ -1,6 +1,5 @@
 // The draws that made a block, each with its origin: the update's blocks are read again, draw by draw, up to the end of the one sought. Its lines lie in a
 // sheet: those of its section's head are lines 0 to 2, that of its clock line 3, its own lines 4 and on.
-use cells::AT;
 use cells::Drawn;
 use origins::Line;
 use origins::Rise;
@@ -10,12 +9,13 @@ use telling::Told;
 use text::Bytes;
 use text::Part;
 ghost use mathlib.Core.Path.{_≡_};
+ghost use mathlib.Core.Bool.{false};
 ghost use Prim.Native.Nat.{_≤_};
 ghost use lib.ListN.{length};
 ghost use Rattle.cells.specs.Cells.{stateIn, Small};
 ghost use Rattle.origins.specs.Sheets.{linesFrom};
 ghost use Rattle.explainer.specs.Explanation.{explanation, clockLine};
-ghost use Rattle.explainer.specs.Following.{Readable, Reads, lineFor, isFound, aheadOf, followed};
+ghost use Rattle.explainer.specs.Following.{Readable, Reads, lineFor, Placed, isFound, aheadOf, followed};
 
 // The line that a draw is told at: the next of the block's own, but the head's have their places, and a block begins anew with its info byte.
 fn line_for(code: u64, own: usize) -> usize
@@ -81,6 +81,21 @@ fn clock_line(q: Plan) -> Line
     }
 }
 
+// The line that a draw is told at. A block's clock is told with its info byte.
+fn place(sheet: &mut [u64], q: Plan, own: usize) -> usize
+    requires { ⌜ length (now sheet) ≡ 192 ⌝ }
+    ensures { λ i. ⌜ Placed q own (now (sheet .entry)) (now (sheet .exit)) i ⌝ }
+{
+    let role = q.role;
+    let code = roles::code_of(role);
+    if code != 6 {
+        return line_for(code, own);
+    }
+    let l = clock_line(q);
+    origins::put_line(sheet, 3, l);
+    4
+}
+
 // Reads all blocks up to the end of kept block n; how many lines it has, 0 where there is no such block.
 fn follow(form: u8, update: &[u8], w: &mut [u64], n: usize, sheet: &mut [u64]) -> usize
     requires { ⌜ Small (now w) × (length (now sheet) ≡ 192) × Reads form (now update) (stateIn (now w)) ⌝ }
@@ -93,8 +108,6 @@ fn follow(form: u8, update: &[u8], w: &mut [u64], n: usize, sheet: &mut [u64]) -
     loop {
         if roles::is_ended(q) {
             if is_found(q, ahead) {
-                let l = clock_line(q);
-                origins::put_line(sheet, 3, l);
                 return own;
             }
             ahead = ahead_of(q, ahead);
@@ -103,8 +116,7 @@ fn follow(form: u8, update: &[u8], w: &mut [u64], n: usize, sheet: &mut [u64]) -
             if roles::is_over(q) {
                 return 0;
             }
-            let role = q.role;
-            let i = line_for(roles::code_of(role), own);
+            let i = place(sheet, q, own);
             let Told::Lines(v, p, k) = telling::tell(form, update, w, &mut part, sheet, i, q) else {
                 return 0;
             };
