@@ -3,3 +3,4 @@ pub mod Answers
 pub mod Sheets
 pub mod Wholes
 pub mod Unique
+pub mod WorkedSo

@@ -1,3 +1,4 @@
 -- What the public call `explain` promises.
 pub mod Promises
 pub mod Whole
+pub mod Worked

@@ -22,10 +22,11 @@ loop-again : tie.Need-loop-again Inv-loop μ-loop
 loop-again c =
     let l = c .before .before .loop in
     let a = c .before .before .before .args in
-    let h = c .before .before .before .pre in
-    (omega arith,
-    ap₂ (λ (x : List ℕ) (k : ℕ). set x k (getD (a .sheet .now) (l .i) 0)) (l .inv .1) (let e : l .i ≡ 0 + l .i = omega arith in e) ∙ paste-suc (a .out .now) 0 (a .sheet .now) (l .i) 0 (omega (arith, h)) (omega (arith, h)) ∙ ap (paste (a .out .now) 0 (a .sheet .now)) (let e : suc (l .i) ≡ l .i + 1 = omega arith in e),
-    simp length-set (l .inv .2))
+    let h = c .before .before .before .pre in (
+      omega arith,
+      ap₂ (λ (x : List ℕ) (k : ℕ). set x k (getD (a .sheet .now) (l .i) 0)) (l .inv .1) (let e : l .i ≡ 0 + l .i = omega arith in e) ∙ paste-suc (a .out .now) 0 (a .sheet .now) (l .i) 0 (omega (arith, h)) (omega (arith, h)) ∙ ap (paste (a .out .now) 0 (a .sheet .now)) (let e : suc (l .i) ≡ l .i + 1 = omega arith in e),
+      simp length-set (l .inv .2),
+    )
 
 same-length : tie.Need-same-length Inv-loop μ-loop
 same-length c = c .before .loop .inv .2
