@@ -1,0 +1,2 @@
+-- What holds of a draw that is told.
+pub mod Laws
