@@ -6,7 +6,7 @@ use mathlib.Core.Logic.{_≢_}
 use mathlib.Core.Bool.{Bool, true, false}
 use mathlib.Core.List.{List, [], _∷_, _++_}
 use lib.Dec.{eqb, ltb}
-use borrow.Author.Tests.{ne-eqb, le-ltb, lt-ltb}
+use borrow.Author.Tests.{ne-eqb, eqb-false, le-ltb}
 use Rattle.numbers.specs.Number.{pick}
 use Rattle.roles.specs.declared.Role.{Role}
 use Rattle.roles.specs.declared.Role.the-variants as role
@@ -31,7 +31,7 @@ pub record Held (r : Role) (q : Plan) (h : Sheet) (sh : List ℕ) (own : ℕ) : 
 
 unfoldable pub Holds : Role → Plan → Sheet → List ℕ → ℕ → Type 0
 Holds role.Sections q h sh own = Unit {0}
-Holds role.Blocks q h sh own = Unit {0}
+Holds role.Blocks q h sh own = 1 ≤ q .sections
 Holds role.Client q h sh own = h .head ≡ linesFrom sh 0 1
 Holds role.FirstClock q h sh own = h .head ≡ linesFrom sh 0 2
 Holds role.Info q h sh own = h .head ≡ linesFrom sh 0 3
@@ -162,21 +162,21 @@ line-own : (c own : ℕ) → 7 ≤ c → lineFor c own ≡ own
 unfolding lineFor
 line-own c own high = rw (ne-eqb c 1 (λ x. omega (arith, x, high)), ne-eqb c 2 (λ x. omega (arith, x, high)), ne-eqb c 3 (λ x. omega (arith, x, high)), ne-eqb c 4 (λ x. omega (arith, x, high)), ne-eqb c 6 (λ x. omega (arith, x, high))) refl
 
-section-holds : (n : ℕ) (q : Plan) (h : Sheet) (sh : List ℕ) (own : ℕ) → Holds (sectionRole n) q h sh own
+section-holds : (n : ℕ) (q : Plan) (h : Sheet) (sh : List ℕ) (own : ℕ) → q .sections ≡ n → Holds (sectionRole n) q h sh own
 unfolding sectionRole Holds
-section-holds n q h sh own = go (eqb n 0)
+section-holds n q h sh own is = go (eqb n 0) refl
   where
-    go : (x : Bool) → Holds (pick x role.Over role.Blocks) q h sh own
-    go true = tt
-    go false = tt
+    go : (x : Bool) → eqb n 0 ≡ x → Holds (pick x role.Over role.Blocks) q h sh own
+    go true e = tt
+    go false e = omega (arith, eqb-false n 0 e, is)
 
 -- before a block, or a section
-pub block-holds : (k n : ℕ) (q : Plan) (h : Sheet) (sh : List ℕ) (own : ℕ) → h .head ≡ linesFrom sh 0 3 → Holds (blockRole k n) q h sh own
+pub block-holds : (k n : ℕ) (q : Plan) (h : Sheet) (sh : List ℕ) (own : ℕ) → q .sections ≡ n → h .head ≡ linesFrom sh 0 3 → Holds (blockRole k n) q h sh own
 unfolding blockRole Holds
-block-holds k n q h sh own e = go (eqb k 0)
+block-holds k n q h sh own is e = go (eqb k 0)
   where
     go : (x : Bool) → Holds (pick x (sectionRole n) role.Info) q h sh own
-    go true = section-holds n q h sh own
+    go true = section-holds n q h sh own is
     go false = e
 
 -- a draw from plan q for role r, told at line i of the sheet sh₁ in k lines ls
@@ -232,13 +232,13 @@ module _ (q : Plan) (h : Sheet) (own : ℕ) (sh sh₁ sh₂ : List ℕ) (i k : �
   pub draw-holds : (r : Role) → q .role ≡ r → codeOf r ≢ 0 → codeOf r ≢ 28 → Holds r q h sh own → k ≤ most (fieldOf r q)
       → Holds (behind r q v p .role) (behind r q v p) (noted (codeOf r) ls h) sh₂ (i + k)
   unfolding Holds behind goTo announced noted codeOf Own most fieldOf sectioned headed onward informed lineFor weight clockLine
-  draw-holds role.Sections e n0 n28 x few = section-holds v _ _ sh₂ (i + k)
+  draw-holds role.Sections e n0 n28 x few = section-holds v _ _ sh₂ (i + k) refl
   draw-holds role.Blocks e n0 n28 x few = told-at role.Blocks q h own sh sh₁ sh₂ i k ls e placed above lines some 0 1 refl (omega (arith, some, few))
   draw-holds role.Client e n0 n28 x few =
       ap (λ (y : List Line). y ++ ls) (x ∙ sym (lines-stay 1 sh sh₂ (beyond role.Client q h own sh sh₁ sh₂ i k ls e placed above lines some 1 refl (λ z. omega (arith, z))) 0 1 (omega arith)))
       ∙ ap (λ (y : List Line). linesFrom sh₂ 0 1 ++ y) (told-at role.Client q h own sh sh₁ sh₂ i k ls e placed above lines some 1 1 refl (omega (arith, some, few)))
       ∙ lines-join sh₂ 0 1 1
-  draw-holds role.FirstClock e n0 n28 x few = block-holds (q .blocks) (q .sections) _ _ sh₂ (i + k)
+  draw-holds role.FirstClock e n0 n28 x few = block-holds (q .blocks) (q .sections) _ _ sh₂ (i + k) refl
       (ap (λ (y : List Line). y ++ ls) (x ∙ sym (lines-stay 2 sh sh₂ (beyond role.FirstClock q h own sh sh₁ sh₂ i k ls e placed above lines some 2 refl (λ z. omega (arith, z))) 0 2 (omega arith)))
       ∙ ap (λ (y : List Line). linesFrom sh₂ 0 2 ++ y) (told-at role.FirstClock q h own sh sh₁ sh₂ i k ls e placed above lines some 2 1 refl (omega (arith, some, few)))
       ∙ lines-join sh₂ 0 2 1)

@@ -5,3 +5,5 @@ pub mod Seeking
 pub mod Going
 pub mod Sheets
 pub mod Holding
+pub mod Measure
+pub mod Turns
