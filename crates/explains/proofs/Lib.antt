@@ -4,3 +4,4 @@ pub mod Sheets
 pub mod Wholes
 pub mod Unique
 pub mod WorkedSo
+pub mod Sums

@@ -2,3 +2,4 @@
 pub mod Promises
 pub mod Whole
 pub mod Worked
+pub mod Sums
