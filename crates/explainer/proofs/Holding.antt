@@ -1,12 +1,12 @@
 -- What the sheet's words hold of the lines that were noted, by what is drawn next.
-use Prim.Native.Nat.{ℕ, _+_, _*_, _-_, _<_, _≤_}
+use Prim.Native.Nat.{ℕ, suc, _+_, _*_, _-_, _<_, _≤_}
 use native.Mathlib.Omega.{arith}
 use mathlib.Core.Path.{_≡_, refl, sym, ap, subst, _∙_}
 use mathlib.Core.Logic.{_≢_}
 use mathlib.Core.Bool.{Bool, true, false}
 use mathlib.Core.List.{List, [], _∷_, _++_}
 use lib.Dec.{eqb, ltb}
-use borrow.Author.Tests.{ne-eqb, eqb-false, le-ltb}
+use borrow.Author.Tests.{ne-eqb, eqb-true, eqb-false, le-ltb}
 use Rattle.numbers.specs.Number.{pick}
 use Rattle.roles.specs.declared.Role.{Role}
 use Rattle.roles.specs.declared.Role.the-variants as role
@@ -280,3 +280,87 @@ module _ (q : Plan) (h : Sheet) (own : ℕ) (sh sh₁ sh₂ : List ℕ) (i k : �
   draw-holds role.ListValues e n0 n28 x few = own-turn role.ListValues q h own sh sh₁ sh₂ i k ls e placed above lines some tt n0 v p few x
   draw-holds role.Ended e n0 n28 x few = absurd (n0 refl)
   draw-holds role.Over e n0 n28 x few = absurd (n28 refl)
+
+-- ---- what the loop asks of it
+
+-- one role alone is a block's end
+ended-role : (r : Role) → codeOf r ≡ 0 → r ≡ role.Ended
+unfolding codeOf
+ended-role role.Sections e = absurd (omega (arith, e))
+ended-role role.Blocks e = absurd (omega (arith, e))
+ended-role role.Client e = absurd (omega (arith, e))
+ended-role role.FirstClock e = absurd (omega (arith, e))
+ended-role role.Info e = absurd (omega (arith, e))
+ended-role role.SkipLength e = absurd (omega (arith, e))
+ended-role role.GcLength e = absurd (omega (arith, e))
+ended-role role.LeftClient e = absurd (omega (arith, e))
+ended-role role.LeftClock e = absurd (omega (arith, e))
+ended-role role.RightClient e = absurd (omega (arith, e))
+ended-role role.RightClock e = absurd (omega (arith, e))
+ended-role role.ParentInfo e = absurd (omega (arith, e))
+ended-role role.ParentName e = absurd (omega (arith, e))
+ended-role role.ParentClient e = absurd (omega (arith, e))
+ended-role role.ParentClock e = absurd (omega (arith, e))
+ended-role role.Key e = absurd (omega (arith, e))
+ended-role role.DeletedLength e = absurd (omega (arith, e))
+ended-role role.Binary e = absurd (omega (arith, e))
+ended-role role.Text e = absurd (omega (arith, e))
+ended-role role.MarkKey e = absurd (omega (arith, e))
+ended-role role.MarkValue e = absurd (omega (arith, e))
+ended-role role.TypeNumber e = absurd (omega (arith, e))
+ended-role role.NodeName e = absurd (omega (arith, e))
+ended-role role.ListLength e = absurd (omega (arith, e))
+ended-role role.ListValues e = absurd (omega (arith, e))
+ended-role role.Ended e = refl
+ended-role role.Over e = absurd (omega (arith, e))
+
+pub ended-held : (q : Plan) (h : Sheet) (sh : List ℕ) (own : ℕ) → isEnded q ≡ true → Holds (q .role) q h sh own → Held role.Ended q h sh own
+unfolding isEnded Holds
+ended-held q h sh own e x = subst (λ (r : Role). Holds r q h sh own) (ended-role (q .role) (eqb-true (codeOf (q .role)) 0 e)) x
+
+pub ended-weight : (q : Plan) → isEnded q ≡ true → 2 ≤ weight (q .role)
+unfolding isEnded weight
+ended-weight q e = omega (arith, ap weight (ended-role (q .role) (eqb-true (codeOf (q .role)) 0 e)))
+
+pub onward-holds : (q : Plan) (h : Sheet) (sh : List ℕ) (own : ℕ) → Held role.Ended q h sh own → Holds (onward q .role) (onward q) h sh own
+unfolding onward
+onward-holds q h sh own held = block-holds (q .blocks) (q .sections) _ h sh own refl (held .head)
+
+-- the lines of the block that ended, all of them
+pub all-lines : (q : Plan) (h : Sheet) (sh : List ℕ) (own : ℕ) → Held role.Ended q h sh own → linesFrom sh 0 own ≡ h .head ++ (clockLine q ∷ h .own)
+unfolding linesFrom
+all-lines q h sh own held =
+    ap (λ (n : ℕ). linesFrom sh 0 n) (let e : own ≡ 3 + suc (own - 4) = omega (arith, held .from) in e) ∙ sym (lines-join sh 0 3 (suc (own - 4)))
+    ∙ ap (λ (x : List Line). x ++ (lineIn sh 3 ∷ linesFrom sh 4 (own - 4))) (sym (held .head)) ∙ ap (λ (l : Line). h .head ++ (l ∷ linesFrom sh 4 (own - 4))) (held .clock)
+    ∙ ap (λ (x : List Line). h .head ++ (clockLine q ∷ x)) (sym (held .lines))
+
+-- each line of the sheet has room for two
+pub line-low : (r : Role) (q : Plan) (h : Sheet) (sh : List ℕ) (own : ℕ) → codeOf r ≢ 28 → Holds r q h sh own → lineFor (codeOf r) own ≤ 14
+unfolding Holds lineFor codeOf
+line-low role.Sections q h sh own n x = omega arith
+line-low role.Blocks q h sh own n x = omega arith
+line-low role.Client q h sh own n x = omega arith
+line-low role.FirstClock q h sh own n x = omega arith
+line-low role.Info q h sh own n x = omega arith
+line-low role.SkipLength q h sh own n x = omega (arith, x .room)
+line-low role.GcLength q h sh own n x = omega (arith, x .room)
+line-low role.LeftClient q h sh own n x = omega (arith, x .room)
+line-low role.LeftClock q h sh own n x = omega (arith, x .room)
+line-low role.RightClient q h sh own n x = omega (arith, x .room)
+line-low role.RightClock q h sh own n x = omega (arith, x .room)
+line-low role.ParentInfo q h sh own n x = omega (arith, x .room)
+line-low role.ParentName q h sh own n x = omega (arith, x .room)
+line-low role.ParentClient q h sh own n x = omega (arith, x .room)
+line-low role.ParentClock q h sh own n x = omega (arith, x .room)
+line-low role.Key q h sh own n x = omega (arith, x .room)
+line-low role.DeletedLength q h sh own n x = omega (arith, x .room)
+line-low role.Binary q h sh own n x = omega (arith, x .room)
+line-low role.Text q h sh own n x = omega (arith, x .room)
+line-low role.MarkKey q h sh own n x = omega (arith, x .room)
+line-low role.MarkValue q h sh own n x = omega (arith, x .room)
+line-low role.TypeNumber q h sh own n x = omega (arith, x .room)
+line-low role.NodeName q h sh own n x = omega (arith, x .room)
+line-low role.ListLength q h sh own n x = omega (arith, x .room)
+line-low role.ListValues q h sh own n x = omega (arith, x .room)
+line-low role.Ended q h sh own n x = omega (arith, x .room)
+line-low role.Over q h sh own n x = absurd (n refl)

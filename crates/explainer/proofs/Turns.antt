@@ -1,5 +1,5 @@
 -- A turn of following: what is found from here is what is found from the start.
-use Prim.Native.Nat.{ℕ, zero, suc, _+_, _-_, _<_, _≤_}
+use Prim.Native.Nat.{ℕ, zero, suc, _+_, _*_, _-_, _<_, _≤_}
 use native.Mathlib.Omega.{arith}
 use mathlib.Core.Path.{_≡_, refl, sym, ap, subst, _∙_}
 use mathlib.Core.Logic.{_≢_}
@@ -11,30 +11,33 @@ use borrow.Author.Tests.{ltb-false, eqb-true, eqb-false}
 use Rattle.numbers.specs.Number.{pick}
 use Rattle.numbers.specs.Limits.{maxClock}
 use Rattle.block.specs.declared.Block.{Block}
+use Rattle.block.specs.Row.{noBlock}
 use Rattle.grammar.specs.Grammar as grammar
 use Rattle.grammar.specs.Grammar.{Field, Answer, Grammar, ask, emit, stop, done}
 use Rattle.grammar.specs.Course.{Drawn, got, not, Run, onDrawn, ending, run}
+use Rattle.grammar.specs.Blocks.{allBlocks}
 use Rattle.decoder.specs.Line.{bounded, varAt, upTo}
 use Rattle.decoder.specs.States.{State}
 use Rattle.decoder.specs.Columned.{onto, fields}
 use Rattle.decoder.proofs.Laws.{fields-up-to}
 use Rattle.cells.specs.Cells.{stateIn, Small}
-use Rattle.roles.specs.declared.Role.{Role}
+use Rattle.roles.specs.declared.Role.the-variants as role
 use Rattle.roles.specs.declared.Plan.{Plan}
-use Rattle.roles.specs.Roles.{codeOf, behind, after, onward, settled, isEnded, isOver, isKept}
+use Rattle.roles.specs.Roles.{start, codeOf, behind, after, onward, settled, isEnded, isOver, isKept}
 use Rattle.origins.specs.declared.Line.{Line}
+use Rattle.origins.specs.Sheets.{linesFrom}
 use Rattle.telling.specs.declared.Told as telling-told
 use Rattle.telling.specs.declared.Told.the-variants as tell
 use Rattle.telling.specs.Telling.{fieldOf, fieldAt, heard, linesOf, Draws, Draws-not, Says, Tells}
 use Rattle.explainer.specs.Watch.{Seen, drew, kept, onSeen, watch}
-use Rattle.explainer.specs.Explanation.{Sheet, noted, clockLine, found}
-use Rattle.explainer.specs.Following.{isWhole, Placed, isFound, aheadOf}
+use Rattle.explainer.specs.Explanation.{Sheet, blank, noted, clockLine, found}
+use Rattle.explainer.specs.Following.{isWhole, Reads, Placed, isFound, aheadOf, followed}
 use Rattle.explainer.proofs.Fits.{Within, Meets, told, Passed, Fits, not-both, never, onward-goes, settled-here, settled-ended, fits-onward}
-use Rattle.explainer.proofs.Labels.{Final}
+use Rattle.explainer.proofs.Labels.{Final, all-fit}
 use Rattle.explainer.proofs.Going.{left, most}
 use Rattle.explainer.proofs.Sheets.{few-told}
-use Rattle.explainer.proofs.Holding.{Holds, draw-holds}
-use Rattle.explainer.proofs.Measure.{draw-less}
+use Rattle.explainer.proofs.Holding.{Holds, Held, draw-holds, ended-held, ended-weight, onward-holds, all-lines, line-low}
+use Rattle.explainer.proofs.Measure.{onward-less, draw-less}
 use Rattle.explainer.proofs.Seeking.{not-first}
 
 -- ---- a number that was drawn is within its limit
@@ -123,6 +126,11 @@ pub record Follows (form : ℕ) (u : List ℕ) (goal : List Line) (w sh : List �
   pub size : length sh ≡ 192
   pub holds : Holds (q .role) q sheet sh own
 
+-- before the first draw
+pub starts : (form : ℕ) (u : List ℕ) (n : ℕ) (w sh : List ℕ) → Small w → length sh ≡ 192 → Reads form u (stateIn w) → Follows form u (followed form u n (stateIn w)) w sh start n 4
+unfolding followed Holds
+starts form u n w sh small size reads = record { rest = allBlocks; row = noBlock; sheet = blank; fits = all-fit noBlock; same = refl; whole = reads; small = small; size = size; holds = tt }
+
 module _ (form : ℕ) (u : List ℕ) (goal : List Line) (w sh : List ℕ) (q : Plan) (ahead own : ℕ) (inv : Follows form u goal w sh q ahead own) where
   -- ---- where a block has ended
   module _ (ended : isEnded q ≡ true) where
@@ -195,9 +203,24 @@ module _ (form : ℕ) (u : List ℕ) (goal : List Line) (w sh : List ℕ) (q : P
           go (stop n p) fit whole same = never whole
           go (done a) fit whole same = goes-with ahead (done a) (ahead-dropped (fit .0 ended .0)) (over-onward (fit .1)) same whole
 
+    abbrev held : Held role.Ended q (inv .sheet) sh own
+    held = ended-held q (inv .sheet) sh own ended (inv .holds)
+
+    pub end-fits : q .clock + q .length ≤ 18446744073709551615
+    end-fits = omega (arith, end-low)
+
+    pub found-lines : isFound q ahead ≡ true → linesFrom sh 0 own ≡ goal
+    found-lines f = all-lines q (inv .sheet) sh own held ∙ sym (here-found f)
+
+    pub onward-turn : isFound q ahead ≡ false → Follows form u goal w sh (onward q) (aheadOf q ahead) own
+    onward-turn f = onward-follows f (onward-holds q (inv .sheet) sh own held)
+
+    pub end-less : left (onward q) < left q
+    end-less = onward-less q (ended-weight q ended)
+
   -- ---- where nothing more is drawn
-  pub over-found : isEnded q ≡ false → isOver q ≡ true → [] ≡ goal
-  unfolding Fits isWhole ending run watch found
+  pub over-found : isEnded q ≡ false → isOver q ≡ true → linesFrom sh 0 0 ≡ goal
+  unfolding Fits isWhole ending run watch found linesFrom
   over-found going over = go (inv .rest) (inv .fits) (inv .whole) (inv .same)
     where
       go : (x : Grammar Block (Unit {0})) → Fits Final q (inv .row) x → isWhole (run (fields form u) x (stateIn w)) ≡ true
@@ -225,6 +248,10 @@ module _ (form : ℕ) (u : List ℕ) (goal : List Line) (w sh : List ℕ) (q : P
   asking f e = subst Asking e (λ k goes seen reads. record { then = k; goes = goes; seen = seen; reads = reads })
 
   module _ (going : isEnded q ≡ false) (more : isOver q ≡ false) where
+    not-over : codeOf (q .role) ≢ 28
+    unfolding isOver
+    not-over = eqb-false (codeOf (q .role)) 28 more
+
     asks : Asks
     unfolding Fits isWhole ending run watch
     asks = go (inv .rest) (inv .fits) (inv .whole) (inv .same)
@@ -237,6 +264,14 @@ module _ (form : ℕ) (u : List ℕ) (goal : List Line) (w sh : List ℕ) (q : P
         go (emit e p x) fit whole same = absurd (not-both (sym (fit .0) ∙ going))
         go (stop n p) fit whole same = never whole
         go (done a) fit whole same = absurd (not-both (sym (fit .1) ∙ ap isOver (settled-here q going) ∙ more))
+
+    -- a line of the sheet that has room
+    module _ (sh₁ : List ℕ) (i : ℕ) (placed : Placed q own sh sh₁ i) where
+      low : i ≤ 14
+      low = omega (arith, placed .line, line-low (q .role) q (inv .sheet) sh own (not-over) (inv .holds))
+
+      pub tell-low : 12 * (i + 2) ≤ length sh₁
+      tell-low = omega (arith, low, placed .above .size, inv .size)
 
     -- told from line i on
     module _ (w₁ sh₁ sh₂ : List ℕ) (i : ℕ) (placed : Placed q own sh sh₁ i) (x : telling-told.Told) (tells : Tells form u (codeOf (q .role)) (fieldAt q) w w₁ sh₁ sh₂ i x) where
@@ -279,6 +314,9 @@ module _ (form : ℕ) (u : List ℕ) (goal : List Line) (w sh : List ℕ) (q : P
         reads-behind : isWhole (run (fields form u) then (stateIn w₁)) ≡ true
         unfolding onDrawn
         reads-behind = subst (λ (d : Drawn State (Answer (fieldAt q))). isWhole (onDrawn d (λ a t. run (fields form u) (asks .then a) t)) ≡ true) (says .drawn) (asks .reads)
+
+        pub own-fits : i + k ≤ 18446744073709551615
+        own-fits = omega (arith, low sh₁ i placed, says .few .1)
 
         pub drawn-follows : Follows form u goal w₁ sh₂ (after q v p) ahead (i + k)
         unfolding after
