@@ -268,14 +268,15 @@ behind-head n k m first c clock =
     ap (λ (j : ℕ). before j k (m - k) clock (clock + 0)) (let e : suc n - 1 ≡ n = omega arith in e)
     ∙ ap (λ (j : ℕ). before n k (m - k) clock j) (let e : clock + 0 ≡ clock = omega arith in e)
 
+-- what follows a section's block count, and its client
+abbrev behind-client : (n m : ℕ) (seen : List ℕ) → ℕ → ℕ × ℕ → Grammar Block (Unit {0})
+behind-client n m seen k c =
+    pick (among (c .0) seen) (stop 4 (c .1))
+    (ask (grammar.number (grammar.upTo maxClock)) (λ a. blocks.blocks k (c .0) (a .0) >>= λ _. blocks.sections n (seen ++ (c .0 ∷ [])) (m - k)))
+
 -- a section's head, and what follows it
 module _ (n m : ℕ) (seen : List ℕ)
     (goes : (seen : List ℕ) (m first c : ℕ) (r : Block) (q : Plan) → Passed q → settled q ≡ before n 0 m first c → Fits Final q r (blocks.sections n seen m)) where
-  abbrev sectioned-rest : ℕ → ℕ × ℕ → Grammar Block (Unit {0})
-  sectioned-rest k c =
-      pick (among (c .0) seen) (stop 4 (c .1))
-      (ask (grammar.number (grammar.upTo maxClock)) (λ a. blocks.blocks k (c .0) (a .0) >>= λ _. blocks.sections n (seen ++ (c .0 ∷ [])) (m - k)))
-
   blocks-then : (k client clock : ℕ) (cs : List ℕ) (r : Block) (q : Plan) → r .client ≡ client → q ≡ before n k (m - k) clock clock
       → Fits Final q r (blocks.blocks k client clock >>= λ _. blocks.sections n cs (m - k))
   blocks-then k client clock cs r q own e =
@@ -286,7 +287,7 @@ module _ (n m : ℕ) (seen : List ℕ)
       goes-on = ap isEnded e ∙ before-goes n k (m - k) clock clock
 
   head-fits : (first c : ℕ) (r : Block)
-      → Fits Final (planAt (suc n) 0 m first c 0 0 role.Blocks 0) r (ask (grammar.number (grammar.upTo m)) (λ a. ask (grammar.number grammar.client) (λ x. sectioned-rest (a .0) x)))
+      → Fits Final (planAt (suc n) 0 m first c 0 0 role.Blocks 0) r (ask (grammar.number (grammar.upTo m)) (λ a. ask (grammar.number grammar.client) (λ x. behind-client n m seen (a .0) x)))
   unfolding Fits planAt settled isEnded isOver codeOf after behind fieldOf heard partOf begun told rowed headRow idRow contentRow nameRow goTo announced Meets Within
   head-fits first c r = (never, refl, refl, λ a _. (never, refl, refl, λ x _. go (among (x .0) seen) (a .0) x))
     where
@@ -304,7 +305,7 @@ sections-fit : (n : ℕ) (seen : List ℕ) (m first c : ℕ) (r : Block) (q : Pl
 unfolding Fits blocks.sections _>>=_
 sections-fit zero seen m first c r q passed settles = (passed, ap isOver settles ∙ none-over m first c)
 sections-fit (suc n) seen m first c r q passed settles =
-    fits-settled Final (planAt (suc n) 0 m first c 0 0 role.Blocks 0) q r _ _ passed (settles ∙ before-section n m first c)
+    fits-settled Final (planAt (suc n) 0 m first c 0 0 role.Blocks 0) q r (grammar.number (grammar.upTo m)) (λ a. ask (grammar.number grammar.client) (λ x. behind-client n m seen (a .0) x)) passed (settles ∙ before-section n m first c)
     (ap isEnded (sym (before-section n m first c)) ∙ before-goes (suc n) 0 m first c) (head-fits n m seen (λ cs. sections-fit n cs) first c r)
 
 sectioned-is : (n : ℕ) → sectioned n start ≡ before n 0 maxBlocks 0 0

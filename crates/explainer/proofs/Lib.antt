@@ -7,3 +7,4 @@ pub mod Sheets
 pub mod Holding
 pub mod Measure
 pub mod Turns
+pub mod Forms

@@ -96,7 +96,7 @@ tell-requires c κs =
     let l = c .before .before .before .before .before .before .before .before .before .before .before .loop in
     let e = sym (c .before .before .before .before .before .before .before .before .before .before .is-ended .ensures) ∙ c .before .before .before .before .before .before .before .before .before .if1 .left in
     let o = sym (c .before .before .before .before .before .before .before .before .is-over .ensures) ∙ c .before .before .before .before .before .before .before .if3 .left in
-    (l .inv .0 .small, l .inv .1, tell-low (a .form) (a .update .now) _ (l .w) (l .sheet) (l .q) (l .ahead) (l .own) (l .inv .0) e o _ _ (c .before .before .before .before .before .place .ensures), ?)
+    (l .inv .0 .small, l .inv .1, tell-low (a .form) (a .update .now) _ (l .w) (l .sheet) (l .q) (l .ahead) (l .own) (l .inv .0) e o _ _ (c .before .before .before .before .before .place .ensures))
 
 enum-known-v : tie.Need-enum-known-v Inv-loop μ-loop
 enum-known-v c = search needs

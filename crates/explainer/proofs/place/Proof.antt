@@ -12,21 +12,22 @@ returns : tie.Need-returns
 returns c =
     let is = c .before .before .code-of .ensures in
     record {
-      line = c .line-for .ensures ∙ ap (λ x. lineFor x _) is;
+      line = c .line-for .ensures ∙ ap (λ x. lineFor x (c .before .before .before .before .args .own)) is;
       above = record { size = refl; same = λ j h. refl };
       other = λ _. refl;
       clock = λ e. absurd (c .before .if1 .taken (is ∙ e));
     }
 
 put-line-requires : tie.Need-put-line-requires
-put-line-requires c κs = (omega (arith, c .before .before .before .before .before .pre), ?)
+put-line-requires c κs = omega (arith, c .before .before .before .before .before .pre)
 
 returns-2 : tie.Need-returns-2
+unfolding lineFor
 returns-2 c =
     let is = c .before .before .before .before .before .before .code-of .ensures in
     let six = sym is ∙ c .before .before .before .before .before .if1 .left in
     record {
-      line = ?;
+      line = sym (ap (λ x. lineFor x (c .before .before .before .before .before .before .before .before .args .own)) six);
       above = c .before .before .put-line .ensures .0;
       other = λ n. absurd (n six);
       clock = λ e. c .before .before .put-line .ensures .1 ∙ c .before .before .before .before .clock-line .ensures;
