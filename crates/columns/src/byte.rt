@@ -1,12 +1,7 @@
 // The byte column: a byte, then how often it stands, less one; with no byte left after it, it stands without end. 04 01 00 is 4, 4, then 0.
 use numbers::Read;
 use numbers::Refusal;
-use numbers::Written;
-use runs::Column;
 ghost use mathlib.Core.Path.{_≡_};
-ghost use lib.ListN.{length};
-ghost use Rattle.numbers.specs.Output.{written, put};
-ghost use Rattle.runs.specs.Runs.{columnOf, whyOf};
 ghost use Rattle.columns.specs.Byte.{startAt, begun, nextByte, whyByte};
 
 // The next byte, the run's first byte, its value, and how often that still stands, or that it stands without end.
@@ -113,11 +108,4 @@ pub fn why(r: Answer) -> Refusal
         },
         Answer::Bad(w) => w,
     }
-}
-
-// The writer: 3, then 10.
-pub fn write(out: &mut [u8], values: &[u8]) -> Written
-    ensures { λ r. ⌜ (r ≡ written (whyOf Column.Byte (now (values .entry))) (length (now (out .entry))) (columnOf Column.Byte (now (values .entry)))) × (now (out .exit) ≡ put (whyOf Column.Byte (now (values .entry))) (length (now (out .entry))) (columnOf Column.Byte (now (values .entry)))) ⌝ }
-{
-    runs::slice::write_bytes(out, values)
 }

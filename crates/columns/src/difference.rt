@@ -3,13 +3,8 @@
 use numbers::Read;
 use numbers::Refusal;
 use numbers::Signed;
-use numbers::Written;
-use runs::Column;
 ghost use mathlib.Core.Path.{_≡_};
 ghost use Prim.Native.Nat.{_≤_};
-ghost use lib.ListN.{length};
-ghost use Rattle.numbers.specs.Output.{written, put};
-ghost use Rattle.runs.specs.Runs.{columnOf, whyOf};
 ghost use Rattle.numbers.specs.Number.{readSigned};
 ghost use Rattle.columns.specs.Difference.{startAt, drawn, outside, keyRead, begun, nextDifference, whyDifference};
 
@@ -160,11 +155,4 @@ pub fn why(r: Answer) -> Refusal
         },
         Answer::Bad(w) => w,
     }
-}
-
-// The writer: 3, 13, then 10.
-pub fn write(out: &mut [u8], values: &[u64]) -> Written
-    ensures { λ r. ⌜ (r ≡ written (whyOf Column.Difference (now (values .entry))) (length (now (out .entry))) (columnOf Column.Difference (now (values .entry)))) × (now (out .exit) ≡ put (whyOf Column.Difference (now (values .entry))) (length (now (out .entry))) (columnOf Column.Difference (now (values .entry)))) ⌝ }
-{
-    runs::slice::write_all(out, Column::Difference, values)
 }

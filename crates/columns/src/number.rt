@@ -2,13 +2,8 @@
 use numbers::Read;
 use numbers::Refusal;
 use numbers::Signed;
-use numbers::Written;
-use runs::Column;
 ghost use mathlib.Core.Path.{_≡_};
 ghost use Prim.Native.Nat.{_≤_};
-ghost use lib.ListN.{length};
-ghost use Rattle.numbers.specs.Output.{written, put};
-ghost use Rattle.runs.specs.Runs.{columnOf, whyOf};
 ghost use Rattle.numbers.specs.Number.{readSigned};
 ghost use Rattle.columns.specs.Number.{startAt, drawn, begun, nextNumber, whyNumber};
 
@@ -120,11 +115,4 @@ pub fn why(r: Answer) -> Refusal
         },
         Answer::Bad(w) => w,
     }
-}
-
-// The writer: 3, then 10.
-pub fn write(out: &mut [u8], values: &[u64]) -> Written
-    ensures { λ r. ⌜ (r ≡ written (whyOf Column.Number (now (values .entry))) (length (now (out .entry))) (columnOf Column.Number (now (values .entry)))) × (now (out .exit) ≡ put (whyOf Column.Number (now (values .entry))) (length (now (out .entry))) (columnOf Column.Number (now (values .entry)))) ⌝ }
-{
-    runs::slice::write_all(out, Column::Number, values)
 }

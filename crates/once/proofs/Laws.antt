@@ -19,13 +19,12 @@ use Rattle.numbers.proofs.Output.{verdict-why, verdict-room, refused-answer, re
 use Rattle.runs.specs.declared.Column.{Column}
 use Rattle.runs.specs.declared.Column.the-variants.{Number, Difference, Byte}
 use Rattle.runs.specs.declared.writer.Writer.{Writer}
-use Rattle.runs.specs.declared.judge.Judge.{Judge}
 use Rattle.runs.specs.Difference.{keyBetween}
 use Rattle.runs.specs.Runs.{coding, signedRun, nearKey, columnOf, whyOf}
-use Rattle.runs.specs.Writer.{ends, keyAfter, emitted, finished, moved, pushed, runFits, lastFitsIn, overLimit, goesOn, judged, sentence, pushedWithin, outWithin}
+use Rattle.runs.specs.Writer.{Judge, ends, keyAfter, emitted, finished, moved, pushed, runFits, lastFitsIn, overLimit, goesOn, judged, sentence}
 use Rattle.runs.proofs.Writing.{number-run, difference-run, byte-length, key-most}
 use Rattle.runs.proofs.Standing.{whyAhead, holds-room}
-use Rattle.runs.proofs.Slices.{JudgedTo, judge-begin, judge-on, judge-over, PutTo, put-begin, put-on, put-over, within-on}
+use Rattle.runs.proofs.Slices.{JudgedTo, judge-begin, judge-on, judge-over, PutTo, put-begin, put-on, put-over}
 use Rattle.once.specs.Once.{endsRun, endedRun, wentTo, outAt, judgedSo, endAnswer, endBytes}
 
 -- ---- no run has more than 21 bytes
@@ -226,9 +225,7 @@ module _ (col : Column) (e : List ℕ) (from : ℕ) (vs : List ℕ) (i at last k
   put-more : i < length vs → v ≤ coding col .most → at + length b ≤ length out
       → PutTo col e from vs (i + 1) (state col (at + length b) v k (pick (endsRun key count k) 1 (count + 1))) (sets out at b)
   unfolding emitted ends keyAfter endsRun endedRun pushed moved
-  put-more l m fits =
-      let o = within-on w v out fits in
-      rw (o .1) at (put-on col e from vs i w out (h .put-so (omega (arith, h .size))) (pushed w v) l m (o .0))
+  put-more l m fits = put-on col e from vs i w out (h .put-so (omega (arith, h .size))) l m fits
 
   no-room : i < length vs → length out < at + length b → length e < from + length (columnOf col vs)
   unfolding emitted ends keyAfter endsRun endedRun

@@ -1,4 +1,5 @@
--- One pass over a slice: what a run's end writes, where room may be short, and what the end answers. The functions of `once` and their loops go by it.
+-- One pass over a slice: what a run's end writes, where room may be short, and what the end answers. The functions of `once` and their
+-- loops go by it.
 use Prim.Native.Nat.{ℕ, _+_, _-_}
 use mathlib.Core.Path.{_≡_}
 use mathlib.Core.List.{List, [], _++_}
@@ -11,9 +12,8 @@ use Rattle.numbers.specs.Number.{pick}
 use Rattle.numbers.specs.Output.{padded, refusal, written, put}
 use Rattle.runs.specs.declared.Column.{Column}
 use Rattle.runs.specs.declared.writer.Writer.{Writer}
-use Rattle.runs.specs.declared.judge.Judge.{Judge}
 use Rattle.runs.specs.Runs.{coding, columnOf, whyOf}
-use Rattle.runs.specs.Writer.{finished, sentence}
+use Rattle.runs.specs.Writer.{Judge, finished, sentence}
 
 -- the key k ends a run of `key`, which stood so often
 unfoldable pub endsRun : ℕ → ℕ → ℕ → Bool
@@ -46,9 +46,10 @@ endAnswer out w far =
 
 unfoldable pub endBytes : List ℕ → Writer → Bool → List ℕ
 endBytes out w far =
-    pick (eqb (sentence (judgedSo w far)) 0) (pick (leb (w .at) (length out)) (put 0 (length out) (take (w .at) out ++ finished w)) (padded (length out) []))
-    (padded (length out) [])
+    pick (eqb (sentence (judgedSo w far)) 0)
+    (pick (leb (w .at) (length out)) (put 0 (length out) (take (w .at) out ++ finished w)) (padded (length out) [])) (padded (length out) [])
 
 -- the writer of a column: its answer, and what the bytes lent hold then
 abbrev pub Writes : Column → List ℕ → List ℕ → Written → List ℕ → Type 0
-Writes col vs e r x = (r ≡ written (whyOf col vs) (length e) (columnOf col vs)) × (x ≡ put (whyOf col vs) (length e) (columnOf col vs))
+Writes col vs e r x =
+    (r ≡ written (whyOf col vs) (length e) (columnOf col vs)) × (x ≡ put (whyOf col vs) (length e) (columnOf col vs))

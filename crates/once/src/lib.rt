@@ -104,7 +104,7 @@ fn end(out: &mut [u8], w: Writer, far: bool) -> Written
     if out.len() < at {
         return numbers::refuse(out, 10);
     }
-    runs::slice::close(out, w)
+    runs::writer::close(out, w)
 }
 
 // ---- whole slices
@@ -291,13 +291,13 @@ fn put_text(out: &mut [u8], text: &[u8]) -> usize
 fn put_head(out: &mut [u8], text: &[u8]) -> usize
     ensures { λ r. ⌜ PutAt (now (out .entry)) 0 (textHead (now (text .entry))) r (now (out .exit)) ⌝ }
 {
-    let past = out.len() + 1;
+    let beyond = out.len() + 1;
     let size = numbers::size_unsigned(text.len() as u64);
     if out.len() < size {
-        return past;
+        return beyond;
     }
     if out.len() - size < text.len() {
-        return past;
+        return beyond;
     }
     put_text(out, text)
 }

@@ -13,9 +13,8 @@ use Rattle.numbers.specs.Number.{pick}
 use Rattle.numbers.proofs.Output.{sets-append}
 use Rattle.runs.specs.declared.Column.{Column}
 use Rattle.runs.specs.declared.writer.Writer.{Writer}
-use Rattle.runs.specs.declared.judge.Judge.{Judge}
 use Rattle.runs.specs.Runs.{Coding, coding, over, opened, column, within, overFits, storable, spellable, why}
-use Rattle.runs.specs.Writer.{fresh, ends, keyAfter, emitted, finished, moved, pushed, Sound, unjudged, runFits, lastFitsIn, overLimit, goesOn, judged, sentence}
+use Rattle.runs.specs.Writer.{fresh, ends, keyAfter, emitted, finished, moved, pushed, Sound, Judge, unjudged, runFits, lastFitsIn, overLimit, goesOn, judged, sentence}
 use Rattle.runs.proofs.Writing.{key-most}
 
 -- what a state has yet to write, if `rest` is what comes

@@ -1,16 +1,15 @@
 -- The state of a column writer, as its functions and their callers' loops go by it.
 use Prim.Native.Nat.{ℕ, _+_, _-_, _≤_}
-use mathlib.Core.List.{List, []}
+use mathlib.Core.Path.{_≡_}
+use mathlib.Core.List.{List, [], _++_}
 use mathlib.Core.Bool.{Bool, true, false}
 use lib.Dec.{ltb, leb, eqb}
-use lib.ListN.{length}
-use lib.Seq.{sets}
+use lib.ListN.{length, take}
+use Rattle.numbers.specs.declared.Written.{Written}
 use Rattle.numbers.specs.Number.{pick}
+use Rattle.numbers.specs.Output.{written, put}
 use Rattle.runs.specs.declared.Column.{Column}
 use Rattle.runs.specs.declared.writer.Writer.{Writer}
-use Rattle.runs.specs.declared.judge.Judge.{Judge}
-use Rattle.runs.specs.declared.slice.Pushed.{Pushed}
-use Rattle.runs.specs.declared.slice.Pushed.the-variants.{On, Full}
 use Rattle.runs.specs.Runs.{coding, keyMost, over, column}
 
 abbrev pub fresh : Column → ℕ → Writer
@@ -44,6 +43,12 @@ Sound w = (w .last ≤ coding (w .column) .most) × (w .key ≤ keyMost (w .colu
 
 -- ---- refusals, a value at a time
 
+-- what the values so far allow: their state, whether a difference could not be spelled, and whether something was over a limit
+pub record Judge : Type 0 where
+  pub writer : Writer
+  pub far : Bool
+  pub over : Bool
+
 abbrev pub unjudged : Column → Judge
 unjudged col = record { writer = fresh col 0; far = false; over = false }
 
@@ -72,10 +77,8 @@ judged j v =
 unfoldable pub sentence : Judge → ℕ
 sentence j = pick (j .over) 3 (pick (lastFitsIn (j .writer)) (pick (j .far) 13 0) 3)
 
--- ---- a push where room may be short
+-- ---- the end
 
-unfoldable pub pushedWithin : ℕ → Writer → ℕ → Pushed
-pushedWithin n w v = pick (leb (w .at + length (emitted w v)) n) (On (pushed w v)) Full
-
-unfoldable pub outWithin : List ℕ → Writer → ℕ → List ℕ
-outWithin out w v = pick (leb (w .at + length (emitted w v)) (length out)) (sets out (w .at) (emitted w v)) out
+-- what the end of a column answers, and leaves of e: the last run behind what stands before the place, or 10
+abbrev pub Closes : List ℕ → Writer → Written → List ℕ → Type 0
+Closes e w r x = (r ≡ written 0 (length e) (take (w .at) e ++ finished w)) × (x ≡ put 0 (length e) (take (w .at) e ++ finished w))

@@ -1,10 +1,9 @@
 // Runs: how the columns of numbers are written. Values come one at a time, equal neighbours become the longest run, and a run is spelled
-// by its column's rule. Here are the rules; `writer` has the state, `judge` the refusals, `slice` whole slices.
+// by its column's rule. Here are the rules; `writer` has the state, `judge` what may be refused. `once` writes whole slices.
 pub mod byte;
 pub mod difference;
 pub mod judge;
 pub mod number;
-pub mod slice;
 pub mod writer;
 
 ghost use mathlib.Core.Path.{_≡_};
@@ -41,29 +40,6 @@ pub fn put_counted(out: &mut [u8], at: usize, minus: bool, x: u64, n: u64) -> us
         return mid;
     }
     numbers::write_unsigned(out, mid, n - 1)
-}
-
-// The largest value of a column.
-pub fn most(column: Column) -> u64
-    ensures { λ r. ⌜ r ≡ coding column .most ⌝ }
-{
-    match column {
-        Column::Number => numbers::MAX_VALUE,
-        Column::Difference => numbers::MAX_CLOCK,
-        Column::Byte => 255,
-    }
-}
-
-// The key of a value after another.
-pub fn key_of(column: Column, last: u64, v: u64) -> u64
-    requires { ⌜ (last ≤ coding column .most) × (v ≤ coding column .most) ⌝ }
-    ensures { λ r. ⌜ (r ≡ coding column .keyOf last v) × (r ≤ keyMost column) ⌝ }
-{
-    match column {
-        Column::Number => v,
-        Column::Difference => crate::difference::key_between(last, v),
-        Column::Byte => v,
-    }
 }
 
 pub fn run_size(column: Column, k: u64, n: u64) -> usize

@@ -1,31 +1,24 @@
--- The laws of the text column's functions: a number read ends within the bytes, a place anywhere is brought within them, texts are taken
--- one after the other, and the writer's refusals come in their order.
-use Prim.Native.Nat.{ℕ, suc, _+_, _≤_, _<_}
+-- The laws of the text column: a number read ends within the bytes, a place anywhere is brought within them, how long the column is, and the writer's
+-- refusals in their order.
+use Prim.Native.Nat.{ℕ, _+_, _≤_}
 use mathlib.Core.Path.{_≡_, refl, sym, ap, subst, _∙_}
 use mathlib.Core.Logic.{_⊎_, inl, inr, ⊎-elim}
 use mathlib.Core.List.{List, [], _∷_}
 use mathlib.Core.Bool.{Bool, true, false}
-use native.Mathlib.Nat.{zero-add}
-use native.Mathlib.Numerals.{add-one}
 use native.Mathlib.Omega.{arith}
 use lib.Dec.{eqb}
-use lib.ListN.{length, take, drop, getD, set, length-append, length-drop, drop-of-length-le}
-use lib.Seq.{sets, slice, slice-empty, take-all, take-suc, drop-cons, drop-drop, length-take-le}
+use lib.ListN.{length, take, drop, length-append, drop-of-length-le}
+use lib.Seq.{slice, slice-empty, take-all, length-take-le}
 use borrow.Author.Tests.{eq-eqb, ne-eqb, eqb-true}
 use Rattle.numbers.specs.declared.Read.the-variants.{Number, Refused}
 use Rattle.numbers.specs.Number.{pick, unsigned, readUnsigned, placed}
-use Rattle.numbers.specs.Output.{verdict, padded, refusal, written, put}
 use Rattle.numbers.proofs.Laws.{below-or, at-end}
 use Rattle.numbers.proofs.Inside.{Reads, unsigned-inside}
-use Rattle.numbers.proofs.Output.{sets-append, verdict-why, verdict-room, refused-answer, refused-bytes, take-sets}
-use Rattle.text.specs.declared.Taken.{Taken}
-use Rattle.text.specs.declared.Taken.the-variants as units
 use Rattle.text.specs.Utf8.{wellFormed, took, takeUnits}
-use Rattle.text.proofs.Cutting.{cut, cut-at}
+use Rattle.text.proofs.Cutting.{cut-at}
 use Rattle.runs.specs.declared.Column.the-variants as columns
-use Rattle.string.specs.declared.Taking.{Taking}
 use Rattle.runs.specs.Runs.{coding, within, storable, spellable, why, columnOf, whyOf}
-use Rattle.string.specs.String.{takesMore, takesAll, tookText, takeNext, textHead, textColumn, whyTexts}
+use Rattle.string.specs.String.{takesAll, textHead, textColumn, whyTexts}
 
 -- ---- opening
 
@@ -59,63 +52,11 @@ module _ (s : List ℕ) (at end from to : ℕ) (tl : to ≤ length s) (te : to �
       let w = cut-at 7 u k from to s ft tl p .within in
       ⊎-elim (λ e. inl (omega arith)) (λ e. inr (omega arith)) f
 
--- ---- taking all
-
--- the loop that takes them: what is to be taken from here on, and what is still to be checked
-pub record TakenTo (s us : List ℕ) (i : ℕ) (t : Taking) : Type 0 where
-  pub same : pick (t .found) (takesAll (drop (t .at) s) (drop i us)) false ≡ takesAll s us
-  pub rest : wellFormed (drop (t .at) s) ≡ wellFormed s
-  pub room : t .at ≤ length s
-
-pub taking-begin : (s us : List ℕ) → TakenTo s us 0 (record { at = 0; found = true })
-taking-begin s us = record { same = refl; rest = refl; room = omega arith }
-
-module _ (s us : List ℕ) (i : ℕ) (t : Taking) (h : TakenTo s us i t) where
-  pub taking-on : i < length us → TakenTo s us (i + 1) (takeNext s t (getD us i 0))
-  unfolding takeNext tookText takesAll takesMore
-  taking-on l = go (t .found) refl
-    where
-      more : t .found ≡ true → takesMore (takeUnits 7 (getD us i 0) (drop (t .at) s)) (λ k. takesAll (drop k (drop (t .at) s)) (drop (suc i) us)) ≡ takesAll s us
-      more f = ap (takesAll (drop (t .at) s)) (sym (drop-cons us i 0 l)) ∙ rw f at (h .same)
-
-      taken : (r : Taken) → takeUnits 7 (getD us i 0) (drop (t .at) s) ≡ r → takesMore r (λ k. takesAll (drop k (drop (t .at) s)) (drop (suc i) us)) ≡ takesAll s us → TakenTo s us (i + 1) (tookText t r)
-      taken (units.Took b) e p =
-          let c = cut 7 (getD us i 0) (b .0) (drop (t .at) s) e in
-          record {
-            same = rw (add-one, ← drop-drop (b .0) (t .at) s) p;
-            rest = rw (← drop-drop (b .0) (t .at) s) (c .back ∙ h .rest);
-            room = omega (arith, c .within, length-drop (t .at) s, h .room);
-          }
-      taken (units.Refused w) e p = record { same = p; rest = h .rest; room = h .room }
-
-      go : (b : Bool) → t .found ≡ b → TakenTo s us (i + 1) (pick b (tookText t (takeUnits 7 (getD us i 0) (drop (t .at) s))) t)
-      go true f = taken (takeUnits 7 (getD us i 0) (drop (t .at) s)) refl (more f)
-      go false f = record { same = rw f (rw f at (h .same)); rest = h .rest; room = h .room }
-
-  pub taking-over : length us ≤ i → takesAll s us ≡ t .found
-  unfolding takesAll
-  taking-over l = sym (h .same) ∙ rw (drop-of-length-le us l) (found (t .found))
-    where
-      found : (b : Bool) → pick b true false ≡ b
-      found true = refl
-      found false = refl
-
--- ---- the text's bytes behind its length
-
--- one more
-pub bytes-on : (e t : List ℕ) (at i : ℕ) → i < length t → set (sets e at (take i t)) (at + i) (getD t i 0) ≡ sets e at (take (i + 1) t)
-bytes-on e t at i l = rw (add-one, take-suc t i 0 l, sets-append, length-take-le i t (omega arith))
+-- ---- the column
 
 pub head-length : (t : List ℕ) → length (textHead t) ≡ length (unsigned (length t)) + length t
 unfolding textHead
 head-length t = length-append (unsigned (length t)) t
-
-pub head-bytes : (e t : List ℕ) → sets (sets e 0 (unsigned (length t))) (0 + length (unsigned (length t))) t ≡ sets e 0 (textHead t)
-unfolding textHead
-head-bytes e t = sym (sets-append (unsigned (length t)) t e 0)
-
-pub head-front : (e t : List ℕ) → length (textHead t) ≤ length e → take (length (textHead t)) (sets e 0 (textHead t)) ≡ textHead t
-head-front e t h = rw zero-add at (take-sets e (textHead t) 0 (omega arith))
 
 -- ---- the refusals
 
@@ -167,15 +108,3 @@ module _ (t us : List ℕ) where
   pub column-length : length (textColumn t us) ≡ length (unsigned (length t)) + length t + length (columnOf columns.Number us)
   unfolding textColumn
   column-length = length-append (textHead t) (columnOf columns.Number us) ∙ ap (λ (n : ℕ). n + length (columnOf columns.Number us)) (head-length t)
-
--- a refusal's answer, and the bytes that it leaves
-module _ (y n : ℕ) (b : List ℕ) where
-  pub refuses : (v : ℕ) → y ≡ v → (v ≡ 0 → ⊥) → (refusal v ≡ written y n b) × (padded n [] ≡ put y n b)
-  refuses v e z =
-      let q : verdict y n b ≡ v = verdict-why y n b (λ p. z (sym e ∙ p)) ∙ e in
-      (refused-answer y n b v q z, refused-bytes y n b v q z)
-
-  pub refuses-room : y ≡ 0 → n < length b → (refusal 10 ≡ written y n b) × (padded n [] ≡ put y n b)
-  refuses-room e l =
-      let q = verdict-room y n b e l in
-      (refused-answer y n b 10 q (λ z. omega arith), refused-bytes y n b 10 q (λ z. omega arith))

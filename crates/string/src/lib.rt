@@ -3,8 +3,6 @@
 use columns::number;
 use numbers::Read;
 use numbers::Refusal;
-use numbers::Written;
-use runs::Column;
 use text::Part;
 use text::Taken;
 use text::Units;
@@ -12,10 +10,9 @@ ghost use mathlib.Core.Path.{_≡_};
 ghost use mathlib.Core.Logic.{_⊎_};
 ghost use Prim.Native.Nat.{_+_, _≤_};
 ghost use lib.ListN.{length};
-ghost use lib.Seq.{sets, slice};
-ghost use Rattle.numbers.specs.Output.{written, put};
+ghost use lib.Seq.{slice};
 ghost use Rattle.text.specs.Utf8.{takeUnits};
-ghost use Rattle.string.specs.String.{openText, TookWithin, taken, nextText, whyText, takeNext, textHead, textColumn, whyTexts};
+ghost use Rattle.string.specs.String.{openText, TookWithin, taken, nextText, whyText};
 
 // The next text's first byte, the end of all texts, and the place of the next unit length.
 #[repr(C)]
@@ -123,93 +120,4 @@ pub fn why(r: Answer) -> Refusal
         },
         Answer::Bad(w) => w,
     }
-}
-
-// ---- writing
-
-// Where the texts taken so far end, and whether the next was there.
-pub struct Taking {
-    pub at: usize,
-    pub found: bool,
-}
-
-fn take_next(text: &[u8], t: Taking, u: u64) -> Taking
-    requires { ⌜ t .at ≤ length (now text) ⌝ }
-    ensures { λ r. ⌜ (r ≡ takeNext (now (text .entry)) t u) × (r .at ≤ length (now (text .entry))) ⌝ }
-{
-    let at = t.at;
-    if !t.found {
-        return t;
-    }
-    match text::take_units(text, at, text.len(), Units(u), 7) {
-        Taken::Took(bytes) => {
-            let past = at + bytes.0;
-            Taking {
-                at: past,
-                found: true,
-            }
-        }
-        Taken::Refused(_) => Taking { at, found: false },
-    }
-}
-
-// The refusal of a text and its unit lengths: 6, 3, 7; 0 for none. What was taken is UTF-8, so only what follows it is checked.
-fn judge_texts(text: &[u8], units: &[u64]) -> u8
-    ensures { λ r. ⌜ r ≡ whyTexts (now (text .entry)) (now (units .entry)) ⌝ }
-{
-    let mut j = runs::judge::judge_none(Column::Number);
-    let mut t = Taking { at: 0, found: true };
-    let mut i = 0;
-    while i < units.len() {
-        let u = units[i];
-        i += 1;
-        j = runs::judge::judge_next(j, u);
-        t = take_next(text, t, u);
-    }
-    let at = t.at;
-    if !text::check(text, at, text.len()) {
-        return 6;
-    }
-    if runs::judge::judge_end(j) != 0 {
-        return 3;
-    }
-    if t.found {
-        return 0;
-    }
-    7
-}
-
-// The text's length and bytes, at the start; the caller has room for them.
-fn put_text(out: &mut [u8], text: &[u8]) -> usize
-    requires { ⌜ length (textHead (now text)) ≤ length (now out) ⌝ }
-    ensures { λ r. ⌜ (r ≡ length (textHead (now (text .entry)))) × (now (out .exit) ≡ sets (now (out .entry)) 0 (textHead (now (text .entry)))) ⌝ }
-{
-    let n = text.len() as u64;
-    let mut at = numbers::write_unsigned(out, 0, n);
-    let mut i = 0;
-    while i < text.len() {
-        out[at] = text[i];
-        at += 1;
-        i += 1;
-    }
-    at
-}
-
-// The writer: 6, 3, 7, then 10.
-pub fn write(out: &mut [u8], text: &[u8], units: &[u64]) -> Written
-    ensures { λ r. ⌜ (r ≡ written (whyTexts (now (text .entry)) (now (units .entry))) (length (now (out .entry))) (textColumn (now (text .entry)) (now (units .entry)))) × (now (out .exit) ≡ put (whyTexts (now (text .entry)) (now (units .entry))) (length (now (out .entry))) (textColumn (now (text .entry)) (now (units .entry)))) ⌝ }
-{
-    let number = judge_texts(text, units);
-    if number != 0 {
-        return numbers::refuse(out, number);
-    }
-    let size = numbers::size_unsigned(text.len() as u64);
-    if out.len() < size {
-        return numbers::refuse(out, 10);
-    }
-    if out.len() - size < text.len() {
-        return numbers::refuse(out, 10);
-    }
-    let at = put_text(out, text);
-    runs::slice::put_all(out, at, Column::Number, units)
 }

@@ -1,4 +1,4 @@
--- `slice::close` meets its contract: the last run where there is room, and zeros.
+-- `writer::close` meets its contract: the last run where there is room, and zeros.
 use Prim.Native.Nat.{_+_, _≤_}
 use native.Mathlib.Omega.{arith}
 use mathlib.Core.Path.{_≡_, refl, sym, ap, _∙_}
@@ -9,8 +9,8 @@ use Rattle.runs.specs.Writer.{finished}
 use Rattle.numbers.specs.Output.{verdict, done}
 use Rattle.numbers.proofs.Output.{verdict-room, verdict-done, refused-answer, refused-bytes, done-answer, done-bytes, take-sets}
 use borrow.Author.Needs.{needs}
-use Rattle.runs.proofs.slice.close.Statement.{statement}
-use Rattle.runs.proofs.slice.close.Tie as tie
+use Rattle.runs.proofs.writer.close.Statement.{statement}
+use Rattle.runs.proofs.writer.close.Tie as tie
 
 returns : tie.Need-returns
 returns c =
