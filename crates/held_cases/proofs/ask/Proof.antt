@@ -46,8 +46,8 @@ use Rattle.updates.specs.Promises.{reading, rowsOf, wordsOf}
 use Rattle.held_sorts.proofs.Sorts.{sortedheld}
 use Rattle.table.proofs.Sorts.{block}
 use Rattle.update_cases.proofs.Sorts.{told, told-used}
-use Rattle.held_cases.proofs.Cards.{Held-sorts·sort-held, Held-cases·begin, Held-cases·end, held-sorts·sort-held!, held-cases·begin-given-order-counts-pending!, held-cases·end-words!}
-use Rattle.update_cases.proofs.Cards.{Update-cases·rows·full, Update-cases·tables·put-rows, update-cases·rows·full!, update-cases·tables·put-rows-rows!}
+use Rattle.held_cases.proofs.Cards.{Held-sorts·sort-held, Held-cases·begin, Held-cases·end, held-sorts·sort-held!, held-cases·begin-given-order-counts-pending!, held-cases·end-words! }
+use Rattle.update_cases.proofs.Cards.{Update-cases·rows·full, Update-cases·tables·put-rows, update-cases·rows·full!, update-cases·tables·put-rows-rows! }
 use Rattle.update_cases.proofs.rows.full.Symbol as update-cases·rows·full-def
 use Rattle.update_cases.proofs.rows.full.Symbol.{name as #update-cases·rows·full}
 use Rattle.update_cases.proofs.rows.full.Met as update-cases·rows·full-thm
