@@ -1,8 +1,8 @@
--- The rows of a client that follow on each other with no Skip among them are a chain. In a chain the rows at which a queue stands tell of many an
--- id whether a taken block holds it, so that it need not be sought; and a row by number need not hang on what is met.
-use Prim.Native.Nat.{ℕ, zero, suc, _+_, _-_, _<_}
+-- The rows of a client that follow on each other are a chain. In a chain the rows at which a queue stands tell of many an id whether a taken block
+-- holds it, so that it need not be sought: of each that lies before all Skips or behind them. And a row by number need not hang on what is met.
+use Prim.Native.Nat.{ℕ, zero, suc, _+_, _-_, _*_, _/_, _<_}
 use mathlib.Core.Path.{_≡_}
-use mathlib.Core.Bool.{Bool, false}
+use mathlib.Core.Bool.{Bool, true, false}
 use mathlib.Core.List.{List, [], _∷_}
 use lib.Dec.{ltb, leb, eqb}
 use lib.ListN.{length, getD, set}
@@ -20,49 +20,73 @@ use Rattle.picker.specs.Picker.{isMet}
 use Rattle.placing.specs.declared.Span.{Span}
 use Rattle.placing.specs.Placing.{isHeld, spanAt, spanOf, capped, heldBy, onNumber, numberedBlock}
 use Rattle.chaining.specs.declared.Ask.{Ask}
+use Rattle.chaining.specs.declared.Chain.{Chain}
 use Rattle.chaining.specs.declared.Stand.{Stand}
 
 -- ---- a chain
 
--- one more than the clock that a chain has come to, with this row; 0 if it is broken
-unfoldable pub linked : ℕ → Block → ℕ
-linked w b = pick (eqb (b .kind) SKIP) 0 (pick (eqb w (b .clock + 1)) (pick (ltb maxClock (b .length .0)) 0 (w + b .length .0)) 0)
+-- rows that do not follow on each other
+abbrev pub noChain : Chain
+noChain = record { end = 0; clear = 0; resume = 0 }
 
--- with m rows from row i on
-unfoldable pub chainFrom : List Block → ℕ → ℕ → ℕ → ℕ
-chainFrom rows i zero w = w
-chainFrom rows i (suc m) w = chainFrom rows (i + 1) m (linked w (getD rows i noBlock))
+-- before the first row; no clock comes to 2^32
+abbrev pub unlinked : Block → Chain
+unlinked b = record { end = b .clock + 1; clear = 4294967296; resume = 0 }
 
--- with all rows of a span
-unfoldable pub chainOf : List Block → Span → ℕ
+-- a Skip from this clock on
+unfoldable pub skipped : Chain → ℕ → ℕ → Chain
+skipped c clock end = record { end = end; clear = pick (ltb (clock + 1) (c .clear)) (clock + 1) (c .clear); resume = end - 1 }
+
+-- one row more
+unfoldable pub linked : Chain → Block → Chain
+linked c b =
+    pick (eqb (c .end) (b .clock + 1))
+    (pick (ltb maxClock (b .length .0)) noChain
+    (pick (eqb (b .kind) SKIP) (skipped c (b .clock) (c .end + b .length .0))
+    (record { end = c .end + b .length .0; clear = c .clear; resume = c .resume }))) noChain
+
+-- m rows from row i on
+unfoldable pub chainFrom : List Block → ℕ → ℕ → Chain → Chain
+chainFrom rows i zero c = c
+chainFrom rows i (suc m) c = chainFrom rows (i + 1) m (linked c (getD rows i noBlock))
+
+-- all rows of a span
+unfoldable pub chainOf : List Block → Span → Chain
 chainOf rows s =
     pick (ltb (s .lo) (s .hi))
-    (pick (ltb (length rows) (s .hi)) 0 (chainFrom rows (s .lo) (s .hi - s .lo) (getD rows (s .lo) noBlock .clock + 1))) 0
+    (pick (ltb (length rows) (s .hi)) noChain (chainFrom rows (s .lo) (s .hi - s .lo) (unlinked (getD rows (s .lo) noBlock)))) noChain
 
--- of each slot, the first of which is slot i, in a word
+-- what is kept of a slot's chain, two words
+unfoldable pub putChain : List ℕ → ℕ → Chain → List ℕ
+putChain w p c = pick (ltb p (length w / 2)) (set (set w (2 * p) (c .clear)) (2 * p + 1) (c .resume)) w
+
+-- of each slot, the first of which is slot i
 unfoldable pub chainsFrom : ℕ → List Slot → List Block → List ℕ → List ℕ
 chainsFrom i [] rows w = w
-chainsFrom i (s ∷ ss) rows w = chainsFrom (suc i) ss rows (set w i (chainOf rows (spanAt s)))
+chainsFrom i (s ∷ ss) rows w = chainsFrom (suc i) ss rows (putChain w i (chainOf rows (spanAt s)))
 
--- these words are the chains of these slots
+-- these words are kept of the chains of these slots
 unfoldable pub Chains : List Slot → List Block → List ℕ → Type 0
-Chains ss rows w = (p : ℕ) → p < length ss → p < length w → getD w p 0 ≡ chainOf rows (spanAt (getD ss p (slot 0 0 0)))
+Chains ss rows w = (p : ℕ) → p < length ss → p < length w / 2
+    → (getD w (2 * p) 0 ≡ chainOf rows (spanAt (getD ss p (slot 0 0 0))) .clear)
+    × (getD w (2 * p + 1) 0 ≡ chainOf rows (spanAt (getD ss p (slot 0 0 0))) .resume)
 
 -- ---- where a client's queue stands
 
 abbrev pub noStand : Stand
-noStand = record { first = 0; next = 0; taken = 0; all = 0; chain = 0 }
+noStand = record { first = 0; next = 0; taken = 0; all = 0; clear = 0; resume = 0 }
 
--- so many of a span's rows being taken, and its chain this one
-unfoldable pub standIn : Span → ℕ → ℕ → Stand
-standIn s taken chain =
-    pick (leb (s .hi - s .lo) taken) (record { first = s .lo; next = s .lo; taken = taken; all = 1; chain = chain })
-    (record { first = s .lo; next = s .lo + taken; taken = taken; all = 0; chain = chain })
+-- so many of a span's rows being taken, and this being kept of its chain
+unfoldable pub standIn : Span → ℕ → ℕ → ℕ → Stand
+standIn s taken clear resume =
+    pick (leb (s .hi - s .lo) taken) (record { first = s .lo; next = s .hi - 1; taken = taken; all = 1; clear = clear; resume = resume })
+    (record { first = s .lo; next = s .lo + taken; taken = taken; all = 0; clear = clear; resume = resume })
 
 unfoldable pub standAt : List Slot → List ℕ → List ℕ → ℕ → Stand
 standAt ss chains reach p =
-    pick (ltb p (length chains))
-    (pick (ltb p (length reach)) (standIn (spanAt (getD ss p (slot 0 0 0))) (getD reach p 0) (getD chains p 0)) noStand) noStand
+    pick (ltb p (length chains / 2))
+    (pick (ltb p (length reach)) (standIn (spanAt (getD ss p (slot 0 0 0))) (getD reach p 0) (getD chains (2 * p) 0) (getD chains (2 * p + 1) 0))
+    noStand) noStand
 
 unfoldable pub standOf : List Slot → List ℕ → List ℕ → ℕ → Stand
 standOf ss chains reach c = pick (isNamed c ss) (standAt ss chains reach (rank c ss)) noStand
@@ -70,12 +94,19 @@ standOf ss chains reach c = pick (isNamed c ss) (standAt ss chains reach (rank c
 -- ---- what is seen of a clock: 1, a taken row holds it; 2, the next row holds it; 0, neither is known
 
 unfoldable pub isSeen : Stand → ℕ → Bool
-isSeen t n = pick (eqb (t .chain) 0) false (pick (ltb (t .first) n) (ltb (t .next) n) false)
+isSeen t n = pick (eqb (t .clear) 0) false (pick (ltb (t .first) n) (ltb (t .next) n) false)
+
+-- it lies before all Skips or behind them
+unfoldable pub isClear : Stand → ℕ → Bool
+isClear t k = pick (ltb (k + 1) (t .clear)) true (leb (t .resume) k)
+
+-- it does not lie before the next row, which may be the last of all that are taken
+unfoldable pub seenNext : Stand → Block → ℕ → ℕ
+seenNext t next k =
+    pick (eqb (next .kind) SKIP) 0 (pick (leb (next .length .0) (k - next .clock)) 0 (pick (eqb (t .all) 1) 1 2))
 
 unfoldable pub seen : Stand → Block → Block → ℕ → ℕ
-seen t first next k =
-    pick (ltb k (first .clock)) 0
-    (pick (eqb (t .all) 1) (pick (ltb (k + 1) (t .chain)) 1 0) (pick (ltb k (next .clock)) 1 (pick (ltb (k - next .clock) (next .length .0)) 2 0)))
+seen t first next k = pick (ltb k (first .clock)) 0 (pick (ltb k (next .clock)) (pick (isClear t k) 1 0) (seenNext t next k))
 
 unfoldable pub nearOf : List Block → Stand → ℕ → ℕ
 nearOf rows t k = pick (isSeen t (length rows)) (seen t (getD rows (t .first) noBlock) (getD rows (t .next) noBlock) k) 0

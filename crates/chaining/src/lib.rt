@@ -1,5 +1,5 @@
-// The rows of a client that follow on each other with no Skip among them, a chain; and what is seen of an id from where its client's queue stands, so that it
-// need not be sought.
+// The rows of a client that follow on each other, a chain, and where Skips lie among them; and what is seen of an id from where its client's queue stands, so
+// that it need not be sought.
 use block::Block;
 use block::Id;
 use picker::stages::Dependency;
@@ -10,46 +10,110 @@ ghost use lib.ListN.{length};
 ghost use Rattle.slots.specs.Slots.{slotsFrom, Falling};
 ghost use Rattle.picker.specs.Stages.{stageAt};
 ghost use Rattle.placing.specs.Placing.{isHeld, capped};
-ghost use Rattle.chaining.specs.Chaining.{linked, noStand, standIn, standOf, isSeen, seen, askOf, unmetWord, onWord, lightBlock, idOf};
+ghost use Rattle.chaining.specs.Chaining.{noChain, unlinked, skipped, linked, putChain, noStand, standIn, standOf};
+ghost use Rattle.chaining.specs.Chaining.{isSeen, isClear, seenNext, seen, askOf, unmetWord, onWord, lightBlock, idOf};
 
 // ---- a chain
 
-// One more than the clock that a chain begins with.
-pub fn begin(b: Block) -> u64
-    ensures { λ r. ⌜ r ≡ b .clock + 1 ⌝ }
-{
-    b.clock as u64 + 1
+// One more than the clock that rows which follow on each other have come to, or 0 if they do not; one more than the clock of the first Skip among them, or
+// SKIPLESS; and the clock after the last Skip, or 0.
+pub struct Chain {
+    pub end: u64,
+    pub clear: u64,
+    pub resume: u64,
 }
 
-// One more than the clock after this row, if the row is no Skip and stands where the chain has come to; else 0.
-pub fn link(chain: u64, b: Block) -> u64
+// No clock is as high.
+pub const SKIPLESS: u64 = 4294967296;
+
+// Before the first row.
+pub fn begin(b: Block) -> Chain
+    ensures { λ r. ⌜ r ≡ unlinked b ⌝ }
+{
+    Chain {
+        end: b.clock as u64 + 1,
+        clear: SKIPLESS,
+        resume: 0,
+    }
+}
+
+pub fn broken() -> Chain
+    ensures { λ r. ⌜ r ≡ noChain ⌝ }
+{
+    Chain {
+        end: 0,
+        clear: 0,
+        resume: 0,
+    }
+}
+
+// With this Skip, from this clock on, after which the chain has come to `end`.
+fn skip(chain: Chain, clock: u32, end: u64) -> Chain
+    requires { ⌜ 1 ≤ end ⌝ }
+    ensures { λ r. ⌜ r ≡ skipped chain clock end ⌝ }
+{
+    let from = clock as u64 + 1;
+    if from < chain.clear {
+        return Chain {
+            end,
+            clear: from,
+            resume: end - 1,
+        };
+    }
+    Chain {
+        end,
+        clear: chain.clear,
+        resume: end - 1,
+    }
+}
+
+// With this row.
+pub fn link(chain: Chain, b: Block) -> Chain
     ensures { λ r. ⌜ r ≡ linked chain b ⌝ }
 {
     let kind = b.kind;
     let clock = b.clock;
     let length = b.length;
-    if kind == block::SKIP {
-        return 0;
-    }
-    if chain != clock as u64 + 1 {
-        return 0;
+    if chain.end != clock as u64 + 1 {
+        return broken();
     }
     if numbers::MAX_CLOCK < length.0 {
-        return 0;
+        return broken();
     }
-    chain + length.0
+    let end = chain.end + length.0;
+    if kind == block::SKIP {
+        return skip(chain, clock, end);
+    }
+    Chain {
+        end,
+        clear: chain.clear,
+        resume: chain.resume,
+    }
+}
+
+// What is kept of the chain of slot p, two words: `clear`, or 0 if the rows do not follow on each other, and `resume`.
+pub fn put_chain(chains: &mut [u64], p: usize, chain: Chain)
+    ensures { λ _. ⌜ now (chains .exit) ≡ putChain (now (chains .entry)) p chain ⌝ }
+{
+    if chains.len() / 2 <= p {
+        return;
+    }
+    let at = 2 * p;
+    chains[at] = chain.clear;
+    chains[at + 1] = chain.resume;
 }
 
 // ---- where a queue stands
 
-// The row of a client's first block; that of its next (the first, if all are taken); how many are taken, and whether that is all (1, or 0); and one more than
-// the clock after its last, if its rows are a chain, else 0.
+// The row of a client's first block; that of its next (the last, if all are taken); how many are taken, and whether that is all (1, or 0); and what is kept of
+// its chain.
 pub struct Stand {
     pub first: usize,
     pub next: usize,
     pub taken: u64,
     pub all: u64,
-    pub chain: u64,
+    pub clear: u64,
+    pub resume: u64,
 }
 
 fn none() -> Stand
@@ -60,21 +124,24 @@ fn none() -> Stand
         next: 0,
         taken: 0,
         all: 0,
-        chain: 0,
+        clear: 0,
+        resume: 0,
     }
 }
 
-fn stand_in(s: Span, taken: u64, chain: u64) -> Stand
-    ensures { λ r. ⌜ r ≡ standIn s taken chain ⌝ }
+fn stand_in(s: Span, taken: u64, clear: u64, resume: u64) -> Stand
+    ensures { λ r. ⌜ r ≡ standIn s taken clear resume ⌝ }
 {
     let count = numbers::words::less(s.hi as u64, s.lo as u64);
     if count <= taken {
+        let last = numbers::words::less(s.hi as u64, 1);
         return Stand {
             first: s.lo,
-            next: s.lo,
+            next: last as usize,
             taken,
             all: 1,
-            chain,
+            clear,
+            resume,
         };
     }
     Stand {
@@ -82,7 +149,8 @@ fn stand_in(s: Span, taken: u64, chain: u64) -> Stand
         next: s.lo + taken as usize,
         taken,
         all: 0,
-        chain,
+        clear,
+        resume,
     }
 }
 
@@ -96,14 +164,14 @@ pub fn stand_of(slots: &[u64], n: usize, chains: &[u64], reach: &[u64], client: 
     if !named {
         return none();
     }
-    if chains.len() <= p {
+    if chains.len() / 2 <= p {
         return none();
     }
     if reach.len() <= p {
         return none();
     }
     let s = placing::span_at(slots, p);
-    stand_in(s, reach[p], chains[p])
+    stand_in(s, reach[p], chains[2 * p], chains[2 * p + 1])
 }
 
 // ---- what is seen from there
@@ -119,7 +187,7 @@ pub const NEXT: u64 = 2;
 pub fn is_seen(t: Stand, rows: usize) -> bool
     ensures { λ r. ⌜ r ≡ isSeen t rows ⌝ }
 {
-    if t.chain == 0 {
+    if t.clear == 0 {
         return false;
     }
     if rows <= t.first {
@@ -128,28 +196,50 @@ pub fn is_seen(t: Stand, rows: usize) -> bool
     t.next < rows
 }
 
+// Whether a clock lies before all Skips or behind them.
+fn is_clear(t: Stand, clock: u32) -> bool
+    ensures { λ r. ⌜ r ≡ isClear t clock ⌝ }
+{
+    let k = clock as u64;
+    if k + 1 < t.clear {
+        return true;
+    }
+    t.resume <= k
+}
+
+// What is seen of a clock in the next block.
+fn see_next(t: Stand, next: Block, clock: u32) -> u64
+    requires { ⌜ next .clock ≤ clock ⌝ }
+    ensures { λ r. ⌜ r ≡ seenNext t next clock ⌝ }
+{
+    let kind = next.kind;
+    let length = next.length;
+    if kind == block::SKIP {
+        return AFAR;
+    }
+    if length.0 <= (clock - next.clock) as u64 {
+        return AFAR;
+    }
+    if t.all == 1 {
+        return TAKEN;
+    }
+    NEXT
+}
+
 // What is seen of a clock, where the first and the next row have these blocks.
 pub fn see(t: Stand, first: Block, next: Block, clock: u32) -> u64
     ensures { λ r. ⌜ r ≡ seen t first next clock ⌝ }
 {
-    let from = next.clock;
-    let length = next.length;
     if clock < first.clock {
         return AFAR;
     }
-    if t.all == 1 {
-        if clock as u64 + 1 < t.chain {
+    if clock < next.clock {
+        if is_clear(t, clock) {
             return TAKEN;
         }
         return AFAR;
     }
-    if clock < from {
-        return TAKEN;
-    }
-    if ((clock - from) as u64) < length.0 {
-        return NEXT;
-    }
-    AFAR
+    see_next(t, next, clock)
 }
 
 // The number of the next block.

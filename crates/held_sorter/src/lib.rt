@@ -58,7 +58,7 @@ fn pick_rows(
     ensures { λ r. ⌜ Picks (picksBy (now (held .entry)) ranges (slotsFrom (now (slots .entry)) 0 n) (now (rows .entry)) blocks
         (now (reach .entry)) (now (fronts .entry)) (now (order .entry))) r (now (reach .exit)) (now (fronts .exit)) (now (order .exit)) ⌝ }
 {
-    let mut words = [0u64; 128];
+    let mut words = [0u64; 256];
     let chains = &mut words[..];
     nearby::chain_slots(rows, slots, n, chains);
     pick_chained(

@@ -7,7 +7,7 @@ use native.Mathlib.Omega.{arith}
 use native.Mathlib.Nat.{sub-zero}
 use native.Mathlib.Numerals.{add-one}
 use lib.Dec.{ltb, eqb}
-use lib.ListN.{length, getD, set}
+use lib.ListN.{length, getD}
 use borrow.Author.Tests.{ltb-true, lt-ltb, le-ltb}
 use Rattle.numbers.specs.Number.{pick}
 use Rattle.block.specs.declared.Block.{Block}
@@ -17,31 +17,32 @@ use Rattle.slots.proofs.Words.{slots-here, slots-ended}
 use Rattle.picker.specs.Stages.{stageAt}
 use Rattle.placing.specs.declared.Span.{Span}
 use Rattle.placing.specs.Placing.{isHeld, spanAt, spanOf, capped, heldBy}
+use Rattle.chaining.specs.declared.Chain.{Chain}
 use Rattle.chaining.specs.declared.Stand.{Stand}
-use Rattle.chaining.specs.Chaining.{linked, chainFrom, chainOf, chainsFrom, Chains, standOf, isSeen, seen, nearOf, idOf, unmetWord, settled, lightBlock, waitsFor, lookedBy}
+use Rattle.chaining.specs.Chaining.{noChain, unlinked, linked, putChain, chainFrom, chainOf, chainsFrom, Chains, standOf, isSeen, seen, nearOf, idOf, unmetWord, settled, lightBlock, waitsFor, lookedBy}
 use Rattle.chaining.proofs.Near.{taken-met, next-holds}
 
 -- ---- the rows of a span
 
 module _ (rows : List Block) (s : Span) where
-  pub record Linking (w i : ℕ) : Type 0 where
+  pub record Linking (w : Chain) (i : ℕ) : Type 0 where
     pub same : chainFrom rows i (s .hi - i) w ≡ chainOf rows s
     pub there : s .hi ≤ length rows
 
-  pub chain-none : s .hi ≤ s .lo → 0 ≡ chainOf rows s
+  pub chain-none : s .hi ≤ s .lo → noChain ≡ chainOf rows s
   unfolding chainOf
   chain-none l = rw (le-ltb (s .lo) (s .hi) l) refl
 
   module _ (some : s .lo < s .hi) where
-    pub chain-short : length rows < s .hi → 0 ≡ chainOf rows s
+    pub chain-short : length rows < s .hi → noChain ≡ chainOf rows s
     unfolding chainOf
     chain-short l = rw (lt-ltb (s .lo) (s .hi) some, lt-ltb (length rows) (s .hi) l) refl
 
-    pub link-first : s .hi ≤ length rows → Linking (getD rows (s .lo) noBlock .clock + 1) (s .lo)
+    pub link-first : s .hi ≤ length rows → Linking (unlinked (getD rows (s .lo) noBlock)) (s .lo)
     unfolding chainOf
     link-first l = record { same = rw (lt-ltb (s .lo) (s .hi) some, le-ltb (length rows) (s .hi) l) refl; there = l }
 
-  module _ (w i : ℕ) (g : Linking w i) where
+  module _ (w : Chain) (i : ℕ) (g : Linking w i) where
     pub link-row : i < s .hi → i < length rows
     link-row l = omega (arith, g .there)
 
@@ -67,7 +68,7 @@ module _ (rows : List Block) (slots : List ℕ) (n : ℕ) (w₀ : List ℕ) wher
   fill-first = record { same = rw sub-zero refl }
 
   module _ (w : List ℕ) (p : ℕ) (g : Filling w p) where
-    pub fill-turn : p < n → Filling (set w p (chainOf rows (spanAt (slotAt slots p)))) (p + 1)
+    pub fill-turn : p < n → Filling (putChain w p (chainOf rows (spanAt (slotAt slots p)))) (p + 1)
     unfolding chainsFrom
     fill-turn l = record { same = sym (rw (slots-here slots n p l, add-one) refl) ∙ g .same }
 
@@ -80,7 +81,7 @@ module _ (rows : List Block) (slots : List ℕ) (n : ℕ) (w₀ : List ℕ) wher
 module _ (rows : List Block) (t : Stand) (k : ℕ) where
   rows-seen : isSeen t (length rows) ≡ true → (t .first < length rows) × (t .next < length rows)
   unfolding isSeen
-  rows-seen e = go (eqb (t .chain) 0) (ltb (t .first) (length rows)) refl e
+  rows-seen e = go (eqb (t .clear) 0) (ltb (t .first) (length rows)) refl e
     where
       go : (x y : Bool) → ltb (t .first) (length rows) ≡ y → pick x false (pick y (ltb (t .next) (length rows)) false) ≡ true
           → (t .first < length rows) × (t .next < length rows)

@@ -1,6 +1,7 @@
 // What a sorter by held ids looks up in the block table at a look: the chains of all clients once, then a row by number, hanging only on what is not met. An id
 // is sought only where it is not seen from where its client's queue stands.
 use block::Block;
+use chaining::Chain;
 use chaining::Stand;
 use placing::Span;
 ghost use mathlib.Core.Path.{_≡_};
@@ -10,15 +11,15 @@ ghost use Rattle.block.specs.Row.{noBlock};
 ghost use Rattle.slots.specs.Slots.{slotsFrom, Falling};
 ghost use Rattle.chaining.specs.Chaining.{chainOf, chainsFrom, Chains, nearOf, settled, lookedBy};
 
-// The chain of a span of rows: one more than the clock after the last, or 0.
-fn chain_rows(rows: &[Block], s: Span) -> u64
+// The chain of a span of rows.
+fn chain_rows(rows: &[Block], s: Span) -> Chain
     ensures { λ r. ⌜ r ≡ chainOf (now (rows .entry)) s ⌝ }
 {
     if s.hi <= s.lo {
-        return 0;
+        return chaining::broken();
     }
     if rows.len() < s.hi {
-        return 0;
+        return chaining::broken();
     }
     let a = table::fetch(rows, s.lo);
     let mut chain = chaining::begin(a);
@@ -31,7 +32,7 @@ fn chain_rows(rows: &[Block], s: Span) -> u64
     chain
 }
 
-// The chains of n slots, a word each.
+// The chains of n slots, two words each.
 pub fn chain_slots(rows: &[Block], slots: &[u64], n: usize, chains: &mut [u64])
     requires { ⌜ 3 * n ≤ length (now slots) ⌝ }
     ensures { λ _. ⌜ now (chains .exit) ≡ chainsFrom 0 (slotsFrom (now (slots .entry)) 0 n) (now (rows .entry)) (now (chains .entry)) ⌝ }
@@ -40,7 +41,7 @@ pub fn chain_slots(rows: &[Block], slots: &[u64], n: usize, chains: &mut [u64])
     while p < n {
         let s = placing::span_at(slots, p);
         let chain = chain_rows(rows, s);
-        numbers::words::put_word(chains, p, chain);
+        chaining::put_chain(chains, p, chain);
         p += 1;
     }
 }

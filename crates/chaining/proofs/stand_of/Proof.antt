@@ -1,5 +1,6 @@
 -- `chaining::stand_of` meets its contract: a client without a slot, a slot without a chain or a count, or where its queue stands.
 use mathlib.Core.Path.{sym, ap, _∙_}
+use Prim.Native.Nat.{_+_, _*_}
 use lib.ListN.{getD}
 use native.Mathlib.Omega.{arith}
 use borrow.Author.Tests.{not-true, not-false}
@@ -36,11 +37,11 @@ span-at-requires c κs =
 
 returns-4 : tie.Need-returns-4
 returns-4 c =
-    let d = c .before .before .before .before in
+    let d = c .before .before .before .before .before in
     let a = d .before .before .before .before .before .before .before .before .args in
     let p = d .before .before .before .before .rank-of in
     let at = d .before .before .before .is-at in
-    c .stand-in .ensures ∙ ap (λ (s : Span). standIn s (getD (a .reach .now) (p .result) 0) (getD (a .chains .now) (p .result) 0)) (c .before .before .before .span-at .ensures)
+    c .stand-in .ensures ∙ ap (λ (s : Span). standIn s (getD (a .reach .now) (p .result) 0) (getD (a .chains .now) (2 * p .result) 0) (getD (a .chains .now) (2 * p .result + 1) 0)) (c .before .before .before .before .span-at .ensures)
     ∙ stand-found (a .slots .now) (a .n) (a .client) (p .result) (p .ensures .0) (a .chains .now) (a .reach .now)
     (sym (at .ensures) ∙ not-false (at .result) (d .before .before .if1 .left)) (omega arith) (omega arith)
 
@@ -49,4 +50,4 @@ stand-of-spec =
     tie.close
     (tie.spec
     (λ c κs. search needs) (λ c κs. search needs) (λ c κs. search needs) returns (λ c κs. search needs) returns-2 (λ c κs. search needs) returns-3
-    span-at-requires (λ c. search needs) (λ c. search needs) (λ c. search needs) (λ c. search needs) (λ c κs. search needs) returns-4)
+    span-at-requires (λ c. search needs) (λ c. search needs) (λ c. search needs) (λ c. search needs) (λ c. search needs) (λ c. search needs) (λ c. search needs) (λ c. search needs) (λ c. search needs) (λ c κs. search needs) returns-4)

@@ -136,14 +136,14 @@ module _ {M : Type 1} (𝓤 : URA M) (H : Heap 𝓤) (A : Atoms 𝓤) (W : Given
         alloc-all ! (fn .locals) (λ l₀ l₁ l₂ l₃ l₄ l₅ l₆ l₇ l₈ l₉ l₁₀ l₁₁ l₁₂ l₁₃ l₁₄ l₁₅ l₁₆ l₁₇ l₁₈ l₁₉ l₂₀ l₂₁ l₂₂ l₂₃. let ls : List ℕ = l₀ ∷ l₁ ∷ l₂ ∷ l₃ ∷ l₄ ∷ l₅ ∷ l₆ ∷ l₇ ∷ l₈ ∷ l₉ ∷ l₁₀ ∷ l₁₁ ∷ l₁₂ ∷ l₁₃ ∷ l₁₄ ∷ l₁₅ ∷ l₁₆ ∷ l₁₇ ∷ l₁₈ ∷ l₁₉ ∷ l₂₀ ∷ l₂₁ ∷ l₂₂ ∷ l₂₃ ∷ [] in let En : Envs = envOf (fn .locals) ls in
         params1 ! $ pass1 ! (init ! 44 refl (tt, (tt, (record { fits = are .0 .0 .1 .0 }, tt)))) $ pass1 ! (init ! 42 refl (word .lawful M 𝓤 H A W .typed blocks₀ _ (are .1 .0) .0)) $ pass1 ! (init ! 40 refl (tt, (tt, (record { fits = are .1 .1 .0 .0 .1 .0 }, tt)))) $ pass1 ! (init ! 38 refl (word .lawful M 𝓤 H A W .typed n₀ _ (are .1 .1 .1 .0) .0)) $ pass1 ! (init ! 36 refl (tt, (tt, (record { fits = are .1 .1 .1 .1 .0 .0 .1 .0 }, tt)))) $ pass1 ! (init ! 34 refl (word .lawful M 𝓤 H A W .typed ranges₀ _ (are .1 .1 .1 .1 .1 .0) .0)) $ pass1 ! (init ! 32 refl (tt, (tt, (record { fits = are .1 .1 .1 .1 .1 .1 .0 .0 .1 .0 }, tt)))) $ pass1 ! (init ! 30 refl (tt, (tt, (record { fits = are .1 .1 .1 .1 .1 .1 .1 .0 .0 .1 .0 }, tt)))) $ pass1 ! (init ! 28 refl (tt, (tt, (record { fits = are .1 .1 .1 .1 .1 .1 .1 .1 .0 .0 .1 .0 }, tt)))) $ pass0 ! $ move ! (48 ∷ []) $
         -- [the references; _23 at 1; _22 at 3; _21 at 5; _20 at 7; _19 at 9; _18 at 11; _17 at 13; _16 at 15; _15 at 17; _14 at 19; _13 at 21; _12 at 23; _11 at 25; _10 at 27; _9 at 29; _8 at 31; _7 at 33; _6 at 35; _5 at 37; _4 at 39; _3 at 41; _2 at 43; _1 at 45; _0 at 47]
-        array-typed ! word 128 0 (refl, lit< tt) (λ ty₁₀.
-        assigns ! (rep ! 128 (lit ! tt)) (from ! (stop !)) (init ! 27 refl (ty₁₀ .0)) $
+        array-typed ! word 256 0 (refl, lit< tt) (λ ty₁₀.
+        assigns ! (rep ! 256 (lit ! tt)) (from ! (stop !)) (init ! 27 refl (ty₁₀ .0)) $
         assigns ! (addr ! (from ! (stop !))) (from ! (stop !)) (init ! 23 refl (tt, tt)) $
         assigns ! (agg ! (and-then ! (load ! (from ! (stop !)) (look ! 23 refl)) (and-then ! (lit ! tt) (no-more !)))) (from ! (stop !)) (init ! 25 refl (tt, (tt, (record { fits = lit< tt }, tt)))) $
-        move ! (0 ∷ 27 ∷ []) $ own-lends ! tt word tt 128 128 (omega (arith)) 0 l₁₀ (refl, lit< tt) (lit< tt, lit< tt) (hs reach₀ fronts₀ order₀) (λ ν₁₀ δ₁₀. move ! (0 ∷ 2 ∷ 3 ∷ 4 ∷ 5 ∷ 6 ∷ 7 ∷ 8 ∷ 9 ∷ 10 ∷ 11 ∷ 12 ∷ 13 ∷ 14 ∷ 15 ∷ 16 ∷ 17 ∷ 18 ∷ 19 ∷ 20 ∷ 21 ∷ 22 ∷ 23 ∷ 24 ∷ 25 ∷ 26 ∷ 27 ∷ 1 ∷ []) $
+        move ! (0 ∷ 27 ∷ []) $ own-lends ! tt word tt 256 256 (omega (arith)) 0 l₁₀ (refl, lit< tt) (lit< tt, lit< tt) (hs reach₀ fronts₀ order₀) (λ ν₁₀ δ₁₀. move ! (0 ∷ 2 ∷ 3 ∷ 4 ∷ 5 ∷ 6 ∷ 7 ∷ 8 ∷ 9 ∷ 10 ∷ 11 ∷ 12 ∷ 13 ∷ 14 ∷ 15 ∷ 16 ∷ 17 ∷ 18 ∷ 19 ∷ 20 ∷ 21 ∷ 22 ∷ 23 ∷ 24 ∷ 25 ∷ 26 ∷ 27 ∷ 1 ∷ []) $
         assigns ! (addr ! (from ! (fld ! refl (hop ! (look-in ! 25 (sub ! 0 refl (whole !))) (stop !))))) (from ! (stop !)) (init ! 19 refl (tt, tt)) $
         assigns ! (agg ! (and-then ! (load ! (from ! (stop !)) (look ! 19 refl)) (and-then ! (load ! (from ! (fld ! refl (stop !))) (look-in ! 25 (sub ! 1 refl (whole !)))) (no-more !)))) (from ! (stop !)) (init ! 17 refl (tt, (tt, (record { fits = lit< tt }, tt)))) $
-        calls-by ! (fmOf 𝓤 H (W .laws) 𝓣) (1 ∷ 2 ∷ 0 ∷ []) (tab word (own-seat l₁₀ 128 ν₁₀ δ₁₀) (replicate 128 0) ∷ hs reach₀ fronts₀ order₀) (nearby·chain-slots! 𝓤 H A mem run (𝓣 .C) known-nearby·chain-slots at-rows rows₀ at-slots slots₀ n₀ (are .1 .1 .1 .0) (own-seat l₁₀ 128 ν₁₀ δ₁₀) (replicate 128 0) (req .0)) refl (λ P. and-then ! (load ! (from ! (stop !)) (look ! 45 refl)) (and-then ! (load ! (from ! (stop !)) (look ! 41 refl)) (and-then ! (load ! (from ! (stop !)) (look ! 39 refl)) (and-then ! (load ! (from ! (stop !)) (look ! 17 refl)) (no-more !))))) (λ g₁.
+        calls-by ! (fmOf 𝓤 H (W .laws) 𝓣) (1 ∷ 2 ∷ 0 ∷ []) (tab word (own-seat l₁₀ 256 ν₁₀ δ₁₀) (replicate 256 0) ∷ hs reach₀ fronts₀ order₀) (nearby·chain-slots! 𝓤 H A mem run (𝓣 .C) known-nearby·chain-slots at-rows rows₀ at-slots slots₀ n₀ (are .1 .1 .1 .0) (own-seat l₁₀ 256 ν₁₀ δ₁₀) (replicate 256 0) (req .0)) refl (λ P. and-then ! (load ! (from ! (stop !)) (look ! 45 refl)) (and-then ! (load ! (from ! (stop !)) (look ! 41 refl)) (and-then ! (load ! (from ! (stop !)) (look ! 39 refl)) (and-then ! (load ! (from ! (stop !)) (look ! 17 refl)) (no-more !))))) (λ g₁.
         land ! (from ! (stop !)) (init ! 21 refl (g₁ .1 .0)) $
         assigns ! (addr ! (from ! (fld ! refl (hop ! (look-in ! 25 (sub ! 0 refl (whole !))) (stop !))))) (from ! (stop !)) (init ! 15 refl (tt, tt)) $
         assigns ! (agg ! (and-then ! (load ! (from ! (stop !)) (look ! 15 refl)) (and-then ! (load ! (from ! (fld ! refl (stop !))) (look-in ! 25 (sub ! 1 refl (whole !)))) (no-more !)))) (from ! (stop !)) (init ! 13 refl (tt, (tt, (record { fits = lit< tt }, tt)))) $
@@ -153,9 +153,9 @@ module _ {M : Type 1} (𝓤 : URA M) (H : Heap 𝓤) (A : Atoms 𝓤) (W : Given
         assigns ! (agg ! (and-then ! (load ! (from ! (stop !)) (look ! 7 refl)) (and-then ! (load ! (from ! (fld ! refl (stop !))) (look-in ! 31 (sub ! 1 refl (whole !)))) (no-more !)))) (from ! (stop !)) (init ! 5 refl (tt, (tt, (record { fits = are .1 .1 .1 .1 .1 .1 .1 .0 .0 .1 .0 }, tt)))) $
         assigns ! (addr ! (from ! (fld ! refl (hop ! (look-in ! 29 (sub ! 0 refl (whole !))) (stop !))))) (from ! (stop !)) (init ! 3 refl (tt, tt)) $
         assigns ! (agg ! (and-then ! (load ! (from ! (stop !)) (look ! 3 refl)) (and-then ! (load ! (from ! (fld ! refl (stop !))) (look-in ! 29 (sub ! 1 refl (whole !)))) (no-more !)))) (from ! (stop !)) (init ! 1 refl (tt, (tt, (record { fits = are .1 .1 .1 .1 .1 .1 .1 .1 .0 .0 .1 .0 }, tt)))) $
-        calls-by ! (fmOf 𝓤 H (W .laws) 𝓣) (1 ∷ 2 ∷ 3 ∷ 0 ∷ 4 ∷ 5 ∷ 6 ∷ []) (tab word (own-seat l₁₀ 128 ν₁₀ δ₁₀) (chainsFrom 0 (slotsFrom slots₀ 0 n₀) rows₀ (replicate 128 0)) ∷ hs reach₀ fronts₀ order₀) (held-sorter·pick-chained-chains! 𝓤 H A mem run (𝓣 .C) known-held-sorter·pick-chained at-rows rows₀ blocks₀ (are .1 .0) at-slots slots₀ n₀ (are .1 .1 .1 .0) at-held held₀ ranges₀ (are .1 .1 .1 .1 .1 .0) (own-seat l₁₀ 128 ν₁₀ δ₁₀) (chainsFrom 0 (slotsFrom slots₀ 0 n₀) rows₀ (replicate 128 0)) at-reach reach₀ at-fronts fronts₀ at-order order₀ (req .0, req .1, req .2, chains-are (slotsFrom slots₀ 0 n₀) rows₀ (replicate 128 0))) refl (λ P. and-then ! (load ! (from ! (stop !)) (look ! 45 refl)) (and-then ! (load ! (from ! (stop !)) (look ! 43 refl)) (and-then ! (load ! (from ! (stop !)) (look ! 41 refl)) (and-then ! (load ! (from ! (stop !)) (look ! 39 refl)) (and-then ! (load ! (from ! (stop !)) (look ! 37 refl)) (and-then ! (load ! (from ! (stop !)) (look ! 35 refl)) (and-then ! (load ! (from ! (stop !)) (look ! 13 refl)) (and-then ! (load ! (from ! (stop !)) (look ! 9 refl)) (and-then ! (load ! (from ! (stop !)) (look ! 5 refl)) (and-then ! (load ! (from ! (stop !)) (look ! 1 refl)) (no-more !))))))))))) (λ g₂.
+        calls-by ! (fmOf 𝓤 H (W .laws) 𝓣) (1 ∷ 2 ∷ 3 ∷ 0 ∷ 4 ∷ 5 ∷ 6 ∷ []) (tab word (own-seat l₁₀ 256 ν₁₀ δ₁₀) (chainsFrom 0 (slotsFrom slots₀ 0 n₀) rows₀ (replicate 256 0)) ∷ hs reach₀ fronts₀ order₀) (held-sorter·pick-chained-chains! 𝓤 H A mem run (𝓣 .C) known-held-sorter·pick-chained at-rows rows₀ blocks₀ (are .1 .0) at-slots slots₀ n₀ (are .1 .1 .1 .0) at-held held₀ ranges₀ (are .1 .1 .1 .1 .1 .0) (own-seat l₁₀ 256 ν₁₀ δ₁₀) (chainsFrom 0 (slotsFrom slots₀ 0 n₀) rows₀ (replicate 256 0)) at-reach reach₀ at-fronts fronts₀ at-order order₀ (req .0, req .1, req .2, chains-are (slotsFrom slots₀ 0 n₀) rows₀ (replicate 256 0))) refl (λ P. and-then ! (load ! (from ! (stop !)) (look ! 45 refl)) (and-then ! (load ! (from ! (stop !)) (look ! 43 refl)) (and-then ! (load ! (from ! (stop !)) (look ! 41 refl)) (and-then ! (load ! (from ! (stop !)) (look ! 39 refl)) (and-then ! (load ! (from ! (stop !)) (look ! 37 refl)) (and-then ! (load ! (from ! (stop !)) (look ! 35 refl)) (and-then ! (load ! (from ! (stop !)) (look ! 13 refl)) (and-then ! (load ! (from ! (stop !)) (look ! 9 refl)) (and-then ! (load ! (from ! (stop !)) (look ! 5 refl)) (and-then ! (load ! (from ! (stop !)) (look ! 1 refl)) (no-more !))))))))))) (λ g₂.
         land ! (from ! (stop !)) (init ! 47 refl (g₂ .1 .0)) $
-        move ! (0 ∷ 27 ∷ []) $ own-back ! tt word 128 128 (omega (arith)) 0 (chainsFrom 0 (slotsFrom slots₀ 0 n₀) rows₀ (replicate 128 0)) l₁₀ ν₁₀ δ₁₀ (hs ((picksBy held₀ ranges₀ (slotsFrom slots₀ 0 n₀) rows₀ blocks₀ reach₀ fronts₀ order₀) .reach) ((picksBy held₀ ranges₀ (slotsFrom slots₀ 0 n₀) rows₀ blocks₀ reach₀ fronts₀ order₀) .fronts) ((picksBy held₀ ranges₀ (slotsFrom slots₀ 0 n₀) rows₀ blocks₀ reach₀ fronts₀ order₀) .order)) $ move ! (0 ∷ 2 ∷ 3 ∷ 4 ∷ 5 ∷ 6 ∷ 7 ∷ 8 ∷ 9 ∷ 10 ∷ 11 ∷ 12 ∷ 13 ∷ 14 ∷ 15 ∷ 16 ∷ 17 ∷ 18 ∷ 19 ∷ 20 ∷ 21 ∷ 22 ∷ 23 ∷ 24 ∷ 25 ∷ 26 ∷ 27 ∷ 1 ∷ []) $
+        move ! (0 ∷ 27 ∷ []) $ own-back ! tt word 256 256 (omega (arith)) 0 (chainsFrom 0 (slotsFrom slots₀ 0 n₀) rows₀ (replicate 256 0)) l₁₀ ν₁₀ δ₁₀ (hs ((picksBy held₀ ranges₀ (slotsFrom slots₀ 0 n₀) rows₀ blocks₀ reach₀ fronts₀ order₀) .reach) ((picksBy held₀ ranges₀ (slotsFrom slots₀ 0 n₀) rows₀ blocks₀ reach₀ fronts₀ order₀) .fronts) ((picksBy held₀ ranges₀ (slotsFrom slots₀ 0 n₀) rows₀ blocks₀ reach₀ fronts₀ order₀) .order)) $ move ! (0 ∷ 2 ∷ 3 ∷ 4 ∷ 5 ∷ 6 ∷ 7 ∷ 8 ∷ 9 ∷ 10 ∷ 11 ∷ 12 ∷ 13 ∷ 14 ∷ 15 ∷ 16 ∷ 17 ∷ 18 ∷ 19 ∷ 20 ∷ 21 ∷ 22 ∷ 23 ∷ 24 ∷ 25 ∷ 26 ∷ 27 ∷ 1 ∷ []) $
         returns-within ! Post refl (look ! 47 refl) $
         free-all ! (_ ∷ []) En (has _ ∷ has _ ∷ has _ ∷ has _ ∷ has _ ∷ has _ ∷ has _ ∷ has _ ∷ has _ ∷ has _ ∷ has _ ∷ has _ ∷ has _ ∷ has _ ∷ has _ ∷ has _ ∷ has _ ∷ has _ ∷ has _ ∷ has _ ∷ has _ ∷ has _ ∷ has _ ∷ has _ ∷ []) [] $ by ! (exits ((picksBy held₀ ranges₀ (slotsFrom slots₀ 0 n₀) rows₀ blocks₀ reach₀ fronts₀ order₀) .at) ((picksBy held₀ ranges₀ (slotsFrom slots₀ 0 n₀) rows₀ blocks₀ reach₀ fronts₀ order₀) .reach) ((picksBy held₀ ranges₀ (slotsFrom slots₀ 0 n₀) rows₀ blocks₀ reach₀ fronts₀ order₀) .fronts) ((picksBy held₀ ranges₀ (slotsFrom slots₀ 0 n₀) rows₀ blocks₀ reach₀ fronts₀ order₀) .order) (g₂ .0) (refl, refl, refl, refl)))))))
 
