@@ -315,6 +315,19 @@ wairokabi_sorted_held wairokabi_sort_held(
     uint64_t *counts, size_t counts_count,
     uint64_t *pending, size_t pending_count);
 
+// Sorts like `wairokabi_sort_held`, by the slow plain sorter, as `wairokabi_sort_slowly` does. Answer, tables, reports and refusals are proved to be those of
+// `wairokabi_sort_held`; only the order differs.
+wairokabi_sorted_held wairokabi_sort_held_slowly(
+    uint8_t form,
+    const uint8_t *update, size_t update_count,
+    const uint8_t *held, size_t held_count,
+    wairokabi_block *rows, size_t rows_count,
+    uint64_t *ranges, size_t ranges_count,
+    uint64_t *given, size_t given_count,
+    uint64_t *order, size_t order_count,
+    uint64_t *counts, size_t counts_count,
+    uint64_t *pending, size_t pending_count);
+
 // Writes the listing of an update as text. `input` is a form byte, then the update. A refusal of reading is text too (`refused 3 at 17`, the place counted
 // in the update); 10 where the text does not fit, which never happens with WAIROKABI_MAX_TEXT bytes.
 wairokabi_written wairokabi_list(

@@ -340,6 +340,18 @@ export const open = async wasm => {
       ...tables(answer)
     }
   }
+  const sortingHeld = name => (form, update, held, lent) => {
+    const bytes = bytesOf(held, 'the held ids')
+    const most = Math.ceil(bytes.length / 2) // a range takes two bytes at least
+    const asking = { ...given(form, update), held: bytes, given: 3 * Math.min(most, lent?.held ?? most) }
+    const answer = onUpdate(name, { ...asking, ...REPORTS }, lent)
+    return {
+      ...taken(answer),
+      pending: answer.view.rows(answer.pieces.pending, answer.pending, 3).map(([client, waitsFor, clock]) => ({ client, waitsFor, clock })),
+      held: rangesIn(answer.view, answer.pieces.given, answer.held),
+      ...tables(answer)
+    }
+  }
 
   return Object.freeze({
     read: (form, update, lent) => tables(onUpdate('read_update', given(form, update), lent)),
@@ -373,17 +385,8 @@ export const open = async wasm => {
     sort: sorting('sort'),
     sortSlowly: sorting('sort_slowly'),
 
-    sortHeld: (form, update, held, lent) => {
-      const bytes = bytesOf(held, 'the held ids')
-      const asking = { ...given(form, update), held: bytes, given: 3 * Math.ceil(bytes.length / 2) } // a range takes two bytes at least
-      const answer = onUpdate('sort_held', { ...asking, ...REPORTS }, lent)
-      return {
-        ...taken(answer),
-        pending: answer.view.rows(answer.pieces.pending, answer.pending, 3).map(([client, waitsFor, clock]) => ({ client, waitsFor, clock })),
-        held: rangesIn(answer.view, answer.pieces.given, answer.held),
-        ...tables(answer)
-      }
-    },
+    sortHeld: sortingHeld('sort_held'),
+    sortHeldSlowly: sortingHeld('sort_held_slowly'),
 
     draws: (kind, column, at = 0, most = MAX_BLOCKS) => {
       asked(Object.hasOwn(COLUMNS, kind), `${kind} is no kind of column`)

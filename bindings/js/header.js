@@ -159,6 +159,16 @@ wairokabi_sorted_held wairokabi_sort_held(
     uint64_t *order, size_t order_count,
     uint64_t *counts, size_t counts_count,
     uint64_t *pending, size_t pending_count);
+wairokabi_sorted_held wairokabi_sort_held_slowly(
+    uint8_t form,
+    const uint8_t *update, size_t update_count,
+    const uint8_t *held, size_t held_count,
+    wairokabi_block *rows, size_t rows_count,
+    uint64_t *ranges, size_t ranges_count,
+    uint64_t *given, size_t given_count,
+    uint64_t *order, size_t order_count,
+    uint64_t *counts, size_t counts_count,
+    uint64_t *pending, size_t pending_count);
 wairokabi_written wairokabi_list(
     const uint8_t *input, size_t input_count,
     uint8_t *out, size_t out_count);

@@ -146,6 +146,8 @@ export interface Lent {
   ranges?: number
   order?: number
   out?: number
+  /** held ranges as they are read, not empty ones, before they are joined */
+  held?: number
 }
 
 /** A refusal. Its message is as the command's: `refused 1 at byte 4: bytes or a column end early`. */
@@ -190,6 +192,8 @@ export interface Wairokabi {
   /** Sorts by held ids, laid out as a form 1 delete set: a dependency on another client is met where it is held, by what is given or by a taken block that is no Skip.
    * Refused by 12, 3, reading's, then those of a delete set. */
   sortHeld(form: Form, update: Uint8Array, held: Uint8Array, lent?: Lent): SortedHeld
+  /** The same by the slow plain sorter: only the order differs. */
+  sortHeldSlowly(form: Form, update: Uint8Array, held: Uint8Array, lent?: Lent): SortedHeld
   /** The draws from a column that begins at `at` (0) and ends with these bytes, so many (65,535) at most: of texts the part that each has. `end` is the refusal that they
    * end with, which is 1 at the end of a column that is whole; null where `most` were drawn, or where the last value of a column of bytes stands without end. */
   draws(kind: 'texts', column: Uint8Array, at?: number, most?: number): { draws: Part[]; end: Refused | null; endless: boolean }

@@ -386,6 +386,19 @@ static void sorts_by_held_ids(void) {
     EXPECT(refused(s.refusal, 8, 0) && s.steps == 0 && s.held == 0 && zero_rows(0) && given[0] == 0 && order[0] == 0 && counts[0] == 0);
     s = wairokabi_sort_held(1, gap, sizeof gap, cut, sizeof cut, rows, ROWS, words, WORDS, given, 6, order, 4, counts, 4, pending, 6);
     EXPECT(refused(s.refusal, 1, 0) && s.blocks == 0 && zero_rows(0) && given[2] == 0 && pending[0] == 0);
+    // slowly (W-211): client 5 first, for what it waits for is held; all else is the same
+    static const uint8_t two[] = {0x02, 0x01, 0x09, 0x00, 0x00, 0x01, 0x02, 0x05, 0x00, 0x00, 0x01, 0x81, 0x09, 0x00, 0x01, 0x00};
+    static const uint8_t nine[] = {0x01, 0x09, 0x01, 0x00, 0x01};
+    s = wairokabi_sort_held(1, two, sizeof two, nine, sizeof nine, rows, ROWS, words, WORDS, given, 6, order, 4, counts, 4, pending, 6);
+    EXPECT(done(s.refusal) && s.steps == 3 && same_words(order, (uint64_t[]){0, 1, 2, 0}, 4));
+    s = wairokabi_sort_held_slowly(1, two, sizeof two, nine, sizeof nine, rows, ROWS, words, WORDS, given, 6, order, 4, counts, 4, pending, 6);
+    EXPECT(done(s.refusal) && s.steps == 3 && s.counts == 2 && s.pending == 0 && s.blocks == 3 && s.ranges == 0 && s.held == 1);
+    EXPECT(same_words(order, (uint64_t[]){1, 2, 0, 0}, 4) && same_words(counts, (uint64_t[]){9, 1, 5, 2}, 4));
+    EXPECT(same_words(given, (uint64_t[]){9, 0, 1, 0, 0, 0}, 6) && same_words(pending, (uint64_t[]){0, 0, 0, 0, 0, 0}, 6));
+    s = wairokabi_sort_held_slowly(1, gap, sizeof gap, none, sizeof none, rows, ROWS, words, WORDS, given, 6, order, 4, counts, 4, pending, 6);
+    EXPECT(done(s.refusal) && s.steps == 3 && s.pending == 1 && same_words(pending, (uint64_t[]){5, 9, 1, 0, 0, 0}, 6));
+    s = wairokabi_sort_held_slowly(1, gap, sizeof gap, cut, sizeof cut, rows, ROWS, words, WORDS, given, 6, order, 4, counts, 4, pending, 6);
+    EXPECT(refused(s.refusal, 1, 0) && s.blocks == 0 && zero_rows(0) && given[2] == 0 && pending[0] == 0);
 }
 
 static size_t put_number(uint8_t *at, uint64_t value) {

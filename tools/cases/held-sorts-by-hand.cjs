@@ -180,6 +180,25 @@ const ranges = () => {
   same([[3, [[0, 12]]], [9, [[10, 1], [0, 1], [6, 1]]], [11, [[0, 12]]]], 5, 'held 5 11.0.12 9.0.1 9.6.1 9.10.1 3.0.12', [0, 6, 10])
 }
 
+// W-211: the lowest client first, all its fronts that are ready, and once more for what another client has made ready; what is held alone, and refusals.
+const sweeps = () => {
+  const slow = (sections, ids, reports) => forms.forEach(form => {
+    const update = s.update(form, { sections })
+    const bytes = c.heldBytes(ids)
+    w(c.heldSlowly(form, update, bytes, { orderRows: steps(reports) }), line(form, update, reports))
+    if (steps(reports) > 0) w(c.heldSlowly(form, update, bytes, { orderRows: steps(reports) - 1 }), '8@0 zero')
+  })
+  slow([section(9, 0, free()), section(5, 0, free(), free())], [], '1 2 0 ; 9:1 5:2 ; ; held 0')
+  slow([section(9, 0, free()), section(5, 0, free(), left([9, 0]), free())], [], '1 0 2 3 ; 9:1 5:3 ; ; held 0')
+  slow([section(9, 0, free()), section(5, 0, free(), left([9, 0]), free())], [[9, [[0, 1]]]], '1 2 3 0 ; 9:1 5:3 ; ; held 1 9.0.1')
+  slow([section(9, 0, skip(1), free()), section(5, 0, free(), left([9, 0]), free())], [], '2 0 1 ; 9:2 5:1 ; 5>9:0 ; held 0')
+  slow([section(5, 0, left([9, 0])), section(9, 0, left([5, 0]))], [], '; 9:0 5:0 ; 9>5:0 5>9:0 ; held 0')
+  w(c.heldSlowly(3, bytes(C), bytes('00')), '12@0 zero')
+  w(c.heldSlowly(1, bytes(C), bytes('01')), '1@0 zero')
+  w(c.heldSlowly(1, bytes('02 01 09'), bytes('01')), '1@3 zero')
+  w(c.heldSlowly(1, bytes(C), bytes('01 05 01 00 01'), { heldRows: 0 }), '8@0 zero')
+}
+
 const order = () => {
   // An unknown form comes first: no byte is there, rows are none, the held ids are bad.
   for (const form of [0, 3, 4, 255]) {
@@ -240,4 +259,4 @@ const order = () => {
   w(c.held(1, bytes(C), apart(1025)), '8@0 zero')
 }
 
-module.exports = { all: () => [small, paper, holds, named, turns, ranges, order].forEach(part => part()) }
+module.exports = { all: () => [small, paper, holds, named, turns, ranges, sweeps, order].forEach(part => part()) }

@@ -1,5 +1,6 @@
 // A case of operation 17 with the line that is expected: from the model. Beside it a case of operation 25, the same by rule 13, which is compared with what
-// Yjs takes and leaves pending; and of every few a case of operation 26, the same by sweeps, or of operation 22, the same by held ids.
+// Yjs takes and leaves pending; and of every few a case of operation 26, the same by sweeps, or of operation 22, the same by held ids;
+// and of every few of these one of operation 27, by sweeps.
 'use strict'
 const model = require('./sort-model.cjs')
 const heldModel = require('./held-model.cjs')
@@ -11,6 +12,7 @@ const yjsSorts = require('./yjs-sorts.cjs')
 const { limited, sized, LONG, SHORT, hex, first, begin } = require('./stream.cjs')
 const { pick } = require('./random.cjs').begin(0x6c078965)
 
+const FEW = 3
 const { add, stream, output, counts, refused, placed, told } = begin()
 const known = form => form === 1 || form === 2
 
@@ -98,14 +100,23 @@ const heldAnswer = (form, update, held) => {
   return heldAnswers.get(key)
 }
 
-// Operation 22.
-const held = (form, update, bytes, { blockRows = 512, rangeRows = 1024, heldRows = 1024, orderRows = 512 } = {}) => {
+// Operations 22 and 27. Of every few of 22 one of 27 is asked, too; only the order differs.
+const heldBy = (operation, form, update, bytes, { blockRows = 512, rangeRows = 1024, heldRows = 1024, orderRows = 512 } = {}) => {
   heldAnswer(form, update, bytes)
-  return add(22, [
+  const [quick, slow] = [false, true].map(slowly => heldModel.sort(form, update, bytes, { slowly, blockRows, rangeRows, heldRows, orderRows }))
+  const told = r => r.number === 0 ? [r.order.length, taken(r), pending(r)] : [first(r)]
+  if (told(quick).join() !== told(slow).join()) throw new Error(`the sorters by held ids part: ${hex(update)} against ${hex(bytes)}`)
+  return add(operation, [
     limited('form', form, 255), limited('block rows', blockRows, 512), limited('range rows', rangeRows, 1024), limited('held rows', heldRows, 1024),
     limited('order rows', orderRows, 512), sized(update, LONG), sized(bytes, LONG)
-  ], heldLine(heldModel.sort(form, update, bytes, { blockRows, rangeRows, heldRows, orderRows })))
+  ], heldLine(operation === 27 ? slow : quick))
 }
+let heldAsks = 0
+const held = (form, update, bytes, lent) => {
+  if (heldAsks++ % FEW === 0) heldSlowly(form, update, bytes, lent)
+  return heldBy(22, form, update, bytes, lent)
+}
+const heldSlowly = (form, update, bytes, lent) => heldBy(27, form, update, bytes, lent)
 
 // By the ids that a vector has, each client's below its clock. Where nothing is taken across a gap, as much is taken, in the same order, and the same clients
 // are waited for. Where the vector is none, its own bytes are the held ids, whatever they say.
@@ -120,7 +131,6 @@ const heldAs = (form, update, vector, lent) => {
 }
 
 // Every few sorts are asked slowly, too, by one rule and the other, or by held ids.
-const FEW = 3
 let asks = 0
 const sort = (form, update, vector, lent) => {
   answer(form, update, vector)
@@ -147,7 +157,7 @@ const fitted = (random, form, update, vector, k) => {
 }
 
 module.exports = {
-  sort, ruled, slowly, held, heldBytes, heldAnswer, fitted, answer, answer13, stream, output, counts, refused,
+  sort, ruled, slowly, held, heldSlowly, heldBytes, heldAnswer, fitted, answer, answer13, stream, output, counts, refused,
   told: () => [
     `cases of an operation: ${told(counts)}`,
     `the number of a line: ${told(refused)}; at another place than 0: ${told(placed)}`,

@@ -4,7 +4,7 @@ import { readFileSync } from 'node:fs'
 /** The arguments of each operation: `n` a number, `b` bytes. */
 const TAKEN = {
   1: 'bn', 2: 'bn', 3: 'nn', 4: 'nnn', 5: 'bn', 6: 'bn', 7: 'bn', 8: 'bn', 9: 'bn', 10: 'bn', 11: 'bn', 12: 'bbn', 13: 'b', 14: 'nnnb', 15: 'nnb', 16: 'nnnnnbb',
-  17: 'nnnnbb', 18: 'b', 19: 'nnb', 20: 'nb', 21: 'nnnb', 25: 'nnnnnbb', 26: 'nnnnnbb', 30: 'b', 31: 'bnn', 32: 'bn'
+  17: 'nnnnbb', 18: 'b', 19: 'nnb', 20: 'nb', 21: 'nnnb', 22: 'nnnnnbb', 25: 'nnnnnbb', 26: 'nnnnnbb', 27: 'nnnnnbb', 30: 'b', 31: 'bnn', 32: 'bn'
 }
 
 /** Each case as its operation and its arguments, up to the first that is none. A number over 2^53-1 is a bigint. */

@@ -15,8 +15,8 @@ const hex = bytes => bytes.length === 0 ? '-' : Buffer.from(bytes).toString('hex
 const id = x => x === null ? '-' : `${x.client}:${x.clock}`
 const part = x => x === null ? '-' : `${x.place}+${x.bytes}`
 const row = b => [b.client, b.clock, b.length, b.kind, id(b.left), id(b.right), part(b.name), id(b.parent), part(b.key), part(b.part), part(b.mark), b.type ?? '-'].join('.')
-const tables = ({ blocks, ranges }) =>
-  ['blocks', blocks.length, ...blocks.map(row), 'ranges', ranges.length, ...ranges.map(r => [r.client, r.clock, r.length].join('.'))]
+const range = r => [r.client, r.clock, r.length].join('.')
+const tables = ({ blocks, ranges }) => ['blocks', blocks.length, ...blocks.map(row), 'ranges', ranges.length, ...ranges.map(range)]
 const sorted = s => [...[s.order, s.counts.map(c => `${c.client}:${c.taken}`), s.reaches.map(id), s.pending.map(p => `${p.client}>${p.waitsFor}:${p.reach}`)]
   .flatMap(words => [...words, ';']), ...tables(s)]
 
@@ -37,6 +37,11 @@ const MOST_CLIENTS = 64
 const reading = call => (form, rows, ranges, update) => line(() => tables(call(form, update, { rows, ranges })), 'zero')
 const sortingBy = sort => (rule, form, rows, ranges, order, update, vector) => line(() => sorted(sort(rule, form, update, vector, { rows, ranges, order })), 'zero')
 const sorting = sortingBy(w.sort)
+const sortingHeld = sort => (form, rows, ranges, given, order, update, held) => line(() => {
+  const s = sort(form, update, held, { rows, ranges, held: given, order })
+  return [...[s.order, s.counts.map(c => `${c.client}:${c.taken}`), s.pending.map(p => `${p.client}>${p.waitsFor}:${p.clock}`), ['held', s.held.length, ...s.held.map(range)]]
+    .flatMap(words => [...words, ';']), ...tables(s)]
+}, 'zero')
 /** A column's values as they are drawn; where the last stands without end, it stands for all that are asked for. */
 const drawing = (kind, shown) => (column, times) => {
   const { draws, end, endless } = w.draws(kind, column, 0, times)
@@ -63,8 +68,10 @@ const operations = {
   },
   20: (rows, summary) => rows < MOST_CLIENTS ? null : line(() => w.readSummary(summary).map(r => [r.client, r.first, r.end, r.blocks].join(':')), 'zero'),
   21: reading(w.readStrict),
+  22: sortingHeld(w.sortHeld),
   25: sorting,
-  26: sortingBy(w.sortSlowly)
+  26: sortingBy(w.sortSlowly),
+  27: sortingHeld(w.sortHeldSlowly)
 }
 
 test('the case stream', t => {

@@ -82,6 +82,17 @@ test('sorts by held ids', () => {
   assert.throws(() => w.sortHeld(1, update, Uint8Array.of(1)), { number: 1 })
 })
 
+test('sorts by held ids slowly', () => {
+  // W-211: the second block of 5 hangs on (9, 0), which is held at first; slow takes the lowest client first
+  const update = Uint8Array.from(Buffer.from('02010900000102050000018109000100', 'hex'))
+  const given = Uint8Array.of(1, 9, 1, 0, 1)
+  const { order, ...slow } = w.sortHeldSlowly(1, update, given)
+  const { order: first, ...quick } = w.sortHeld(1, update, given)
+  assert.deepEqual([order, first], [[1, 2, 0], [0, 1, 2]])
+  assert.deepEqual(slow, quick)
+  assert.throws(() => w.sortHeldSlowly(1, update, Uint8Array.of(1)), { number: 1 })
+})
+
 test('sorts slowly', () => {
   // W-211: quick takes the highest client first, slow the lowest
   const update = Uint8Array.from(Buffer.from('0201090000010205000001000100', 'hex'))

@@ -216,7 +216,9 @@ fn run(words: Words) -> Result<Vec<u8>, Stop> {
         ["diff", form, update] => diff(&Asked::of(form, update, None)?, &words),
         ["diff", form, update, vector] => diff(&Asked::of(form, update, Some(vector))?, &words),
         ["sort", ..] if words.held.is_some() && words.rule.is_some() => Err(not_run("held ids are sorted by no rule; see --help")),
-        ["sort", form, update] if words.held.is_some() => sorted_held(&Asked::of(form, update, None)?, words.held.as_deref().unwrap_or("-")),
+        ["sort", form, update] if words.held.is_some() => {
+            sorted_held(&Asked::of(form, update, None)?, words.held.as_deref().unwrap_or("-"), words.slowly)
+        }
         ["sort", _, _, _] if words.held.is_some() => Err(not_run("held ids stand in place of a vector; see --help")),
         ["sort", form, update] => sorted(&Asked::of(form, update, None)?, &words),
         ["sort", form, update, vector] => sorted(&Asked::of(form, update, Some(vector))?, &words),
@@ -425,7 +427,7 @@ fn sorted(asked: &Asked, words: &Words) -> Result<Vec<u8>, Stop> {
 }
 
 /// The same by held ids; a refusal that the update does not have is theirs or the tables'.
-fn sorted_held(asked: &Asked, held: &str) -> Result<Vec<u8>, Stop> {
+fn sorted_held(asked: &Asked, held: &str, slowly: bool) -> Result<Vec<u8>, Stop> {
     if held == "-" && asked.update.name == "update -" {
         return Err(not_run("standard input can be the update or the held ids, not both"));
     }
@@ -434,7 +436,8 @@ fn sorted_held(asked: &Asked, held: &str) -> Result<Vec<u8>, Stop> {
     let (mut rows, mut ranges) = asked.tables();
     let mut given = ranges_for(&held.bytes);
     let (mut order, mut counts, mut pending) = (vec![0; rows.len()], [Count::default(); MAX_CLIENTS], [Missing::default(); MAX_CLIENTS]);
-    let sorted = sort_held(form, bytes, &held.bytes, &mut rows, &mut ranges, &mut given, &mut order, &mut counts, &mut pending).map_err(|r| {
+    let by = if slowly { sort_held_slowly } else { sort_held };
+    let sorted = by(form, bytes, &held.bytes, &mut rows, &mut ranges, &mut given, &mut order, &mut counts, &mut pending).map_err(|r| {
         let (mut rows, mut ranges) = asked.tables();
         match read_update(form, bytes, &mut rows, &mut ranges) {
             Ok(_) => Stop { status: REFUSED, words: format!("{}: {r}", held.name) },

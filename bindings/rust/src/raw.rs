@@ -375,6 +375,26 @@ extern "C" {
         pending_count: usize,
     ) -> SortedHeld;
 
+    pub fn wairokabi_sort_held_slowly(
+        form: u8,
+        update: *const u8,
+        update_count: usize,
+        held: *const u8,
+        held_count: usize,
+        rows: *mut Block,
+        rows_count: usize,
+        ranges: *mut u64,
+        ranges_count: usize,
+        given: *mut u64,
+        given_count: usize,
+        order: *mut u64,
+        order_count: usize,
+        counts: *mut u64,
+        counts_count: usize,
+        pending: *mut u64,
+        pending_count: usize,
+    ) -> SortedHeld;
+
     pub fn wairokabi_list(input: *const u8, input_count: usize, out: *mut u8, out_count: usize) -> Written;
 
     pub fn wairokabi_read_state_vector(vector: *const u8, vector_count: usize, out: *mut u64, out_count: usize) -> Vector;

@@ -459,7 +459,7 @@ fn sorted<'t>(
 /// The blocks of an update, sorted by held ids, and the update that was read for it. Each is the first rows of what was lent; the others are zero.
 #[derive(Clone, Copy, Debug, PartialEq, Eq)]
 pub struct SortedHeld<'t> {
-    /// The numbers of the blocks that are taken, in order: each step takes the highest client whose front is ready.
+    /// The numbers of the blocks that are taken, in order: each step takes the highest client whose front is ready, or, by [`sort_held_slowly`], sweep by sweep.
     pub order: &'t [u64],
     /// Each client with blocks, highest first, and how many of them are taken.
     pub counts: &'t [Count],
@@ -530,13 +530,81 @@ pub fn sort_held<'t>(
         )
     };
     done_reading(answer.refusal, form, update)?;
-    Ok(SortedHeld {
+    Ok(sorted_held(answer, rows, ranges, given, order, counts, pending))
+}
+
+/// Sorts like [`sort_held`], by the slow plain sorter, as [`sort_slowly`] does. All but the order is proved to be [`sort_held`]'s, refusals too.
+///
+/// Client 9's block, and two of client 5, the second of which hangs on (9,0), which is held at first: the quick sorter takes 9 first, the slow one 5.
+///
+/// ```
+/// use wairokabi::{sort_held, sort_held_slowly, Block, Count, Missing, Range};
+///
+/// let update = [0x02, 0x01, 0x09, 0x00, 0x00, 0x01, 0x02, 0x05, 0x00, 0x00, 0x01, 0x81, 0x09, 0x00, 0x01, 0x00];
+/// let held = [0x01, 0x09, 0x01, 0x00, 0x01];
+/// let (mut rows, mut ranges, mut given) = ([Block::default(); 4], [Range::default(); 4], [Range::default(); 4]);
+/// let (mut order, mut counts, mut pending) = ([0; 4], [Count::default(); 64], [Missing::default(); 64]);
+///
+/// let quick = sort_held(1, &update, &held, &mut rows, &mut ranges, &mut given, &mut order, &mut counts, &mut pending)?;
+/// assert_eq!(quick.order, [0, 1, 2]);
+/// let slow = sort_held_slowly(1, &update, &held, &mut rows, &mut ranges, &mut given, &mut order, &mut counts, &mut pending)?;
+/// assert_eq!(slow.order, [1, 2, 0]);
+/// # Ok::<(), wairokabi::Refused>(())
+/// ```
+#[allow(clippy::too_many_arguments)] // the header's
+pub fn sort_held_slowly<'t>(
+    form: u8,
+    update: &[u8],
+    held: &[u8],
+    rows: &'t mut [Block],
+    ranges: &'t mut [Range],
+    given: &'t mut [Range],
+    order: &'t mut [u64],
+    counts: &'t mut [Count],
+    pending: &'t mut [Missing],
+) -> Result<SortedHeld<'t>, Refused> {
+    let answer = unsafe {
+        raw::wairokabi_sort_held_slowly(
+            form,
+            update.as_ptr(),
+            update.len(),
+            held.as_ptr(),
+            held.len(),
+            rows.as_mut_ptr(),
+            rows.len(),
+            words(ranges),
+            count(ranges),
+            words(given),
+            count(given),
+            words(order),
+            count(order),
+            words(counts),
+            count(counts),
+            words(pending),
+            count(pending),
+        )
+    };
+    done_reading(answer.refusal, form, update)?;
+    Ok(sorted_held(answer, rows, ranges, given, order, counts, pending))
+}
+
+/// What was sorted by held ids, in what was lent.
+fn sorted_held<'t>(
+    answer: raw::SortedHeld,
+    rows: &'t [Block],
+    ranges: &'t [Range],
+    given: &'t [Range],
+    order: &'t [u64],
+    counts: &'t [Count],
+    pending: &'t [Missing],
+) -> SortedHeld<'t> {
+    SortedHeld {
         order: &order[..answer.steps],
         counts: &counts[..answer.counts],
         pending: &pending[..answer.pending],
         held: &given[..answer.held],
         update: Update { blocks: &rows[..answer.blocks], ranges: &ranges[..answer.ranges] },
-    })
+    }
 }
 
 /// Writes the listing of an update as text. `input` is a form byte, then the update. A refusal of reading is text too (`refused 3 at 17`,

@@ -1,3 +1,3 @@
--- What the walks share, a card of its own for the sort by held ids (HeldCards).
+-- What the walks share, cards of their own for the sorts by held ids (HeldCards).
 pub mod Cards
 pub mod HeldCards

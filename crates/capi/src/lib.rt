@@ -39,6 +39,7 @@ ghost use Rattle.diffs.specs.Promises.{Diffs, emptyVector};
 ghost use Rattle.sorts.specs.Promises.{SortUpdate};
 ghost use Rattle.slow_sorts.specs.Promises.{SortSlowly};
 ghost use Rattle.held_sorts.specs.Promises.{SortUpdateHeld};
+ghost use Rattle.slow_held_sorts.specs.Promises.{SortHeldSlowly};
 ghost use Rattle.summaries.specs.Promises.{WriteSummary, ReadSummary};
 
 // ---- updates
@@ -188,6 +189,35 @@ pub extern "C" fn wairokabi_sort_held(
         (now (order .exit)) (now (counts .exit)) (now (pending .exit)) ⌝ }
 {
     held_sorts::sort_held(
+        form,
+        update,
+        held,
+        rows,
+        ranges,
+        given,
+        order,
+        counts,
+        pending,
+    )
+}
+
+#[no_mangle]
+pub extern "C" fn wairokabi_sort_held_slowly(
+    form: u8,
+    update: &[u8],
+    held: &[u8],
+    rows: &mut [Block],
+    ranges: &mut [u64],
+    given: &mut [u64],
+    order: &mut [u64],
+    counts: &mut [u64],
+    pending: &mut [u64],
+) -> SortedHeld
+    ensures { λ r. ⌜ SortHeldSlowly form (now (update .entry)) (now (held .entry)) (now (rows .entry)) (now (ranges .entry)) (now (given .entry))
+        (now (order .entry)) (now (counts .entry)) (now (pending .entry)) r (now (rows .exit)) (now (ranges .exit)) (now (given .exit))
+        (now (order .exit)) (now (counts .exit)) (now (pending .exit)) ⌝ }
+{
+    slow_held_sorts::sort_held_slowly(
         form,
         update,
         held,

@@ -30,6 +30,7 @@ fn case(
         22 => held_cases::read(source, place, bytes, sink, used),
         25 => sort_cases::read_rule(source, place, bytes, sink, used),
         26 => sort_cases::read_slowly(source, place, bytes, sink, used),
+        27 => held_cases::read_slowly(source, place, bytes, sink, used),
         30..=32 => text_cases::case(operation, source, place, bytes, sink, used),
         _ => number_cases::case(operation, source, place, bytes, sink, used),
     }

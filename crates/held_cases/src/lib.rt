@@ -1,4 +1,4 @@
-// Operation 22 of the case program: a sort by held ids, its reports, the held ids, and the tables that its update was read into.
+// Operations 22 and 27 of the case program: a sort by held ids, its reports, the held ids, and the tables that its update was read into.
 use block::Block;
 use held_answers::SortedHeld;
 use stream::Done;
@@ -77,8 +77,48 @@ fn end(sink: &mut [u8], begun: Told, told: Told, answer: SortedHeld, words: &[u6
     rows::end(sink, seen, read, words)
 }
 
+// A sort, by either sorter.
+fn sort_by(
+    slowly: bool,
+    form: u8,
+    update: &[u8],
+    held: &[u8],
+    rows: &mut [Block],
+    words: &mut [u64],
+    given: &mut [u64],
+    order: &mut [u64],
+    counts: &mut [u64],
+    pending: &mut [u64],
+) -> SortedHeld {
+    if slowly {
+        return slow_held_sorts::sort_held_slowly(
+            form,
+            update,
+            held,
+            rows,
+            words,
+            given,
+            order,
+            counts,
+            pending,
+        );
+    }
+    held_sorts::sort_held(
+        form,
+        update,
+        held,
+        rows,
+        words,
+        given,
+        order,
+        counts,
+        pending,
+    )
+}
+
 // The line of a sort with n rows lent; more than there are is not asked.
 fn ask(
+    slowly: bool,
     form: u8,
     update: &[u8],
     held: &[u8],
@@ -96,7 +136,8 @@ fn ask(
     }
     let row = rows::full();
     let mut rows = [row; 512];
-    let answer = held_sorts::sort_held(
+    let answer = sort_by(
+        slowly,
         form,
         update,
         held,
@@ -112,8 +153,9 @@ fn ask(
     end(sink, begun, told, answer, words)
 }
 
-// What a case asks beside its update and its held ids: the form, and how many rows and words are lent.
+// What a case asks beside its update and its held ids: the sorter, the form, and how many rows and words are lent.
 struct Asked {
+    slowly: bool,
     form: u8,
     rows: usize,
     words: usize,
@@ -136,6 +178,7 @@ fn lend_reports(
     let mut counts = [0xA5A5A5A5A5A5A5A5u64; 128];
     let mut pending = [0xA5A5A5A5A5A5A5A5u64; 192];
     ask(
+        case.slowly,
         case.form,
         update,
         held,
@@ -204,12 +247,13 @@ fn lend(case: Asked, update: &[u8], held: &[u8], sink: &mut [u8], used: usize) -
     lend_given(case, update, held, &mut words[..lent], sink, used)
 }
 
-fn arguments(source: &mut [u8], place: Place) -> Asked {
+fn arguments(slowly: bool, source: &mut [u8], place: Place) -> Asked {
     let read = tables::arguments(source, place);
     let given = input::number(source, read.place, 1024);
     let order = input::number(source, given.place, 512);
     let place = order.place;
     Asked {
+        slowly,
         form: read.form,
         rows: read.rows,
         words: read.words,
@@ -239,15 +283,16 @@ fn finish(
     Done { place, used }
 }
 
-// 22: form, block rows, range rows, held rows, order rows, update, held ids.
-pub fn read(
+// A sort by held ids: form, block rows, range rows, held rows, order rows, update, held ids.
+fn read_by(
+    slowly: bool,
     source: &mut [u8],
     place: Place,
     bytes: &mut [u8],
     sink: &mut [u8],
     used: usize,
 ) -> Done {
-    let case = arguments(source, place);
+    let case = arguments(slowly, source, place);
     let taken = input::bytes(source, case.place, bytes);
     let place = taken.place;
     if !place.good {
@@ -255,4 +300,26 @@ pub fn read(
     }
     let count = taken.count;
     finish(case, &bytes[..count], source, place, sink, used)
+}
+
+// 22: by the quick sorter.
+pub fn read(
+    source: &mut [u8],
+    place: Place,
+    bytes: &mut [u8],
+    sink: &mut [u8],
+    used: usize,
+) -> Done {
+    read_by(false, source, place, bytes, sink, used)
+}
+
+// 27: by the slow plain sorter.
+pub fn read_slowly(
+    source: &mut [u8],
+    place: Place,
+    bytes: &mut [u8],
+    sink: &mut [u8],
+    used: usize,
+) -> Done {
+    read_by(true, source, place, bytes, sink, used)
 }

@@ -1,14 +1,13 @@
 -- What `sort_held` promises is demand 3 over held sets: a sort that refuses nothing is the one that demand 3 asks for.
-use Prim.Native.Nat.{ℕ, _≤_, _<_}
-use mathlib.Core.Path.{_≡_, refl, sym, ap, subst, _∙_}
+use Prim.Native.Nat.{ℕ, _<_}
+use mathlib.Core.Path.{_≡_, refl, sym, ap, subst}
 use mathlib.Core.Bool.{Bool, true, false}
 use mathlib.Core.List.{List, []}
 use native.Mathlib.Omega.{arith}
 use lib.Dec.{eqb}
 use lib.ListN.{length}
 use borrow.Author.Tests.{eqb-true, eqb-false}
-use Rattle.numbers.specs.declared.Refusal.{Refusal}
-use Rattle.numbers.specs.Number.{pick, none, nowhere}
+use Rattle.numbers.specs.Number.{pick, nowhere}
 use Rattle.block.specs.declared.Block.{Block}
 use Rattle.grammar.specs.Course.{Course, item, over, stopped, fit, items, ending}
 use Rattle.ranges.specs.Ranges.{Range, normal}
@@ -30,7 +29,7 @@ use Rattle.grammar.specs.Numbered as grammar
 use Rattle.agreement.specs.Numbered.{Stops}
 use Rattle.agreement.proofs.Courses.{fit-stops}
 use Rattle.agreement.proofs.Numbered.{deletes-numbered}
-use Rattle.held_sorts.specs.Promises.{whole, whySort, fitting, against, afterReading, sortHeldOf}
+use Rattle.held_sorts.specs.Promises.{Finder, quickly, whole, whySort, fitting, against, afterReading, sortHeldBy, sortHeldOf}
 use Rattle.held_sorts.specs.Demand.{Demanded, Demand3Held}
 
 -- ---- of any rule under which more knowledge holds nothing back
@@ -63,60 +62,67 @@ module _ {A : Type 0} (R : Rule A) (mono : RuleMonotone R) (bs : List Block) (κ
     waits = left-waits R mono bs cs all κ;
   }
 
--- ---- what 0 says
+-- ---- what 0 says, whatever order the sorter takes
 
-module _ (m : Room) (c : Course Range) (r : Reading) where
-  abbrev rs : List Range
-  rs = normal (items c)
+fitting-done : (m : Room) (s : SortHeld) → fitting m s .refusal .number ≡ 0 → fitting m s ≡ s
+unfolding fitting
+fitting-done m s h = go (eqb (whySort m s) 0) refl h
+  where
+    go : (x : Bool) → eqb (whySort m s) 0 ≡ x → pick x s (refusedWith (nowhere (whySort m s))) .refusal .number ≡ 0
+        → pick x s (refusedWith (nowhere (whySort m s))) ≡ s
+    go true e h = refl
+    go false e h = absurd (eqb-false (whySort m s) 0 e h)
 
-  fitting-done : (s : SortHeld) → fitting m s .refusal .number ≡ 0 → fitting m s ≡ s
-  unfolding fitting
-  fitting-done s h = go (eqb (whySort m s) 0) refl h
+-- held ids are read, as no refusal of theirs is 0
+read-whole : (m : Room) (t : SortHeld) (c : Course Range) → Stops c
+    → ending c (λ s. fitting m t) (λ why. refusedWith (nowhere (why .number))) .refusal .number ≡ 0
+    → (ending c (λ _. true) (λ _. false) ≡ true) × (ending c (λ s. fitting m t) (λ why. refusedWith (nowhere (why .number))) ≡ t)
+unfolding ending grammar.Stops
+read-whole m t (item a p c) h e = read-whole m t c h e
+read-whole m t (over x s) h e = (refl, fitting-done m t e)
+read-whole m t (stopped why) h e = absurd (omega (arith, h .0, e))
+
+module _ (F : Finder) (form : ℕ) (u v : List ℕ) (blockRows rangeRows heldRows : ℕ) (m : Room) where
+  abbrev r : Reading
+  r = reading form u blockRows rangeRows
+
+  abbrev c : Course Range
+  c = fit heldRows (deleteSet 1 v 0)
+
+  abbrev s : SortHeld
+  s = sortHeldBy F form u v blockRows rangeRows heldRows m
+
+  pub after-done : s .refusal .number ≡ 0
+      → (r .refusal .number ≡ 0) × (ending c (λ _. true) (λ _. false) ≡ true) × (s ≡ whole F (normal (items c)) r)
+  unfolding sortHeldBy afterReading against
+  after-done h = go (eqb (r .refusal .number) 0) refl h
     where
-      go : (x : Bool) → eqb (whySort m s) 0 ≡ x → pick x s (refusedWith (nowhere (whySort m s))) .refusal .number ≡ 0
-          → pick x s (refusedWith (nowhere (whySort m s))) ≡ s
-      go true e h = refl
-      go false e h = absurd (eqb-false (whySort m s) 0 e h)
+      sort : SortHeld
+      sort = ending c (λ s. fitting m (whole F (normal (items c)) r)) (λ why. refusedWith (nowhere (why .number)))
 
-  whole-demanded : r .refusal .number ≡ 0 → ending c (λ _. true) (λ _. false) ≡ true → Demand3Held r c (whole rs r)
-  unfolding whole orderHeld countsHeld pendingHeld
-  whole-demanded z e = record {
-    read = (z, e);
-    reading = refl;
-    held = refl;
-    demanded = demanded ruleHeld held-mono (r .blocks) (heldIn rs) (owners (r .blocks)) (clients-blocks (r .blocks) []);
-  }
+      go : (x : Bool) → eqb (r .refusal .number) 0 ≡ x → pick x sort (refusedWith (r .refusal)) .refusal .number ≡ 0
+          → (r .refusal .number ≡ 0) × (ending c (λ _. true) (λ _. false) ≡ true) × (pick x sort (refusedWith (r .refusal)) ≡ whole F (normal (items c)) r)
+      go true e h =
+          let w = read-whole m (whole F (normal (items c)) r) c (fit-stops heldRows (deleteSet 1 v 0) (deletes-numbered 1 v 0)) h in
+          (eqb-true (r .refusal .number) 0 e, w .0, w .1)
+      go false e h = absurd (eqb-false (r .refusal .number) 0 e h)
 
--- ---- held ids that are read, as no refusal of theirs is 0
+-- ---- demand 3 over held sets
 
-module _ (m : Room) (r : Reading) where
-  read-whole : (rs : List Range) (c : Course Range) → Stops c
-      → ending c (λ s. fitting m (whole rs r)) (λ why. refusedWith (nowhere (why .number))) .refusal .number ≡ 0
-      → (ending c (λ _. true) (λ _. false) ≡ true) × (ending c (λ s. fitting m (whole rs r)) (λ why. refusedWith (nowhere (why .number))) ≡ whole rs r)
-  unfolding ending grammar.Stops
-  read-whole rs (item a p c) h e = read-whole rs c h e
-  read-whole rs (over x s) h e = (refl, fitting-done m (over x s) r (whole rs r) e)
-  read-whole rs (stopped why) h e = absurd (omega (arith, h .0, e))
+whole-demanded : (c : Course Range) (r : Reading) → r .refusal .number ≡ 0 → ending c (λ _. true) (λ _. false) ≡ true
+    → Demand3Held r c (whole quickly (normal (items c)) r)
+unfolding whole orderHeld countsHeld pendingHeld
+whole-demanded c r z e = record {
+  read = (z, e);
+  reading = refl;
+  held = refl;
+  demanded = demanded ruleHeld held-mono (r .blocks) (heldIn (normal (items c))) (owners (r .blocks)) (clients-blocks (r .blocks) []);
+}
 
--- Demand 3 over held sets
 pub demand-3-held : (form : ℕ) (u v : List ℕ) (blockRows rangeRows heldRows : ℕ) (m : Room)
     → sortHeldOf form u v blockRows rangeRows heldRows m .refusal .number ≡ 0
     → Demand3Held (reading form u blockRows rangeRows) (fit heldRows (deleteSet 1 v 0)) (sortHeldOf form u v blockRows rangeRows heldRows m)
-unfolding sortHeldOf afterReading against
-demand-3-held form u v blockRows rangeRows heldRows m h = go (eqb (r .refusal .number) 0) refl h
-  where
-    r : Reading
-    r = reading form u blockRows rangeRows
-
-    c : Course Range
-    c = fit heldRows (deleteSet 1 v 0)
-
-    sort : SortHeld
-    sort = ending c (λ s. fitting m (whole (normal (items c)) r)) (λ why. refusedWith (nowhere (why .number)))
-
-    go : (x : Bool) → eqb (r .refusal .number) 0 ≡ x → pick x sort (refusedWith (r .refusal)) .refusal .number ≡ 0
-        → Demand3Held r c (pick x sort (refusedWith (r .refusal)))
-    go true e h =
-        let w = read-whole m r (normal (items c)) c (fit-stops heldRows (deleteSet 1 v 0) (deletes-numbered 1 v 0)) h in
-        subst (Demand3Held r c) (sym (w .1)) (whole-demanded m c r (eqb-true (r .refusal .number) 0 e) (w .0))
-    go false e h = absurd (eqb-false (r .refusal .number) 0 e h)
+demand-3-held form u v blockRows rangeRows heldRows m h =
+    let w = after-done quickly form u v blockRows rangeRows heldRows m h in
+    subst (Demand3Held (reading form u blockRows rangeRows) (fit heldRows (deleteSet 1 v 0))) (sym (w .2))
+    (whole-demanded (fit heldRows (deleteSet 1 v 0)) (reading form u blockRows rangeRows) (w .0) (w .1))

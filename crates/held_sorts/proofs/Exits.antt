@@ -1,76 +1,24 @@
--- The ways out of `sort_held`, with no machine: what is given and left at each keeps the promise.
-use Prim.Native.Nat.{ℕ, _-_, _*_, _/_, _≤_}
-use mathlib.Core.Path.{_≡_, refl, sym, ap, subst, _∙_}
-use mathlib.Core.Bool.{Bool, true, false}
+-- What the sorter by held ids gives and leaves of an update and held ids that were read: the order of highest clients with its reports.
+use Prim.Native.Nat.{ℕ, _/_, _≤_}
+use mathlib.Core.Path.{_≡_, refl, ap, _∙_}
+use mathlib.Core.Bool.{false}
 use mathlib.Core.List.{List, []}
 use native.Mathlib.Omega.{arith}
-use lib.Dec.{ltb, eqb}
-use lib.ListN.{length, take, replicate}
-use borrow.Author.Tests.{eq-eqb, ne-eqb, ltb-false}
-use Rattle.numbers.specs.declared.Refusal.{Refusal}
-use Rattle.numbers.specs.Number.{pick, nowhere}
-use Rattle.numbers.specs.Output.{padded}
+use lib.ListN.{length, take}
 use Rattle.block.specs.declared.Block.{Block}
-use Rattle.grammar.specs.Course.{Course, item, over, stopped, fit, items, ending}
-use Rattle.ranges.specs.Ranges.{Range, Normal, normal}
-use Rattle.ranges.specs.Table.{flat, rowsFrom}
-use Rattle.ranges.proofs.Flat.{length-flat, rows-flat}
-use Rattle.ranges.proofs.Theory.{normal-length, normal-is}
-use Rattle.decoder.specs.Update.{deleteSet}
-use Rattle.readings.proofs.Fits.{fit-count}
-use Rattle.deletes.specs.DeleteSet.{taken, wordsOf as wordsRead}
+use Rattle.grammar.specs.Course.{fit}
 use Rattle.picker.specs.Picker.{nowhere as noRow}
 use Rattle.reports.specs.Reports.{fitted}
-use Rattle.reports.proofs.Fitted.{fitted-padded, fitted-length}
-use Rattle.sorting.specs.Held.{orderHeld, countsHeld, pendingHeld}
-use Rattle.sorter.specs.declared.Sorting.{Sorting}
+use Rattle.slots.specs.Slots.{Slot}
 use Rattle.sorter.specs.Sorter.{slotsFor, maxReaches}
-use Rattle.updates.specs.Promises.{Reading, refused, reading, answer, rowsOf, wordsOf}
-use Rattle.updates.proofs.Read.{length-padded, reading-good, rows-length, words-length, rows-back, rows-fit}
-use Rattle.sort_answers.specs.Answers.{Room, whyNot, judged}
+use Rattle.updates.specs.Promises.{Reading, reading, answer, rowsOf}
+use Rattle.updates.proofs.Read.{rows-length, rows-back}
 use Rattle.held_sorter.specs.HeldSorter.{sortingBy, orderBy, countsBy, pendingBy}
-use Rattle.held_outcome.proofs.Came.{Fit}
 use Rattle.held_outcome.proofs.Answers.{order-is, counts-are, pending-are, sorting-is}
 use Rattle.held_answers.specs.declared.HeldRead.{HeldRead}
-use Rattle.held_answers.specs.declared.SortedHeld.{SortedHeld}
-use Rattle.held_answers.specs.Answers.{SortHeld, refusedWith, answered, given, notGiven, readHeld, wordsGiven, answerTo}
-use Rattle.held_sorts.specs.Promises.{lent, whole, whySort, fitting, against, afterReading, sortHeldOf, SortUpdateHeld}
-
--- ---- held ids that were refused, and those that were read
-
-module _ (n : ℕ) {X : Type 0} (a : X) (h : ℕ → X) where
-  abbrev told : Course Range → HeldRead
-  told c = ending c (λ _. given n) (λ why. notGiven (why .number))
-
-  not-read : (c : Course Range) → told c .refused ≡ true → ending c (λ _. a) (λ why. h (why .number)) ≡ h (told c .number)
-  unfolding ending
-  not-read (item r p c) e = not-read c e
-  not-read (over x t) e = absurd (let z : _≡_ {A = ℕ} 0 1 = cc in omega arith)
-  not-read (stopped w) e = refl
-
-  was-read : (c : Course Range) → told c .refused ≡ false → (ending c (λ _. a) (λ why. h (why .number)) ≡ a) × (told c ≡ given n)
-  unfolding ending
-  was-read (item r p c) e = was-read c e
-  was-read (over x t) e = (refl, refl)
-  was-read (stopped w) e = absurd (let z : _≡_ {A = ℕ} 0 1 = cc in omega arith)
-
--- ---- 0 says that there is room for all of it
-
-module _ (m : Room) (o c q : ℕ) where
-  abbrev Fits : Type 0
-  Fits = (o ≤ m .order) × (c ≤ m .counts) × (q ≤ m .pending)
-
-  all-fit : whyNot m o c 0 q ≡ 0 → Fits
-  unfolding whyNot
-  all-fit = go (ltb (m .order) o) refl (ltb (m .counts) c) refl (ltb (m .reaches) 0) (ltb (m .pending) q) refl
-    where
-      go : (x : Bool) → ltb (m .order) o ≡ x → (y : Bool) → ltb (m .counts) c ≡ y → (z : Bool)
-          → (t : Bool) → ltb (m .pending) q ≡ t → _≡_ {A = ℕ} (pick x 8 (pick y 10 (pick z 10 (pick t 10 0)))) 0 → Fits
-      go true ex y ey z t et h = absurd (omega (arith, h))
-      go false ex true ey z t et h = absurd (omega (arith, h))
-      go false ex false ey true t et h = absurd (omega (arith, h))
-      go false ex false ey false true et h = absurd (omega (arith, h))
-      go false ex false ey false false et h = (ltb-false (m .order) o ex, ltb-false (m .counts) c ey, ltb-false (m .pending) q et)
+use Rattle.held_answers.specs.Answers.{readHeld, wordsGiven}
+use Rattle.held_sorts.specs.Promises.{quickly}
+use Rattle.held_sorts.proofs.Ways.{back, is-normal, fine, Gives}
 
 module _ (form : ℕ) (u v : List ℕ) (rows₀ : List Block) (ranges₀ given₀ order₀ counts₀ pending₀ : List ℕ) where
   abbrev M : ℕ
@@ -79,198 +27,40 @@ module _ (form : ℕ) (u v : List ℕ) (rows₀ : List Block) (ranges₀ given�
   abbrev N : ℕ
   N = length ranges₀
 
-  abbrev K : ℕ
-  K = length given₀
-
-  abbrev room : Room
-  room = lent order₀ counts₀ pending₀
-
   abbrev R : Reading
   R = reading form u M (N / 3)
 
-  abbrev c : Course Range
-  c = fit (K / 3) (deleteSet 1 v 0)
-
-  abbrev rs : List Range
-  rs = normal (items c)
-
   abbrev G : HeldRead
-  G = readHeld v K
+  G = readHeld v (length given₀)
 
   abbrev W : List ℕ
-  W = wordsGiven v K
+  W = wordsGiven v (length given₀)
 
-  abbrev s : SortHeld
-  s = sortHeldOf form u v M (N / 3) (K / 3) room
+  abbrev rows : List Block
+  rows = rowsOf M R
 
-  abbrev Right : SortedHeld → List Block → List ℕ → List ℕ → List ℕ → List ℕ → List ℕ → Type 0
-  Right r rows ranges held order counts pending = SortUpdateHeld form u v rows₀ ranges₀ given₀ order₀ counts₀ pending₀ r rows ranges held order counts pending
+  abbrev n : ℕ
+  n = answer R .blocks
 
-  -- a refusal leaves nothing
-  by-refusal : (why : Refusal) (m k j : ℕ) (order counts pending : List ℕ) → s ≡ refusedWith why → m ≡ M → k ≡ N → j ≡ K
-      → length order ≡ length order₀ → length counts ≡ length counts₀ → length pending ≡ length pending₀
-      → Right (answered (refusedWith why)) (rowsOf m (refused why)) (wordsOf k (refused why)) (padded j []) (padded (length order) []) (padded (length counts) [])
-      (padded (length pending) [])
-  unfolding flat
-  by-refusal why m k j order counts pending e p q t a b d = (
-    ap answered (sym e),
-    ap (λ (x : ℕ). rowsOf x (refused why)) p ∙ ap (λ (x : SortHeld). rowsOf M (x .reading)) (sym e),
-    ap (λ (x : ℕ). wordsOf x (refused why)) q ∙ ap (λ (x : SortHeld). wordsOf N (x .reading)) (sym e),
-    ap (λ (x : ℕ). padded x []) t ∙ ap (λ (x : SortHeld). padded K (flat (x .held))) (sym e),
-    ap (λ (x : ℕ). padded x []) a ∙ ap (λ (x : SortHeld). padded (length order₀) (x .order)) (sym e),
-    ap (λ (x : ℕ). padded x []) b ∙ ap (λ (x : SortHeld). padded (length counts₀) (x .counts)) (sym e),
-    ap (λ (x : ℕ). padded x []) d ∙ ap (λ (x : SortHeld). padded (length pending₀) (x .pending)) (sym e),
-  )
+  abbrev ss : List Slot
+  ss = slotsFor maxReaches (take n rows) []
 
-  pub exit-unread : (R .refusal .number ≡ 0 → ⊥)
-      → Right (answered (refusedWith (R .refusal))) (rowsOf (length (rowsOf M R)) (refused (R .refusal))) (wordsOf (length (wordsOf N R)) (refused (R .refusal)))
-      (padded (length given₀) []) (padded (length order₀) []) (padded (length counts₀) []) (padded (length pending₀) [])
-  unfolding sortHeldOf afterReading
-  exit-unread z =
-      by-refusal (R .refusal) (length (rowsOf M R)) (length (wordsOf N R)) K order₀ counts₀ pending₀
-      (ap (λ (x : Bool). pick x (against room c R) (refusedWith (R .refusal))) (ne-eqb (R .refusal .number) 0 z))
-      (rows-length form u M N) (words-length form u M N) refl refl refl refl
+  module _ (z : R .refusal .number ≡ 0) (y : G .refused ≡ false) (short : M ≤ noRow) where
+    small : length rows ≤ noRow
+    small = omega (arith, short, rows-length form u M N)
 
-  -- ---- the update was read
-
-  rs-fit : 3 * length rs ≤ K
-  rs-fit = omega (arith, normal-length (items c), fit-count (K / 3) (deleteSet 1 v 0))
-
-  module _ (z : R .refusal .number ≡ 0) where
-    after-is : s ≡ against room c R
-    unfolding sortHeldOf afterReading
-    after-is = ap (λ (x : Bool). pick x (against room c R) (refusedWith (R .refusal))) (eq-eqb (R .refusal .number) 0 z)
-
-    -- the held ids were refused
-    module _ (y : G .refused ≡ true) where
-      words-none : W ≡ padded K []
-      unfolding wordsGiven wordsRead taken readHeld
-      words-none = ap (padded K) (not-read (length rs) (flat rs) (λ n. []) c y)
-
-      refused-is : s ≡ refusedWith (nowhere (G .number))
-      unfolding against readHeld taken
-      refused-is = after-is ∙ not-read (length rs) (fitting room (whole rs R)) (λ n. refusedWith (nowhere n)) c y
-
-      pub exit-ungiven : Right (answered (refusedWith (nowhere (G .number)))) (rowsOf (length (rowsOf M R)) (refused (nowhere (G .number))))
-          (wordsOf (length (wordsOf N R)) (refused (nowhere (G .number)))) (padded (length W) []) (padded (length order₀) []) (padded (length counts₀) [])
-          (padded (length pending₀) [])
-      exit-ungiven =
-          by-refusal (nowhere (G .number)) (length (rowsOf M R)) (length (wordsOf N R)) (length W) order₀ counts₀ pending₀ refused-is
-          (rows-length form u M N) (words-length form u M N) (ap length words-none ∙ length-padded K [] (omega arith)) refl refl refl
-
-    -- they were read
-    module _ (y : G .refused ≡ false) (short : M ≤ noRow) where
-      words-are : W ≡ padded K (flat rs)
-      unfolding wordsGiven wordsRead taken readHeld
-      words-are = ap (padded K) (was-read (length rs) (flat rs) (λ n. []) c y .0)
-
-      given-is : G ≡ given (length rs)
-      unfolding readHeld taken
-      given-is = was-read (length rs) (flat rs) (λ n. []) c y .1
-
-      many : G .ranges ≡ length rs
-      many = ap (λ (g : HeldRead). g .ranges) given-is
-
-      long : length W ≡ K
-      long = ap length words-are ∙ length-padded K (flat rs) (omega (arith, rs-fit, length-flat rs))
-
-      abbrev bs : List Block
-      bs = R .blocks
-
-      abbrev rows : List Block
-      rows = rowsOf M R
-
-      pub asks : (answer R .blocks ≤ length rows) × (3 * G .ranges ≤ length W)
-      unfolding answer
-      asks = (omega (arith, rows-fit form u M N, rows-length form u M N), omega (arith, rs-fit, many, long))
-
-      back : rowsFrom W 0 (G .ranges) ≡ rs
-      unfolding padded
-      back = rw (many, words-are) (rows-flat rs (replicate (K - length (flat rs)) 0))
-
-      is-normal : Normal (rowsFrom W 0 (G .ranges))
-      is-normal = subst Normal (sym back) (normal-is (items c) .0)
-
-      fine : Fit bs
-      fine = let good = reading-good form u M (N / 3) in record { ordered = good .ordered; count = good .count; groups = good .clients }
-
-      small : length rows ≤ noRow
-      small = omega (arith, short, rows-length form u M N)
-
-      abbrev S : Sorting
-      S = sortingBy W (G .ranges) (slotsFor maxReaches (take (answer R .blocks) rows) []) rows (answer R .blocks) order₀
-
-      abbrev O : List ℕ
-      O = orderBy W (G .ranges) (slotsFor maxReaches (take (answer R .blocks) rows) []) rows (answer R .blocks) order₀
-
-      abbrev C : List ℕ
-      C = fitted (length counts₀) (countsBy W (G .ranges) (slotsFor maxReaches (take (answer R .blocks) rows) []) rows (answer R .blocks) order₀)
-
-      abbrev Q : List ℕ
-      Q = fitted (length pending₀) (pendingBy W (G .ranges) (slotsFor maxReaches (take (answer R .blocks) rows) []) rows (answer R .blocks) order₀)
-
-      abbrev made : Sorting
-      made = record { number = 0; steps = length (orderHeld bs rs); counts = length (countsHeld bs rs); reaches = 0; pending = length (pendingHeld bs rs) }
-
-      sorting-at : S ≡ made
-      unfolding answer
-      sorting-at = rw (rows-back form u M N) (sorting-is bs fine rows (rows-back form u M N) small W (G .ranges) is-normal order₀ ∙ rw back refl)
-
-      order-at : O ≡ fitted (length order₀) (orderHeld bs rs)
-      unfolding answer
-      order-at = rw (rows-back form u M N) (order-is bs fine rows (rows-back form u M N) small W (G .ranges) is-normal order₀ ∙ rw back refl)
-
-      counts-at : C ≡ fitted (length counts₀) (countsHeld bs rs)
-      unfolding answer
-      counts-at = rw (rows-back form u M N) (ap (fitted (length counts₀)) (counts-are bs fine rows (rows-back form u M N) small W (G .ranges) is-normal order₀) ∙ rw back refl)
-
-      pending-at : Q ≡ fitted (length pending₀) (pendingHeld bs rs)
-      unfolding answer
-      pending-at = rw (rows-back form u M N) (ap (fitted (length pending₀)) (pending-are bs fine rows (rows-back form u M N) small W (G .ranges) is-normal order₀) ∙ rw back refl)
-
-      abbrev last : ℕ
-      last = whySort room (whole rs R)
-
-      sort-at : s ≡ pick (eqb last 0) (whole rs R) (refusedWith (nowhere last))
-      unfolding against fitting readHeld taken
-      sort-at = after-is ∙ was-read (length rs) (fitting room (whole rs R)) (λ n. refusedWith (nowhere n)) c y .0
-
-      -- ---- judged with so many words
-
-      module _ (order counts pending : ℕ) (a : length order₀ ≡ order) (b : length counts₀ ≡ counts) (d : length pending₀ ≡ pending) where
-        abbrev why : ℕ
-        why = judged S order counts 0 pending
-
-        why-at : why ≡ last
-        unfolding judged whySort whole
-        why-at = rw (← a, ← b, ← d, sorting-at) refl
-
-        pub exit-refused : (why ≡ 0 → ⊥)
-            → Right (answered (refusedWith (nowhere why))) (rowsOf (length (rowsOf M R)) (refused (nowhere why))) (wordsOf (length (wordsOf N R)) (refused (nowhere why)))
-            (padded (length W) []) (padded (length O) []) (padded (length C) []) (padded (length Q) [])
-        exit-refused h =
-            by-refusal (nowhere why) (length (rowsOf M R)) (length (wordsOf N R)) (length W) O C Q
-            (sort-at ∙ ap (λ (x : Bool). pick x (whole rs R) (refusedWith (nowhere last))) (ne-eqb last 0 (λ e. h (why-at ∙ e))) ∙ ap (λ (n : ℕ). refusedWith (nowhere n)) (sym why-at))
-            (rows-length form u M N) (words-length form u M N) long (ap length order-at ∙ fitted-length (length order₀) (orderHeld bs rs))
-            (ap length counts-at ∙ fitted-length (length counts₀) (countsHeld bs rs)) (ap length pending-at ∙ fitted-length (length pending₀) (pendingHeld bs rs))
-
-        pub exit-done : why ≡ 0 → Right (answerTo (answer R) (G .ranges) S) (rowsOf M R) (wordsOf N R) W O C Q
-        unfolding answerTo answer answered whole whySort
-        exit-done h = (
-          ap (answerTo (answer R) (G .ranges)) sorting-at ∙ ap (λ (n : ℕ). answerTo (answer R) n made) many ∙ ap answered (sym done-is),
-          ap (λ (x : SortHeld). rowsOf M (x .reading)) (sym done-is),
-          ap (λ (x : SortHeld). wordsOf N (x .reading)) (sym done-is),
-          words-are ∙ ap (λ (x : SortHeld). padded K (flat (x .held))) (sym done-is),
-          order-at ∙ fitted-padded (length order₀) (orderHeld bs rs) (fits .0) ∙ ap (λ (x : SortHeld). padded (length order₀) (x .order)) (sym done-is),
-          counts-at ∙ fitted-padded (length counts₀) (countsHeld bs rs) (fits .1) ∙ ap (λ (x : SortHeld). padded (length counts₀) (x .counts)) (sym done-is),
-          pending-at ∙ fitted-padded (length pending₀) (pendingHeld bs rs) (fits .2) ∙ ap (λ (x : SortHeld). padded (length pending₀) (x .pending)) (sym done-is),
-        )
-          where
-            ok : last ≡ 0
-            ok = sym why-at ∙ h
-
-            fits : Fits room (length (orderHeld bs rs)) (length (countsHeld bs rs)) (length (pendingHeld bs rs))
-            fits = all-fit room (length (orderHeld bs rs)) (length (countsHeld bs rs)) (length (pendingHeld bs rs)) ok
-
-            done-is : s ≡ whole rs R
-            done-is = sort-at ∙ ap (λ (x : Bool). pick x (whole rs R) (refusedWith (nowhere last))) (eq-eqb last 0 ok)
+    pub gives : Gives quickly form u v rows₀ ranges₀ given₀ order₀ counts₀ pending₀ z y (sortingBy W (G .ranges) ss rows n order₀) (orderBy W (G .ranges) ss rows n order₀)
+        (fitted (length counts₀) (countsBy W (G .ranges) ss rows n order₀)) (fitted (length pending₀) (pendingBy W (G .ranges) ss rows n order₀))
+    unfolding answer
+    gives =
+        let bs : List Block = R .blocks in
+        let held = back quickly form u v rows₀ ranges₀ given₀ order₀ counts₀ pending₀ z y in
+        let fit = fine quickly form u v rows₀ ranges₀ given₀ order₀ counts₀ pending₀ z y in
+        let norm = is-normal quickly form u v rows₀ ranges₀ given₀ order₀ counts₀ pending₀ z y in
+        let kept = rows-back form u M N in
+        record {
+          sorting = rw kept (sorting-is bs fit rows kept small W (G .ranges) norm order₀ ∙ rw held refl);
+          order = rw kept (order-is bs fit rows kept small W (G .ranges) norm order₀ ∙ rw held refl);
+          counts = rw kept (ap (fitted (length counts₀)) (counts-are bs fit rows kept small W (G .ranges) norm order₀) ∙ rw held refl);
+          pending = rw kept (ap (fitted (length pending₀)) (pending-are bs fit rows kept small W (G .ranges) norm order₀) ∙ rw held refl);
+        }

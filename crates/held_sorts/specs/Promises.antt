@@ -23,14 +23,27 @@ lent order counts pending = record { order = length order; counts = length count
 
 -- ---- an update of a form, sorted by held ids, with so many rows and words lent
 
+-- what a sorter finds of blocks, by what ranges hold: the numbers of the blocks that are taken, in order, and the reports
+pub record Found : Type 0 where
+  pub order : List ℕ
+  pub counts : List ℕ
+  pub pending : List ℕ
+
+abbrev pub Finder : Type 0
+Finder = List Block → List Range → Found
+
+-- the order that takes the highest client at each step (another sorter's order is W-211's)
+abbrev pub quickly : Finder
+quickly bs rs = record { order = orderHeld bs rs; counts = countsHeld bs rs; pending = pendingHeld bs rs }
+
 -- what was read, sorted by what these ranges hold
-unfoldable pub whole : List Range → Reading → SortHeld
-whole rs r =
+unfoldable pub whole : Finder → List Range → Reading → SortHeld
+whole F rs r =
     record {
       refusal = none;
-      order = orderHeld (r .blocks) rs;
-      counts = countsHeld (r .blocks) rs;
-      pending = pendingHeld (r .blocks) rs;
+      order = F (r .blocks) rs .order;
+      counts = F (r .blocks) rs .counts;
+      pending = F (r .blocks) rs .pending;
       held = rs;
       reading = r;
     }
@@ -43,15 +56,18 @@ unfoldable pub fitting : Room → SortHeld → SortHeld
 fitting m s = pick (eqb (whySort m s) 0) s (refusedWith (nowhere (whySort m s)))
 
 -- the held ids are read after the update, and their refusal blames no byte; they stand in normal form
-unfoldable pub against : Room → Course Range → Reading → SortHeld
-against m c r = ending c (λ s. fitting m (whole (normal (items c)) r)) (λ why. refusedWith (nowhere (why .number)))
+unfoldable pub against : Finder → Room → Course Range → Reading → SortHeld
+against F m c r = ending c (λ s. fitting m (whole F (normal (items c)) r)) (λ why. refusedWith (nowhere (why .number)))
 
-unfoldable pub afterReading : Room → Course Range → Reading → SortHeld
-afterReading m c r = pick (eqb (r .refusal .number) 0) (against m c r) (refusedWith (r .refusal))
+unfoldable pub afterReading : Finder → Room → Course Range → Reading → SortHeld
+afterReading F m c r = pick (eqb (r .refusal .number) 0) (against F m c r) (refusedWith (r .refusal))
 
 -- held ids are laid out as a form 1 delete set, from byte 0 on
-unfoldable pub sortHeldOf : ℕ → List ℕ → List ℕ → ℕ → ℕ → ℕ → Room → SortHeld
-sortHeldOf form u v blockRows rangeRows heldRows m = afterReading m (fit heldRows (deleteSet 1 v 0)) (reading form u blockRows rangeRows)
+unfoldable pub sortHeldBy : Finder → ℕ → List ℕ → List ℕ → ℕ → ℕ → ℕ → Room → SortHeld
+sortHeldBy F form u v blockRows rangeRows heldRows m = afterReading F m (fit heldRows (deleteSet 1 v 0)) (reading form u blockRows rangeRows)
+
+abbrev pub sortHeldOf : ℕ → List ℕ → List ℕ → ℕ → ℕ → ℕ → Room → SortHeld
+sortHeldOf = sortHeldBy quickly
 
 -- ---- what `sort_held` gives, and what it leaves in all that is lent
 

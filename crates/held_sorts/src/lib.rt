@@ -12,7 +12,7 @@ ghost use Rattle.held_answers.specs.Answers.{refusedWith, answered};
 ghost use Rattle.held_sorts.specs.Promises.{SortUpdateHeld};
 
 // A refusal, and zeros in all that was lent.
-fn refuse(
+pub fn refuse(
     rows: &mut [Block],
     ranges: &mut [u64],
     given: &mut [u64],

@@ -177,10 +177,10 @@ module _ (bs : List Block) (ordered : Ordered bs) (few : length bs ≤ maxBlocks
         fits = λ d. fits-step d (step-taken (steps ruleHeld bs) s c d);
       }
 
-  abbrev Any : State Id → ℕ → Type 0
+  abbrev pub Any : State Id → ℕ → Type 0
   Any s c = Unit {0}
 
-  alike : Alike (steps ruleHeld bs) (steps rule28 ns) Any Same
+  pub alike : Alike (steps ruleHeld bs) (steps rule28 ns) Any Same
   unfolding system
   alike = record {
     size = λ c. sym (numbered-queue gone place first bs c);
@@ -194,7 +194,7 @@ module _ (bs : List Block) (ordered : Ordered bs) (few : length bs ≤ maxBlocks
   any-along s [] = tt
   any-along s (c ∷ cs) = (tt, any-along (step (steps ruleHeld bs) s c) cs)
 
-  begun : Same (start κ) (start (remote []))
+  pub begun : Same (start κ) (start (remote []))
   unfolding remote
   begun = record { taken = λ c. refl; held = held-start bs κ; counts = λ c. refl; fits = λ c. omega arith }
 

@@ -11,7 +11,8 @@ ghost use Rattle.vector.specs.Vector.{vectorOf};
 ghost use Rattle.sorter.specs.Sorter.{slotsFor, maxReaches};
 ghost use Rattle.slow_sorter.specs.Slowly.{sortingBy, sweptOn, sweptRead, Leaves};
 
-fn sorted(steps: usize, counts: usize, reaches: usize, pending: usize) -> Sorting
+// How many steps were made, and how many words each report needs.
+pub fn sorted(steps: usize, counts: usize, reaches: usize, pending: usize) -> Sorting
     ensures { λ r. ⌜ r ≡ sortingBy steps counts reaches pending ⌝ }
 {
     Sorting {
@@ -23,7 +24,8 @@ fn sorted(steps: usize, counts: usize, reaches: usize, pending: usize) -> Sortin
     }
 }
 
-// The rows, swept against m entries, in n slots. Reaches and counts of blocks taken are words of up to 128 clients (`maxReaches`).
+// The rows, swept against m entries, in n slots. Reaches and counts of blocks taken are words of up to 128 clients (`maxReaches`). Rows are seen as they are:
+// of no words 0 ranges are held.
 fn sweep_slots(
     rule: u8,
     rows: &[Block],
@@ -47,7 +49,7 @@ fn sweep_slots(
     let mut done = [0u64; 128];
     let taken = &mut done[..];
     picker::fronts::fill_reaches(slots, n, clients, clocks, m, reach);
-    let steps = sweeper::sweep_all(rule, rows, slots, n, reach, taken, order);
+    let steps = sweeper::sweep_all(rule, false, rows, slots, n, clocks, 0, reach, taken, order);
     reports::clear_after(order, steps);
     let a = sweep_reports::report_counts(slots, n, taken, counts);
     let r = reports::report_reaches(slots, n, reach, reaches);

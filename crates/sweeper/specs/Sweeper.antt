@@ -15,6 +15,13 @@ use Rattle.picker.specs.declared.stages.Dependency.{Dependency}
 use Rattle.picker.specs.Waits.{noDependency}
 use Rattle.picker.specs.Stages.{stages}
 use Rattle.picker.specs.Picker.{nowhere, holds, oneMore, lift, pushed}
+use Rattle.placing.specs.Placing.{rowsBy}
+
+-- ---- the rows as they are seen
+
+-- by number, where h ranges in words w hold ids, or as they are
+unfoldable pub seenBy : Bool → List ℕ → ℕ → List Slot → List Block → List Block
+seenBy numbered w h ss rows = pick numbered (rowsBy w h ss rows 0 rows) rows
 
 -- ---- a front
 

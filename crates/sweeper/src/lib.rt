@@ -1,15 +1,17 @@
 // The slow plain sorter (W-211): it sweeps over all clients, lowest first, takes each one's fronts while they are ready, and sweeps again until a sweep
 // takes nothing. Slots name the clients, highest first, with the row of each one's first block and how many it has; `reach` has a word for each slot, how
-// far its client reaches, and `taken` another, how many of its blocks were taken.
+// far its client reaches, and `taken` another, how many of its blocks were taken. Where ids are held (W-206) a row is seen by number, from `held`, ranges of
+// ids in words; then a client reaches as far as its blocks were taken.
 use block::Block;
 use picker::stages;
 use picker::stages::Dependency;
 ghost use mathlib.Core.Path.{_≡_};
 ghost use Prim.Native.Nat.{_+_, _*_, _≤_, _<_};
 ghost use lib.ListN.{length, getD};
+ghost use Rattle.block.specs.Row.{noBlock};
 ghost use Rattle.picker.specs.Picker.{nowhere, holds};
 ghost use Rattle.slots.specs.Slots.{slotAt, slotsFrom, Falling};
-ghost use Rattle.sweeper.specs.Sweeper.{unmetBy, readyBy, frontRow, board, took, drained, swept, sweptAll, Shows};
+ghost use Rattle.sweeper.specs.Sweeper.{seenBy, unmetBy, readyBy, frontRow, board, took, drained, swept, sweptAll, Shows};
 
 // ---- a front
 
@@ -74,6 +76,26 @@ pub fn front_row(slots: &[u64], i: usize, taken: &[u64]) -> usize
     first + done
 }
 
+// The block in a row of slot i, by number or as it is.
+fn see(
+    numbered: bool,
+    rows: &[Block],
+    slots: &[u64],
+    n: usize,
+    held: &[u64],
+    ranges: usize,
+    i: usize,
+    row: usize,
+) -> Block
+    requires { ⌜ (row < length (now rows)) × (3 * n ≤ length (now slots)) × Falling (slotsFrom (now slots) 0 n) × (3 * ranges ≤ length (now held)) ⌝ }
+    ensures { λ r. ⌜ r ≡ getD (seenBy numbered (now (held .entry)) ranges (slotsFrom (now (slots .entry)) 0 n) (now (rows .entry))) row noBlock ⌝ }
+{
+    if numbered {
+        return seeker::number_row(rows, slots, n, held, ranges, i, row);
+    }
+    table::fetch(rows, row)
+}
+
 // The front of slot i, in this row, is taken: its client reaches to the block's end, one block more of it is taken, and the row is next in the order. How many
 // steps were made then.
 fn take(
@@ -101,24 +123,29 @@ fn take(
 // The fronts of slot i, taken while they are ready. How many steps were made then.
 fn drain(
     rule: u8,
+    numbered: bool,
     rows: &[Block],
     slots: &[u64],
     n: usize,
+    held: &[u64],
+    ranges: usize,
     i: usize,
     reach: &mut [u64],
     taken: &mut [u64],
     order: &mut [u64],
     steps: usize,
 ) -> usize
-    requires { ⌜ (3 * n ≤ length (now slots)) × Falling (slotsFrom (now slots) 0 n) × (n ≤ length (now taken)) × (i < n) ⌝ }
-    ensures { λ r. ⌜ Shows (drained rule (slotsFrom (now (slots .entry)) 0 n) (now (rows .entry)) i
+    requires { ⌜ (3 * n ≤ length (now slots)) × Falling (slotsFrom (now slots) 0 n) × (n ≤ length (now taken)) × (i < n)
+        × (3 * ranges ≤ length (now held)) ⌝ }
+    ensures { λ r. ⌜ Shows (drained rule (slotsFrom (now (slots .entry)) 0 n)
+        (seenBy numbered (now (held .entry)) ranges (slotsFrom (now (slots .entry)) 0 n) (now (rows .entry))) i
         (board (now (reach .entry)) (now (taken .entry)) (now (order .entry)) steps))
         r (now (reach .exit)) (now (taken .exit)) (now (order .exit)) ⌝ }
 {
     let mut steps = steps;
     let mut row = front_row(slots, i, taken);
     while row < rows.len() {
-        let b = table::fetch(rows, row);
+        let b = see(numbered, rows, slots, n, held, ranges, i, row);
         if !is_ready(rule, slots, n, reach, b) {
             return steps;
         }
@@ -131,16 +158,21 @@ fn drain(
 // All clients, lowest first. How many steps were made then.
 fn sweep(
     rule: u8,
+    numbered: bool,
     rows: &[Block],
     slots: &[u64],
     n: usize,
+    held: &[u64],
+    ranges: usize,
     reach: &mut [u64],
     taken: &mut [u64],
     order: &mut [u64],
     steps: usize,
 ) -> usize
-    requires { ⌜ (3 * n ≤ length (now slots)) × Falling (slotsFrom (now slots) 0 n) × (n ≤ length (now taken)) ⌝ }
-    ensures { λ r. ⌜ Shows (swept rule (slotsFrom (now (slots .entry)) 0 n) (now (rows .entry))
+    requires { ⌜ (3 * n ≤ length (now slots)) × Falling (slotsFrom (now slots) 0 n) × (n ≤ length (now taken))
+        × (3 * ranges ≤ length (now held)) ⌝ }
+    ensures { λ r. ⌜ Shows (swept rule (slotsFrom (now (slots .entry)) 0 n)
+        (seenBy numbered (now (held .entry)) ranges (slotsFrom (now (slots .entry)) 0 n) (now (rows .entry)))
         (board (now (reach .entry)) (now (taken .entry)) (now (order .entry)) steps))
         r (now (reach .exit)) (now (taken .exit)) (now (order .exit)) ⌝ }
 {
@@ -148,7 +180,20 @@ fn sweep(
     let mut i = n;
     while 0 < i {
         i -= 1;
-        steps = drain(rule, rows, slots, n, i, reach, taken, order, steps);
+        steps = drain(
+            rule,
+            numbered,
+            rows,
+            slots,
+            n,
+            held,
+            ranges,
+            i,
+            reach,
+            taken,
+            order,
+            steps,
+        );
     }
     steps
 }
@@ -156,23 +201,52 @@ fn sweep(
 // Sweeps until one takes nothing. How many steps were made.
 pub fn sweep_all(
     rule: u8,
+    numbered: bool,
     rows: &[Block],
     slots: &[u64],
     n: usize,
+    held: &[u64],
+    ranges: usize,
     reach: &mut [u64],
     taken: &mut [u64],
     order: &mut [u64],
 ) -> usize
-    requires { ⌜ (3 * n ≤ length (now slots)) × Falling (slotsFrom (now slots) 0 n) × (n ≤ length (now taken)) ⌝ }
-    ensures { λ r. ⌜ Shows (sweptAll rule (slotsFrom (now (slots .entry)) 0 n) (now (rows .entry))
+    requires { ⌜ (3 * n ≤ length (now slots)) × Falling (slotsFrom (now slots) 0 n) × (n ≤ length (now taken))
+        × (3 * ranges ≤ length (now held)) ⌝ }
+    ensures { λ r. ⌜ Shows (sweptAll rule (slotsFrom (now (slots .entry)) 0 n)
+        (seenBy numbered (now (held .entry)) ranges (slotsFrom (now (slots .entry)) 0 n) (now (rows .entry)))
         (board (now (reach .entry)) (now (taken .entry)) (now (order .entry)) 0))
         r (now (reach .exit)) (now (taken .exit)) (now (order .exit)) ⌝ }
 {
     let mut before = 0;
-    let mut steps = sweep(rule, rows, slots, n, reach, taken, order, 0);
+    let mut steps = sweep(
+        rule,
+        numbered,
+        rows,
+        slots,
+        n,
+        held,
+        ranges,
+        reach,
+        taken,
+        order,
+        0,
+    );
     while before < steps {
         before = steps;
-        steps = sweep(rule, rows, slots, n, reach, taken, order, steps);
+        steps = sweep(
+            rule,
+            numbered,
+            rows,
+            slots,
+            n,
+            held,
+            ranges,
+            reach,
+            taken,
+            order,
+            steps,
+        );
     }
     steps
 }

@@ -186,8 +186,12 @@ module _ (rule : ℕ) {bs : List Block} {v : List Entry} {ss : List Slot} {rows 
   unfolding slowly
   come = rw (← (given .slotted .names)) (all-come rule given (remote v) before (board reach taken before 0) begun)
 
-  abbrev end : State ℕ
+  -- where they end, and how the board stands to it
+  abbrev pub end : State ℕ
   end = after (steps (ruleOf rule) bs) (start (remote v)) (slowly (ruleOf rule) bs (clients bs v) (remote v))
+
+  pub ends-at : Stands ss end d
+  ends-at = come .stands
 
   stuck : Stuck (steps (ruleOf rule) bs) end
   stuck = slow-sorted (ruleOf rule) (reaches-mono (asksOf rule)) bs (clients bs v) (clients-blocks bs v) (remote v) .ends .end

@@ -64,7 +64,7 @@ module _ (rule : ℕ) {bs : List Block} {v : List Entry} {ss : List Slot} {rows 
       counted : s .taken c < slotOf ss i .count
       counted = omega (arith, fits, given .slotted .counts i small)
 
-      row-at : rowAt ss d i ≡ slotOf ss i .first + s .taken c
+      pub row-at : rowAt ss d i ≡ slotOf ss i .first + s .taken c
       row-at =
           let h = row-below (given .slotted) (given .sortable .ordered) i (s .taken c) small counted in
           let few = given .sortable .few in

@@ -41,7 +41,7 @@ use Rattle.held_answers.specs.declared.SortedHeld.{SortedHeld}
 use Prim.Native.Nat.{_/_}
 use Rattle.held_answers.specs.Answers.{answerTo, answered, readHeld, refusedWith, wordsGiven}
 use Rattle.held_sorter.specs.HeldSorter.{countsBy, orderBy, pendingBy, sortingBy}
-use Rattle.held_sorts.specs.Promises.{lent, sortHeldOf}
+use Rattle.held_sorts.specs.Promises.{lent, quickly, sortHeldOf}
 use Rattle.numbers.specs.Output.{padded}
 use Rattle.ranges.specs.Table.{flat as flatRanges}
 use Rattle.reports.specs.Reports.{fitted}
@@ -81,7 +81,8 @@ use Rattle.held_sorts.proofs.sort_held.Statement as stated
 use Rattle.held_sorts.proofs.sort_held.Code as code
 use native.Mathlib.Omega.{arith}
 use borrow.Author.Tests.{eqb-true, eqb-false, not-true, not-false}
-use Rattle.held_sorts.proofs.Exits.{exit-unread, exit-ungiven, asks, exit-refused, exit-done}
+use Rattle.held_sorts.proofs.Ways.{exit-unread, exit-ungiven, asks, exit-refused, exit-done}
+use Rattle.held_sorts.proofs.Exits.{gives}
 
 abbrev fs : List (Form 8)
 fs = by-value byte ∷ by-ref 0 tt byte ∷ by-ref 1 tt byte ∷ by-mut 2 tt block ∷ by-mut 3 tt word ∷ by-mut 4 tt word ∷ by-mut 5 tt word ∷ by-mut 6 tt word ∷ by-mut 7 tt word ∷ []
@@ -209,7 +210,7 @@ module _ {M : Type 1} (𝓤 : URA M) (H : Heap 𝓤) (A : Atoms 𝓤) (W : Given
         calls-by ! (fmOf 𝓤 H (W .laws) 𝓣) (2 ∷ 3 ∷ 4 ∷ 5 ∷ 6 ∷ 7 ∷ []) (hs (rowsOf (length rows₀) (reading form₀ update₀ (length rows₀) (length ranges₀ / 3))) (wordsOf (length ranges₀) (reading form₀ update₀ (length rows₀) (length ranges₀ / 3))) given₀ order₀ counts₀ pending₀) (held-sorts·refuse! 𝓤 H A mem run (𝓣 .C) known-held-sorts·refuse at-rows (rowsOf (length rows₀) (reading form₀ update₀ (length rows₀) (length ranges₀ / 3))) at-ranges (wordsOf (length ranges₀) (reading form₀ update₀ (length rows₀) (length ranges₀ / 3))) at-given given₀ at-order order₀ at-counts counts₀ at-pending pending₀ ((answer (reading form₀ update₀ (length rows₀) (length ranges₀ / 3))) .refusal) (update-refusal (answer (reading form₀ update₀ (length rows₀) (length ranges₀ / 3))) (g₁ .0))) refl (λ P. and-then ! (load ! (from ! (stop !)) (look ! 103 refl)) (and-then ! (load ! (from ! (stop !)) (look ! 99 refl)) (and-then ! (load ! (from ! (stop !)) (look ! 95 refl)) (and-then ! (load ! (from ! (stop !)) (look ! 91 refl)) (and-then ! (load ! (from ! (stop !)) (look ! 87 refl)) (and-then ! (load ! (from ! (stop !)) (look ! 83 refl)) (and-then ! (load ! (from ! (fld ! refl (stop !))) (look-in ! 123 (sub ! 0 refl (whole !)))) (no-more !)))))))) (λ g₃.
         land ! (from ! (stop !)) (init ! 143 refl (g₃ .1 .0)) $
         return-on ! Post refl (look ! 143 refl) $
-        free-all ! (_ ∷ []) En (has _ ∷ has _ ∷ has _ ∷ has _ ∷ has _ ∷ has _ ∷ has _ ∷ has _ ∷ has _ ∷ has _ ∷ has _ ∷ bare ∷ bare ∷ bare ∷ has _ ∷ has _ ∷ has _ ∷ has _ ∷ has _ ∷ has _ ∷ has _ ∷ has _ ∷ has _ ∷ has _ ∷ has _ ∷ has _ ∷ has _ ∷ has _ ∷ has _ ∷ has _ ∷ has _ ∷ []) [] $ by ! (exits (answered (refusedWith ((answer (reading form₀ update₀ (length rows₀) (length ranges₀ / 3))) .refusal))) (rowsOf (length (rowsOf (length rows₀) (reading form₀ update₀ (length rows₀) (length ranges₀ / 3)))) (refused ((answer (reading form₀ update₀ (length rows₀) (length ranges₀ / 3))) .refusal))) (wordsOf (length (wordsOf (length ranges₀) (reading form₀ update₀ (length rows₀) (length ranges₀ / 3)))) (refused ((answer (reading form₀ update₀ (length rows₀) (length ranges₀ / 3))) .refusal))) (padded (length given₀) []) (padded (length order₀) []) (padded (length counts₀) []) (padded (length pending₀) []) (g₃ .0) (exit-unread form₀ update₀ held₀ rows₀ ranges₀ given₀ order₀ counts₀ pending₀ (eqb-false _ 0 (not-true _ y₂))))))
+        free-all ! (_ ∷ []) En (has _ ∷ has _ ∷ has _ ∷ has _ ∷ has _ ∷ has _ ∷ has _ ∷ has _ ∷ has _ ∷ has _ ∷ has _ ∷ bare ∷ bare ∷ bare ∷ has _ ∷ has _ ∷ has _ ∷ has _ ∷ has _ ∷ has _ ∷ has _ ∷ has _ ∷ has _ ∷ has _ ∷ has _ ∷ has _ ∷ has _ ∷ has _ ∷ has _ ∷ has _ ∷ has _ ∷ []) [] $ by ! (exits (answered (refusedWith ((answer (reading form₀ update₀ (length rows₀) (length ranges₀ / 3))) .refusal))) (rowsOf (length (rowsOf (length rows₀) (reading form₀ update₀ (length rows₀) (length ranges₀ / 3)))) (refused ((answer (reading form₀ update₀ (length rows₀) (length ranges₀ / 3))) .refusal))) (wordsOf (length (wordsOf (length ranges₀) (reading form₀ update₀ (length rows₀) (length ranges₀ / 3)))) (refused ((answer (reading form₀ update₀ (length rows₀) (length ranges₀ / 3))) .refusal))) (padded (length given₀) []) (padded (length order₀) []) (padded (length counts₀) []) (padded (length pending₀) []) (g₃ .0) (exit-unread quickly form₀ update₀ held₀ rows₀ ranges₀ given₀ order₀ counts₀ pending₀ (eqb-false _ 0 (not-true _ y₂))))))
         (λ y₂.
         skip-on ! $
         assigns ! (addr ! (from ! (fld ! refl (hop ! (look-in ! 131 (sub ! 0 refl (whole !))) (stop !))))) (from ! (stop !)) (init ! 81 refl (tt, tt)) $
@@ -249,7 +250,7 @@ module _ {M : Type 1} (𝓤 : URA M) (H : Heap 𝓤) (A : Atoms 𝓤) (W : Given
         calls-by ! (fmOf 𝓤 H (W .laws) 𝓣) (2 ∷ 3 ∷ 4 ∷ 5 ∷ 6 ∷ 7 ∷ []) (hs (rowsOf (length rows₀) (reading form₀ update₀ (length rows₀) (length ranges₀ / 3))) (wordsOf (length ranges₀) (reading form₀ update₀ (length rows₀) (length ranges₀ / 3))) (wordsGiven held₀ (length given₀)) order₀ counts₀ pending₀) (held-sorts·refuse! 𝓤 H A mem run (𝓣 .C) known-held-sorts·refuse at-rows (rowsOf (length rows₀) (reading form₀ update₀ (length rows₀) (length ranges₀ / 3))) at-ranges (wordsOf (length ranges₀) (reading form₀ update₀ (length rows₀) (length ranges₀ / 3))) at-given (wordsGiven held₀ (length given₀)) at-order order₀ at-counts counts₀ at-pending pending₀ (record { number = (readHeld held₀ (length given₀)) .number; place = 0 }) (refusal-has ((readHeld held₀ (length given₀)) .number) (heldread-number (readHeld held₀ (length given₀)) (g₄ .0)) 0 (refl, lit< tt))) refl (λ P. and-then ! (load ! (from ! (stop !)) (look ! 75 refl)) (and-then ! (load ! (from ! (stop !)) (look ! 71 refl)) (and-then ! (load ! (from ! (stop !)) (look ! 67 refl)) (and-then ! (load ! (from ! (stop !)) (look ! 63 refl)) (and-then ! (load ! (from ! (stop !)) (look ! 59 refl)) (and-then ! (load ! (from ! (stop !)) (look ! 55 refl)) (and-then ! (load ! (from ! (stop !)) (look ! 53 refl)) (no-more !)))))))) (λ g₆.
         land ! (from ! (stop !)) (init ! 143 refl (g₆ .1 .0)) $
         return-on ! Post refl (look ! 143 refl) $
-        free-all ! (_ ∷ []) En (has _ ∷ has _ ∷ has _ ∷ has _ ∷ has _ ∷ has _ ∷ has _ ∷ has _ ∷ has _ ∷ has _ ∷ has _ ∷ has _ ∷ bare ∷ bare ∷ has _ ∷ has _ ∷ has _ ∷ has _ ∷ has _ ∷ bare ∷ bare ∷ bare ∷ bare ∷ bare ∷ bare ∷ bare ∷ bare ∷ bare ∷ bare ∷ bare ∷ bare ∷ has _ ∷ has _ ∷ has _ ∷ has _ ∷ has _ ∷ has _ ∷ has _ ∷ has _ ∷ has _ ∷ has _ ∷ has _ ∷ has _ ∷ has _ ∷ has _ ∷ has _ ∷ []) [] $ by ! (exits (answered (refusedWith (record { number = (readHeld held₀ (length given₀)) .number; place = 0 }))) (rowsOf (length (rowsOf (length rows₀) (reading form₀ update₀ (length rows₀) (length ranges₀ / 3)))) (refused (record { number = (readHeld held₀ (length given₀)) .number; place = 0 }))) (wordsOf (length (wordsOf (length ranges₀) (reading form₀ update₀ (length rows₀) (length ranges₀ / 3)))) (refused (record { number = (readHeld held₀ (length given₀)) .number; place = 0 }))) (padded (length (wordsGiven held₀ (length given₀))) []) (padded (length order₀) []) (padded (length counts₀) []) (padded (length pending₀) []) (g₆ .0) (exit-ungiven form₀ update₀ held₀ rows₀ ranges₀ given₀ order₀ counts₀ pending₀ (eqb-true _ 0 (not-false _ y₂)) y₅))))
+        free-all ! (_ ∷ []) En (has _ ∷ has _ ∷ has _ ∷ has _ ∷ has _ ∷ has _ ∷ has _ ∷ has _ ∷ has _ ∷ has _ ∷ has _ ∷ has _ ∷ bare ∷ bare ∷ has _ ∷ has _ ∷ has _ ∷ has _ ∷ has _ ∷ bare ∷ bare ∷ bare ∷ bare ∷ bare ∷ bare ∷ bare ∷ bare ∷ bare ∷ bare ∷ bare ∷ bare ∷ has _ ∷ has _ ∷ has _ ∷ has _ ∷ has _ ∷ has _ ∷ has _ ∷ has _ ∷ has _ ∷ has _ ∷ has _ ∷ has _ ∷ has _ ∷ has _ ∷ has _ ∷ []) [] $ by ! (exits (answered (refusedWith (record { number = (readHeld held₀ (length given₀)) .number; place = 0 }))) (rowsOf (length (rowsOf (length rows₀) (reading form₀ update₀ (length rows₀) (length ranges₀ / 3)))) (refused (record { number = (readHeld held₀ (length given₀)) .number; place = 0 }))) (wordsOf (length (wordsOf (length ranges₀) (reading form₀ update₀ (length rows₀) (length ranges₀ / 3)))) (refused (record { number = (readHeld held₀ (length given₀)) .number; place = 0 }))) (padded (length (wordsGiven held₀ (length given₀))) []) (padded (length order₀) []) (padded (length counts₀) []) (padded (length pending₀) []) (g₆ .0) (exit-ungiven quickly form₀ update₀ held₀ rows₀ ranges₀ given₀ order₀ counts₀ pending₀ (eqb-true _ 0 (not-false _ y₂)) y₅))))
         (λ y₅.
         skip-on ! $
         assigns ! (addr ! (from ! (fld ! refl (hop ! (look-in ! 135 (sub ! 0 refl (whole !))) (stop !))))) (from ! (stop !)) (init ! 51 refl (tt, tt)) $
@@ -262,7 +263,7 @@ module _ {M : Type 1} (𝓤 : URA M) (H : Heap 𝓤) (A : Atoms 𝓤) (W : Given
         assigns ! (agg ! (and-then ! (load ! (from ! (stop !)) (look ! 39 refl)) (and-then ! (load ! (from ! (fld ! refl (stop !))) (look-in ! 127 (sub ! 1 refl (whole !)))) (no-more !)))) (from ! (stop !)) (init ! 37 refl (tt, (tt, (record { fits = are .1 .1 .1 .1 .1 .1 .1 .0 .0 .1 .0 }, tt)))) $
         assigns ! (addr ! (from ! (fld ! refl (hop ! (look-in ! 125 (sub ! 0 refl (whole !))) (stop !))))) (from ! (stop !)) (init ! 35 refl (tt, tt)) $
         assigns ! (agg ! (and-then ! (load ! (from ! (stop !)) (look ! 35 refl)) (and-then ! (load ! (from ! (fld ! refl (stop !))) (look-in ! 125 (sub ! 1 refl (whole !)))) (no-more !)))) (from ! (stop !)) (init ! 33 refl (tt, (tt, (record { fits = are .1 .1 .1 .1 .1 .1 .1 .1 .0 .0 .1 .0 }, tt)))) $
-        calls-by ! (fmOf 𝓤 H (W .laws) 𝓣) (2 ∷ 4 ∷ 5 ∷ 6 ∷ 7 ∷ []) (hs (rowsOf (length rows₀) (reading form₀ update₀ (length rows₀) (length ranges₀ / 3))) (wordsOf (length ranges₀) (reading form₀ update₀ (length rows₀) (length ranges₀ / 3))) (wordsGiven held₀ (length given₀)) order₀ counts₀ pending₀) (held-sorter·sort-kept-rows-held! 𝓤 H A mem run (𝓣 .C) known-held-sorter·sort-kept at-rows (rowsOf (length rows₀) (reading form₀ update₀ (length rows₀) (length ranges₀ / 3))) ((answer (reading form₀ update₀ (length rows₀) (length ranges₀ / 3))) .blocks) (update-blocks (answer (reading form₀ update₀ (length rows₀) (length ranges₀ / 3))) (g₁ .0)) at-given (wordsGiven held₀ (length given₀)) ((readHeld held₀ (length given₀)) .ranges) (heldread-ranges (readHeld held₀ (length given₀)) (g₄ .0)) at-order order₀ at-counts counts₀ at-pending pending₀ (asks form₀ update₀ held₀ rows₀ ranges₀ given₀ order₀ counts₀ pending₀ (eqb-true _ 0 (not-false _ y₂)) y₅ (omega (arith, sz .0, are .1 .1 .1 .0 .0 .1 .0)))) refl (λ P. and-then ! (load ! (from ! (stop !)) (look ! 49 refl)) (and-then ! (load ! (from ! (fld ! refl (stop !))) (look-in ! 123 (sub ! 1 refl (whole !)))) (and-then ! (load ! (from ! (stop !)) (look ! 45 refl)) (and-then ! (load ! (from ! (fld ! refl (stop !))) (look-in ! 121 (sub ! 2 refl (whole !)))) (and-then ! (load ! (from ! (stop !)) (look ! 41 refl)) (and-then ! (load ! (from ! (stop !)) (look ! 37 refl)) (and-then ! (load ! (from ! (stop !)) (look ! 33 refl)) (no-more !)))))))) (λ g₇.
+        calls-by ! (fmOf 𝓤 H (W .laws) 𝓣) (2 ∷ 4 ∷ 5 ∷ 6 ∷ 7 ∷ []) (hs (rowsOf (length rows₀) (reading form₀ update₀ (length rows₀) (length ranges₀ / 3))) (wordsOf (length ranges₀) (reading form₀ update₀ (length rows₀) (length ranges₀ / 3))) (wordsGiven held₀ (length given₀)) order₀ counts₀ pending₀) (held-sorter·sort-kept-rows-held! 𝓤 H A mem run (𝓣 .C) known-held-sorter·sort-kept at-rows (rowsOf (length rows₀) (reading form₀ update₀ (length rows₀) (length ranges₀ / 3))) ((answer (reading form₀ update₀ (length rows₀) (length ranges₀ / 3))) .blocks) (update-blocks (answer (reading form₀ update₀ (length rows₀) (length ranges₀ / 3))) (g₁ .0)) at-given (wordsGiven held₀ (length given₀)) ((readHeld held₀ (length given₀)) .ranges) (heldread-ranges (readHeld held₀ (length given₀)) (g₄ .0)) at-order order₀ at-counts counts₀ at-pending pending₀ (asks quickly form₀ update₀ held₀ rows₀ ranges₀ given₀ order₀ counts₀ pending₀ (eqb-true _ 0 (not-false _ y₂)) y₅)) refl (λ P. and-then ! (load ! (from ! (stop !)) (look ! 49 refl)) (and-then ! (load ! (from ! (fld ! refl (stop !))) (look-in ! 123 (sub ! 1 refl (whole !)))) (and-then ! (load ! (from ! (stop !)) (look ! 45 refl)) (and-then ! (load ! (from ! (fld ! refl (stop !))) (look-in ! 121 (sub ! 2 refl (whole !)))) (and-then ! (load ! (from ! (stop !)) (look ! 41 refl)) (and-then ! (load ! (from ! (stop !)) (look ! 37 refl)) (and-then ! (load ! (from ! (stop !)) (look ! 33 refl)) (no-more !)))))))) (λ g₇.
         land ! (from ! (stop !)) (init ! 119 refl (g₇ .1 .0)) $
         assigns ! (of-opd ! (load ! (from ! (fld ! refl (stop !))) (look-in ! 129 (sub ! 1 refl (whole !))))) (from ! (stop !)) (init ! 31 refl (tt, record { fits = are .1 .1 .1 .1 .1 .1 .0 .0 .1 .0 })) $
         assigns ! (of-opd ! (load ! (from ! (fld ! refl (stop !))) (look-in ! 127 (sub ! 1 refl (whole !))))) (from ! (stop !)) (init ! 29 refl (tt, record { fits = are .1 .1 .1 .1 .1 .1 .1 .0 .0 .1 .0 })) $
@@ -302,13 +303,13 @@ module _ {M : Type 1} (𝓤 : URA M) (H : Heap 𝓤) (A : Atoms 𝓤) (W : Given
         calls-by ! (fmOf 𝓤 H (W .laws) 𝓣) (2 ∷ 3 ∷ 4 ∷ 5 ∷ 6 ∷ 7 ∷ []) (hs (rowsOf (length rows₀) (reading form₀ update₀ (length rows₀) (length ranges₀ / 3))) (wordsOf (length ranges₀) (reading form₀ update₀ (length rows₀) (length ranges₀ / 3))) (wordsGiven held₀ (length given₀)) (orderBy (wordsGiven held₀ (length given₀)) ((readHeld held₀ (length given₀)) .ranges) (slotsFor maxReaches (take ((answer (reading form₀ update₀ (length rows₀) (length ranges₀ / 3))) .blocks) (rowsOf (length rows₀) (reading form₀ update₀ (length rows₀) (length ranges₀ / 3)))) []) (rowsOf (length rows₀) (reading form₀ update₀ (length rows₀) (length ranges₀ / 3))) ((answer (reading form₀ update₀ (length rows₀) (length ranges₀ / 3))) .blocks) order₀) (fitted (length counts₀) (countsBy (wordsGiven held₀ (length given₀)) ((readHeld held₀ (length given₀)) .ranges) (slotsFor maxReaches (take ((answer (reading form₀ update₀ (length rows₀) (length ranges₀ / 3))) .blocks) (rowsOf (length rows₀) (reading form₀ update₀ (length rows₀) (length ranges₀ / 3)))) []) (rowsOf (length rows₀) (reading form₀ update₀ (length rows₀) (length ranges₀ / 3))) ((answer (reading form₀ update₀ (length rows₀) (length ranges₀ / 3))) .blocks) order₀)) (fitted (length pending₀) (pendingBy (wordsGiven held₀ (length given₀)) ((readHeld held₀ (length given₀)) .ranges) (slotsFor maxReaches (take ((answer (reading form₀ update₀ (length rows₀) (length ranges₀ / 3))) .blocks) (rowsOf (length rows₀) (reading form₀ update₀ (length rows₀) (length ranges₀ / 3)))) []) (rowsOf (length rows₀) (reading form₀ update₀ (length rows₀) (length ranges₀ / 3))) ((answer (reading form₀ update₀ (length rows₀) (length ranges₀ / 3))) .blocks) order₀))) (held-sorts·refuse! 𝓤 H A mem run (𝓣 .C) known-held-sorts·refuse at-rows (rowsOf (length rows₀) (reading form₀ update₀ (length rows₀) (length ranges₀ / 3))) at-ranges (wordsOf (length ranges₀) (reading form₀ update₀ (length rows₀) (length ranges₀ / 3))) at-given (wordsGiven held₀ (length given₀)) at-order (orderBy (wordsGiven held₀ (length given₀)) ((readHeld held₀ (length given₀)) .ranges) (slotsFor maxReaches (take ((answer (reading form₀ update₀ (length rows₀) (length ranges₀ / 3))) .blocks) (rowsOf (length rows₀) (reading form₀ update₀ (length rows₀) (length ranges₀ / 3)))) []) (rowsOf (length rows₀) (reading form₀ update₀ (length rows₀) (length ranges₀ / 3))) ((answer (reading form₀ update₀ (length rows₀) (length ranges₀ / 3))) .blocks) order₀) at-counts (fitted (length counts₀) (countsBy (wordsGiven held₀ (length given₀)) ((readHeld held₀ (length given₀)) .ranges) (slotsFor maxReaches (take ((answer (reading form₀ update₀ (length rows₀) (length ranges₀ / 3))) .blocks) (rowsOf (length rows₀) (reading form₀ update₀ (length rows₀) (length ranges₀ / 3)))) []) (rowsOf (length rows₀) (reading form₀ update₀ (length rows₀) (length ranges₀ / 3))) ((answer (reading form₀ update₀ (length rows₀) (length ranges₀ / 3))) .blocks) order₀)) at-pending (fitted (length pending₀) (pendingBy (wordsGiven held₀ (length given₀)) ((readHeld held₀ (length given₀)) .ranges) (slotsFor maxReaches (take ((answer (reading form₀ update₀ (length rows₀) (length ranges₀ / 3))) .blocks) (rowsOf (length rows₀) (reading form₀ update₀ (length rows₀) (length ranges₀ / 3)))) []) (rowsOf (length rows₀) (reading form₀ update₀ (length rows₀) (length ranges₀ / 3))) ((answer (reading form₀ update₀ (length rows₀) (length ranges₀ / 3))) .blocks) order₀)) (record { number = judged (sortingBy (wordsGiven held₀ (length given₀)) ((readHeld held₀ (length given₀)) .ranges) (slotsFor maxReaches (take ((answer (reading form₀ update₀ (length rows₀) (length ranges₀ / 3))) .blocks) (rowsOf (length rows₀) (reading form₀ update₀ (length rows₀) (length ranges₀ / 3)))) []) (rowsOf (length rows₀) (reading form₀ update₀ (length rows₀) (length ranges₀ / 3))) ((answer (reading form₀ update₀ (length rows₀) (length ranges₀ / 3))) .blocks) order₀) (at-order .count) (at-counts .count) 0 (at-pending .count); place = 0 }) (refusal-has (judged (sortingBy (wordsGiven held₀ (length given₀)) ((readHeld held₀ (length given₀)) .ranges) (slotsFor maxReaches (take ((answer (reading form₀ update₀ (length rows₀) (length ranges₀ / 3))) .blocks) (rowsOf (length rows₀) (reading form₀ update₀ (length rows₀) (length ranges₀ / 3)))) []) (rowsOf (length rows₀) (reading form₀ update₀ (length rows₀) (length ranges₀ / 3))) ((answer (reading form₀ update₀ (length rows₀) (length ranges₀ / 3))) .blocks) order₀) (at-order .count) (at-counts .count) 0 (at-pending .count)) (g₈ .0) 0 (refl, lit< tt))) refl (λ P. and-then ! (load ! (from ! (stop !)) (look ! 23 refl)) (and-then ! (load ! (from ! (stop !)) (look ! 19 refl)) (and-then ! (load ! (from ! (stop !)) (look ! 15 refl)) (and-then ! (load ! (from ! (stop !)) (look ! 11 refl)) (and-then ! (load ! (from ! (stop !)) (look ! 7 refl)) (and-then ! (load ! (from ! (stop !)) (look ! 3 refl)) (and-then ! (load ! (from ! (stop !)) (look ! 1 refl)) (no-more !)))))))) (λ g₁₀.
         land ! (from ! (stop !)) (init ! 143 refl (g₁₀ .1 .0)) $
         return-on ! Post refl (look ! 143 refl) $
-        free-all ! (_ ∷ []) En (has _ ∷ has _ ∷ has _ ∷ has _ ∷ has _ ∷ has _ ∷ has _ ∷ has _ ∷ has _ ∷ has _ ∷ has _ ∷ has _ ∷ has _ ∷ has _ ∷ has _ ∷ has _ ∷ has _ ∷ has _ ∷ has _ ∷ bare ∷ bare ∷ bare ∷ bare ∷ bare ∷ bare ∷ bare ∷ bare ∷ bare ∷ bare ∷ bare ∷ bare ∷ has _ ∷ has _ ∷ bare ∷ bare ∷ bare ∷ bare ∷ bare ∷ bare ∷ bare ∷ bare ∷ bare ∷ bare ∷ bare ∷ bare ∷ bare ∷ has _ ∷ has _ ∷ has _ ∷ has _ ∷ has _ ∷ has _ ∷ has _ ∷ has _ ∷ has _ ∷ has _ ∷ has _ ∷ has _ ∷ has _ ∷ has _ ∷ has _ ∷ has _ ∷ has _ ∷ has _ ∷ has _ ∷ has _ ∷ has _ ∷ has _ ∷ has _ ∷ has _ ∷ has _ ∷ has _ ∷ []) [] $ by ! (exits (answered (refusedWith (record { number = judged (sortingBy (wordsGiven held₀ (length given₀)) ((readHeld held₀ (length given₀)) .ranges) (slotsFor maxReaches (take ((answer (reading form₀ update₀ (length rows₀) (length ranges₀ / 3))) .blocks) (rowsOf (length rows₀) (reading form₀ update₀ (length rows₀) (length ranges₀ / 3)))) []) (rowsOf (length rows₀) (reading form₀ update₀ (length rows₀) (length ranges₀ / 3))) ((answer (reading form₀ update₀ (length rows₀) (length ranges₀ / 3))) .blocks) order₀) (at-order .count) (at-counts .count) 0 (at-pending .count); place = 0 }))) (rowsOf (length (rowsOf (length rows₀) (reading form₀ update₀ (length rows₀) (length ranges₀ / 3)))) (refused (record { number = judged (sortingBy (wordsGiven held₀ (length given₀)) ((readHeld held₀ (length given₀)) .ranges) (slotsFor maxReaches (take ((answer (reading form₀ update₀ (length rows₀) (length ranges₀ / 3))) .blocks) (rowsOf (length rows₀) (reading form₀ update₀ (length rows₀) (length ranges₀ / 3)))) []) (rowsOf (length rows₀) (reading form₀ update₀ (length rows₀) (length ranges₀ / 3))) ((answer (reading form₀ update₀ (length rows₀) (length ranges₀ / 3))) .blocks) order₀) (at-order .count) (at-counts .count) 0 (at-pending .count); place = 0 }))) (wordsOf (length (wordsOf (length ranges₀) (reading form₀ update₀ (length rows₀) (length ranges₀ / 3)))) (refused (record { number = judged (sortingBy (wordsGiven held₀ (length given₀)) ((readHeld held₀ (length given₀)) .ranges) (slotsFor maxReaches (take ((answer (reading form₀ update₀ (length rows₀) (length ranges₀ / 3))) .blocks) (rowsOf (length rows₀) (reading form₀ update₀ (length rows₀) (length ranges₀ / 3)))) []) (rowsOf (length rows₀) (reading form₀ update₀ (length rows₀) (length ranges₀ / 3))) ((answer (reading form₀ update₀ (length rows₀) (length ranges₀ / 3))) .blocks) order₀) (at-order .count) (at-counts .count) 0 (at-pending .count); place = 0 }))) (padded (length (wordsGiven held₀ (length given₀))) []) (padded (length (orderBy (wordsGiven held₀ (length given₀)) ((readHeld held₀ (length given₀)) .ranges) (slotsFor maxReaches (take ((answer (reading form₀ update₀ (length rows₀) (length ranges₀ / 3))) .blocks) (rowsOf (length rows₀) (reading form₀ update₀ (length rows₀) (length ranges₀ / 3)))) []) (rowsOf (length rows₀) (reading form₀ update₀ (length rows₀) (length ranges₀ / 3))) ((answer (reading form₀ update₀ (length rows₀) (length ranges₀ / 3))) .blocks) order₀)) []) (padded (length (fitted (length counts₀) (countsBy (wordsGiven held₀ (length given₀)) ((readHeld held₀ (length given₀)) .ranges) (slotsFor maxReaches (take ((answer (reading form₀ update₀ (length rows₀) (length ranges₀ / 3))) .blocks) (rowsOf (length rows₀) (reading form₀ update₀ (length rows₀) (length ranges₀ / 3)))) []) (rowsOf (length rows₀) (reading form₀ update₀ (length rows₀) (length ranges₀ / 3))) ((answer (reading form₀ update₀ (length rows₀) (length ranges₀ / 3))) .blocks) order₀))) []) (padded (length (fitted (length pending₀) (pendingBy (wordsGiven held₀ (length given₀)) ((readHeld held₀ (length given₀)) .ranges) (slotsFor maxReaches (take ((answer (reading form₀ update₀ (length rows₀) (length ranges₀ / 3))) .blocks) (rowsOf (length rows₀) (reading form₀ update₀ (length rows₀) (length ranges₀ / 3)))) []) (rowsOf (length rows₀) (reading form₀ update₀ (length rows₀) (length ranges₀ / 3))) ((answer (reading form₀ update₀ (length rows₀) (length ranges₀ / 3))) .blocks) order₀))) []) (g₁₀ .0) (exit-refused form₀ update₀ held₀ rows₀ ranges₀ given₀ order₀ counts₀ pending₀ (eqb-true _ 0 (not-false _ y₂)) y₅ (omega (arith, sz .0, are .1 .1 .1 .0 .0 .1 .0)) (at-order .count) (at-counts .count) (at-pending .count) (sz .1 .1 .1 .0) (sz .1 .1 .1 .1 .0) (sz .1 .1 .1 .1 .1 .0) (eqb-false _ 0 (not-true _ y₉))))))
+        free-all ! (_ ∷ []) En (has _ ∷ has _ ∷ has _ ∷ has _ ∷ has _ ∷ has _ ∷ has _ ∷ has _ ∷ has _ ∷ has _ ∷ has _ ∷ has _ ∷ has _ ∷ has _ ∷ has _ ∷ has _ ∷ has _ ∷ has _ ∷ has _ ∷ bare ∷ bare ∷ bare ∷ bare ∷ bare ∷ bare ∷ bare ∷ bare ∷ bare ∷ bare ∷ bare ∷ bare ∷ has _ ∷ has _ ∷ bare ∷ bare ∷ bare ∷ bare ∷ bare ∷ bare ∷ bare ∷ bare ∷ bare ∷ bare ∷ bare ∷ bare ∷ bare ∷ has _ ∷ has _ ∷ has _ ∷ has _ ∷ has _ ∷ has _ ∷ has _ ∷ has _ ∷ has _ ∷ has _ ∷ has _ ∷ has _ ∷ has _ ∷ has _ ∷ has _ ∷ has _ ∷ has _ ∷ has _ ∷ has _ ∷ has _ ∷ has _ ∷ has _ ∷ has _ ∷ has _ ∷ has _ ∷ has _ ∷ []) [] $ by ! (exits (answered (refusedWith (record { number = judged (sortingBy (wordsGiven held₀ (length given₀)) ((readHeld held₀ (length given₀)) .ranges) (slotsFor maxReaches (take ((answer (reading form₀ update₀ (length rows₀) (length ranges₀ / 3))) .blocks) (rowsOf (length rows₀) (reading form₀ update₀ (length rows₀) (length ranges₀ / 3)))) []) (rowsOf (length rows₀) (reading form₀ update₀ (length rows₀) (length ranges₀ / 3))) ((answer (reading form₀ update₀ (length rows₀) (length ranges₀ / 3))) .blocks) order₀) (at-order .count) (at-counts .count) 0 (at-pending .count); place = 0 }))) (rowsOf (length (rowsOf (length rows₀) (reading form₀ update₀ (length rows₀) (length ranges₀ / 3)))) (refused (record { number = judged (sortingBy (wordsGiven held₀ (length given₀)) ((readHeld held₀ (length given₀)) .ranges) (slotsFor maxReaches (take ((answer (reading form₀ update₀ (length rows₀) (length ranges₀ / 3))) .blocks) (rowsOf (length rows₀) (reading form₀ update₀ (length rows₀) (length ranges₀ / 3)))) []) (rowsOf (length rows₀) (reading form₀ update₀ (length rows₀) (length ranges₀ / 3))) ((answer (reading form₀ update₀ (length rows₀) (length ranges₀ / 3))) .blocks) order₀) (at-order .count) (at-counts .count) 0 (at-pending .count); place = 0 }))) (wordsOf (length (wordsOf (length ranges₀) (reading form₀ update₀ (length rows₀) (length ranges₀ / 3)))) (refused (record { number = judged (sortingBy (wordsGiven held₀ (length given₀)) ((readHeld held₀ (length given₀)) .ranges) (slotsFor maxReaches (take ((answer (reading form₀ update₀ (length rows₀) (length ranges₀ / 3))) .blocks) (rowsOf (length rows₀) (reading form₀ update₀ (length rows₀) (length ranges₀ / 3)))) []) (rowsOf (length rows₀) (reading form₀ update₀ (length rows₀) (length ranges₀ / 3))) ((answer (reading form₀ update₀ (length rows₀) (length ranges₀ / 3))) .blocks) order₀) (at-order .count) (at-counts .count) 0 (at-pending .count); place = 0 }))) (padded (length (wordsGiven held₀ (length given₀))) []) (padded (length (orderBy (wordsGiven held₀ (length given₀)) ((readHeld held₀ (length given₀)) .ranges) (slotsFor maxReaches (take ((answer (reading form₀ update₀ (length rows₀) (length ranges₀ / 3))) .blocks) (rowsOf (length rows₀) (reading form₀ update₀ (length rows₀) (length ranges₀ / 3)))) []) (rowsOf (length rows₀) (reading form₀ update₀ (length rows₀) (length ranges₀ / 3))) ((answer (reading form₀ update₀ (length rows₀) (length ranges₀ / 3))) .blocks) order₀)) []) (padded (length (fitted (length counts₀) (countsBy (wordsGiven held₀ (length given₀)) ((readHeld held₀ (length given₀)) .ranges) (slotsFor maxReaches (take ((answer (reading form₀ update₀ (length rows₀) (length ranges₀ / 3))) .blocks) (rowsOf (length rows₀) (reading form₀ update₀ (length rows₀) (length ranges₀ / 3)))) []) (rowsOf (length rows₀) (reading form₀ update₀ (length rows₀) (length ranges₀ / 3))) ((answer (reading form₀ update₀ (length rows₀) (length ranges₀ / 3))) .blocks) order₀))) []) (padded (length (fitted (length pending₀) (pendingBy (wordsGiven held₀ (length given₀)) ((readHeld held₀ (length given₀)) .ranges) (slotsFor maxReaches (take ((answer (reading form₀ update₀ (length rows₀) (length ranges₀ / 3))) .blocks) (rowsOf (length rows₀) (reading form₀ update₀ (length rows₀) (length ranges₀ / 3)))) []) (rowsOf (length rows₀) (reading form₀ update₀ (length rows₀) (length ranges₀ / 3))) ((answer (reading form₀ update₀ (length rows₀) (length ranges₀ / 3))) .blocks) order₀))) []) (g₁₀ .0) (exit-refused quickly form₀ update₀ held₀ rows₀ ranges₀ given₀ order₀ counts₀ pending₀ (eqb-true _ 0 (not-false _ y₂)) y₅ (gives form₀ update₀ held₀ rows₀ ranges₀ given₀ order₀ counts₀ pending₀ (eqb-true _ 0 (not-false _ y₂)) y₅ (omega (arith, sz .0, are .1 .1 .1 .0 .0 .1 .0))) (at-order .count) (at-counts .count) (at-pending .count) (sz .1 .1 .1 .0) (sz .1 .1 .1 .1 .0) (sz .1 .1 .1 .1 .1 .0) (eqb-false _ 0 (not-true _ y₉))))))
         (λ y₉.
         skip-on ! $
         calls-by ! (fmOf 𝓤 H (W .laws) 𝓣) ([]) (hs (rowsOf (length rows₀) (reading form₀ update₀ (length rows₀) (length ranges₀ / 3))) (wordsOf (length ranges₀) (reading form₀ update₀ (length rows₀) (length ranges₀ / 3))) (wordsGiven held₀ (length given₀)) (orderBy (wordsGiven held₀ (length given₀)) ((readHeld held₀ (length given₀)) .ranges) (slotsFor maxReaches (take ((answer (reading form₀ update₀ (length rows₀) (length ranges₀ / 3))) .blocks) (rowsOf (length rows₀) (reading form₀ update₀ (length rows₀) (length ranges₀ / 3)))) []) (rowsOf (length rows₀) (reading form₀ update₀ (length rows₀) (length ranges₀ / 3))) ((answer (reading form₀ update₀ (length rows₀) (length ranges₀ / 3))) .blocks) order₀) (fitted (length counts₀) (countsBy (wordsGiven held₀ (length given₀)) ((readHeld held₀ (length given₀)) .ranges) (slotsFor maxReaches (take ((answer (reading form₀ update₀ (length rows₀) (length ranges₀ / 3))) .blocks) (rowsOf (length rows₀) (reading form₀ update₀ (length rows₀) (length ranges₀ / 3)))) []) (rowsOf (length rows₀) (reading form₀ update₀ (length rows₀) (length ranges₀ / 3))) ((answer (reading form₀ update₀ (length rows₀) (length ranges₀ / 3))) .blocks) order₀)) (fitted (length pending₀) (pendingBy (wordsGiven held₀ (length given₀)) ((readHeld held₀ (length given₀)) .ranges) (slotsFor maxReaches (take ((answer (reading form₀ update₀ (length rows₀) (length ranges₀ / 3))) .blocks) (rowsOf (length rows₀) (reading form₀ update₀ (length rows₀) (length ranges₀ / 3)))) []) (rowsOf (length rows₀) (reading form₀ update₀ (length rows₀) (length ranges₀ / 3))) ((answer (reading form₀ update₀ (length rows₀) (length ranges₀ / 3))) .blocks) order₀))) (held-answers·done! 𝓤 H A mem run (𝓣 .C) known-held-answers·done (answer (reading form₀ update₀ (length rows₀) (length ranges₀ / 3))) (g₁ .0) ((readHeld held₀ (length given₀)) .ranges) (heldread-ranges (readHeld held₀ (length given₀)) (g₄ .0)) (sortingBy (wordsGiven held₀ (length given₀)) ((readHeld held₀ (length given₀)) .ranges) (slotsFor maxReaches (take ((answer (reading form₀ update₀ (length rows₀) (length ranges₀ / 3))) .blocks) (rowsOf (length rows₀) (reading form₀ update₀ (length rows₀) (length ranges₀ / 3)))) []) (rowsOf (length rows₀) (reading form₀ update₀ (length rows₀) (length ranges₀ / 3))) ((answer (reading form₀ update₀ (length rows₀) (length ranges₀ / 3))) .blocks) order₀) (g₇ .0)) refl (λ P. and-then ! (load ! (from ! (stop !)) (look ! 123 refl)) (and-then ! (load ! (from ! (fld ! refl (stop !))) (look-in ! 121 (sub ! 2 refl (whole !)))) (and-then ! (load ! (from ! (stop !)) (look ! 119 refl)) (no-more !)))) (λ g₁₁.
         land ! (from ! (stop !)) (init ! 143 refl (g₁₁ .1 .0)) $
         returns-within ! Post refl (look ! 143 refl) $
-        free-all ! (_ ∷ []) En (has _ ∷ has _ ∷ has _ ∷ has _ ∷ has _ ∷ has _ ∷ has _ ∷ has _ ∷ has _ ∷ has _ ∷ has _ ∷ has _ ∷ has _ ∷ has _ ∷ has _ ∷ has _ ∷ has _ ∷ has _ ∷ has _ ∷ bare ∷ bare ∷ bare ∷ bare ∷ bare ∷ bare ∷ bare ∷ bare ∷ bare ∷ bare ∷ bare ∷ bare ∷ has _ ∷ has _ ∷ bare ∷ bare ∷ bare ∷ bare ∷ bare ∷ bare ∷ bare ∷ bare ∷ bare ∷ bare ∷ bare ∷ bare ∷ bare ∷ has _ ∷ has _ ∷ has _ ∷ has _ ∷ has _ ∷ has _ ∷ has _ ∷ has _ ∷ has _ ∷ has _ ∷ has _ ∷ has _ ∷ has _ ∷ []) [] $ by ! (exits (answerTo (answer (reading form₀ update₀ (length rows₀) (length ranges₀ / 3))) ((readHeld held₀ (length given₀)) .ranges) (sortingBy (wordsGiven held₀ (length given₀)) ((readHeld held₀ (length given₀)) .ranges) (slotsFor maxReaches (take ((answer (reading form₀ update₀ (length rows₀) (length ranges₀ / 3))) .blocks) (rowsOf (length rows₀) (reading form₀ update₀ (length rows₀) (length ranges₀ / 3)))) []) (rowsOf (length rows₀) (reading form₀ update₀ (length rows₀) (length ranges₀ / 3))) ((answer (reading form₀ update₀ (length rows₀) (length ranges₀ / 3))) .blocks) order₀)) (rowsOf (length rows₀) (reading form₀ update₀ (length rows₀) (length ranges₀ / 3))) (wordsOf (length ranges₀) (reading form₀ update₀ (length rows₀) (length ranges₀ / 3))) (wordsGiven held₀ (length given₀)) (orderBy (wordsGiven held₀ (length given₀)) ((readHeld held₀ (length given₀)) .ranges) (slotsFor maxReaches (take ((answer (reading form₀ update₀ (length rows₀) (length ranges₀ / 3))) .blocks) (rowsOf (length rows₀) (reading form₀ update₀ (length rows₀) (length ranges₀ / 3)))) []) (rowsOf (length rows₀) (reading form₀ update₀ (length rows₀) (length ranges₀ / 3))) ((answer (reading form₀ update₀ (length rows₀) (length ranges₀ / 3))) .blocks) order₀) (fitted (length counts₀) (countsBy (wordsGiven held₀ (length given₀)) ((readHeld held₀ (length given₀)) .ranges) (slotsFor maxReaches (take ((answer (reading form₀ update₀ (length rows₀) (length ranges₀ / 3))) .blocks) (rowsOf (length rows₀) (reading form₀ update₀ (length rows₀) (length ranges₀ / 3)))) []) (rowsOf (length rows₀) (reading form₀ update₀ (length rows₀) (length ranges₀ / 3))) ((answer (reading form₀ update₀ (length rows₀) (length ranges₀ / 3))) .blocks) order₀)) (fitted (length pending₀) (pendingBy (wordsGiven held₀ (length given₀)) ((readHeld held₀ (length given₀)) .ranges) (slotsFor maxReaches (take ((answer (reading form₀ update₀ (length rows₀) (length ranges₀ / 3))) .blocks) (rowsOf (length rows₀) (reading form₀ update₀ (length rows₀) (length ranges₀ / 3)))) []) (rowsOf (length rows₀) (reading form₀ update₀ (length rows₀) (length ranges₀ / 3))) ((answer (reading form₀ update₀ (length rows₀) (length ranges₀ / 3))) .blocks) order₀)) (g₁₁ .0) (exit-done form₀ update₀ held₀ rows₀ ranges₀ given₀ order₀ counts₀ pending₀ (eqb-true _ 0 (not-false _ y₂)) y₅ (omega (arith, sz .0, are .1 .1 .1 .0 .0 .1 .0)) (at-order .count) (at-counts .count) (at-pending .count) (sz .1 .1 .1 .0) (sz .1 .1 .1 .1 .0) (sz .1 .1 .1 .1 .1 .0) (eqb-true _ 0 (not-false _ y₉))))))))))))))
+        free-all ! (_ ∷ []) En (has _ ∷ has _ ∷ has _ ∷ has _ ∷ has _ ∷ has _ ∷ has _ ∷ has _ ∷ has _ ∷ has _ ∷ has _ ∷ has _ ∷ has _ ∷ has _ ∷ has _ ∷ has _ ∷ has _ ∷ has _ ∷ has _ ∷ bare ∷ bare ∷ bare ∷ bare ∷ bare ∷ bare ∷ bare ∷ bare ∷ bare ∷ bare ∷ bare ∷ bare ∷ has _ ∷ has _ ∷ bare ∷ bare ∷ bare ∷ bare ∷ bare ∷ bare ∷ bare ∷ bare ∷ bare ∷ bare ∷ bare ∷ bare ∷ bare ∷ has _ ∷ has _ ∷ has _ ∷ has _ ∷ has _ ∷ has _ ∷ has _ ∷ has _ ∷ has _ ∷ has _ ∷ has _ ∷ has _ ∷ has _ ∷ []) [] $ by ! (exits (answerTo (answer (reading form₀ update₀ (length rows₀) (length ranges₀ / 3))) ((readHeld held₀ (length given₀)) .ranges) (sortingBy (wordsGiven held₀ (length given₀)) ((readHeld held₀ (length given₀)) .ranges) (slotsFor maxReaches (take ((answer (reading form₀ update₀ (length rows₀) (length ranges₀ / 3))) .blocks) (rowsOf (length rows₀) (reading form₀ update₀ (length rows₀) (length ranges₀ / 3)))) []) (rowsOf (length rows₀) (reading form₀ update₀ (length rows₀) (length ranges₀ / 3))) ((answer (reading form₀ update₀ (length rows₀) (length ranges₀ / 3))) .blocks) order₀)) (rowsOf (length rows₀) (reading form₀ update₀ (length rows₀) (length ranges₀ / 3))) (wordsOf (length ranges₀) (reading form₀ update₀ (length rows₀) (length ranges₀ / 3))) (wordsGiven held₀ (length given₀)) (orderBy (wordsGiven held₀ (length given₀)) ((readHeld held₀ (length given₀)) .ranges) (slotsFor maxReaches (take ((answer (reading form₀ update₀ (length rows₀) (length ranges₀ / 3))) .blocks) (rowsOf (length rows₀) (reading form₀ update₀ (length rows₀) (length ranges₀ / 3)))) []) (rowsOf (length rows₀) (reading form₀ update₀ (length rows₀) (length ranges₀ / 3))) ((answer (reading form₀ update₀ (length rows₀) (length ranges₀ / 3))) .blocks) order₀) (fitted (length counts₀) (countsBy (wordsGiven held₀ (length given₀)) ((readHeld held₀ (length given₀)) .ranges) (slotsFor maxReaches (take ((answer (reading form₀ update₀ (length rows₀) (length ranges₀ / 3))) .blocks) (rowsOf (length rows₀) (reading form₀ update₀ (length rows₀) (length ranges₀ / 3)))) []) (rowsOf (length rows₀) (reading form₀ update₀ (length rows₀) (length ranges₀ / 3))) ((answer (reading form₀ update₀ (length rows₀) (length ranges₀ / 3))) .blocks) order₀)) (fitted (length pending₀) (pendingBy (wordsGiven held₀ (length given₀)) ((readHeld held₀ (length given₀)) .ranges) (slotsFor maxReaches (take ((answer (reading form₀ update₀ (length rows₀) (length ranges₀ / 3))) .blocks) (rowsOf (length rows₀) (reading form₀ update₀ (length rows₀) (length ranges₀ / 3)))) []) (rowsOf (length rows₀) (reading form₀ update₀ (length rows₀) (length ranges₀ / 3))) ((answer (reading form₀ update₀ (length rows₀) (length ranges₀ / 3))) .blocks) order₀)) (g₁₁ .0) (exit-done quickly form₀ update₀ held₀ rows₀ ranges₀ given₀ order₀ counts₀ pending₀ (eqb-true _ 0 (not-false _ y₂)) y₅ (gives form₀ update₀ held₀ rows₀ ranges₀ given₀ order₀ counts₀ pending₀ (eqb-true _ 0 (not-false _ y₂)) y₅ (omega (arith, sz .0, are .1 .1 .1 .0 .0 .1 .0))) (at-order .count) (at-counts .count) (at-pending .count) (sz .1 .1 .1 .0) (sz .1 .1 .1 .1 .0) (sz .1 .1 .1 .1 .1 .0) (eqb-true _ 0 (not-false _ y₉))))))))))))))
 
 pub sort-held-spec : {M : Type 1} → stated.statement M
 unfolding code.routine tablesOf

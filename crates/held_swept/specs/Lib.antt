@@ -1,0 +1,2 @@
+-- Sorting by held ids, slowly.
+pub mod HeldSlowly
