@@ -56,7 +56,7 @@ module _ (form : ℕ) (u : List ℕ) (other : form ≢ 1) where
   unfolding linesOf
   lines-columned code f a s t = rw (ne-eqb form 1 other) refl
 
-  column-found : (x : Grammar Block (Unit {0})) (q : Plan) (h : Sheet) (n : ℕ) (s : State)
+  pub column-found : (x : Grammar Block (Unit {0})) (q : Plan) (h : Sheet) (n : ℕ) (s : State)
       → found (linesOf form u) q h n (watch (fields form u) x s) ≡ found (linesIn u) q h n (watch (columned u) x s)
   unfolding watch onSeen found
   column-found (ask f k) q h n s = go (fields form u f s) (columned u f s) (fields-columned form u other f s) (λ a p i t. column-found (k a) p i n t)
@@ -88,7 +88,7 @@ whole-placed (stopped why) = refl
 
 -- form 1, from words whose place is its first byte
 module _ (form : ℕ) (u w : List ℕ) (one : form ≡ 1) (at : atIn w ≡ 0) where
-  first-byte : blocksOf form u ≡ placed (run (fields form u) allBlocks (stateIn w))
+  pub first-byte : blocksOf form u ≡ placed (run (fields form u) allBlocks (stateIn w))
   unfolding blocksOf stateIn
   first-byte = rw (one) (sym (placed-line u allBlocks (stateIn w) ∙ ap (λ (x : ℕ). run (line 1 u) allBlocks x) at))
 

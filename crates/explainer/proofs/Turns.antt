@@ -91,7 +91,7 @@ module _ (form : ℕ) (u : List ℕ) where
 
 module _ {S : Type 0} (tell : ℕ → (f : Field) → Answer f → S → S → List Line) (reader : (f : Field) → S → Drawn S (Answer f)) where
   -- from a block's end and from onward, the same
-  found-onward : (q : Plan) (r : Block) (h : Sheet) (n : ℕ) (x : Grammar Block (Unit {0})) (s : S) → isEnded q ≡ true → Fits Final (onward q) r x
+  pub found-onward : (q : Plan) (r : Block) (h : Sheet) (n : ℕ) (x : Grammar Block (Unit {0})) (s : S) → isEnded q ≡ true → Fits Final (onward q) r x
       → found tell q h n (watch reader x s) ≡ found tell (onward q) h n (watch reader x s)
   unfolding watch onSeen found Fits
   found-onward q r h n (ask f k) s e fit = go (reader f s)
