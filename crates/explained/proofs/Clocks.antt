@@ -15,7 +15,7 @@ use Rattle.block.specs.Row.{noBlock, noPart}
 use Rattle.grammar.specs.Grammar as grammar
 use Rattle.grammar.specs.Grammar.{Number, Field, Answer, Grammar, ask, emit, stop, done}
 use Rattle.grammar.specs.Blocks.{allBlocks}
-use Rattle.grammar.specs.Course.{Drawn, got, not, Run, item, over, stopped, onDrawn, run}
+use Rattle.grammar.specs.Course.{Drawn, got, not, Run, onDrawn, run}
 use Rattle.decoder.specs.States.{State}
 use Rattle.decoder.specs.Columned.{columned, fields}
 use Rattle.decoder.specs.Opening.{openedOf}
@@ -34,7 +34,7 @@ use Rattle.explainer.specs.Watch.{onSeen, watch}
 use Rattle.explainer.specs.Explanation.{Sheet, blank, noted, clockLine, found, onOpened, explanation}
 use Rattle.explainer.specs.Record.{headRow, idRow, contentRow, nameRow, rowed}
 use Rattle.explainer.specs.Following.{followed}
-use Rattle.explainer.proofs.Fits.{Meets, partOf, begun, told, Fits, not-both, onward-goes, settled-here, settled-ended}
+use Rattle.explainer.proofs.Fits.{partOf, begun, told, Fits, settled-here, settled-ended}
 use Rattle.explainer.proofs.Labels.{Final, all-fit}
 use Rattle.explainer.proofs.Going.{most, Own, OwnOrOver, Goes, own-goes, info-goes}
 use Rattle.explainer.proofs.Holding.{own-code, noted-own, ended-role}

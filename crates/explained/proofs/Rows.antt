@@ -1,6 +1,6 @@
 -- The lines of a draw, read as a record, put what was drawn into the row.
 use Prim.Native.Nat.{ℕ}
-use mathlib.Core.Path.{_≡_, refl, sym, ap, subst, _∙_}
+use mathlib.Core.Path.{_≡_, refl, sym, ap, _∙_}
 use mathlib.Core.Logic.{_≢_}
 use mathlib.Core.Bool.{Bool, true, false}
 use mathlib.Core.List.{List, [], _∷_, _++_}
@@ -16,7 +16,7 @@ use Rattle.string.specs.declared.Answer as string-answer
 use Rattle.string.specs.declared.Answer.the-variants as string
 use Rattle.string.specs.String.{nextText}
 use Rattle.grammar.specs.Grammar as grammar
-use Rattle.grammar.specs.Grammar.{Number, Field, Answer}
+use Rattle.grammar.specs.Grammar.{Number, Answer}
 use Rattle.grammar.specs.Course.{Drawn, got, not}
 use Rattle.decoder.specs.States.{State, Texts, withText}
 use Rattle.decoder.specs.Columned.{textDrawn, columned, fields}

@@ -1,10 +1,9 @@
 -- The lines that were noted, read as a record, are the row that was told, draw by draw.
-use Prim.Native.Nat.{ℕ, zero, suc, _≤_}
-use native.Mathlib.Omega.{arith}
+use Prim.Native.Nat.{ℕ, zero, suc}
 use mathlib.Core.Path.{_≡_, refl, sym, ap, subst, _∙_}
 use mathlib.Core.Logic.{_≢_}
 use mathlib.Core.Bool.{Bool, true, false}
-use mathlib.Core.List.{List, [], _∷_, _++_}
+use mathlib.Core.List.{List, _∷_, _++_}
 use lib.Dec.{eqb}
 use borrow.Author.Tests.{ne-eqb, eqb-true, eqb-false}
 use Rattle.numbers.specs.Number.{pick}
@@ -24,7 +23,7 @@ use Rattle.telling.specs.Telling.{fieldOf, fieldAt, heard, linesOf}
 use Rattle.explainer.specs.Watch.{onSeen, watch}
 use Rattle.explainer.specs.Explanation.{Sheet, noted, clockLine, found}
 use Rattle.explainer.specs.Record.{headRow, idRow, contentRow, nameRow, rowed, rowBy, rowOf}
-use Rattle.explainer.proofs.Fits.{Meets, partOf, begun, told, Passed, Fits, not-both, never, onward-goes, settled-here, settled-ended}
+use Rattle.explainer.proofs.Fits.{partOf, begun, told, Fits, onward-goes, settled-here, settled-ended}
 use Rattle.explainer.proofs.Labels.{Final}
 use Rattle.explainer.proofs.Going.{most, Own, OwnOrOver, Goes, own-goes, info-goes}
 use Rattle.explainer.proofs.Holding.{own-code, clock-same, noted-own, ended-role}
@@ -217,9 +216,6 @@ module _ (form : ℕ) (u : List ℕ) where
   unfolding watch onSeen found run onDrawn nthIn rowBy Fits isEnded isOver
   rows (ask f k) q b h n s fit x = go (fields form u f s) refl (λ a p c i t. rows (k a) p c i n t)
     where
-      over : (d : Drawn State (Answer f)) → List Line
-      over d = found (linesOf form u) q h n (onSeen f s d (λ a t. watch (fields form u) (k a) t))
-
       go : (d : Drawn State (Answer f)) → fields form u f s ≡ d
           → ((a : Answer f) (p : Plan) (c : Block) (i : Sheet) (t : State) → Fits Final p c (k a) → Tells-row (p .role) p c i → rowOf (found (linesOf form u) p i n (watch (fields form u) (k a) t)) ≡ nthIn n (run (fields form u) (k a) t))
           → rowOf (found (linesOf form u) q h n (onSeen f s d (λ a t. watch (fields form u) (k a) t))) ≡ nthIn n (onDrawn d (λ a t. run (fields form u) (k a) t))

@@ -6,7 +6,6 @@ use mathlib.Core.Bool.{Bool, true, false}
 use mathlib.Core.List.{List, []}
 use lib.Dec.{eqb}
 use borrow.Author.Tests.{eqb-true, eqb-false, ne-eqb}
-use Rattle.numbers.specs.Number.{pick}
 use Rattle.block.specs.declared.Block.{Block}
 use Rattle.block.specs.Row.{noBlock}
 use Rattle.grammar.specs.Blocks.{allBlocks}
@@ -19,9 +18,7 @@ use Rattle.decoder.proofs.Laws.{run-columned}
 use Rattle.cells.specs.Cells.{atIn, stateIn}
 use Rattle.content.specs.Content.{nth}
 use Rattle.roles.specs.Roles.{start}
-use Rattle.telling.specs.Telling.{linesOf}
-use Rattle.explainer.specs.Watch.{watch}
-use Rattle.explainer.specs.Explanation.{blank, found, onOpened, explanation}
+use Rattle.explainer.specs.Explanation.{blank, onOpened, explanation}
 use Rattle.explainer.specs.Record.{rowBy, rowOf}
 use Rattle.explainer.specs.Following.{followed}
 use Rattle.explainer.proofs.Labels.{all-fit}

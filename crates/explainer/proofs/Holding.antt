@@ -1,23 +1,22 @@
 -- What the sheet's words hold of the lines that were noted, by what is drawn next.
-use Prim.Native.Nat.{ℕ, suc, _+_, _*_, _-_, _<_, _≤_}
+use Prim.Native.Nat.{ℕ, suc, _+_, _-_, _≤_}
 use native.Mathlib.Omega.{arith}
 use mathlib.Core.Path.{_≡_, refl, sym, ap, subst, _∙_}
 use mathlib.Core.Logic.{_≢_}
 use mathlib.Core.Bool.{Bool, true, false}
-use mathlib.Core.List.{List, [], _∷_, _++_}
-use lib.Dec.{eqb, ltb}
+use mathlib.Core.List.{List, _∷_, _++_}
+use lib.Dec.{eqb}
 use borrow.Author.Tests.{ne-eqb, eqb-true, eqb-false, le-ltb}
 use Rattle.numbers.specs.Number.{pick}
 use Rattle.roles.specs.declared.Role.{Role}
 use Rattle.roles.specs.declared.Role.the-variants as role
 use Rattle.roles.specs.declared.Plan.{Plan}
-use Rattle.roles.specs.Roles.{goTo, sectioned, announced, onward, headed, informed, infoRole, behind, after, codeOf, isEnded, isOver, blockRole, sectionRole}
+use Rattle.roles.specs.Roles.{goTo, sectioned, announced, onward, headed, informed, infoRole, behind, codeOf, isEnded, blockRole, sectionRole}
 use Rattle.origins.specs.declared.Line.{Line}
 use Rattle.origins.specs.Sheets.{lineIn, linesFrom, Above}
-use Rattle.telling.specs.Telling.{fieldOf, fieldAt}
+use Rattle.telling.specs.Telling.{fieldOf}
 use Rattle.explainer.specs.Explanation.{Sheet, noted, clockLine}
 use Rattle.explainer.specs.Following.{lineFor, Placed}
-use Rattle.explainer.proofs.Fits.{not-both, onward-goes}
 use Rattle.explainer.proofs.Going.{weight, most, Own, OwnOrOver, Goes, own-goes, info-goes}
 use Rattle.explainer.proofs.Sheets.{lines-stay, lines-join}
 
