@@ -12,7 +12,8 @@
 // - What is lent to be written (no `const`) shares no byte with anything else that is lent to the same call.
 // Calls may run at the same time in several threads, each on what it alone is lent. A call takes no memory but
 // what is lent and the stack, at most: `wairokabi_list` 106 KiB, `wairokabi_sort` 21, `wairokabi_encode_diff` and `_encode_update` 24.3,
-// `_sort_held` 20.1, `_sort_slowly` 16, `_read_update` and `_read_update_strict` 9.8, `_write_summary` 8.3, `_content` 6.3, `_read_state_vector` 1.3, any other 0.3
+// `_sort_held` 20.1, `_sort_slowly` 16, `_read_update` and `_read_update_strict` 9.8, `_explain` and `_write_summary` 8.3, `_content` 6.3,
+// `_read_state_vector` 1.3, any other 0.3
 // (tools/stack; of the x86-64 archive, without what memcpy and memset take).
 //
 // Numbers:
@@ -181,6 +182,36 @@ wairokabi_where wairokabi_content(
     uint8_t form,
     const uint8_t *update, size_t update_count,
     size_t n);
+
+// How many lines of twelve words each were told.
+typedef struct wairokabi_explained {
+    wairokabi_refusal refusal;
+    size_t lines;
+} wairokabi_explained;
+
+// Explains block n, from 0 in reading order: where each of its numbers came from, a line of twelve words for each draw that made its row, in the order of
+// reading: its section's block count, client and first clock, its own clock, its info byte, then what that byte announces. A block has at most 16 lines, 192
+// words. The words of a line:
+//
+// - word 0, the field: 2 block count, 3 client, 4 first clock, 5 the block's own clock, 6 info byte, 7 length of a Skip, 8 length of a GC, 9 left client,
+//   10 left clock, 11 right client, 12 right clock, 13 parent info, 14 parent name, 15 parent client, 16 parent clock, 17 key in the parent, 18 length of a
+//   deleted block, 19 binary, 20 text, 21 key of a format, 22 value of a format, 23 type number, 24 node name, 25 count of an any-list, 26 values of an
+//   any-list, 27 text of a key (21, 24) that is new in form 2.
+// - word 1, the value: of a text its UTF-16 units, of other bytes how many they are, of a key in form 2 its number.
+// - words 2 and 3: the place of its first byte in the update, and how many bytes it has there; those of its run, if it has one; of bytes in line those of
+//   their length. Zeros for field 5.
+// - word 4, where it stands: 0 in line, 1 in a run, 2 in the last byte of its column, which has no count and stands without end.
+// - words 5 and 6: which of its run's values it is, from 1, and how many the run has.
+// - words 7, 8 and 9, of a difference: its base, which is the value before; 1 for plus, 2 for minus; its size. Of field 5: the section's first clock, plus, the
+//   lengths before this block. Zeros for whatever stands in the bytes as it is.
+// - words 10 and 11: place and length of the bytes that it leads to, of a text, a name, a key, a binary or values.
+//
+// 12, 3, reading's, then 11 where there is no block n, then 10 where `out` has fewer words than the lines.
+wairokabi_explained wairokabi_explain(
+    uint8_t form,
+    const uint8_t *update, size_t update_count,
+    size_t n,
+    uint64_t *out, size_t out_count);
 
 // How many bytes were written, and how many blocks and delete ranges were read.
 typedef struct wairokabi_diff {

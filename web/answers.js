@@ -74,11 +74,6 @@ const chosen = (one, two, bytes) => {
   return bytes[0] === 0 && columns.whole(bytes) ? two : one
 }
 
-/** The draws that made block n, in reading order: of each its `field`, its `value`, the `place` and `bytes` that it has in the update, which of a run's values it is
- * (`nth`, from 0), and the `base` and `difference` of a clock. They are the library's to say, by a call `explain` that it does not have yet: until then there are
- * none, and `explanation` (tables.js) shows nothing. */
-const explained = n => library.explain?.(now.form, now.bytes, n) ?? []
-
 /** The byte that is blamed, by reading or by strict reading, with its number; null where none is. */
 const blame = () => now.refused ?? now.strict
 
@@ -114,4 +109,72 @@ const partsAt = place => {
   const found = []
   for (let k = firstBehind(place); k < places.length && places[k].from <= place; k++) found.push(places[k])
   return found
+}
+
+// ---- which block draws a byte, as the library explains it
+
+/** What each field of an explanation is lit as. */
+const LIGHTS = {
+  'block count': 'head', client: 'head', 'first clock': 'head', info: 'info', 'parent info': 'info', 'left client': 'left', 'left clock': 'left',
+  'right client': 'right', 'right clock': 'right', 'parent client': 'parent', 'parent clock': 'parent', 'skip length': 'length', 'gc length': 'length', 'deleted length': 'length',
+  type: 'length', 'list length': 'length', 'parent name': 'name', key: 'key', 'mark key': 'mark', 'key text': 'mark', 'node name': 'mark', binary: 'stored', text: 'stored',
+  'mark value': 'stored', 'list values': 'stored'
+}
+
+/** No more blocks are kept explained. */
+const MOST_TOLD = 4096
+let told = new Map()
+const forgetTold = () => {
+  told = new Map()
+}
+
+/** The draws that made block n, in reading order, as the library explains them. */
+const explained = n => {
+  if (!told.has(n)) {
+    if (told.size === MOST_TOLD) forgetTold()
+    told.set(n, library.explain(now.form, now.bytes, n))
+  }
+  return told.get(n)
+}
+
+/** The bytes of a line: those that it was drawn from, and those that it leads to. */
+const spansOf = ({ place, bytes, part }) => [...(place === null ? [] : [{ place, bytes }]), ...(part === null ? [] : [part])]
+const isIn = (at, { place, bytes }) => place <= at && at < place + bytes
+/** The lines of block n that a byte belongs to. */
+const linesAt = (n, at) => explained(n).filter(line => spansOf(line).some(span => isIn(at, span)))
+
+/** Which blocks draw from a column of form 2; from any other part of a file all do. */
+const DRAWS_FROM = {
+  key: block => block.mark !== null,
+  'left clock': block => block.left !== null || block.parent !== null,
+  'right clock': block => block.right !== null,
+  text: block => block.name !== null || block.key !== null || block.kind === 'text' || block.mark !== null,
+  'parent info': block => block.left === null && block.right === null && block.kind !== 'gc' && block.kind !== 'skip',
+  type: block => block.kind === 'type',
+  length: block => ['gc', 'deleted', 'any'].includes(block.kind)
+}
+
+/** The part of the file that a byte lies in, and the numbers of the blocks that draw from it. */
+const drawersOf = at => {
+  const { name = '', from = 0, to = now.bytes.length } = now.parts.find(part => part.from <= at && at < part.to) ?? {}
+  const draws = DRAWS_FROM[name] ?? (() => true)
+  return { from, to, numbers: now.read.blocks.flatMap((block, n) => draws(block) ? [n] : []) }
+}
+
+/** The first block that draws a byte, or the next one behind block n; null where none does. Later blocks draw from later places of each part, so halving finds it. */
+const drawerOf = (at, behind = -1) => {
+  const { from, to, numbers } = drawersOf(at)
+  const end = n => Math.max(0, ...explained(n).filter(({ place, bytes }) => place !== null && bytes > 0 && place >= from && place < to).map(({ place, bytes }) => place + bytes))
+  let [low, high] = [0, numbers.length]
+  while (low < high) {
+    const middle = (low + high) >> 1
+    // a block with a key that was read before draws no text
+    let some = middle
+    while (some < high && end(numbers[some]) === 0) some++
+    if (some === high || end(numbers[some]) > at) high = middle
+    else low = some + 1
+  }
+  while (low < numbers.length && numbers[low] <= behind) low++
+  while (low < numbers.length && end(numbers[low]) === 0) low++
+  return low < numbers.length && linesAt(numbers[low], at).length > 0 ? numbers[low] : null
 }

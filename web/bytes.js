@@ -3,8 +3,7 @@
 
 let perRow = 16
 
-/** How each byte of a row looks: which part of which block it is, whether it is chosen, and whether it is blamed. What `explained` says of the chosen block will be
- * lit here, a light for each field. */
+/** How each byte of a row looks: which part of which block it is, what the chosen block draws from it, whether it is chosen, and whether it is blamed. */
 const looksOf = (from, to) => {
   const looks = Array.from({ length: to - from }, () => '')
   const over = (start, end, name) => {
@@ -14,6 +13,7 @@ const looksOf = (from, to) => {
   for (let k = firstBehind(from); k < places.length && places[k].from < to; k++) over(places[k].from, places[k].to, 'known')
   if (now.part !== null) over(now.part.from, now.part.to, 'column')
   if (now.block !== null) {
+    for (const { field, place, bytes } of explained(now.block)) if (place !== null) over(place, place + bytes, `drawn-${LIGHTS[field]}`)
     for (const [field, light] of ROLES) {
       const part = now.read.blocks[now.block][field]
       if (part !== null) over(part.place, part.place + part.bytes, light)
@@ -94,7 +94,11 @@ const drawByte = (byte = now.byte) => {
   const number = blame()?.at === byte ? blame().number : 0
   if (form === 2 || byte >= bytes.length) words.push(`, ${columns.lies(form, bytes, byte, number)}`)
   const found = partsAt(byte)
-  if (found.length > 0) {
+  const lines = block === null ? [] : linesAt(block, byte).filter(line => line.place !== null && isIn(byte, line))
+  if (lines.length > 0) {
+    const told = lines.map(line => [line.field, [sumWords(line) || String(line.value), whichWords(line)].filter(words => words !== '').join(', ')].join(' '))
+    words.push(`; of block ${block}: `, element('b', '', told.join('; ')))
+  } else if (found.length > 0) {
     const { n, role } = found.find(part => part.n === block) ?? found[0]
     words.push(`; ${ROLES[role][2]} of block ${n}${found.length > 1 ? ` and of ${many(found.length - 1, 'other')}` : ''}`)
   }

@@ -26,10 +26,14 @@ const firstByte = block => {
   return part === undefined ? null : part.place
 }
 
-/** The block whose part has a byte, the chosen one if it is among them; for the same byte again, the next of them; the chosen one where none has it. */
+/** The block that draws a byte, or whose part has it, the chosen one if it does; for the same byte again, the next of them; the chosen one where none has it. */
 const blockAt = (place, again) => {
+  if (now.read === null) return now.block
   const found = partsAt(place).map(part => part.n)
-  if (found.length === 0) return now.block
+  if (found.length === 0) {
+    const draws = now.block !== null && linesAt(now.block, place).length > 0
+    return draws && !again ? now.block : (draws ? drawerOf(place, now.block) : null) ?? drawerOf(place) ?? now.block
+  }
   const at = found.indexOf(now.block)
   if (at === -1) return found[0]
   return again ? found[(at + 1) % found.length] : now.block
@@ -63,6 +67,7 @@ const read = () => {
   Object.assign(now, found, { other, parts: found.form === 2 ? columns.parts(bytes) : [], block: null, byte: null, part: null })
   const { blocks, ranges } = now.read ?? { blocks: [], ranges: [] }
   setPlaces(blocks)
+  forgetTold()
   $('empty').hidden = true
   $('verdict').hidden = $('panes').hidden = false
   setWidths(blocks)

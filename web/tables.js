@@ -168,15 +168,35 @@ const drawBlock = () => {
   $('block').replaceChildren(element('h2', '', `Block ${now.block}`, element('small', '', told)), list, ...explanation(explained(now.block)))
 }
 
-/** The draws of a block as a table: what the library explains, and nothing where it does not. */
-const explanation = draws => {
-  if (draws.length === 0) return []
-  const rows = draws.map(({ field, value, place, bytes, nth, base, difference }) => element('tr', '',
-    element('td', '', field),
-    element('td', 'number', String(value)),
-    element('td', '', byteLink(place), `, ${many(bytes, 'byte')}${nth > 0 ? `, value ${nth + 1} of its run` : ''}`),
-    element('td', 'number', difference === undefined ? '' : `${base} ${difference < 0 ? '−' : '+'} ${Math.abs(difference)}`)))
-  return [element('h3', '', 'Where its numbers come from'), tableOf(['field', 'value', 'from', 'base and difference'], rows)]
+const ORDINALS = ['first', 'second', 'third', 'fourth', 'fifth', 'sixth', 'seventh', 'eighth', 'ninth', 'tenth']
+const ordinal = n => ORDINALS[n] ?? `${n + 1}${n % 100 >= 10 && n % 100 <= 12 ? 'th' : ['st', 'nd', 'rd'][n % 10] ?? 'th'}`
+
+/** Which of its run's values a draw is: `third of 3`. */
+const whichWords = ({ nth, of, endless }) => endless ? 'without end' : nth === null ? '' : `${ordinal(nth)} of ${of}`
+/** How a value comes from its base: `2 + 1 = 3`. */
+const sumWords = ({ base, difference, value }) => base === null ? '' : `${base} ${difference < 0 ? '−' : '+'} ${Math.abs(difference)} = ${value}`
+
+/** Where a line's bytes lie, as chips in the colour that they are lit in. */
+const fromChips = line => {
+  const { field, place, bytes, part } = line
+  if (place === null) return ['the first clock and the lengths before it']
+  const own = bytes === 0 ? [] : [...partChip({ place, bytes }, `drawn-${LIGHTS[field]}`), ...[whichWords(line)].filter(words => words !== '').map(words => `, ${words}`)]
+  if (part === null || (part.bytes === 0 && own.length > 0)) return own
+  return [...own, ...(own.length > 0 ? ['; '] : []), ...partChip(part, LIGHTS[field])]
+}
+
+/** The draws of a block as a table, as the library explains them; the one that has the chosen byte stands out. */
+const explanation = lines => {
+  if (lines.length === 0) return []
+  const rows = lines.map(line => {
+    const here = now.byte !== null && spansOf(line).some(span => isIn(now.byte, span))
+    return element('tr', here ? 'chosen' : '',
+      element('td', '', line.field),
+      element('td', 'number', String(line.value)),
+      element('td', 'from', ...fromChips(line)),
+      element('td', 'sum', sumWords(line)))
+  })
+  return [element('h3', '', 'Where its numbers come from'), tableOf(['field', ' value', 'from', 'base and difference'], rows)]
 }
 
 /** A table of few rows; a name that begins with a blank is of a column of numbers. */

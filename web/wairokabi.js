@@ -83,6 +83,15 @@ wairokabi_where wairokabi_content(
     uint8_t form,
     const uint8_t *update, size_t update_count,
     size_t n);
+typedef struct wairokabi_explained {
+    wairokabi_refusal refusal;
+    size_t lines;
+} wairokabi_explained;
+wairokabi_explained wairokabi_explain(
+    uint8_t form,
+    const uint8_t *update, size_t update_count,
+    size_t n,
+    uint64_t *out, size_t out_count);
 typedef struct wairokabi_diff {
     wairokabi_refusal refusal;
     size_t bytes;
@@ -412,6 +421,16 @@ for (const [name, number] of Object.entries(CONSTANTS)) if (!name.startsWith('MA
 /** What a type is, by number. */
 const TYPES = ['array', 'map', 'text', 'xml element', 'xml fragment', 'xml hook', 'xml text']
 
+/** What a line of an explanation is about, by the number of its field: the header has these numbers. */
+const FIELDS = ['', 'section count', 'block count', 'client', 'first clock', 'clock', 'info', 'skip length', 'gc length', 'left client', 'left clock', 'right client',
+  'right clock', 'parent info', 'parent name', 'parent client', 'parent clock', 'key', 'deleted length', 'binary', 'text', 'mark key', 'mark value', 'type', 'node name',
+  'list length', 'list values', 'key text']
+/** The words of a line, the lines that a block has at most, the fields that lead to stored bytes, and the one that is not drawn. */
+const LINE = 12
+const MAX_LINES = 16
+const LEADING = new Set([14, 17, 19, 20, 21, 22, 24, 26, 27])
+const OWN_CLOCK = 5
+
 /** The kinds that have a stored part. */
 const STORED = new Set(['binary', 'text', 'format', 'any'])
 
@@ -600,6 +619,21 @@ const blockReader = ({ size, fields }) => {
   }
 }
 
+/** A line of an explanation, from its words: what is not there is null. */
+const lineOf = ([field, value, place, bytes, source, which, of, base, sign, size, partPlace, partBytes]) => ({
+  field: FIELDS[field],
+  number: field,
+  value,
+  place: field === OWN_CLOCK ? null : place,
+  bytes,
+  nth: source === 1 ? which - 1 : null,
+  of: source === 1 ? of : null,
+  endless: source === 2,
+  base: sign === 0 ? null : base,
+  difference: sign === 0 ? null : sign === 1 ? size : -size,
+  part: LEADING.has(field) ? { place: partPlace, bytes: partBytes } : null
+})
+
 /** No update of this form and length has more blocks: in form 1 a block has two bytes at least, in form 2 it may have none. */
 const mostRows = (form, update) => form === 1 ? Math.min(MAX_BLOCKS, update.length >> 1) : MAX_BLOCKS
 /** Nor more delete ranges: one has two bytes at least. */
@@ -724,6 +758,12 @@ const open = async wasm => {
       return update.subarray(part_place, part_place + part_bytes)
     },
 
+    explain: (form, update, n) => {
+      const asking = { ...given(form, update), n: countOf(n, "the block's number") }
+      const { view, pieces, lines } = done(call('explain', { ...asking, out: LINE * MAX_LINES }), asking)
+      return view.rows(pieces.out, lines, LINE).map(lineOf)
+    },
+
     list: (form, update) => {
       const { form: first, update: rest } = given(form, update)
       const input = new Uint8Array(Math.min(1 + rest.length, MAX_INPUT + 1))
@@ -773,7 +813,7 @@ const open = async wasm => {
     }
   })
 }
-  return { open, Refused, TYPES, of: {
+  return { open, Refused, TYPES, FIELDS, of: {
     library: 'fcb35e56f86530e1ab6da1448fb0a016de715b62df533fce9fd7e831a2922735',
     crates: '27bc7f6acf39b9ba5b1b8016e4eadc61ca6312741c63874adccf4c17772557fb',
     wasm: `

@@ -14,6 +14,16 @@ for (const [name, number] of Object.entries(CONSTANTS)) if (!name.startsWith('MA
 /** What a type is, by number. */
 export const TYPES = ['array', 'map', 'text', 'xml element', 'xml fragment', 'xml hook', 'xml text']
 
+/** What a line of an explanation is about, by the number of its field: the header has these numbers. */
+export const FIELDS = ['', 'section count', 'block count', 'client', 'first clock', 'clock', 'info', 'skip length', 'gc length', 'left client', 'left clock', 'right client',
+  'right clock', 'parent info', 'parent name', 'parent client', 'parent clock', 'key', 'deleted length', 'binary', 'text', 'mark key', 'mark value', 'type', 'node name',
+  'list length', 'list values', 'key text']
+/** The words of a line, the lines that a block has at most, the fields that lead to stored bytes, and the one that is not drawn. */
+const LINE = 12
+const MAX_LINES = 16
+const LEADING = new Set([14, 17, 19, 20, 21, 22, 24, 26, 27])
+const OWN_CLOCK = 5
+
 /** The kinds that have a stored part. */
 const STORED = new Set(['binary', 'text', 'format', 'any'])
 
@@ -202,6 +212,21 @@ const blockReader = ({ size, fields }) => {
   }
 }
 
+/** A line of an explanation, from its words: what is not there is null. */
+const lineOf = ([field, value, place, bytes, source, which, of, base, sign, size, partPlace, partBytes]) => ({
+  field: FIELDS[field],
+  number: field,
+  value,
+  place: field === OWN_CLOCK ? null : place,
+  bytes,
+  nth: source === 1 ? which - 1 : null,
+  of: source === 1 ? of : null,
+  endless: source === 2,
+  base: sign === 0 ? null : base,
+  difference: sign === 0 ? null : sign === 1 ? size : -size,
+  part: LEADING.has(field) ? { place: partPlace, bytes: partBytes } : null
+})
+
 /** No update of this form and length has more blocks: in form 1 a block has two bytes at least, in form 2 it may have none. */
 const mostRows = (form, update) => form === 1 ? Math.min(MAX_BLOCKS, update.length >> 1) : MAX_BLOCKS
 /** Nor more delete ranges: one has two bytes at least. */
@@ -324,6 +349,12 @@ export const open = async wasm => {
       const asking = { ...given(form, update), n: countOf(n, "the block's number") }
       const { part_place, part_bytes } = done(call('content', asking), asking)
       return update.subarray(part_place, part_place + part_bytes)
+    },
+
+    explain: (form, update, n) => {
+      const asking = { ...given(form, update), n: countOf(n, "the block's number") }
+      const { view, pieces, lines } = done(call('explain', { ...asking, out: LINE * MAX_LINES }), asking)
+      return view.rows(pieces.out, lines, LINE).map(lineOf)
     },
 
     list: (form, update) => {

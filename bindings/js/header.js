@@ -79,6 +79,15 @@ wairokabi_where wairokabi_content(
     uint8_t form,
     const uint8_t *update, size_t update_count,
     size_t n);
+typedef struct wairokabi_explained {
+    wairokabi_refusal refusal;
+    size_t lines;
+} wairokabi_explained;
+wairokabi_explained wairokabi_explain(
+    uint8_t form,
+    const uint8_t *update, size_t update_count,
+    size_t n,
+    uint64_t *out, size_t out_count);
 typedef struct wairokabi_diff {
     wairokabi_refusal refusal;
     size_t bytes;

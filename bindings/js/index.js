@@ -2,7 +2,7 @@
 // wairokabi.d.ts says what each call takes and gives.
 import { open } from './core.js'
 
-export { open, TYPES } from './core.js'
+export { FIELDS, open, TYPES } from './core.js'
 export { Refused, WORDS } from './refused.js'
 
 /** The library, from the file or address of wairokabi.wasm. */

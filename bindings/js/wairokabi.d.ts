@@ -41,6 +41,38 @@ export interface Block {
   type: number | null
 }
 
+/** What a line of an explanation is about: `FIELDS` has these words by their numbers. */
+export type Field =
+  | 'block count' | 'client' | 'first clock' // of its section
+  | 'clock' // the block's own, which is not drawn: the first clock and the lengths before
+  | 'info' | 'skip length' | 'gc length' | 'left client' | 'left clock' | 'right client' | 'right clock'
+  | 'parent info' | 'parent name' | 'parent client' | 'parent clock' | 'key'
+  | 'deleted length' | 'binary' | 'text' | 'mark key' | 'mark value' | 'type' | 'node name' | 'list length' | 'list values'
+  | 'key text' // of a mark key or a node name that is new in form 2
+
+/** A number of a block, and where it came from. What is not there is null. */
+export interface Line {
+  field: Field
+  /** The field's number, as the header has it. */
+  number: number
+  /** Of a text its UTF-16 units, of other bytes how many they are, of a mark key and a node name in form 2 its number. */
+  value: number
+  /** Its first byte in the update, or its run's; null for the block's own clock. Of bytes in line the first byte of their length. */
+  place: number | null
+  /** How many bytes it, or its run, or the length has there. */
+  bytes: number
+  /** Which of its run's values it is, from 0, and how many the run has. */
+  nth: number | null
+  of: number | null
+  /** It stands in the last byte of its column, which has no count and stands without end. */
+  endless: boolean
+  /** Where the value is a difference: the value before, and what is added to it. Of the block's own clock: the section's first clock, and the lengths before. */
+  base: number | null
+  difference: number | null
+  /** The stored bytes that it leads to. */
+  part: Part | null
+}
+
 /** A delete range: the client's ids from `clock` on, `length` of them. */
 export interface Range {
   client: number
@@ -131,6 +163,8 @@ export class Refused extends Error {
 export const WORDS: Readonly<Record<number, string>>
 /** The types by their numbers: array, map, text, xml element, xml fragment, xml hook, xml text. */
 export const TYPES: readonly string[]
+/** The fields of lines by their numbers, from 2 on. */
+export const FIELDS: readonly string[]
 
 export interface Wairokabi {
   /** Reads an update. Refused by 12, 3, then the first refusal of reading: 1 to 7. */
@@ -139,6 +173,9 @@ export interface Wairokabi {
   readStrict(form: Form, update: Uint8Array, lent?: Lent): Update
   /** The text or binary of block n, from 0 in reading order: that part of the update itself, no copy. Refused by 12, 3, reading's, then 11. */
   content(form: Form, update: Uint8Array, n: number): Uint8Array
+  /** Where the numbers of block n, from 0 in reading order, came from: the draws that made it, in the order of reading, from its section's block count on. Refused
+   * by 12, 3, reading's, then 11. */
+  explain(form: Form, update: Uint8Array, n: number): Line[]
   /** The library's own listing as text; a refusal of reading is text too (`refused 1 at 11`), and so is 3 for an update over 65,535 bytes. */
   list(form: Form, update: Uint8Array): string
   /** What an update has beyond a state vector, with its whole delete set, in the form `to`, or its own. Refused by 12, reading's, the vector's, then 3, 9, 19, 13. */

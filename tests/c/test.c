@@ -227,6 +227,29 @@ static void refusals(void) {
     EXPECT(refused(d.refusal, 1, 0) && d.bytes == 0 && zero_rows(0) && zero_bytes(out, 0, ROOM));
     const wairokabi_where w = wairokabi_content(1, C, sizeof C, 1);
     EXPECT(refused(w.refusal, 11, 0) && same_part(w.part, 0, 0));
+    fill();
+    wairokabi_explained x = wairokabi_explain(1, C, sizeof C, 1, words, WORDS);
+    EXPECT(refused(x.refusal, 11, 0) && x.lines == 0 && zero_words(0));
+    fill();
+    x = wairokabi_explain(1, C, sizeof C, 0, words, WORDS);
+    EXPECT(refused(x.refusal, 10, 0) && x.lines == 0 && zero_words(0));
+}
+
+// docs/FORMAT.md, "A line behind the wrong reading": z's left clock is the third value of the run 03 01 at byte 7, 1 more than the value before, which is 2. The
+// room is what z's eight lines need, and two words more.
+static void explains(void) {
+    static const uint8_t MARCH[] = {0x00, 0x00, 0x03, 0x05, 0x49, 0x03, 0x02, 0x03, 0x01, 0x02, 0x04, 0x02, 0x03, 0xc4, 0x01,
+                                    0x84, 0x06, 0x03, 0x78, 0x79, 0x7a, 0x41, 0x01, 0x00, 0x00, 0x00, 0x01, 0x03, 0x00, 0x00};
+    static const uint64_t Z[8][12] = {
+        {2, 3, 27, 1, 0, 0, 0, 0, 0, 0, 0, 0},  {3, 5, 3, 1, 1, 1, 1, 0, 0, 0, 0, 0},   {4, 0, 28, 1, 0, 0, 0, 0, 0, 0, 0, 0},
+        {5, 2, 0, 0, 0, 0, 0, 0, 1, 2, 0, 0},   {6, 132, 15, 1, 2, 0, 0, 0, 0, 0, 0, 0}, {9, 9, 4, 2, 1, 5, 5, 0, 0, 0, 0, 0},
+        {10, 3, 7, 2, 1, 3, 3, 2, 1, 1, 0, 0}, {20, 1, 21, 2, 1, 3, 3, 0, 0, 0, 20, 1}};
+    uint64_t told[98];
+    memset(told, 0xa5, sizeof told);
+    const wairokabi_explained x = wairokabi_explain(2, MARCH, sizeof MARCH, 2, told, 98);
+    EXPECT(refused(x.refusal, 0, 0) && x.lines == 8 && memcmp(told, Z, sizeof Z) == 0 && told[96] == 0 && told[97] == 0);
+    EXPECT(refused(wairokabi_explain(2, MARCH, sizeof MARCH, 2, told, 95).refusal, 10, 0) && told[0] == 0 && told[94] == 0);
+    EXPECT(wairokabi_explain(2, MARCH, sizeof MARCH, 2, told, 96).lines == 8);
 }
 
 // Each call that reads an update is refused alike; the vector, which would be refused too, is not looked at.
@@ -235,6 +258,7 @@ static void refuse_alike(int line, uint8_t number, size_t place, uint8_t form, c
     uint64_t order[ROWS], counts[2], reaches[2], pending[3];
     expect(refused(read_update(form, update, count, ROWS).refusal, number, place), line, "read_update");
     expect(refused(wairokabi_content(form, update, count, 0).refusal, number, place), line, "content");
+    expect(refused(wairokabi_explain(form, update, count, 0, words, WORDS).refusal, number, place) && zero_words(0), line, "explain");
     expect(refused(encode_diff(form, update, count, vector, sizeof vector, 1, ROOM).refusal, number, place), line, "encode_diff");
     const wairokabi_diff d = wairokabi_encode_update(form, update, count, 2, rows, ROWS, words, WORDS, out, ROOM);
     expect(refused(d.refusal, number, place), line, "encode_update");
@@ -601,6 +625,7 @@ int main(void) {
     sorts_slowly();
     sorts_by_held_ids();
     summaries();
+    explains();
     refusals();
     places();
     others();

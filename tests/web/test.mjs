@@ -152,10 +152,53 @@ await test('a click on a block lights its bytes, and a click on a byte goes to i
   assert.equal(await page.evaluate('document.querySelector("#blocks [aria-selected=true]").id'), 'block-0')
   assert.equal(await page.evaluate(lit('stored')), '78')
   assert.equal(await page.evaluate('$("byte").textContent'), 'byte 18 (0x12): 78 is 120, in the column text; stored part of block 0')
+  await clickByte(8)
+  assert.equal(await page.evaluate('$("byte").textContent'), 'byte 8 (0x8): 01 is 1, in the column left clock; of block 0: left clock 0 + 1 = 1, first of 3')
+  await clickByte(8)
+  assert.equal(await page.evaluate('$("byte").textContent'), 'byte 8 (0x8): 01 is 1, in the column left clock; of block 1: left clock 1 + 1 = 2, second of 3')
   for (const place of [0, 7, 8, 15, 16, 19, 29]) {
     await clickByte(place)
     assert.match(await page.evaluate('$("byte").textContent'), new RegExp(`^byte ${place} \\(`))
   }
+})
+
+await test('the explanation of a block, and the arithmetic of a byte', async () => {
+  await page.click('#march')
+  await page.click('#block-2')
+  const rows = () => page.evaluate('[...document.querySelectorAll("#block tbody tr")].map(row => [...row.children].map(cell => cell.textContent.replace(/\\s+/g, " ").trim()))')
+  assert.deepEqual(await rows(), [
+    ['block count', '3', 'byte 27 03', ''],
+    ['client', '5', 'byte 3 05, first of 1', ''],
+    ['first clock', '0', 'byte 28 00', ''],
+    ['clock', '2', 'the first clock and the lengths before it', '0 + 2 = 2'],
+    ['info', '132', 'byte 15 84, without end', ''],
+    ['left client', '9', 'bytes 4 to 5 49 03, fifth of 5', ''],
+    ['left clock', '3', 'bytes 7 to 8 03 01, third of 3', '2 + 1 = 3'],
+    ['text', '1', 'bytes 21 to 22 41 01, third of 3; byte 20 7a', '']
+  ])
+  assert.deepEqual([await page.evaluate(lit('drawn-left')), await page.evaluate(lit('drawn-head')), await page.evaluate(lit('drawn-stored'))], ['49 03 03 01', '05 03 00', '41 01'])
+  await clickByte(7)
+  assert.equal(await page.evaluate('document.querySelector("#block tr.chosen").textContent.replace(/\\s+/g, " ")'), 'left clock3bytes 7 to 8 03 01, third of 32 + 1 = 3')
+  assert.match(await page.evaluate('$("byte").textContent'), /^byte 7 .* of block 2: left clock 2 \+ 1 = 3, third of 3$/)
+  await shot('explained')
+  await page.colours(true)
+  await shot('explained-dark')
+  await page.colours(false)
+})
+
+await test('every byte of a file leads to the block that draws it', async () => {
+  for (const [form, update] of [[2, MARCH2], [1, MARCH1], [2, D], [1, C]]) {
+    await give('all.update', update)
+    await page.evaluate(`setForm('${form}')`)
+    const drawers = await page.evaluate('Array.from(now.bytes, (_, at) => drawerOf(at))')
+    const { blocks } = library.read(form, update)
+    const expected = Array.from(update, (_, at) => {
+      const n = blocks.findIndex((_, n) => library.explain(form, update, n).some(l => l.place !== null && l.place <= at && at < l.place + l.bytes))
+      return n === -1 ? null : n
+    })
+    assert.deepEqual(drawers.map((n, at) => expected[at] === null ? null : n), expected)
+  }
+  await page.evaluate('setForm("both")')
 })
 
 await test('keys', async () => {

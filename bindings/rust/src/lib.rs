@@ -29,6 +29,7 @@
 
 mod block;
 mod columns;
+mod explained;
 mod lent;
 mod numbers;
 mod raw;
@@ -39,6 +40,7 @@ mod updates;
 
 pub use block::*;
 pub use columns::*;
+pub use explained::*;
 pub use numbers::{read_signed, read_unsigned, write_signed, write_unsigned, Signed, MAX_CLOCK, MAX_SIGNED, MAX_UNSIGNED, MAX_VALUE};
 pub use raw::{Block, BytePlace, Bytes, DifferencePlace, NumberPlace, Part, StringPlace, Units};
 pub use refused::Refused;

@@ -1,5 +1,6 @@
-//! The command `wairokabi`: checks, lists, diffs and sorts updates; `help.txt` says how it is called. Its answers are the library's, put into words.
+//! The command `wairokabi`: checks, lists, explains, diffs and sorts updates; `help.txt` says how it is called. Its answers are the library's, put into words.
 mod anys;
+mod origins;
 mod place;
 
 use std::fmt::{Display, Write as _};
@@ -208,6 +209,10 @@ fn run(words: Words) -> Result<Vec<u8>, Stop> {
             let n = n.parse().map_err(|_| not_run(format!("{n}: not the number of a block; see --help")))?;
             stored(&Asked::of(form, update, None)?, n, words.out.as_deref())
         }
+        ["explain", form, update, n] => {
+            let n = n.parse().map_err(|_| not_run(format!("{n}: not the number of a block; see --help")))?;
+            explained(&Asked::of(form, update, None)?, n)
+        }
         ["diff", form, update] => diff(&Asked::of(form, update, None)?, &words),
         ["diff", form, update, vector] => diff(&Asked::of(form, update, Some(vector))?, &words),
         ["sort", ..] if words.held.is_some() && words.rule.is_some() => Err(not_run("held ids are sorted by no rule; see --help")),
@@ -354,6 +359,21 @@ fn stored(asked: &Asked, n: usize, out: Option<&str>) -> Result<Vec<u8>, Stop> {
         TEXT => Ok([part, b"\n"].concat()),
         _ => Ok(format!("{}\n", hex(part)).into()),
     }
+}
+
+/// A block, and where each of its numbers came from.
+fn explained(asked: &Asked, n: usize) -> Result<Vec<u8>, Stop> {
+    let (form, bytes) = (asked.form, &asked.update.bytes);
+    let mut out = [Line::default(); MAX_LINES];
+    let told = explain(form, bytes, n, &mut out);
+    let (mut rows, mut ranges) = asked.tables();
+    let blocks = read_update(form, bytes, &mut rows, &mut ranges).map_or(&[][..], |update| update.blocks);
+    let lines = told.map_err(|r| match r.number() {
+        11 => Stop { status: REFUSED, words: format!("{r}\n  {} has {}, counted from 0", asked.update.name, many(blocks.len(), "block")) },
+        _ => asked.refused(r),
+    })?;
+    let head = format!("block {n} of {}, {}, form {form}", asked.update.name, many(bytes.len(), "byte"));
+    Ok(format!("{head}\n{}\n\n{}", described(form, &blocks[n], bytes), origins::told(form, bytes, lines)).into())
 }
 
 fn diff(asked: &Asked, words: &Words) -> Result<Vec<u8>, Stop> {

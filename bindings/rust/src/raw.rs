@@ -77,6 +77,12 @@ pub struct Where {
 }
 
 #[repr(C)]
+pub struct Explained {
+    pub refusal: Refusal,
+    pub lines: usize,
+}
+
+#[repr(C)]
 pub struct Diff {
     pub refusal: Refusal,
     pub bytes: usize,
@@ -277,6 +283,8 @@ extern "C" {
 
     pub fn wairokabi_content(form: u8, update: *const u8, update_count: usize, n: usize) -> Where;
 
+    pub fn wairokabi_explain(form: u8, update: *const u8, update_count: usize, n: usize, out: *mut u64, out_count: usize) -> Explained;
+
     pub fn wairokabi_encode_diff(
         form: u8,
         update: *const u8,
@@ -407,7 +415,13 @@ extern "C" {
 
     pub fn wairokabi_read_numbers(column: *const u8, column_count: usize, place: NumberPlace, out: *mut u64, out_count: usize) -> NumbersRead;
 
-    pub fn wairokabi_read_differences(column: *const u8, column_count: usize, place: DifferencePlace, out: *mut u64, out_count: usize) -> DifferencesRead;
+    pub fn wairokabi_read_differences(
+        column: *const u8,
+        column_count: usize,
+        place: DifferencePlace,
+        out: *mut u64,
+        out_count: usize,
+    ) -> DifferencesRead;
 
     pub fn wairokabi_read_bytes(column: *const u8, column_count: usize, place: BytePlace, out: *mut u8, out_count: usize) -> BytesRead;
 

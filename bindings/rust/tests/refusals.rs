@@ -17,6 +17,9 @@ fn refuses(form: u8, update: &[u8], number: u8, at: Option<usize>) {
     assert_eq!(why(read_update(form, update, &mut l.rows, &mut l.ranges)), (number, at), "{update:02x?}");
     assert!(zero(&l.rows) && zero(&l.ranges));
     assert_eq!(why(content(form, update, 0)), (number, at));
+    let mut lines = [Line { field: 1, ..Line::default() }; 2];
+    assert_eq!(why(explain(form, update, 0, &mut lines)), (number, at));
+    assert!(lines.iter().all(|l| *l == Line::default()));
     let mut l = lent(ROWS, ROWS, 64);
     assert_eq!(why(encode_update(form, update, 1, &mut l.rows, &mut l.ranges, &mut l.out)), (number, at));
     assert!(zero(&l.rows) && zero(&l.ranges) && zero(&l.out));
@@ -168,6 +171,9 @@ fn others_are_refused() {
     assert_eq!(why(read_state_vector(&HAS_ONE, &mut rows[..0])), (10, None));
     assert!(zero(&rows));
     assert_eq!(why(content(1, &C, 1)), (11, None));
+    assert_eq!(why(explain(1, &C, 1, &mut [])), (11, None));
+    assert_eq!(why(explain(1, &C, 0, &mut [Line::default(); 7])), (10, None));
+    assert_eq!(explain(1, &C, 0, &mut [Line::default(); 8]).map(|lines| lines.len()), Ok(8));
     assert_eq!(why(content(1, &GONE, 0)), (11, None));
     // form 1, a text "😀", and a vector that has half of it
     let face = [0x01, 0x01, 0x05, 0x00, 0x04, 0x01, 0x01, 0x74, 0x04, 0xf0, 0x9f, 0x98, 0x80, 0x00];

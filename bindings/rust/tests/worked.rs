@@ -274,3 +274,60 @@ fn rows_for_any_update() {
     let (mut rows, mut ranges) = (rows_for(2, &bytes), ranges_for(&bytes));
     assert_eq!(read_update(2, &bytes, &mut rows, &mut ranges).unwrap().blocks.len(), MAX_BLOCKS);
 }
+
+/// Docs/FORMAT.md, "A line behind the wrong reading", in both forms: where z's numbers come from.
+#[test]
+fn the_example_of_march_is_explained() {
+    const FORM_2: [u8; 30] = [0, 0, 3, 5, 0x49, 3, 2, 3, 1, 2, 4, 2, 3, 0xc4, 1, 0x84, 6, 3, 0x78, 0x79, 0x7a, 0x41, 1, 0, 0, 0, 1, 3, 0, 0];
+    const FORM_1: [u8; 24] = [1, 3, 5, 0, 0xc4, 9, 1, 9, 2, 1, 0x78, 0xc4, 9, 2, 9, 3, 1, 0x79, 0x84, 9, 3, 1, 0x7a, 0];
+    let line = |field: Field, value, place, bytes| Line { field: field as u64, value, place, bytes, ..Line::default() };
+    let clock = Line { sign: 1, size: 2, ..line(Field::Clock, 2, 0, 0) };
+    let mut out = [Line { field: 1, ..Line::default() }; MAX_LINES + 1];
+    let lines = explain(2, &FORM_2, 2, &mut out).unwrap();
+    let z = [
+        line(Field::BlockCount, 3, 27, 1),
+        Line { source: 1, which: 1, of: 1, ..line(Field::Client, 5, 3, 1) },
+        line(Field::FirstClock, 0, 28, 1),
+        clock,
+        Line { source: 2, ..line(Field::Info, 0x84, 15, 1) },
+        Line { source: 1, which: 5, of: 5, ..line(Field::LeftClient, 9, 4, 2) },
+        Line { source: 1, which: 3, of: 3, base: 2, sign: 1, size: 1, ..line(Field::LeftClock, 3, 7, 2) },
+        Line { source: 1, which: 3, of: 3, part_place: 20, part_bytes: 1, ..line(Field::Text, 1, 21, 2) },
+    ];
+    assert_eq!(lines, z);
+    assert_eq!(
+        lines.iter().map(|l| l.field().unwrap().name()).collect::<Vec<_>>().join(", "),
+        "block count, client, first clock, clock, info, left client, left clock, text"
+    );
+    assert!(out[8..].iter().all(|l| *l == Line::default()));
+    let lines = explain(1, &FORM_1, 2, &mut out).unwrap();
+    assert_eq!(
+        lines[4..],
+        [
+            line(Field::Info, 0x84, 18, 1),
+            line(Field::LeftClient, 9, 19, 1),
+            line(Field::LeftClock, 3, 20, 1),
+            Line { part_place: 22, part_bytes: 1, ..line(Field::Text, 1, 21, 1) }
+        ]
+    );
+    assert_eq!((lines[3], lines[6].difference(), lines[6].stand()), (clock, None, Stand::InLine));
+    assert_eq!((lines[3].stand(), lines[3].drawn(), lines[3].difference()), (Stand::Nowhere, None, Some((0, 2))));
+}
+
+/// A key of form 2 that goes back to one read before: its number falls, and it has one line.
+#[test]
+fn a_key_read_before_is_explained() {
+    let update = [0, 2, 0x0a, 0x4a, 2, 0x45, 0, 1, 0, 0, 3, 6, 0, 0x86, 5, 2, 0x74, 0x62, 0x41, 0, 1, 1, 0, 0, 1, 2, 0, 0x78, 0x78, 0];
+    let mut out = [Line::default(); MAX_LINES];
+    let keys = |lines: &[Line]| {
+        lines
+            .iter()
+            .filter(|l| l.field >= Field::MarkKey as u64)
+            .map(|l| (l.field().unwrap(), l.value, l.difference(), l.part().unwrap()))
+            .collect::<Vec<_>>()
+    };
+    let b = Part { place: 17, bytes: Bytes(1) };
+    let value = |place| (Field::MarkValue, 1, None, Part { place, bytes: Bytes(1) });
+    assert_eq!(keys(explain(2, &update, 0, &mut out).unwrap()), [(Field::MarkKey, 5, Some((0, 5)), b), (Field::KeyText, 1, None, b), value(27)]);
+    assert_eq!(keys(explain(2, &update, 1, &mut out).unwrap()), [(Field::MarkKey, 0, Some((5, -5)), b), value(28)]);
+}

@@ -9,6 +9,7 @@ use columns::difference;
 use columns::number;
 use contents::Where;
 use diffs::Diff;
+use explains::Explained;
 use held_answers::SortedHeld;
 use numbers::Written;
 use sort_answers::Sorted;
@@ -32,6 +33,7 @@ ghost use Rattle.bulk.specs.Promises.{ReadNumbers, ReadDifferences, ReadBytes, 
 ghost use Rattle.updates.specs.Promises.{ReadUpdate};
 ghost use Rattle.strict.specs.Promises.{ReadStrictly};
 ghost use Rattle.contents.specs.Promises.{whereOf};
+ghost use Rattle.explains.specs.Promises.{Explains};
 ghost use Rattle.listed.specs.Listed.{Lists};
 ghost use Rattle.diffs.specs.Promises.{Diffs, emptyVector};
 ghost use Rattle.sorts.specs.Promises.{SortUpdate};
@@ -71,6 +73,13 @@ pub extern "C" fn wairokabi_content(form: u8, update: &[u8], n: usize) -> Where
     ensures { λ r. ⌜ r ≡ whereOf form (now (update .entry)) n ⌝ }
 {
     contents::look(form, update, n)
+}
+
+#[no_mangle]
+pub extern "C" fn wairokabi_explain(form: u8, update: &[u8], n: usize, out: &mut [u64]) -> Explained
+    ensures { λ r. ⌜ Explains form (now (update .entry)) n (now (out .entry)) r (now (out .exit)) ⌝ }
+{
+    explains::explain(form, update, n, out)
 }
 
 #[no_mangle]

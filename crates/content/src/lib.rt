@@ -19,7 +19,7 @@ pub enum Scanned {
 }
 
 // Reads all blocks, and keeps block n.
-fn scan(form: u8, update: &[u8], w: &mut [u64], s: Spot, n: usize) -> Scanned
+pub fn scan(form: u8, update: &[u8], w: &mut [u64], s: Spot, n: usize) -> Scanned
     requires { ⌜ Small (now w) × Fine (replicate 64 0) s ⌝ }
     ensures { λ r. ⌜ r ≡ scannedOf n (comes form (now (update .entry)) (replicate 64 0) (now (w .entry)) s) ⌝ }
 {

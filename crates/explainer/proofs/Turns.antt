@@ -212,6 +212,10 @@ module _ (form : ℕ) (u : List ℕ) (goal : List Line) (w sh : List ℕ) (q : P
     pub found-lines : isFound q ahead ≡ true → linesFrom sh 0 own ≡ goal
     found-lines f = all-lines q (inv .sheet) sh own held ∙ sym (here-found f)
 
+    -- a block has no more lines than the sheet has room for
+    pub few-lines : own ≤ 16
+    few-lines = omega (arith, held .room)
+
     pub onward-turn : isFound q ahead ≡ false → Follows form u goal w sh (onward q) (aheadOf q ahead) own
     onward-turn f = onward-follows f (onward-holds q (inv .sheet) sh own held)
 

@@ -99,7 +99,7 @@ fn place(sheet: &mut [u64], q: Plan, own: usize) -> usize
 // Reads all blocks up to the end of kept block n; how many lines it has, 0 where there is no such block.
 fn follow(form: u8, update: &[u8], w: &mut [u64], n: usize, sheet: &mut [u64]) -> usize
     requires { ⌜ Small (now w) × (length (now sheet) ≡ 192) × Reads form (now update) (stateIn (now w)) ⌝ }
-    ensures { λ r. ⌜ linesFrom (now (sheet .exit)) 0 r ≡ followed form (now (update .entry)) n (stateIn (now (w .entry))) ⌝ }
+    ensures { λ r. ⌜ (linesFrom (now (sheet .exit)) 0 r ≡ followed form (now (update .entry)) n (stateIn (now (w .entry)))) × (r ≤ 16) ⌝ }
 {
     let mut part = [0u64; 2];
     let mut q = roles::start();
@@ -129,7 +129,7 @@ fn follow(form: u8, update: &[u8], w: &mut [u64], n: usize, sheet: &mut [u64]) -
 // The lines of kept block n, in the sheet; how many they are, 0 where there is no such block. All blocks of the update can be read.
 pub fn explain_block(form: u8, update: &[u8], n: usize, sheet: &mut [u64]) -> usize
     requires { ⌜ (length (now sheet) ≡ 192) × Readable form (now update) ⌝ }
-    ensures { λ r. ⌜ linesFrom (now (sheet .exit)) 0 r ≡ explanation form (now (update .entry)) n ⌝ }
+    ensures { λ r. ⌜ (linesFrom (now (sheet .exit)) 0 r ≡ explanation form (now (update .entry)) n) × (r ≤ 16) ⌝ }
 {
     let mut words = [0u64; 580];
     if form == 1 {

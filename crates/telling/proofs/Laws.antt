@@ -12,9 +12,7 @@ use Rattle.numbers.specs.Number.{pick}
 use Rattle.text.specs.declared.Part.{Part}
 use Rattle.grammar.specs.Grammar as grammar
 use Rattle.grammar.specs.Grammar.{Field, Answer, Number}
-use Rattle.decoder.specs.Line.{upTo, numberOf, bytesAt, line}
-use Rattle.decoder.specs.States.{State}
-use Rattle.decoder.specs.Columned.{onto, numberIn, columned, fields}
+use Rattle.decoder.specs.Columned.{fields}
 use Rattle.cells.specs.declared.Drawn.the-variants as drawn
 use Rattle.cells.specs.declared.Field.the-variants as field
 use Rattle.cells.specs.Cells.{atIn, keyCount, keysIn, placeIn, whyIn, stateIn, partIn, given, Beside, differencesIn, cell}
@@ -146,16 +144,6 @@ module _ (form : ℕ) (u : List ℕ) (code : ℕ) (w v : List ℕ) where
     stored-refused q stored-as.Bytes h = record { why = whyIn v; refused = sym h }
     stored-refused q (stored-as.Value blame) h = record { why = whyIn v; refused = sym h }
     stored-refused q (stored-as.Values blame n) h = record { why = whyIn v; refused = sym h }
-
--- ---- bytes led by their length stand in line in both forms
-pub fields-bytes : (form : ℕ) (u : List ℕ) (s : State) → onto s (bytesAt u (s .at)) ≡ fields form u grammar.bytes s
-unfolding fields columned line
-fields-bytes form u s = either (eqb form 1)
-
--- and so does a number up to a limit
-pub fields-up-to : (form : ℕ) (u : List ℕ) (most : ℕ) (s : State) → onto s (upTo most u (s .at)) ≡ fields form u (grammar.number (grammar.upTo most)) s
-unfolding fields columned numberIn line numberOf
-fields-up-to form u most s = either (eqb form 1)
 
 -- the same field, by the same number
 module _ (form : ℕ) (u w v sh sh₁ : List ℕ) (i : ℕ) (x : telling-told.Told) where

@@ -1,4 +1,5 @@
 -- `explainer::explain_block` meets its contract: form 1 is followed from its first byte, any other behind its columns.
+use native.Mathlib.Omega.{arith}
 use mathlib.Core.Path.{_∙_}
 use lib.ListN.{replicate}
 use Rattle.update.proofs.Laws.{fresh}
@@ -16,7 +17,8 @@ follow-requires c κs =
 returns : tie.Need-returns
 returns c =
     let a = c .before .before .before .before .before .before .before .before .before .args in
-    c .before .before .before .follow .ensures ∙ line-explains (a .form) (a .update .now) (replicate 580 0) (c .before .before .before .before .before .before .if1 .taken) fresh-at (a .n)
+    let f = c .before .before .before .follow .ensures in
+    (f .0 ∙ line-explains (a .form) (a .update .now) (replicate 580 0) (c .before .before .before .before .before .before .if1 .taken) fresh-at (a .n), f .1)
 
 open-requires : tie.Need-open-requires
 open-requires c κs = fresh
@@ -24,7 +26,7 @@ open-requires c κs = fresh
 returns-2 : tie.Need-returns-2
 returns-2 c =
     let a = c .before .before .before .before .before .before .before .before .args in
-    unopened-explains (a .form) (a .update .now) _ (c .before .before .before .before .before .if1 .left) _ (a .n) (opened-as _ _ _ _ (c .before .before .before .«open» .ensures .1) (c .enum-told2 .given .1))
+    (unopened-explains (a .form) (a .update .now) _ (c .before .before .before .before .before .if1 .left) _ (a .n) (opened-as _ _ _ _ (c .before .before .before .«open» .ensures .1) (c .enum-told2 .given .1)), omega arith)
 
 follow-requires-2 : tie.Need-follow-requires-2
 follow-requires-2 c κs =
@@ -36,7 +38,8 @@ follow-requires-2 c κs =
 returns-3 : tie.Need-returns-3
 returns-3 c =
     let a = c .before .before .before .before .before .before .before .before .before .before .before .before .before .before .args in
-    c .before .before .before .follow2 .ensures ∙ column-explains (a .form) (a .update .now) _ (c .before .before .before .before .before .before .before .before .before .before .before .if1 .left) _ (opened-as _ _ _ _ (c .before .before .before .before .before .before .before .before .before .«open» .ensures .1) (c .before .before .before .before .before .before .enum-told .given .1)) (a .n)
+    let f = c .before .before .before .follow2 .ensures in
+    (f .0 ∙ column-explains (a .form) (a .update .now) _ (c .before .before .before .before .before .before .before .before .before .before .before .if1 .left) _ (opened-as _ _ _ _ (c .before .before .before .before .before .before .before .before .before .«open» .ensures .1) (c .before .before .before .before .before .before .enum-told .given .1)) (a .n), f .1)
 
 pub explain-block-spec : {M : Type 1} → statement M
 explain-block-spec =

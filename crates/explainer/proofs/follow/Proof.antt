@@ -3,7 +3,7 @@ use native.Mathlib.Omega.{arith}
 use mathlib.Core.Path.{_≡_, refl, sym, _∙_}
 use lib.ListN.{length}
 use Rattle.explainer.specs.Following.{followed}
-use Rattle.explainer.proofs.Turns.{Follows, starts, end-fits, found-lines, onward-turn, end-less, over-found, tell-low, not-refused, own-fits, drawn-follows, drawn-less}
+use Rattle.explainer.proofs.Turns.{Follows, starts, end-fits, found-lines, few-lines, onward-turn, end-less, over-found, tell-low, not-refused, own-fits, drawn-follows, drawn-less}
 use Rattle.explainer.proofs.Going.{left}
 use Rattle.cells.specs.Cells.{stateIn}
 use borrow.Author.Needs.{needs}
@@ -41,8 +41,10 @@ returns : tie.Need-returns Inv-loop μ-loop
 returns c =
     let a = c .before .before .before .before .before .before .before .before .before .args in
     let l = c .before .before .before .before .loop in
-    let e = sym (c .before .before .before .is-ended .ensures) ∙ c .before .before .if1 .taken in
-    found-lines (a .form) (a .update .now) _ (l .w) (l .sheet) (l .q) (l .ahead) (l .own) (l .inv .0) e (sym (c .before .is-found .ensures) ∙ c .if2 .taken)
+    let e = sym (c .before .before .before .is-ended .ensures) ∙ c .before .before .if1 .taken in (
+      found-lines (a .form) (a .update .now) _ (l .w) (l .sheet) (l .q) (l .ahead) (l .own) (l .inv .0) e (sym (c .before .is-found .ensures) ∙ c .if2 .taken),
+      few-lines (a .form) (a .update .now) _ (l .w) (l .sheet) (l .q) (l .ahead) (l .own) (l .inv .0) e,
+    )
 
 ahead-of-requires : tie.Need-ahead-of-requires Inv-loop μ-loop
 ahead-of-requires c κs = sym (c .before .is-found .ensures) ∙ c .if2 .left
@@ -82,7 +84,7 @@ returns-2 c =
     let a = c .before .before .before .before .before .before .before .before .before .args in
     let l = c .before .before .before .before .loop in
     let e = sym (c .before .before .before .is-ended .ensures) ∙ c .before .before .if1 .left in
-    over-found (a .form) (a .update .now) _ (l .w) (l .sheet) (l .q) (l .ahead) (l .own) (l .inv .0) e (sym (c .before .is-over .ensures) ∙ c .if3 .taken)
+    (over-found (a .form) (a .update .now) _ (l .w) (l .sheet) (l .q) (l .ahead) (l .own) (l .inv .0) e (sym (c .before .is-over .ensures) ∙ c .if3 .taken), omega arith)
 
 place-requires : tie.Need-place-requires Inv-loop μ-loop
 place-requires c κs = c .before .before .before .before .before .loop .inv .0 .size

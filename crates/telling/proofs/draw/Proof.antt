@@ -1,9 +1,9 @@
 -- `telling::draw` meets its contract: the number's function.
-use mathlib.Core.Path.{_≡_, _∙_}
+use mathlib.Core.Path.{sym, _∙_}
 use Rattle.cells.specs.Cells.{stateIn}
 use Rattle.fields.specs.Fields.{clockAt}
 use Rattle.origins.specs.Numerals.{numeral}
-use Rattle.telling.proofs.Laws.{fields-up-to}
+use Rattle.decoder.proofs.Laws.{fields-up-to}
 use borrow.Author.Needs.{needs}
 use Rattle.telling.proofs.draw.Statement.{statement}
 use Rattle.telling.proofs.draw.Tie as tie
@@ -42,7 +42,7 @@ returns-8 c =
     let a = c .before .before .before .before .before .before .before .before .before .args in
     let k = c .before .before .read-var .ensures in
     let n = c .before .before .before .before .before .n .given in
-    rw (n .1) (k .0, k .1 ∙ fields-up-to (a .form) (a .update .now) _ (stateIn (a .w .now)))
+    rw (n .1) (k .0, k .1 ∙ sym (fields-up-to (a .form) (a .update .now) _ (stateIn (a .w .now))))
 
 pub draw-spec : {M : Type 1} → statement M
 draw-spec =

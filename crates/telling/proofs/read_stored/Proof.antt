@@ -1,8 +1,8 @@
 -- `telling::read_stored` meets its contract: the function of these bytes.
-use mathlib.Core.Path.{_≡_, _∙_}
+use mathlib.Core.Path.{sym, _∙_}
 use Rattle.cells.specs.Cells.{stateIn}
 use Rattle.telling.specs.Asked.{storedIn}
-use Rattle.telling.proofs.Laws.{fields-bytes}
+use Rattle.decoder.proofs.Laws.{fields-bytes}
 use borrow.Author.Needs.{needs}
 use Rattle.telling.proofs.read_stored.Statement.{statement}
 use Rattle.telling.proofs.read_stored.Tie as tie
@@ -12,7 +12,7 @@ unfolding storedIn stateIn
 returns c =
     let a = c .before .before .before .before .before .before .before .before .before .before .before .before .args in
     let k = c .before .before .before .before .read-buf .ensures in
-    rw (c .before .before .before .before .before .before .before .enum-told .given .1) (k .0, k .1, k .2 ∙ fields-bytes (a .form) (a .update .now) (stateIn (a .w .now)))
+    rw (c .before .before .before .before .before .before .before .enum-told .given .1) (k .0, k .1, k .2 ∙ sym (fields-bytes (a .form) (a .update .now) (stateIn (a .w .now))))
 
 returns-2 : tie.Need-returns-2
 unfolding storedIn

@@ -1,0 +1,2 @@
+-- What a line says of its origin.
+pub mod Facts
