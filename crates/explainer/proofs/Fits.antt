@@ -15,7 +15,7 @@ use Rattle.grammar.specs.Grammar.{Number, Field, Answer, Grammar, ask, emit, st
 use Rattle.roles.specs.declared.Role.the-variants as role
 use Rattle.roles.specs.declared.Plan.{Plan}
 use Rattle.roles.specs.Roles.{codeOf, after, onward, settled, isEnded, isOver, isKept, blockRole, sectionRole}
-use Rattle.telling.specs.Telling.{fieldOf, fieldAt, heard}
+use Rattle.telling.specs.Telling.{fieldAt, heard}
 use Rattle.explainer.specs.Record.{rowed}
 
 -- what is known of an answer: a number in line is within its limit

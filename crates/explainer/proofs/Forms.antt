@@ -1,13 +1,10 @@
 -- Following in either form over one state finds what each form's own reader finds.
 use Prim.Native.Nat.{ℕ, zero, suc}
-use mathlib.Core.Path.{_≡_, refl, sym, ap, subst, _∙_}
+use mathlib.Core.Path.{_≡_, refl, sym, ap, _∙_}
 use mathlib.Core.Logic.{_≢_}
-use mathlib.Core.Bool.{Bool, true, false}
-use mathlib.Core.List.{List, [], _∷_, _++_}
-use lib.Dec.{eqb}
+use mathlib.Core.List.{List}
 use lib.ListN.{replicate}
 use borrow.Author.Tests.{ne-eqb}
-use Rattle.numbers.specs.Number.{pick}
 use Rattle.block.specs.declared.Block.{Block}
 use Rattle.grammar.specs.Grammar.{Field, Answer, Grammar, ask, emit, stop, done}
 use Rattle.grammar.specs.Blocks.{allBlocks}
@@ -29,7 +26,7 @@ use Rattle.origins.specs.Origins.{linesInLine, linesIn}
 use Rattle.origins.specs.Sheets.{linesFrom}
 use Rattle.telling.specs.Telling.{heard, linesOf}
 use Rattle.explainer.specs.Watch.{onSeen, watch}
-use Rattle.explainer.specs.Explanation.{Sheet, blank, noted, clockLine, found, onOpened, explanation}
+use Rattle.explainer.specs.Explanation.{Sheet, blank, noted, found, onOpened, explanation}
 use Rattle.explainer.specs.Following.{isWhole, Readable, Reads, followed}
 
 -- ---- form 1
@@ -56,21 +53,21 @@ module _ (form : ℕ) (u : List ℕ) (other : form ≢ 1) where
   unfolding linesOf
   lines-columned code f a s t = rw (ne-eqb form 1 other) refl
 
-  column-found : (x : Grammar Block (Unit {0})) (q : Plan) (h : Sheet) (n : ℕ) (s : State)
+  pub column-found : (x : Grammar Block (Unit {0})) (q : Plan) (h : Sheet) (n : ℕ) (s : State)
       → found (linesOf form u) q h n (watch (fields form u) x s) ≡ found (linesIn u) q h n (watch (columned u) x s)
   unfolding watch onSeen found
   column-found (ask f k) q h n s = go (fields form u f s) (columned u f s) (fields-columned form u other f s) (λ a p i t. column-found (k a) p i n t)
     where
-      abbrev-seen : Drawn State (Answer f) → List Line
-      abbrev-seen d = found (linesIn u) q h n (onSeen f s d (λ a t. watch (columned u) (k a) t))
+      from-columns : Drawn State (Answer f) → List Line
+      from-columns d = found (linesIn u) q h n (onSeen f s d (λ a t. watch (columned u) (k a) t))
 
       go : (d d₁ : Drawn State (Answer f)) → d ≡ d₁ → ((a : Answer f) (p : Plan) (i : Sheet) (t : State) → found (linesOf form u) p i n (watch (fields form u) (k a) t) ≡ found (linesIn u) p i n (watch (columned u) (k a) t))
           → found (linesOf form u) q h n (onSeen f s d (λ a t. watch (fields form u) (k a) t)) ≡ found (linesIn u) q h n (onSeen f s d₁ (λ a t. watch (columned u) (k a) t))
       go (got a t) d₁ e more =
           more a _ _ t
           ∙ ap (λ (ls : List Line). found (linesIn u) (after (settled q) (heard f a .0) (heard f a .1)) (noted (codeOf (settled q .role)) ls h) n (watch (columned u) (k a) t)) (lines-columned (codeOf (settled q .role)) f a s t)
-          ∙ ap abbrev-seen e
-      go (not why) d₁ e more = ap abbrev-seen e
+          ∙ ap from-columns e
+      go (not why) d₁ e more = ap from-columns e
   column-found (emit e p x) q h zero s = refl
   column-found (emit e p x) q h (suc n) s = column-found x q h n s
   column-found (stop c p) q h n s = refl
@@ -88,7 +85,7 @@ whole-placed (stopped why) = refl
 
 -- form 1, from words whose place is its first byte
 module _ (form : ℕ) (u w : List ℕ) (one : form ≡ 1) (at : atIn w ≡ 0) where
-  first-byte : blocksOf form u ≡ placed (run (fields form u) allBlocks (stateIn w))
+  pub first-byte : blocksOf form u ≡ placed (run (fields form u) allBlocks (stateIn w))
   unfolding blocksOf stateIn
   first-byte = rw (one) (sym (placed-line u allBlocks (stateIn w) ∙ ap (λ (x : ℕ). run (line 1 u) allBlocks x) at))
 

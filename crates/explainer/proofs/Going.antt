@@ -1,7 +1,7 @@
 -- How a plan goes on behind a draw of a block: the block's own numbers stay, and at most so many lines are still to come.
-use Prim.Native.Nat.{ℕ, _+_, _*_, _-_, _%_, _<_, _≤_}
+use Prim.Native.Nat.{ℕ, _+_, _*_, _%_, _≤_}
 use native.Mathlib.Omega.{arith}
-use mathlib.Core.Path.{_≡_, refl, sym, ap, subst, _∙_}
+use mathlib.Core.Path.{_≡_, refl}
 use mathlib.Core.Bool.{Bool, true, false}
 use lib.Dec.{eqb, ltb}
 use Rattle.numbers.specs.Number.{pick}
@@ -11,7 +11,7 @@ use Rattle.grammar.specs.Grammar.{Field}
 use Rattle.roles.specs.declared.Role.{Role}
 use Rattle.roles.specs.declared.Role.the-variants as role
 use Rattle.roles.specs.declared.Plan.{Plan}
-use Rattle.roles.specs.Roles.{goTo, sectioned, announced, onward, headed, informed, lengthened, infoRole, contentRole, toRight, toParent, toNode, behind, after, codeOf, isEnded, isOver, blockRole, sectionRole}
+use Rattle.roles.specs.Roles.{goTo, informed, lengthened, infoRole, contentRole, toRight, toParent, toNode, behind, codeOf, isEnded}
 use Rattle.telling.specs.Telling.{fieldOf}
 use Rattle.explainer.proofs.Fits.{not-both}
 

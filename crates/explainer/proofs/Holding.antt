@@ -1,23 +1,22 @@
 -- What the sheet's words hold of the lines that were noted, by what is drawn next.
-use Prim.Native.Nat.{ℕ, suc, _+_, _*_, _-_, _<_, _≤_}
+use Prim.Native.Nat.{ℕ, suc, _+_, _-_, _≤_}
 use native.Mathlib.Omega.{arith}
 use mathlib.Core.Path.{_≡_, refl, sym, ap, subst, _∙_}
 use mathlib.Core.Logic.{_≢_}
 use mathlib.Core.Bool.{Bool, true, false}
-use mathlib.Core.List.{List, [], _∷_, _++_}
-use lib.Dec.{eqb, ltb}
+use mathlib.Core.List.{List, _∷_, _++_}
+use lib.Dec.{eqb}
 use borrow.Author.Tests.{ne-eqb, eqb-true, eqb-false, le-ltb}
 use Rattle.numbers.specs.Number.{pick}
 use Rattle.roles.specs.declared.Role.{Role}
 use Rattle.roles.specs.declared.Role.the-variants as role
 use Rattle.roles.specs.declared.Plan.{Plan}
-use Rattle.roles.specs.Roles.{goTo, sectioned, announced, onward, headed, informed, infoRole, behind, after, codeOf, isEnded, isOver, blockRole, sectionRole}
+use Rattle.roles.specs.Roles.{goTo, sectioned, announced, onward, headed, informed, infoRole, behind, codeOf, isEnded, blockRole, sectionRole}
 use Rattle.origins.specs.declared.Line.{Line}
 use Rattle.origins.specs.Sheets.{lineIn, linesFrom, Above}
-use Rattle.telling.specs.Telling.{fieldOf, fieldAt}
+use Rattle.telling.specs.Telling.{fieldOf}
 use Rattle.explainer.specs.Explanation.{Sheet, noted, clockLine}
 use Rattle.explainer.specs.Following.{lineFor, Placed}
-use Rattle.explainer.proofs.Fits.{not-both, onward-goes}
 use Rattle.explainer.proofs.Going.{weight, most, Own, OwnOrOver, Goes, own-goes, info-goes}
 use Rattle.explainer.proofs.Sheets.{lines-stay, lines-join}
 
@@ -119,7 +118,7 @@ held-own role.Ended q h sh own o x = x
 held-own role.Over q h sh own o x = absurd o
 
 -- the number of a role of a block's own
-own-code : (r : Role) → Own r → codeOf r ≢ 0 → 7 ≤ codeOf r
+pub own-code : (r : Role) → Own r → codeOf r ≢ 0 → 7 ≤ codeOf r
 unfolding Own codeOf
 own-code role.Sections o e = absurd o
 own-code role.Blocks o e = absurd o
@@ -149,12 +148,12 @@ own-code role.ListValues o e = omega arith
 own-code role.Ended o e = absurd (e refl)
 own-code role.Over o e = absurd o
 
-clock-same : (q q₁ : Plan) → q₁ .first ≡ q .first → q₁ .clock ≡ q .clock → clockLine q ≡ clockLine q₁
+pub clock-same : (q q₁ : Plan) → q₁ .first ≡ q .first → q₁ .clock ≡ q .clock → clockLine q ≡ clockLine q₁
 unfolding clockLine
 clock-same q q₁ f c = rw (f, c) refl
 
 -- a line of a block's own is noted behind the others
-noted-own : (c : ℕ) (ls : List Line) (h : Sheet) → 7 ≤ c → noted c ls h ≡ record { head = h .head; own = h .own ++ ls }
+pub noted-own : (c : ℕ) (ls : List Line) (h : Sheet) → 7 ≤ c → noted c ls h ≡ record { head = h .head; own = h .own ++ ls }
 unfolding noted codeOf
 noted-own c ls h high = rw (ne-eqb c 2 (λ x. omega (arith, x, high)), le-ltb c 5 (omega (arith, high)), ne-eqb c 6 (λ x. omega (arith, x, high))) refl
 
@@ -284,7 +283,7 @@ module _ (q : Plan) (h : Sheet) (own : ℕ) (sh sh₁ sh₂ : List ℕ) (i k : �
 -- ---- what the loop asks of it
 
 -- one role alone is a block's end
-ended-role : (r : Role) → codeOf r ≡ 0 → r ≡ role.Ended
+pub ended-role : (r : Role) → codeOf r ≡ 0 → r ≡ role.Ended
 unfolding codeOf
 ended-role role.Sections e = absurd (omega (arith, e))
 ended-role role.Blocks e = absurd (omega (arith, e))

@@ -20,7 +20,7 @@ use Rattle.roles.specs.declared.Role.{Role}
 use Rattle.roles.specs.declared.Role.the-variants as role
 use Rattle.roles.specs.declared.Plan.{Plan}
 use Rattle.roles.specs.Roles.{start, goTo, sectioned, announced, onward, headed, informed, lengthened, infoRole, contentRole, toRight, toParent, toNode, behind, after, codeOf, settled, isEnded, isOver, isKept, isBare, blockRole, sectionRole}
-use Rattle.telling.specs.Telling.{fieldOf, fieldAt, heard}
+use Rattle.telling.specs.Telling.{fieldOf, heard}
 use Rattle.explainer.specs.Record.{headRow, idRow, contentRow, nameRow, rowed}
 use Rattle.explainer.proofs.Fits.{Within, Meets, partOf, begun, told, Passed, Fits, fits-bind, fits-more, not-both, onward-goes, settled-here, settled-ended, never, fits-settled}
 

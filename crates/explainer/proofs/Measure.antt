@@ -1,17 +1,17 @@
 -- Each turn of following comes nearer to the end.
 use Prim.Native.Nat.{ℕ, _+_, _*_, _-_, _<_, _≤_}
 use native.Mathlib.Omega.{arith}
-use mathlib.Core.Path.{_≡_, refl, sym, ap, subst, _∙_}
+use mathlib.Core.Path.{_≡_, refl, ap}
 use mathlib.Core.Logic.{_≢_}
 use mathlib.Core.Bool.{Bool, true, false}
 use mathlib.Core.List.{List}
 use lib.Dec.{eqb}
-use borrow.Author.Tests.{ne-eqb, eqb-true, eqb-false}
+use borrow.Author.Tests.{ne-eqb, eqb-false}
 use Rattle.numbers.specs.Number.{pick}
 use Rattle.roles.specs.declared.Role.{Role}
 use Rattle.roles.specs.declared.Role.the-variants as role
 use Rattle.roles.specs.declared.Plan.{Plan}
-use Rattle.roles.specs.Roles.{goTo, sectioned, announced, onward, headed, informed, infoRole, behind, codeOf, isEnded, blockRole, sectionRole}
+use Rattle.roles.specs.Roles.{goTo, sectioned, announced, onward, headed, behind, codeOf, isEnded, blockRole, sectionRole}
 use Rattle.grammar.specs.Grammar.{Answer}
 use Rattle.telling.specs.Telling.{fieldOf, heard}
 use Rattle.explainer.specs.Explanation.{Sheet}

@@ -14,7 +14,7 @@ use Rattle.block.specs.declared.Block.{Block}
 use Rattle.block.specs.Row.{noBlock}
 use Rattle.grammar.specs.Grammar as grammar
 use Rattle.grammar.specs.Grammar.{Field, Answer, Grammar, ask, emit, stop, done}
-use Rattle.grammar.specs.Course.{Drawn, got, not, Run, onDrawn, ending, run}
+use Rattle.grammar.specs.Course.{Drawn, got, not, onDrawn, ending, run}
 use Rattle.grammar.specs.Blocks.{allBlocks}
 use Rattle.decoder.specs.Line.{bounded, varAt, upTo}
 use Rattle.decoder.specs.States.{State}
@@ -28,11 +28,11 @@ use Rattle.origins.specs.declared.Line.{Line}
 use Rattle.origins.specs.Sheets.{linesFrom}
 use Rattle.telling.specs.declared.Told as telling-told
 use Rattle.telling.specs.declared.Told.the-variants as tell
-use Rattle.telling.specs.Telling.{fieldOf, fieldAt, heard, linesOf, Draws, Draws-not, Says, Tells}
-use Rattle.explainer.specs.Watch.{Seen, drew, kept, onSeen, watch}
+use Rattle.telling.specs.Telling.{fieldAt, heard, linesOf, Draws, Draws-not, Says, Tells}
+use Rattle.explainer.specs.Watch.{Seen, kept, onSeen, watch}
 use Rattle.explainer.specs.Explanation.{Sheet, blank, noted, clockLine, found}
 use Rattle.explainer.specs.Following.{isWhole, Reads, Placed, isFound, aheadOf, followed}
-use Rattle.explainer.proofs.Fits.{Within, Meets, told, Passed, Fits, not-both, never, onward-goes, settled-here, settled-ended, fits-onward}
+use Rattle.explainer.proofs.Fits.{Within, Meets, told, Fits, not-both, never, onward-goes, settled-here, settled-ended, fits-onward}
 use Rattle.explainer.proofs.Labels.{Final, all-fit}
 use Rattle.explainer.proofs.Going.{left, most}
 use Rattle.explainer.proofs.Sheets.{few-told}
@@ -91,7 +91,7 @@ module _ (form : ℕ) (u : List ℕ) where
 
 module _ {S : Type 0} (tell : ℕ → (f : Field) → Answer f → S → S → List Line) (reader : (f : Field) → S → Drawn S (Answer f)) where
   -- from a block's end and from onward, the same
-  found-onward : (q : Plan) (r : Block) (h : Sheet) (n : ℕ) (x : Grammar Block (Unit {0})) (s : S) → isEnded q ≡ true → Fits Final (onward q) r x
+  pub found-onward : (q : Plan) (r : Block) (h : Sheet) (n : ℕ) (x : Grammar Block (Unit {0})) (s : S) → isEnded q ≡ true → Fits Final (onward q) r x
       → found tell q h n (watch reader x s) ≡ found tell (onward q) h n (watch reader x s)
   unfolding watch onSeen found Fits
   found-onward q r h n (ask f k) s e fit = go (reader f s)

@@ -12,7 +12,6 @@ use Rattle.decoder.specs.Line.{line}
 use Rattle.decoder.specs.States.{State}
 use Rattle.decoder.specs.Columned.{columned}
 use Rattle.decoder.specs.Opening.{openedOf}
-use Rattle.roles.specs.declared.Role.{Role}
 use Rattle.roles.specs.declared.Role.the-variants as role
 use Rattle.roles.specs.declared.Plan.{Plan}
 use Rattle.roles.specs.Roles.{start, codeOf, after, settled, ownClock}
@@ -35,7 +34,14 @@ noted code ls h =
 
 -- the block's own clock is not drawn: it is the first clock and the lengths before it
 unfoldable pub clockLine : Plan → Line
-clockLine q = record { field = ownClock; value = q .clock; stand = inLine 0 0; rise = record { base = q .first; sign = 1; size = q .clock - q .first }; part = noPart }
+clockLine q =
+    record {
+      field = ownClock;
+      value = q .clock;
+      stand = inLine 0 0;
+      rise = record { base = q .first; sign = 1; size = q .clock - q .first };
+      part = noPart;
+    }
 
 -- n blocks are kept before the one sought; nothing is found where there are not so many. `tell` has the lines of a draw, by the number of its role
 module _ {S : Type 0} (tell : ℕ → (f : Field) → Answer f → S → S → List Line) where

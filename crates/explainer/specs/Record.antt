@@ -39,7 +39,9 @@ contentRow code v p b =
 
 -- names, keys and marks
 unfoldable pub nameRow : ℕ → Part → Block → Block
-nameRow code p b = pick (eqb code 14) (withName p b) (pick (eqb code 17) (withKey p b) (pick (eqb code 21) (withMark p b) (pick (eqb code 24) (withMark p b) b)))
+nameRow code p b =
+    pick (eqb code 14) (withName p b)
+    (pick (eqb code 17) (withKey p b) (pick (eqb code 21) (withMark p b) (pick (eqb code 24) (withMark p b) b)))
 
 unfoldable pub rowed : ℕ → ℕ → Part → Block → Block
 rowed code v p b = nameRow code p (contentRow code v p (idRow code v (headRow code v b)))

@@ -1,5 +1,4 @@
 -- What is seen while a grammar is read: each draw, with the states before and behind it, and each thing kept, as far as reading comes.
-use Prim.Native.Nat.{ℕ}
 use mathlib.Core.List.{List, [], _∷_}
 use Rattle.grammar.specs.Grammar.{Field, Answer, Grammar, ask, emit, stop, done}
 use Rattle.grammar.specs.Course.{Drawn, got, not, Reader}

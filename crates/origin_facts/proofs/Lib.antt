@@ -4,3 +4,4 @@ pub mod Differences
 pub mod InLine
 pub mod Runs
 pub mod Which
+pub mod Explained

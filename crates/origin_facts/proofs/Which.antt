@@ -50,7 +50,7 @@ use Rattle.origin_facts.proofs.Runs.{LeavesNumber, next-number, LeavesT
 
 -- ---- which value it is
 
-numbered-in-line : (from to : ℕ) → Numbered (inLine from to)
+pub numbered-in-line : (from to : ℕ) → Numbered (inLine from to)
 unfolding Numbered inLine
 numbered-in-line from to = λ e. absurd (omega (arith, e))
 
@@ -260,6 +260,6 @@ module _ (u : List ℕ) where
   heads-within (over ps at) = let s = standing ps at in opened-text s (standing-within ps at) _ (text-starts (take (s .text .to) u) (s .text .place .units .at))
   heads-within (stopped why) = tt
 
-  pub opened-within : (s : State) → openedOf u ≡ got tt s → Within u s
+  pub opened-within : On (λ (a : Unit {0}) (t : State). Within u t) (openedOf u)
   unfolding openedOf
-  opened-within s e = on-got (λ (a : Unit {0}) (t : State). Within u t) (openedOf u) tt s (heads-within (run (line 2 u) heads 0)) e
+  opened-within = heads-within (run (line 2 u) heads 0)

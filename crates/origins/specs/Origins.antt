@@ -1,5 +1,5 @@
--- Where a value that was drawn from an update came from, read off the reader's state before and after the draw: its bytes, which value of its run it is, its
--- base and its difference, the stored bytes.
+-- Where a value that was drawn from an update came from, read off the reader's state before and after the draw: its bytes, which value of its run it
+-- is, its base and its difference, the stored bytes.
 use Prim.Native.Nat.{ℕ, _+_, _-_, _%_}
 use mathlib.Core.List.{List, [], _∷_}
 use lib.Dec.{ltb, eqb}
@@ -84,7 +84,8 @@ noRise = record { base = 0; sign = 0; size = 0 }
 
 -- onto the value before; the difference is kept as its key
 unfoldable pub rising : ℕ → ℕ → Rise
-rising base key = pick (ltb key zeroKey) (record { base = base; sign = 2; size = zeroKey - key }) (record { base = base; sign = 1; size = key - zeroKey })
+rising base key =
+    pick (ltb key zeroKey) (record { base = base; sign = 2; size = zeroKey - key }) (record { base = base; sign = 1; size = key - zeroKey })
 
 -- ---- the lines of a draw, between two places in line
 
@@ -161,7 +162,9 @@ textLine u code p t = record { field = code; value = t .text .place .units .last
 
 -- a key's number, a difference from the number before
 unfoldable pub keyLine : List ℕ → ℕ → Part → ℕ → State → Line
-keyLine u code p base t = record { field = code; value = t .key .place .last; stand = differenceStand u (t .key); rise = rising base (t .key .place .key); part = p }
+keyLine u code p base t =
+    let c = t .key in
+    record { field = code; value = c .place .last; stand = differenceStand u c; rise = rising base (c .place .key); part = p }
 
 -- and its text, where it is a new one: there were so many keys before
 unfoldable pub keyLines : List ℕ → ℕ → Part → ℕ → ℕ → State → List Line
@@ -183,5 +186,6 @@ linesIn u code (grammar.values blame n) p s t = storedLine code (p .bytes .0) p 
 
 unfoldable pub wordsOf : Line → List ℕ
 wordsOf l =
-    l .field ∷ l .value ∷ l .stand .place ∷ l .stand .bytes ∷ l .stand .source ∷ l .stand .which ∷ l .stand .of ∷ l .rise .base ∷ l .rise .sign ∷ l .rise .size
-    ∷ l .part .place ∷ l .part .bytes .0 ∷ []
+    let x = l .stand in
+    let r = l .rise in
+    l .field ∷ l .value ∷ x .place ∷ x .bytes ∷ x .source ∷ x .which ∷ x .of ∷ r .base ∷ r .sign ∷ r .size ∷ l .part .place ∷ l .part .bytes .0 ∷ []

@@ -9,7 +9,13 @@ use Rattle.origins.specs.declared.Line.{Line}
 unfoldable pub lineIn : List ℕ → ℕ → Line
 lineIn sh i =
     let word : ℕ → ℕ = λ k. getD sh (12 * i + k) 0 in
-    record { field = word 0; value = word 1; stand = record { place = word 2; bytes = word 3; source = word 4; which = word 5; of = word 6 }; rise = record { base = word 7; sign = word 8; size = word 9 }; part = partIn sh (12 * i + 10) }
+    record {
+      field = word 0;
+      value = word 1;
+      stand = record { place = word 2; bytes = word 3; source = word 4; which = word 5; of = word 6 };
+      rise = record { base = word 7; sign = word 8; size = word 9 };
+      part = partIn sh (12 * i + 10);
+    }
 
 -- n lines from line i on
 unfoldable pub linesFrom : List ℕ → ℕ → ℕ → List Line

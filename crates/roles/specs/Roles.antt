@@ -1,5 +1,5 @@
--- What each draw of an update's blocks is drawn for: the role of the next one, by what was drawn before. A label for the grammar's draws, which stand in
--- `grammar`; that the labels fit is proved (`explainer`, proofs).
+-- What each draw of an update's blocks is drawn for: the role of the next one, by what was drawn before. A label for the grammar's draws, which
+-- stand in `grammar`; that the labels fit is proved (`explainer`, proofs).
 use Prim.Native.Nat.{ℕ, _+_, _-_, _%_}
 use mathlib.Core.Bool.{Bool, true, _||_}
 use lib.Dec.{ltb, eqb}
@@ -17,7 +17,18 @@ start = record { role = Sections; sections = 0; blocks = 0; room = maxBlocks; fi
 -- ---- how a plan goes on
 
 unfoldable pub goTo : Role → Plan → Plan
-goTo r q = record { role = r; sections = q .sections; blocks = q .blocks; room = q .room; first = q .first; clock = q .clock; info = q .info; place = q .place; length = q .length }
+goTo r q =
+    record {
+      role = r;
+      sections = q .sections;
+      blocks = q .blocks;
+      room = q .room;
+      first = q .first;
+      clock = q .clock;
+      info = q .info;
+      place = q .place;
+      length = q .length;
+    }
 
 -- before so many sections
 unfoldable pub sectionRole : ℕ → Role
@@ -29,7 +40,18 @@ sectioned n q = record { role = sectionRole n; sections = n; blocks = 0; room = 
 
 -- one section of them, with so many blocks
 unfoldable pub announced : ℕ → Plan → Plan
-announced k q = record { role = Client; sections = q .sections - 1; blocks = k; room = q .room - k; first = 0; clock = 0; info = 0; place = 0; length = 0 }
+announced k q =
+    record {
+      role = Client;
+      sections = q .sections - 1;
+      blocks = k;
+      room = q .room - k;
+      first = 0;
+      clock = 0;
+      info = 0;
+      place = 0;
+      length = 0;
+    }
 
 -- before so many blocks, and then so many sections
 unfoldable pub blockRole : ℕ → ℕ → Role
@@ -37,19 +59,63 @@ blockRole k n = pick (eqb k 0) (sectionRole n) Info
 
 -- behind a block, or a section's head: the next block of this section, which begins where the one before ended; where none is left, the next section
 unfoldable pub onward : Plan → Plan
-onward q = record { role = blockRole (q .blocks) (q .sections); sections = q .sections; blocks = q .blocks - 1; room = q .room; first = q .first; clock = q .clock + q .length; info = 0; place = 0; length = 0 }
+onward q =
+    record {
+      role = blockRole (q .blocks) (q .sections);
+      sections = q .sections;
+      blocks = q .blocks - 1;
+      room = q .room;
+      first = q .first;
+      clock = q .clock + q .length;
+      info = 0;
+      place = 0;
+      length = 0;
+    }
 
 -- the first clock
 unfoldable pub headed : ℕ → Plan → Plan
-headed c q = onward (record { role = Ended; sections = q .sections; blocks = q .blocks; room = q .room; first = c; clock = c; info = 0; place = 0; length = 0 })
+headed c q =
+    onward (record {
+      role = Ended;
+      sections = q .sections;
+      blocks = q .blocks;
+      room = q .room;
+      first = c;
+      clock = c;
+      info = 0;
+      place = 0;
+      length = 0;
+    })
 
 -- the info byte, and its place
 unfoldable pub informed : Role → ℕ → ℕ → Plan → Plan
-informed r i p q = record { role = r; sections = q .sections; blocks = q .blocks; room = q .room; first = q .first; clock = q .clock; info = i; place = p; length = 0 }
+informed r i p q =
+    record {
+      role = r;
+      sections = q .sections;
+      blocks = q .blocks;
+      room = q .room;
+      first = q .first;
+      clock = q .clock;
+      info = i;
+      place = p;
+      length = 0;
+    }
 
 -- the length
 unfoldable pub lengthened : Role → ℕ → Plan → Plan
-lengthened r n q = record { role = r; sections = q .sections; blocks = q .blocks; room = q .room; first = q .first; clock = q .clock; info = q .info; place = q .place; length = n }
+lengthened r n q =
+    record {
+      role = r;
+      sections = q .sections;
+      blocks = q .blocks;
+      room = q .room;
+      first = q .first;
+      clock = q .clock;
+      info = q .info;
+      place = q .place;
+      length = n;
+    }
 
 abbrev pub ended : Role
 ended = Ended

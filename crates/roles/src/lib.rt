@@ -2,7 +2,8 @@
 ghost use mathlib.Core.Path.{_≡_};
 ghost use Prim.Native.Nat.{_+_, _≤_};
 ghost use Rattle.roles.specs.Roles as roles;
-ghost use Rattle.roles.specs.Roles.{goTo, sectioned, announced, headed, informed, lengthened, infoRole, contentRole, toContent, toKey, isBare, isKept, codeOf};
+ghost use Rattle.roles.specs.Roles.{goTo, sectioned, announced, headed, informed, lengthened, infoRole, contentRole};
+ghost use Rattle.roles.specs.Roles.{toContent, toKey, codeOf, isBare, isKept};
 
 // What a field is drawn for. A section has its block count, its client and its first clock; a block its info byte, and then what that byte announces. `Ended`:
 // nothing more of a block is drawn. `Over`: nothing more of the update's blocks.

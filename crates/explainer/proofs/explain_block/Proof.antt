@@ -1,6 +1,6 @@
 -- `explainer::explain_block` meets its contract: form 1 is followed from its first byte, any other behind its columns.
 use native.Mathlib.Omega.{arith}
-use mathlib.Core.Path.{_≡_, refl, sym, ap, _∙_}
+use mathlib.Core.Path.{_∙_}
 use lib.ListN.{replicate}
 use Rattle.update.proofs.Laws.{fresh}
 use Rattle.explainer.proofs.Forms.{line-reads, line-explains, column-reads, column-explains, unopened-explains, fresh-at, opened-as}

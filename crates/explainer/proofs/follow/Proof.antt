@@ -1,6 +1,6 @@
 -- `explainer::follow` meets its contract: each turn is a law of following.
 use native.Mathlib.Omega.{arith}
-use mathlib.Core.Path.{_≡_, refl, sym, ap, subst, _∙_}
+use mathlib.Core.Path.{_≡_, refl, sym, _∙_}
 use lib.ListN.{length}
 use Rattle.explainer.specs.Following.{followed}
 use Rattle.explainer.proofs.Turns.{Follows, starts, end-fits, found-lines, few-lines, onward-turn, end-less, over-found, tell-low, not-refused, own-fits, drawn-follows, drawn-less}

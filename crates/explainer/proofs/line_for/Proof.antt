@@ -2,7 +2,6 @@
 use mathlib.Core.Path.{refl}
 use borrow.Author.Tests.{ne-eqb}
 use Rattle.explainer.specs.Following.{lineFor}
-use borrow.Author.Needs.{needs}
 use Rattle.explainer.proofs.line_for.Statement.{statement}
 use Rattle.explainer.proofs.line_for.Tie as tie
 

@@ -1,9 +1,7 @@
 -- `explainer::place` meets its contract: a block's clock is put with its info byte.
 use native.Mathlib.Omega.{arith}
-use mathlib.Core.Path.{_≡_, refl, sym, ap, subst, _∙_}
-use borrow.Author.Tests.{ne-eqb}
-use Rattle.roles.specs.Roles.{codeOf}
-use Rattle.explainer.specs.Following.{lineFor, Placed}
+use mathlib.Core.Path.{refl, sym, ap, _∙_}
+use Rattle.explainer.specs.Following.{lineFor}
 use borrow.Author.Needs.{needs}
 use Rattle.explainer.proofs.place.Statement.{statement}
 use Rattle.explainer.proofs.place.Tie as tie

@@ -1,5 +1,5 @@
 -- `roles::block_role` meets its contract: no block is the section role.
-use mathlib.Core.Path.{refl, _∙_}
+use mathlib.Core.Path.{refl}
 use borrow.Author.Tests.{ne-eqb}
 use Rattle.roles.specs.Roles.{blockRole}
 use borrow.Author.Needs.{needs}

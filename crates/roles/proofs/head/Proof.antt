@@ -1,5 +1,4 @@
 -- `roles::head` meets its contract: what is behind it.
-use mathlib.Core.Path.{refl}
 use Rattle.roles.specs.Roles.{headed}
 use borrow.Author.Needs.{needs}
 use Rattle.roles.proofs.head.Statement.{statement}

@@ -1,6 +1,6 @@
 -- `roles::is_kept` meets its contract: its length, or its info byte.
 use mathlib.Core.Path.{refl}
-use borrow.Author.Tests.{ne-eqb, lt-ltb, le-ltb}
+use borrow.Author.Tests.{ne-eqb}
 use Rattle.roles.specs.Roles.{isKept}
 use borrow.Author.Needs.{needs}
 use Rattle.roles.proofs.is_kept.Statement.{statement}

@@ -1,6 +1,5 @@
 -- `roles::to_content` meets its contract: the role, by the low five bits.
 use mathlib.Core.Path.{refl}
-use Rattle.roles.specs.Roles.{toContent}
 use borrow.Author.Needs.{needs}
 use Rattle.roles.proofs.to_content.Statement.{statement}
 use Rattle.roles.proofs.to_content.Tie as tie

@@ -1,7 +1,5 @@
 -- `roles::to_key` meets its contract: the info byte decides.
-use mathlib.Core.Path.{refl}
-use borrow.Author.Tests.{ne-eqb, lt-ltb, le-ltb}
-use Rattle.roles.specs.Roles.{toKey}
+use borrow.Author.Tests.{lt-ltb, le-ltb}
 use borrow.Author.Needs.{needs}
 use Rattle.roles.proofs.to_key.Statement.{statement}
 use Rattle.roles.proofs.to_key.Tie as tie

@@ -1,6 +1,6 @@
 -- `roles::to_node` meets its contract: the number decides.
 use mathlib.Core.Path.{sym, _∙_}
-use borrow.Author.Tests.{ne-eqb, lt-ltb, le-ltb}
+use borrow.Author.Tests.{lt-ltb, le-ltb}
 use Rattle.roles.specs.Roles.{toNode}
 use borrow.Author.Needs.{needs}
 use Rattle.roles.proofs.to_node.Statement.{statement}

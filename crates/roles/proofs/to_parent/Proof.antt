@@ -1,5 +1,5 @@
 -- `roles::to_parent` meets its contract: 1 is a name.
-use borrow.Author.Tests.{ne-eqb, lt-ltb, le-ltb}
+use borrow.Author.Tests.{ne-eqb}
 use Rattle.roles.specs.Roles.{toParent}
 use borrow.Author.Needs.{needs}
 use Rattle.roles.proofs.to_parent.Statement.{statement}

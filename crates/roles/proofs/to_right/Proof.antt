@@ -1,5 +1,5 @@
 -- `roles::to_right` meets its contract: the info byte decides.
-use borrow.Author.Tests.{ne-eqb, lt-ltb, le-ltb}
+use borrow.Author.Tests.{lt-ltb, le-ltb}
 use Rattle.roles.specs.Roles.{toRight}
 use borrow.Author.Needs.{needs}
 use Rattle.roles.proofs.to_right.Statement.{statement}

@@ -1,0 +1,2 @@
+-- What the theorems about explanations say.
+pub mod Told

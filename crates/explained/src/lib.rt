@@ -1,0 +1,1 @@
+// No code: what an explanation says of a block is what was read of it.
