@@ -3,7 +3,7 @@ use Prim.Native.Nat.{ℕ, zero, suc}
 use mathlib.Core.List.{List, [], _∷_, _++_}
 use lib.Dec.{eqb}
 use Rattle.text.specs.declared.Part.{Part}
-use Rattle.grammar.specs.Grammar.{_>>=_}
+use Rattle.grammar.specs.GrammarInner.{_>>=_}
 use Rattle.grammar.specs.Course.{Drawn, got, not, Run, item, over, stopped, onDrawn, run}
 use Rattle.grammar.specs.Blocks.{allBlocks}
 use Rattle.grammar.specs.Deletes.{allRanges}

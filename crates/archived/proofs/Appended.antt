@@ -14,14 +14,15 @@ use Rattle.numbers.specs.Limits.{maxUpdate}
 use Rattle.numbers.proofs.Laws.{below-or}
 use Rattle.block.specs.declared.Block.{Block}
 use Rattle.ranges.specs.Ranges.{Range}
-use Rattle.grammar.specs.Grammar.{_>>=_}
+use Rattle.grammar.specs.GrammarInner.{_>>=_}
 use Rattle.grammar.specs.Course.{Run, item, over, stopped, Course, fit, ending, onDrawn, run}
 use Rattle.grammar.specs.Whole.{Ends}
 use Rattle.decoder.specs.Line.{byteAt, numberOf, line}
 use Rattle.decoder.specs.States.{State}
 use Rattle.decoder.specs.Opening.{heads, onHeads, openedOf}
 use Rattle.decoder.specs.Update.{placed, inColumns, blocksOf, deleteSet}
-use Rattle.leftover.specs.Leftover.{Stretch, stretch, columnsAt, columnsLeft, setEnd, left, lower, lowest, lowestLeft, Among}
+use Rattle.leftover.specs.Leftover.{Stretch, stretch, columnsAt, columnsLeft, setEnd, left, lower, lowest, lowestLeft}
+use Rattle.leftover.specs.LeftoverInner.{Among}
 use Rattle.leftover.proofs.Lowest.{at-most, lowest-among}
 use Rattle.places.specs.Appended.{Stays}
 use Rattle.places.proofs.Appended.{blocks-stay, ranges-stay}

@@ -20,7 +20,8 @@ use Rattle.anys.specs.declared.Skipped.the-variants as skipped
 use Rattle.anys.specs.Any.{anys}
 use Rattle.anys.proofs.Laws.{anys-bytes}
 use Rattle.grammar.specs.Grammar as grammar
-use Rattle.grammar.specs.Grammar.{Number, Field, Grammar, ask, emit, stop, done, _>>=_}
+use Rattle.grammar.specs.Grammar.{Number, Field, Grammar, ask, emit, stop, done}
+use Rattle.grammar.specs.GrammarInner.{_>>=_}
 use Rattle.grammar.specs.Course.{Drawn, got, not, Run, onDrawn, run}
 use Rattle.grammar.specs.Deletes.{clients, allRanges}
 use Rattle.grammar.specs.Whole.{Ends}

@@ -5,7 +5,8 @@ use mathlib.Core.Logic.{_⊎_, inl, inr}
 use mathlib.Core.Bool.{Bool, true, false, _||_}
 use native.Mathlib.Omega.{arith}
 use borrow.Author.Tests.{eqb-true}
-use Rattle.block.specs.Kinds.{GC, SKIP, DELETED, BINARY, TEXT, FORMAT, TYPE, ANY, isGc, isSkip, isDeleted, isBinary, isText, isFormat, isType, isAny, isBare, isItem, isBlock, hasPart, contentNumber, isMarked}
+use Rattle.block.specs.Kinds.{GC, SKIP, DELETED, BINARY, TEXT, FORMAT, TYPE, ANY, isGc, isSkip, isDeleted, isBinary, isText, isFormat, isType, isAny, isItem}
+use Rattle.block.specs.KindsInner.{isBare, isBlock, hasPart, contentNumber, isMarked}
 
 clash : {A : Type 0} → false ≡ true → A
 clash e = absurd (let z : _≡_ {A = ℕ} 0 1 = cc in omega arith)

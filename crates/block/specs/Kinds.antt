@@ -1,7 +1,7 @@
 -- The kinds of a block, as a row's `kind` has them, and what a kind says. Each is named where it is meant: a number that is none of them says nothing,
 -- and 0 is the row that has no block.
 use Prim.Native.Nat.{ℕ}
-use mathlib.Core.Bool.{Bool, cond, _||_, _&&_}
+use mathlib.Core.Bool.{Bool, _||_}
 use lib.Dec.{eqb}
 
 abbrev pub GC : ℕ
@@ -56,26 +56,9 @@ isAny kind = eqb kind ANY
 
 -- ---- what a kind says
 
--- a length and nothing else
-unfoldable pub isBare : ℕ → Bool
-isBare kind = isGc kind || isSkip kind
-
 -- it has content
 unfoldable pub isItem : ℕ → Bool
 isItem kind = isDeleted kind || isBinary kind || isText kind || isFormat kind || isType kind || isAny kind
-
-unfoldable pub isBlock : ℕ → Bool
-isBlock kind = isBare kind || isItem kind
-
--- its content is stored as bytes of the update
-unfoldable pub hasPart : ℕ → Bool
-hasPart kind = isBinary kind || isText kind || isFormat kind || isAny kind
-
--- the number of its content in an info byte; 0 is no content's
-unfoldable pub contentNumber : ℕ → ℕ
-contentNumber kind =
-    cond (isDeleted kind) 1
-    (cond (isBinary kind) 3 (cond (isText kind) 4 (cond (isFormat kind) 6 (cond (isType kind) 7 (cond (isAny kind) 8 0)))))
 
 -- ---- types
 
@@ -86,7 +69,3 @@ maxType = 6
 -- a type that has a node name: an XML element and an XML hook
 unfoldable pub isNamed : ℕ → Bool
 isNamed type = eqb type 3 || eqb type 5
-
--- whether a block of this kind and type number has a mark: a format its key, such a type its node name
-unfoldable pub isMarked : ℕ → ℕ → Bool
-isMarked kind type = isFormat kind || (isType kind && isNamed type)

@@ -42,17 +42,11 @@ markIs p type b =
 
 -- ---- one of them
 
-abbrev pub ofClient : ℕ → Block → Block
-ofClient c b = headIs c (b .clock) (b .length) (b .kind) b
-
 abbrev pub startingAt : ℕ → Block → Block
 startingAt k b = headIs (b .client) k (b .length) (b .kind) b
 
 abbrev pub lasting : ℕ → Block → Block
 lasting n b = headIs (b .client) (b .clock) (record { 0 = n }) (b .kind) b
-
-abbrev pub ofKind : ℕ → Block → Block
-ofKind kind b = headIs (b .client) (b .clock) (b .length) kind b
 
 abbrev pub leftIs : Bool → Id → Block → Block
 leftIs there i b = idsAre there i (b .«has_right») (rightId b) b
@@ -97,9 +91,6 @@ withoutParent b = parentIs false noId b
 
 abbrev pub withoutName : Block → Block
 withoutName b = nameIs false noPart b
-
-abbrev pub withoutKey : Block → Block
-withoutKey b = keyIs false noPart b
 
 -- ---- at once
 

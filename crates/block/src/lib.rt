@@ -2,7 +2,8 @@
 ghost use mathlib.Core.Path.{_≡_};
 ghost use Prim.Native.Nat.{_≤_};
 ghost use Rattle.block.specs.Row.{noBlock};
-ghost use Rattle.block.specs.Kinds.{isItem, hasPart, contentNumber, isNamed, isMarked};
+ghost use Rattle.block.specs.Kinds.{isItem, isNamed};
+ghost use Rattle.block.specs.KindsInner.{hasPart, contentNumber, isMarked};
 use text::Bytes;
 use text::Part;
 use text::Units;

@@ -29,6 +29,7 @@ use Rattle.string.specs.declared.Place as string-place
 use Rattle.string.specs.declared.Answer as string-answer
 use Rattle.string.specs.declared.Answer.the-variants as string
 use Rattle.string.specs.String as strings
+use Rattle.string.specs.StringInner as strings-inner
 use Rattle.bulk.specs.Bulk.{Draw, drew, stop, Bulk, andThen, draws, told, numberDraw, differenceDraw, byteDraw, textDraw, numbersIn, differencesIn, bytesIn, textsIn}
 
 -- ---- the columns of numbers
@@ -82,18 +83,18 @@ bytes-read k s c = read-alike _ (λ d. byteDraw (nextByte s d)) (λ d. go (nextB
 abbrev textOf : List ℕ → Part → List ℕ
 textOf s p = slice (p .place) (p .place + p .bytes .0) s
 
-abbrev textsOf : List ℕ → Bulk Part string-place.Place → strings.Texts
+abbrev textsOf : List ℕ → Bulk Part string-place.Place → strings-inner.Texts
 textsOf s b = record { texts = map (textOf s) (b .values); refusal = b .refusal }
 
 text-turn : (k : ℕ) (s : List ℕ) (c : string-place.Place) (r : string-answer.Answer)
-    → ((d : string-place.Place) → strings.readTexts k s d ≡ textsOf s (textsIn k s d))
-    → strings.andThen s r (λ d. strings.readTexts k s d) ≡ textsOf s (andThen c (textDraw r) (λ d. textsIn k s d))
-unfolding strings.andThen andThen textDraw
-text-turn k s c (string.Next p d) on = ap (λ (t : strings.Texts). record { texts = textOf s p ∷ (t .texts); refusal = t .refusal }) (on d)
+    → ((d : string-place.Place) → strings-inner.readTexts k s d ≡ textsOf s (textsIn k s d))
+    → strings-inner.andThen s r (λ d. strings-inner.readTexts k s d) ≡ textsOf s (andThen c (textDraw r) (λ d. textsIn k s d))
+unfolding strings-inner.andThen andThen textDraw
+text-turn k s c (string.Next p d) on = ap (λ (t : strings-inner.Texts). record { texts = textOf s p ∷ (t .texts); refusal = t .refusal }) (on d)
 text-turn k s c (string.Bad why) on = refl
 
-pub texts-read : (k : ℕ) (s : List ℕ) (c : string-place.Place) → strings.readTexts k s c ≡ textsOf s (textsIn k s c)
-unfolding strings.readTexts draws
+pub texts-read : (k : ℕ) (s : List ℕ) (c : string-place.Place) → strings-inner.readTexts k s c ≡ textsOf s (textsIn k s c)
+unfolding strings-inner.readTexts draws
 texts-read zero s c = refl
 texts-read (suc k) s c = text-turn k s c (strings.nextText s c) (texts-read k s)
 

@@ -1,14 +1,11 @@
 -- Reading in bulk: what at most so many draws from a place on give, one after the other, and the place that they leave.
-use Prim.Native.Nat.{ℕ, zero, suc, _+_, _≤_}
-use mathlib.Core.Path.{_≡_}
+use Prim.Native.Nat.{ℕ, zero, suc}
 use mathlib.Core.List.{List, [], _∷_}
 use lib.Dec.{eqb}
 use lib.ListN.{length}
-use lib.Seq.{slice}
 use Rattle.numbers.specs.declared.Refusal.{Refusal}
 use Rattle.numbers.specs.Number.{pick, none}
 use Rattle.text.specs.declared.Part.{Part}
-use Rattle.text.specs.Utf8.{takeUnits, took}
 use Rattle.columns.specs.declared.number.Place as number-place
 use Rattle.columns.specs.declared.number.Answer as number-answer
 use Rattle.columns.specs.declared.number.Answer.the-variants as number
@@ -85,7 +82,3 @@ textsIn k s c = draws (λ d. textDraw (nextText s d)) k c
 unfoldable pub partWords : List Part → List ℕ
 partWords [] = []
 partWords (p ∷ ps) = p .place ∷ (p .bytes .0 ∷ partWords ps)
-
--- the text of u units at `at`, among those up to `end`, has u bytes
-abbrev pub TookPlain : List ℕ → ℕ → ℕ → ℕ → Type 0
-TookPlain s at end u = (at + u ≤ length s) × (takeUnits 7 u (slice at end s) ≡ took u)

@@ -22,7 +22,7 @@ ghost use Rattle.columns.specs.Number as numbers;
 ghost use Rattle.columns.specs.Difference as differences;
 ghost use Rattle.columns.specs.Byte as bytes;
 ghost use Rattle.string.specs.String.{taken, nextText};
-ghost use Rattle.bulk.specs.Bulk.{TookPlain};
+ghost use Rattle.bulk.specs.BulkInner.{TookPlain};
 ghost use Rattle.bulk.specs.Promises.{ReadNumbers, ReadDifferences, ReadBytes, ReadTexts};
 
 // The refusal that is told after i values.

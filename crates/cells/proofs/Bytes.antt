@@ -11,7 +11,8 @@ use Rattle.numbers.specs.declared.Refusal.{Refusal}
 use Rattle.numbers.specs.declared.Read.{Read}
 use Rattle.numbers.specs.declared.Read.the-variants as read
 use Rattle.numbers.specs.Limits.{maxCount}
-use Rattle.numbers.specs.Number.{readUnsigned, whyRead}
+use Rattle.numbers.specs.Number.{readUnsigned}
+use Rattle.numbers.specs.NumberInner.{whyRead}
 use Rattle.columns.specs.declared.byte.Place.{Place}
 use Rattle.columns.specs.declared.byte.Answer.{Answer}
 use Rattle.columns.specs.declared.byte.Answer.the-variants.{Next, Bad}

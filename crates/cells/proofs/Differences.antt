@@ -14,7 +14,8 @@ use Rattle.numbers.specs.declared.Read.the-variants as read
 use Rattle.numbers.specs.declared.Signed.{Signed}
 use Rattle.numbers.specs.declared.Signed.the-variants.{Value, Wrong}
 use Rattle.numbers.specs.Limits.{maxClock, maxCount}
-use Rattle.numbers.specs.Number.{readSigned, readUnsigned, whySigned, whyRead}
+use Rattle.numbers.specs.Number.{readSigned, readUnsigned}
+use Rattle.numbers.specs.NumberInner.{whySigned, whyRead}
 use Rattle.runs.specs.Difference.{zeroKey}
 use Rattle.columns.specs.declared.difference.Place.{Place}
 use Rattle.columns.specs.declared.difference.Answer.{Answer}

@@ -4,10 +4,9 @@ use mathlib.Core.List.{List}
 use mathlib.Core.Bool.{true, false}
 use lib.Dec.{ltb, leb}
 use lib.ListN.{length, getD}
-use Rattle.numbers.specs.declared.Refusal.{Refusal}
 use Rattle.numbers.specs.declared.Read.{Read}
 use Rattle.numbers.specs.declared.Read.the-variants.{Number, Refused}
-use Rattle.numbers.specs.Number.{pick, none, readUnsigned}
+use Rattle.numbers.specs.Number.{pick, readUnsigned}
 use Rattle.numbers.specs.Limits.{maxCount}
 use Rattle.columns.specs.declared.byte.Place.{Place}
 use Rattle.columns.specs.declared.byte.Answer.{Answer}
@@ -43,7 +42,3 @@ unfoldable pub nextByte : List ℕ → Place → Answer
 nextByte s c =
     pick (c .endless) (Next (c .last) c)
     (pick (ltb 0 (c .count)) (Next (c .last) (placeAt (c .at) (c .from) (c .last) (c .count - 1))) (begun s (c .at)))
-
-abbrev pub whyByte : Answer → Refusal
-whyByte (Next v c) = none
-whyByte (Bad why) = why

@@ -5,12 +5,11 @@ use Prim.Native.Nat.{ℕ, _+_, _-_, _/_, _%_}
 use mathlib.Core.List.{List}
 use mathlib.Core.Bool.{Bool}
 use lib.Dec.{ltb, leb, eqb}
-use Rattle.numbers.specs.declared.Refusal.{Refusal}
 use Rattle.numbers.specs.declared.Read.{Read}
 use Rattle.numbers.specs.declared.Read.the-variants.{Number, Refused}
 use Rattle.numbers.specs.declared.Signed.{Signed}
 use Rattle.numbers.specs.declared.Signed.the-variants.{Value, Wrong}
-use Rattle.numbers.specs.Number.{pick, none, readUnsigned, readSigned}
+use Rattle.numbers.specs.Number.{pick, readUnsigned, readSigned}
 use Rattle.numbers.specs.Limits.{maxClock, maxCount}
 use Rattle.runs.specs.Difference.{zeroKey}
 use Rattle.columns.specs.declared.difference.Place.{Place}
@@ -55,7 +54,3 @@ begun s at last (Value m x e) =
 
 unfoldable pub nextDifference : List ℕ → Place → Answer
 nextDifference s c = pick (ltb 0 (c .count)) (drawn c) (begun s (c .at) (c .last) (readSigned s (c .at)))
-
-abbrev pub whyDifference : Answer → Refusal
-whyDifference (Next v c) = none
-whyDifference (Bad why) = why

@@ -2,12 +2,11 @@
 use Prim.Native.Nat.{ℕ, _+_, _-_}
 use mathlib.Core.List.{List}
 use lib.Dec.{ltb}
-use Rattle.numbers.specs.declared.Refusal.{Refusal}
 use Rattle.numbers.specs.declared.Read.{Read}
 use Rattle.numbers.specs.declared.Read.the-variants.{Number, Refused}
 use Rattle.numbers.specs.declared.Signed.{Signed}
 use Rattle.numbers.specs.declared.Signed.the-variants.{Value, Wrong}
-use Rattle.numbers.specs.Number.{pick, none, readUnsigned, readSigned}
+use Rattle.numbers.specs.Number.{pick, readUnsigned, readSigned}
 use Rattle.numbers.specs.Limits.{maxValue, maxCount}
 use Rattle.columns.specs.declared.number.Place.{Place}
 use Rattle.columns.specs.declared.number.Answer.{Answer}
@@ -39,7 +38,3 @@ begun s at (Value m x e) = pick m (counted at x e (readUnsigned s e)) (drawn (pl
 
 unfoldable pub nextNumber : List ℕ → Place → Answer
 nextNumber s c = pick (ltb 0 (c .count)) (drawn c) (begun s (c .at) (readSigned s (c .at)))
-
-abbrev pub whyNumber : Answer → Refusal
-whyNumber (Next v c) = none
-whyNumber (Bad why) = why

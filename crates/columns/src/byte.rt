@@ -2,7 +2,8 @@
 use numbers::Read;
 use numbers::Refusal;
 ghost use mathlib.Core.Path.{_≡_};
-ghost use Rattle.columns.specs.Byte.{startAt, begun, nextByte, whyByte};
+ghost use Rattle.columns.specs.Byte.{startAt, begun, nextByte};
+ghost use Rattle.columns.specs.ByteInner.{whyByte};
 
 // The next byte, the run's first byte, its value, and how often that still stands, or that it stands without end.
 #[repr(C)]

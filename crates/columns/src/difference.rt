@@ -6,7 +6,8 @@ use numbers::Signed;
 ghost use mathlib.Core.Path.{_≡_};
 ghost use Prim.Native.Nat.{_≤_};
 ghost use Rattle.numbers.specs.Number.{readSigned};
-ghost use Rattle.columns.specs.Difference.{startAt, drawn, outside, keyRead, begun, nextDifference, whyDifference};
+ghost use Rattle.columns.specs.Difference.{startAt, drawn, outside, keyRead, begun, nextDifference};
+ghost use Rattle.columns.specs.DifferenceInner.{whyDifference};
 
 // The next byte, the run's first byte, the value before, the difference's key, and how often it still applies.
 #[repr(C)]

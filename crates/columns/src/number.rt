@@ -5,7 +5,8 @@ use numbers::Signed;
 ghost use mathlib.Core.Path.{_≡_};
 ghost use Prim.Native.Nat.{_≤_};
 ghost use Rattle.numbers.specs.Number.{readSigned};
-ghost use Rattle.columns.specs.Number.{startAt, drawn, begun, nextNumber, whyNumber};
+ghost use Rattle.columns.specs.Number.{startAt, drawn, begun, nextNumber};
+ghost use Rattle.columns.specs.NumberInner.{whyNumber};
 
 // The next byte, the run's first byte, its value, and how often that still stands.
 #[repr(C)]

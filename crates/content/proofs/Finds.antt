@@ -13,7 +13,8 @@ use Rattle.deletes.specs.declared.Checked.the-variants as checked
 use Rattle.content.specs.declared.Scanned.the-variants as scanned
 use Rattle.content.specs.declared.Found.{Found}
 use Rattle.content.specs.declared.Found.the-variants.{Refused}
-use Rattle.content.specs.Content.{nth, scannedOf, stored, contentOf}
+use Rattle.content.specs.Content.{nth, stored, contentOf}
+use Rattle.content.specs.ContentInner.{scannedOf}
 use Rattle.content.proofs.Seek.{scanned-row, scanned-refused}
 
 -- ---- what follows the delete set, by what its check gave

@@ -18,7 +18,8 @@ use Rattle.update.specs.Steps.{comes, Fine, left, Stepped}
 use Rattle.update.proofs.Answers.{on-block, on-on, on-done, on-refused}
 use Rattle.content.specs.declared.Scanned.{Scanned}
 use Rattle.content.specs.declared.Scanned.the-variants as scanned
-use Rattle.content.specs.Content.{nth, scannedOf}
+use Rattle.content.specs.Content.{nth}
+use Rattle.content.specs.ContentInner.{scannedOf}
 
 -- what a scan gives from here
 unfoldable pub seek : Bool → ℕ → Block → Course Block → Scanned

@@ -2,19 +2,12 @@
 use Prim.Native.Nat.{ℕ, zero, suc}
 use mathlib.Core.Bool.{Bool, _||_}
 use mathlib.Core.List.{List}
-use Rattle.numbers.specs.declared.Refusal.{Refusal}
-use Rattle.numbers.specs.Number.{pick, none}
+use Rattle.numbers.specs.Number.{pick}
 use Rattle.block.specs.declared.Block.{Block}
 use Rattle.block.specs.Row.{noBlock}
 use Rattle.block.specs.Kinds.{isBinary, isText}
 use Rattle.grammar.specs.Course.{Course, item, over, stopped, ending}
 use Rattle.decoder.specs.Update.{blocksOf, deleteSet}
-use Rattle.update.specs.declared.Begun.{Begun}
-use Rattle.update.specs.declared.Begun.the-variants as begun
-use Rattle.deletes.specs.declared.Checked.{Checked}
-use Rattle.deletes.specs.declared.Checked.the-variants as checked
-use Rattle.content.specs.declared.Scanned.{Scanned}
-use Rattle.content.specs.declared.Scanned.the-variants as scanned
 use Rattle.content.specs.declared.Found.{Found}
 use Rattle.content.specs.declared.Found.the-variants.{Part, Refused}
 
@@ -24,9 +17,6 @@ nth zero (item b p c) = b
 nth (suc n) (item b p c) = nth n c
 nth n (over a s) = noBlock
 nth n (stopped why) = noBlock
-
-unfoldable pub scannedOf : ℕ → Course Block → Scanned
-scannedOf n c = ending c (λ at. scanned.Row (nth n c) at) (λ why. scanned.Refused why)
 
 -- of a binary or a text; what a format, a type and a list have is in the record alone
 unfoldable pub isGiven : ℕ → Bool
@@ -40,17 +30,3 @@ contentOf form u n =
     ending (blocksOf form u)
     (λ at. ending (deleteSet form u at) (λ e. stored (nth n (blocksOf form u))) (λ why. Refused why))
     (λ why. Refused why)
-
--- ---- why not
-
-abbrev pub whyBegun : Begun → Refusal
-whyBegun (begun.At s) = none
-whyBegun (begun.Refused why) = why
-
-abbrev pub whyScanned : Scanned → Refusal
-whyScanned (scanned.Row b at) = none
-whyScanned (scanned.Refused why) = why
-
-abbrev pub whyChecked : Checked → Refusal
-whyChecked (checked.Done e) = none
-whyChecked (checked.Refused why) = why

@@ -1,2 +1,3 @@
 -- Where a block's stored part lies.
 pub mod Content
+pub mod ContentInner

@@ -10,7 +10,8 @@ ghost use mathlib.Core.Path.{_≡_};
 ghost use lib.ListN.{replicate};
 ghost use Rattle.cells.specs.Cells.{Small};
 ghost use Rattle.update.specs.Steps.{comes, Fine};
-ghost use Rattle.content.specs.Content.{isGiven, scannedOf, stored, contentOf, whyBegun, whyScanned, whyChecked};
+ghost use Rattle.content.specs.Content.{isGiven, stored, contentOf};
+ghost use Rattle.content.specs.ContentInner.{scannedOf, whyBegun, whyScanned, whyChecked};
 
 // The row of the block sought, or the row that has none; and the place after all blocks.
 pub enum Scanned {

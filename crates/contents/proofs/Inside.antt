@@ -11,13 +11,15 @@ use Rattle.numbers.specs.Limits.{maxUpdate}
 use Rattle.block.specs.declared.Block.{Block}
 use Rattle.grammar.specs.Course.{Course, item, over, stopped, items, ending}
 use Rattle.decoder.specs.Update.{blocksOf, deleteSet}
-use Rattle.readings.specs.Sound.{Sound, All}
+use Rattle.readings.specs.Sound.{All}
+use Rattle.readings.specs.SoundInner.{Sound}
 use Rattle.readings.proofs.Sounds.{blocks-sound}
 use Rattle.content.specs.declared.Found.{Found}
 use Rattle.content.specs.declared.Found.the-variants as found
 use Rattle.content.specs.Content.{nth, stored, contentOf, isGiven}
 use Rattle.contents.specs.declared.Where.{Where}
-use Rattle.contents.specs.Promises.{refusedWhere, whereFound, whereOf, In}
+use Rattle.contents.specs.Promises.{refusedWhere, whereFound, whereOf}
+use Rattle.contents.specs.PromisesInner.{In}
 
 either : {A : Type 0} (P : A → Type 0) (b : Bool) (x y : A) → P x → P y → P (pick b x y)
 either P true x y p q = p

@@ -1,2 +1,3 @@
 -- What the public calls `content` and `look` promise.
 pub mod Promises
+pub mod PromisesInner

@@ -1,5 +1,5 @@
 -- The promise of `content`: its refusal, and the part that it hands back, as equations of the inputs.
-use Prim.Native.Nat.{ℕ, _+_, _≤_}
+use Prim.Native.Nat.{ℕ, _+_}
 use mathlib.Core.Path.{_≡_}
 use mathlib.Core.List.{List}
 use lib.Dec.{ltb}
@@ -32,10 +32,6 @@ whereOf form u n =
 -- what `look` answers for block n of the update u; so does C's `wairokabi_content`
 abbrev pub Looks : ℕ → List ℕ → ℕ → Where → Type 0
 Looks form u n r = r ≡ whereOf form u n
-
--- in the update
-abbrev pub In : List ℕ → Part → Type 0
-In u p = p .place + p .bytes .0 ≤ length u
 
 -- the part itself, not a copy: what lies there, and that it points into the update
 abbrev pub PartOf : RefT (List ℕ) → Part → RefT (List ℕ) → Type 0

@@ -7,7 +7,8 @@ use numbers::Refusal;
 use text::Bytes;
 use text::Part;
 ghost use mathlib.Core.Path.{_≡_};
-ghost use Rattle.contents.specs.Promises.{refusedWhere, Looks, In, PartOf, Contents};
+ghost use Rattle.contents.specs.Promises.{refusedWhere, Looks, PartOf, Contents};
+ghost use Rattle.contents.specs.PromisesInner.{In};
 
 // A refusal, zeros for done, and where the part lies that is handed back with it.
 #[repr(C)]

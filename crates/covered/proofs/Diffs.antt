@@ -10,8 +10,10 @@ use borrow.Author.Tests.{leb-true, eqb-true}
 use Rattle.numbers.specs.Number.{pick}
 use Rattle.block.specs.declared.Block.{Block}
 use Rattle.vector.specs.Vector.{Entry}
-use Rattle.readings.specs.Sound.{All, Ordered, Chain, Adjoins, owner}
-use Rattle.readings.specs.Groups.{groups, joined, Single}
+use Rattle.readings.specs.Sound.{All, owner}
+use Rattle.readings.specs.SoundInner.{Ordered, Chain, Adjoins}
+use Rattle.readings.specs.Groups.{groups}
+use Rattle.readings.specs.GroupsInner.{joined, Single}
 use Rattle.readings.proofs.Groups.{groups-joined, groups-single, ordered-chains}
 use Rattle.kept.specs.Kept.{Piece, piece, Section, remote, falls, wholePiece, keepFrom, withPieces, keepEach, place, falling, clientOf, sectionsOf}
 use Rattle.kept.proofs.SectionsKept.{not-fallen}

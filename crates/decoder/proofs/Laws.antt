@@ -13,7 +13,8 @@ use Rattle.grammar.specs.Course.{Drawn, got, not, Run, item, over, stopped, onD
 use Rattle.grammar.proofs.Runs.{run-same}
 use Rattle.decoder.specs.Line.{upTo, bytesAt, line, numberOf}
 use Rattle.decoder.specs.States.{State, movedTo}
-use Rattle.decoder.specs.Columned.{onto, numberIn, columned, fields}
+use Rattle.decoder.specs.Columned.{onto, numberIn, columned}
+use Rattle.decoder.specs.ColumnedInner.{fields}
 use Rattle.decoder.specs.Update.{placed}
 
 -- ---- form 1

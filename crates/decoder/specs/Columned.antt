@@ -2,23 +2,19 @@
 -- their run's first byte; all else stands in the rest. And the fields of either form over one state, as code has them.
 use Prim.Native.Nat.{ℕ}
 use mathlib.Core.List.{List, [], _∷_, _++_}
-use lib.Dec.{ltb, eqb}
+use lib.Dec.{ltb}
 use lib.ListN.{length, getD, take}
 use Rattle.numbers.specs.Number.{pick}
 use Rattle.numbers.specs.Limits.{maxClock}
 use Rattle.text.specs.declared.Part.{Part}
 use Rattle.text.specs.declared.Units.{Units}
 use Rattle.block.specs.Row.{noPart}
-use Rattle.columns.specs.declared.number.Place as number-place
 use Rattle.columns.specs.declared.number.Answer as number-answer
 use Rattle.columns.specs.declared.number.Answer.the-variants as number
-use Rattle.columns.specs.declared.difference.Place as difference-place
 use Rattle.columns.specs.declared.difference.Answer as difference-answer
 use Rattle.columns.specs.declared.difference.Answer.the-variants as difference
-use Rattle.columns.specs.declared.byte.Place as byte-place
 use Rattle.columns.specs.declared.byte.Answer as byte-answer
 use Rattle.columns.specs.declared.byte.Answer.the-variants as byte
-use Rattle.string.specs.declared.Place as string-place
 use Rattle.string.specs.declared.Answer as string-answer
 use Rattle.string.specs.declared.Answer.the-variants as string
 use Rattle.columns.specs.Number.{nextNumber}
@@ -108,8 +104,3 @@ columned u grammar.bytes s = onto s (line 2 u grammar.bytes (s .at))
 columned u grammar.key s = keyIn u s
 columned u (grammar.value blame) s = onto s (line 2 u (grammar.value blame) (s .at))
 columned u (grammar.values blame n) s = onto s (line 2 u (grammar.values blame n) (s .at))
-
--- ---- either form over a state of form 2: form 1 moves its place alone
-
-unfoldable pub fields : ℕ → List ℕ → Reader State
-fields form u f s = pick (eqb form 1) (onto s (line 1 u f (s .at))) (columned u f s)

@@ -2,5 +2,6 @@
 pub mod Line
 pub mod States
 pub mod Columned
+pub mod ColumnedInner
 pub mod Opening
 pub mod Update

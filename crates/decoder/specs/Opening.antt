@@ -10,7 +10,8 @@ use Rattle.columns.specs.Byte as bytes
 use Rattle.string.specs.String as strings
 use Rattle.string.specs.declared.Opened as string-opened
 use Rattle.string.specs.declared.Opened.the-variants as opened
-use Rattle.grammar.specs.Grammar.{byte, number, bytes as some-bytes, Grammar, done, draw, _>>=_}
+use Rattle.grammar.specs.Grammar.{byte, number, bytes as some-bytes, Grammar, done, draw}
+use Rattle.grammar.specs.GrammarInner.{_>>=_}
 use Rattle.grammar.specs.Course.{Drawn, got, not, Run, item, over, stopped, run}
 use Rattle.decoder.specs.Line.{line}
 use Rattle.decoder.specs.States.{Numbers, Differences, Bytes, Texts, State, state, withText}

@@ -8,7 +8,8 @@ use lib.ListN.{length, take, drop, length-append, take-append-drop}
 use Rattle.numbers.specs.declared.Refusal.{Refusal}
 use Rattle.grammar.specs.Course.{Course, item, over, stopped, fit, items, ending}
 use Rattle.ranges.specs.Ranges.{Range}
-use Rattle.ranges.specs.Table.{row, put, rowsFrom, flat, Fine, AllFine}
+use Rattle.ranges.specs.Table.{flat}
+use Rattle.ranges.specs.TableInner.{row, put, rowsFrom, Fine, AllFine}
 use Rattle.ranges.proofs.Flat.{length-rows, take-flat, rows-flat, flat-put}
 use Rattle.ranges.proofs.Rows.{length-put, row-put-same, row-put-other, lt-or}
 use Rattle.deletes.specs.declared.Collected.{Collected}

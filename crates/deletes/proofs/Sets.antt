@@ -9,7 +9,8 @@ use Rattle.numbers.specs.Output.{padded}
 use Rattle.numbers.proofs.Output.{padded-none}
 use Rattle.grammar.specs.Course.{Course, item, over, stopped, items, ending}
 use Rattle.ranges.specs.Ranges.{Range, normal}
-use Rattle.ranges.specs.Table.{rowsFrom, flat, AllFine, normalCount, normalized}
+use Rattle.ranges.specs.Table.{flat}
+use Rattle.ranges.specs.TableInner.{rowsFrom, AllFine, normalCount, normalized}
 use Rattle.ranges.proofs.Flat.{length-flat}
 use Rattle.deletes.specs.declared.Set.the-variants as set
 use Rattle.deletes.specs.declared.Collected.{Collected}

@@ -10,10 +10,12 @@ use borrow.Author.Tests.{lt-ltb, le-ltb, ltb-false, eq-eqb, ne-eqb}
 use Rattle.numbers.specs.declared.Refusal.{Refusal}
 use Rattle.numbers.specs.declared.Read.{Read}
 use Rattle.numbers.specs.declared.Read.the-variants as read
-use Rattle.numbers.specs.Number.{pick, readUnsigned, whyRead}
+use Rattle.numbers.specs.Number.{pick, readUnsigned}
+use Rattle.numbers.specs.NumberInner.{whyRead}
 use Rattle.numbers.specs.Limits.{maxClock, maxValue, maxClients}
 use Rattle.ranges.specs.Ranges.{Range}
-use Rattle.grammar.specs.Grammar.{Grammar, _>>=_}
+use Rattle.grammar.specs.Grammar.{Grammar}
+use Rattle.grammar.specs.GrammarInner.{_>>=_}
 use Rattle.grammar.specs.Course.{Drawn, got, not, Reader, stopped, onDrawn, run}
 use Rattle.grammar.specs.Deletes.{ranges, clients, allRanges}
 use Rattle.decoder.specs.Line.{numberAt, varAt, bounded, upTo, restored, deleteAt, numberOf, line}

@@ -9,8 +9,10 @@ use Rattle.numbers.specs.declared.Read.the-variants as read
 use Rattle.numbers.specs.Number.{pick}
 use Rattle.numbers.specs.Limits.{maxValue}
 use Rattle.ranges.specs.Ranges.{Range}
-use Rattle.ranges.specs.Table.{range, rowsFrom, Fine, AllFine}
-use Rattle.grammar.specs.Grammar.{Grammar, _>>=_}
+use Rattle.ranges.specs.Table.{range}
+use Rattle.ranges.specs.TableInner.{rowsFrom, Fine, AllFine}
+use Rattle.grammar.specs.Grammar.{Grammar}
+use Rattle.grammar.specs.GrammarInner.{_>>=_}
 use Rattle.grammar.specs.Course.{Course, item, over, stopped, run, items, ending}
 use Rattle.grammar.specs.Deletes.{ranges, clients}
 use Rattle.decoder.specs.Line.{line}

@@ -11,8 +11,8 @@ use Rattle.block.specs.declared.Block.{Block}
 use Rattle.readings.specs.Sound.{All}
 use Rattle.sorting.specs.Steps.{State, can}
 use Rattle.sorting.specs.Rules.{queue, isSkip, deps, Rule, system, waits, free}
-use Rattle.sorting.specs.Rule28.{rule28}
-use Rattle.sorting.specs.Rule13.{rule13}
+use Rattle.sorting.specs.Rule28Inner.{rule28}
+use Rattle.sorting.specs.Rule13Inner.{rule13}
 use Rattle.sorting.specs.Sorted.{steps}
 use Rattle.sorting.proofs.Outcome.{can-fits, can-ready, can-intro}
 use Rattle.sorting.proofs.Rule28.{ready-28}

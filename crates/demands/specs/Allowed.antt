@@ -15,8 +15,8 @@ use Rattle.readings.specs.Sound.{All}
 use Rattle.updates.specs.Promises.{reading}
 use Rattle.sorting.specs.Steps.{State, start, can, Run, Ends}
 use Rattle.sorting.specs.Rules.{queue, isSkip, deps, Rule}
-use Rattle.sorting.specs.Rule28.{rule28}
-use Rattle.sorting.specs.Rule13.{rule13}
+use Rattle.sorting.specs.Rule28Inner.{rule28}
+use Rattle.sorting.specs.Rule13Inner.{rule13}
 use Rattle.sorting.specs.Named.{ruleOf}
 use Rattle.sorting.specs.Sorted.{steps, orderOf, countsOf, reachesOf, pendingOf}
 use Rattle.sort_answers.specs.Answers.{isRule, Room}

@@ -20,7 +20,7 @@ use Rattle.numbers.specs.declared.Refusal.{Refusal}
 use Prim.Native.Nat.{_/_}
 use Rattle.diffs.specs.Promises.{answered, diffOf, refusedWith}
 use Rattle.numbers.specs.Output.{padded}
-use Rattle.ranges.specs.Table.{rowsFrom}
+use Rattle.ranges.specs.TableInner.{rowsFrom}
 use Rattle.updates.specs.Promises.{known, reading, refused, rowsOf, wordsOf}
 use Rattle.vector.specs.Vector.{vectorOf}
 use Rattle.writing.specs.Writing.{readAnswer, readOut}

@@ -11,11 +11,12 @@ use borrow.Author.Tests.{eqb-true, eqb-false, eq-eqb, ne-eqb, leb-true}
 use Rattle.numbers.specs.declared.Refusal.{Refusal}
 use Rattle.numbers.specs.declared.Written.{Written}
 use Rattle.numbers.specs.Number.{pick, none, nowhere}
-use Rattle.numbers.specs.Output.{padded, verdict, refusal, done, written, put}
+use Rattle.numbers.specs.Output.{padded, verdict, written, put}
+use Rattle.numbers.specs.OutputInner.{refusal, done}
 use Rattle.numbers.proofs.Output.{refused-answer, refused-bytes, done-answer, done-bytes}
 use Rattle.block.specs.declared.Block.{Block}
 use Rattle.grammar.specs.Course.{items}
-use Rattle.ranges.specs.Table.{rowsFrom}
+use Rattle.ranges.specs.TableInner.{rowsFrom}
 use Rattle.vector.specs.Vector.{Entry, vectorOf}
 use Rattle.passes.proofs.Wholes.{IsForm}
 use Rattle.kept.proofs.Vectors.{whyVector, by-number}

@@ -16,7 +16,8 @@ use Rattle.grammar.specs.Course.{got}
 use Rattle.decoder.specs.Line.{numberOf, line}
 use Rattle.decoder.specs.States.{State, movedTo, withClient, withLeft, withRight, withInfo, withText, withParent, withTypes, withLen}
 use Rattle.decoder.specs.Columned.{numberDrawn, differenceDrawn, byteDrawn, textDrawn, onto, numberIn, textIn, columned}
-use Rattle.leftover.specs.Leftover.{columnsAt, Spent}
+use Rattle.leftover.specs.Leftover.{columnsAt}
+use Rattle.leftover.specs.LeftoverInner.{Spent}
 use Rattle.readings.specs.Sound.{bytesIn}
 use Rattle.readings.proofs.Columns.{Within, TextHeld, text-held}
 use Rattle.tokens.specs.Tokens.{Token, field, text, var, buf, value, values, taken, takenAll, keys, clients, lefts, rights, infos, parents, types, lens, rest}

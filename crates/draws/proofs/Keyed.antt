@@ -17,7 +17,8 @@ use Rattle.decoder.specs.Columned.{differenceDrawn, joining, numbered as byKey,
 use Rattle.readings.specs.Sound.{bytesIn}
 use Rattle.readings.proofs.Columns.{clash}
 use Rattle.tokens.specs.Tokens.{Token, field, text, var, buf, key, value, values, taken, takenAll, keys}
-use Rattle.tokens.specs.Keys.{numberOf as keyNumber, isKnown, isFull, remembered, keysAfter, crowded, byNumber, numbered}
+use Rattle.tokens.specs.Keys.{numberOf as keyNumber, isKnown, isFull, remembered, crowded, byNumber, numbered}
+use Rattle.tokens.specs.KeysInner.{keysAfter}
 use Rattle.tokens.proofs.Keys.{remembered-known, remembered-new}
 use Rattle.draws.specs.Draws.{Draws, LegalValue, Legal, AllLegal}
 use Rattle.draws.proofs.Columns.{Holds, field-drawn, text-drawn, var-drawn, buf-drawn, values-drawn, value-drawn}

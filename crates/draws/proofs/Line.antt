@@ -12,7 +12,8 @@ use Rattle.grammar.specs.Course.{got, Run, item, over, stopped, run, ending}
 use Rattle.grammar.specs.Blocks.{allBlocks}
 use Rattle.decoder.specs.Line.{upTo, numberOf, checked, wordOf, line}
 use Rattle.decoder.specs.Update.{blocksOf}
-use Rattle.leftover.specs.Leftover.{Stretch, columnsLeft, Spent}
+use Rattle.leftover.specs.Leftover.{Stretch, columnsLeft}
+use Rattle.leftover.specs.LeftoverInner.{Spent}
 use Rattle.readings.specs.Sound.{bytesIn}
 use Rattle.tokens.specs.Tokens.{Token, field, text, var, buf, key, value, values, led, inlined, taken, takenAll, inLine, lane, whole}
 use Rattle.tokens.specs.Bytes.{form1}

@@ -13,7 +13,7 @@ use Rattle.runs.specs.Runs.{columnOf}
 use Rattle.string.specs.String.{textHead, textColumn}
 use Rattle.string.proofs.TextTrip.{joined, unitsEach}
 use Rattle.grammar.specs.Grammar as grammar
-use Rattle.grammar.specs.Grammar.{_>>=_}
+use Rattle.grammar.specs.GrammarInner.{_>>=_}
 use Rattle.grammar.specs.Course.{Drawn, got, not, onDrawn, run}
 use Rattle.decoder.specs.Line.{upTo, bounded, varAt, numberOf, line}
 use Rattle.decoder.specs.States.{State, movedTo, withText}
@@ -22,7 +22,8 @@ use Rattle.decoder.specs.Opening.{heads, standing, withOpened, textOpened, onHe
 use Rattle.decoder.specs.Update.{placed, inColumns, blocksOf}
 use Rattle.leftover.specs.Leftover.{columnsAt, columnsLeft}
 use Rattle.tokens.specs.Tokens.{Token, takenAll, inLine, columnIn, lane, keys, clients, lefts, rights, infos, parents, types, lens, rest}
-use Rattle.tokens.specs.Keys.{keysAfter, crowded, numbered}
+use Rattle.tokens.specs.Keys.{crowded, numbered}
+use Rattle.tokens.specs.KeysInner.{keysAfter}
 use Rattle.tokens.specs.Bytes.{form2, near}
 use Rattle.draws.specs.Draws.{AllLegal, Lined, DrawnAgain}
 use Rattle.draws.proofs.Standing.{From, at-end, past, byte-here}

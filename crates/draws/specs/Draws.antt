@@ -18,7 +18,8 @@ use Rattle.grammar.specs.Course.{got, Reader, Run, item, over, Course, run, end
 use Rattle.grammar.specs.Blocks.{allBlocks}
 use Rattle.decoder.specs.Line.{bounded, line}
 use Rattle.decoder.specs.Update.{blocksOf}
-use Rattle.leftover.specs.Leftover.{Stretch, columnsLeft, Spent}
+use Rattle.leftover.specs.Leftover.{Stretch, columnsLeft}
+use Rattle.leftover.specs.LeftoverInner.{Spent}
 use Rattle.readings.specs.Sound.{bytesIn}
 use Rattle.tokens.specs.Tokens.{Token, field, text, var, buf, key, value, values, clients, lefts, rights, infos, parents, types, lens}
 

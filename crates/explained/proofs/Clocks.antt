@@ -17,7 +17,8 @@ use Rattle.grammar.specs.Grammar.{Number, Field, Answer, Grammar, ask, emit, st
 use Rattle.grammar.specs.Blocks.{allBlocks}
 use Rattle.grammar.specs.Course.{Drawn, got, not, Run, onDrawn, run}
 use Rattle.decoder.specs.States.{State}
-use Rattle.decoder.specs.Columned.{columned, fields}
+use Rattle.decoder.specs.Columned.{columned}
+use Rattle.decoder.specs.ColumnedInner.{fields}
 use Rattle.decoder.specs.Opening.{openedOf}
 use Rattle.decoder.specs.Update.{placed, inColumns, blocksOf}
 use Rattle.decoder.proofs.Laws.{run-columned}
@@ -26,10 +27,12 @@ use Rattle.content.specs.Content.{nth}
 use Rattle.roles.specs.declared.Role.{Role}
 use Rattle.roles.specs.declared.Role.the-variants as role
 use Rattle.roles.specs.declared.Plan.{Plan}
-use Rattle.roles.specs.Roles.{start, goTo, sectioned, announced, onward, headed, informed, infoRole, behind, after, settled, codeOf, isEnded, isOver, blockRole, sectionRole}
+use Rattle.roles.specs.Roles.{start, goTo, sectioned, announced, onward, headed, informed, infoRole, behind, after, settled, codeOf, isEnded, blockRole, sectionRole}
+use Rattle.roles.specs.RolesInner.{isOver}
 use Rattle.origins.specs.declared.Line.{Line}
 use Rattle.origins.specs.Origins.{plainLine, lineAt, linesInLine, numberLine, linesIn}
-use Rattle.telling.specs.Telling.{fieldOf, fieldAt, heard, linesOf}
+use Rattle.telling.specs.Telling.{heard}
+use Rattle.telling.specs.TellingInner.{fieldOf, fieldAt, linesOf}
 use Rattle.explainer.specs.Watch.{onSeen, watch}
 use Rattle.explainer.specs.Explanation.{Sheet, blank, noted, clockLine, found, onOpened, explanation}
 use Rattle.explainer.specs.Record.{headRow, idRow, contentRow, nameRow, rowed}

@@ -19,7 +19,8 @@ use Rattle.grammar.specs.Grammar as grammar
 use Rattle.grammar.specs.Grammar.{Number, Answer}
 use Rattle.grammar.specs.Course.{Drawn, got, not}
 use Rattle.decoder.specs.States.{State, Texts, withText}
-use Rattle.decoder.specs.Columned.{textDrawn, columned, fields}
+use Rattle.decoder.specs.Columned.{textDrawn, columned}
+use Rattle.decoder.specs.ColumnedInner.{fields}
 use Rattle.decoder.proofs.Laws.{fields-columned}
 use Rattle.roles.specs.declared.Role.{Role}
 use Rattle.roles.specs.declared.Role.the-variants as role
@@ -27,7 +28,8 @@ use Rattle.roles.specs.declared.Plan.{Plan}
 use Rattle.roles.specs.Roles.{keyText, codeOf}
 use Rattle.origins.specs.declared.Line.{Line}
 use Rattle.origins.specs.Origins.{storedLine, plainLine, lineAt, linesInLine, textLine, keyLine, keyLines, numberLine, linesIn}
-use Rattle.telling.specs.Telling.{fieldOf, heard, linesOf}
+use Rattle.telling.specs.Telling.{heard}
+use Rattle.telling.specs.TellingInner.{fieldOf, linesOf}
 use Rattle.explainer.specs.Record.{headRow, idRow, contentRow, nameRow, rowed, rowBy}
 use Rattle.explainer.proofs.Fits.{partOf}
 use Rattle.explainer.proofs.Going.{Own}

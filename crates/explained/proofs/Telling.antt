@@ -13,13 +13,15 @@ use Rattle.block.specs.Rows.{plain}
 use Rattle.grammar.specs.Grammar.{Field, Answer, Grammar, ask, emit, stop, done}
 use Rattle.grammar.specs.Course.{Drawn, got, not, Run, item, over, stopped, onDrawn, run}
 use Rattle.decoder.specs.States.{State}
-use Rattle.decoder.specs.Columned.{fields}
+use Rattle.decoder.specs.ColumnedInner.{fields}
 use Rattle.roles.specs.declared.Role.{Role}
 use Rattle.roles.specs.declared.Role.the-variants as role
 use Rattle.roles.specs.declared.Plan.{Plan}
-use Rattle.roles.specs.Roles.{goTo, sectioned, announced, onward, headed, informed, infoRole, behind, after, settled, codeOf, isEnded, isOver, blockRole, sectionRole}
+use Rattle.roles.specs.Roles.{goTo, sectioned, announced, onward, headed, informed, infoRole, behind, after, settled, codeOf, isEnded, blockRole, sectionRole}
+use Rattle.roles.specs.RolesInner.{isOver}
 use Rattle.origins.specs.declared.Line.{Line}
-use Rattle.telling.specs.Telling.{fieldOf, fieldAt, heard, linesOf}
+use Rattle.telling.specs.Telling.{heard}
+use Rattle.telling.specs.TellingInner.{fieldOf, fieldAt, linesOf}
 use Rattle.explainer.specs.Watch.{onSeen, watch}
 use Rattle.explainer.specs.Explanation.{Sheet, noted, clockLine, found}
 use Rattle.explainer.specs.Record.{headRow, idRow, contentRow, nameRow, rowed, rowBy, rowOf}

@@ -11,7 +11,8 @@ use Rattle.block.specs.Row.{noBlock}
 use Rattle.grammar.specs.Blocks.{allBlocks}
 use Rattle.grammar.specs.Course.{Drawn, got, not, Run, item, over, stopped, onDrawn, run}
 use Rattle.decoder.specs.States.{State}
-use Rattle.decoder.specs.Columned.{columned, fields}
+use Rattle.decoder.specs.Columned.{columned}
+use Rattle.decoder.specs.ColumnedInner.{fields}
 use Rattle.decoder.specs.Opening.{openedOf}
 use Rattle.decoder.specs.Update.{placed, inColumns, blocksOf}
 use Rattle.decoder.proofs.Laws.{run-columned}

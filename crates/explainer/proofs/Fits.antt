@@ -11,11 +11,14 @@ use Rattle.text.specs.declared.Part.{Part}
 use Rattle.block.specs.declared.Block.{Block}
 use Rattle.block.specs.Row.{noPart}
 use Rattle.grammar.specs.Grammar as grammar
-use Rattle.grammar.specs.Grammar.{Number, Field, Answer, Grammar, ask, emit, stop, done, _>>=_}
+use Rattle.grammar.specs.Grammar.{Number, Field, Answer, Grammar, ask, emit, stop, done}
+use Rattle.grammar.specs.GrammarInner.{_>>=_}
 use Rattle.roles.specs.declared.Role.the-variants as role
 use Rattle.roles.specs.declared.Plan.{Plan}
-use Rattle.roles.specs.Roles.{codeOf, after, onward, settled, isEnded, isOver, isKept, blockRole, sectionRole}
-use Rattle.telling.specs.Telling.{fieldAt, heard}
+use Rattle.roles.specs.Roles.{codeOf, after, onward, settled, isEnded, blockRole, sectionRole}
+use Rattle.roles.specs.RolesInner.{isOver, isKept}
+use Rattle.telling.specs.Telling.{heard}
+use Rattle.telling.specs.TellingInner.{fieldAt}
 use Rattle.explainer.specs.Record.{rowed}
 
 -- what is known of an answer: a number in line is within its limit

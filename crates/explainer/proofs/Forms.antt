@@ -11,7 +11,8 @@ use Rattle.grammar.specs.Blocks.{allBlocks}
 use Rattle.grammar.specs.Course.{Drawn, got, not, Run, item, over, stopped, onDrawn, ending, run}
 use Rattle.decoder.specs.Line.{line}
 use Rattle.decoder.specs.States.{State, movedTo}
-use Rattle.decoder.specs.Columned.{onto, columned, fields}
+use Rattle.decoder.specs.Columned.{onto, columned}
+use Rattle.decoder.specs.ColumnedInner.{fields}
 use Rattle.decoder.specs.Opening.{openedOf}
 use Rattle.decoder.specs.Update.{placed, inColumns, blocksOf}
 use Rattle.decoder.proofs.Laws.{placed-line, fields-columned, run-columned}
@@ -24,7 +25,8 @@ use Rattle.roles.specs.Roles.{start, codeOf, after, settled}
 use Rattle.origins.specs.declared.Line.{Line}
 use Rattle.origins.specs.Origins.{linesInLine, linesIn}
 use Rattle.origins.specs.Sheets.{linesFrom}
-use Rattle.telling.specs.Telling.{heard, linesOf}
+use Rattle.telling.specs.Telling.{heard}
+use Rattle.telling.specs.TellingInner.{linesOf}
 use Rattle.explainer.specs.Watch.{onSeen, watch}
 use Rattle.explainer.specs.Explanation.{Sheet, blank, noted, found, onOpened, explanation}
 use Rattle.explainer.specs.Following.{isWhole, Readable, Reads, followed}

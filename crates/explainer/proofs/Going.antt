@@ -12,7 +12,7 @@ use Rattle.roles.specs.declared.Role.{Role}
 use Rattle.roles.specs.declared.Role.the-variants as role
 use Rattle.roles.specs.declared.Plan.{Plan}
 use Rattle.roles.specs.Roles.{goTo, informed, lengthened, infoRole, contentRole, toRight, toParent, toNode, behind, codeOf, isEnded}
-use Rattle.telling.specs.Telling.{fieldOf}
+use Rattle.telling.specs.TellingInner.{fieldOf}
 use Rattle.explainer.proofs.Fits.{not-both}
 
 -- of a block: two, and the lines that it may still have

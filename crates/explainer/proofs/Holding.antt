@@ -14,7 +14,7 @@ use Rattle.roles.specs.declared.Plan.{Plan}
 use Rattle.roles.specs.Roles.{goTo, sectioned, announced, onward, headed, informed, infoRole, behind, codeOf, isEnded, blockRole, sectionRole}
 use Rattle.origins.specs.declared.Line.{Line}
 use Rattle.origins.specs.Sheets.{lineIn, linesFrom, Above}
-use Rattle.telling.specs.Telling.{fieldOf}
+use Rattle.telling.specs.TellingInner.{fieldOf}
 use Rattle.explainer.specs.Explanation.{Sheet, noted, clockLine}
 use Rattle.explainer.specs.Following.{lineFor, Placed}
 use Rattle.explainer.proofs.Going.{weight, most, Own, OwnOrOver, Goes, own-goes, info-goes}

@@ -13,14 +13,17 @@ use Rattle.block.specs.declared.Block.{Block}
 use Rattle.block.specs.Row.{noPart}
 use Rattle.block.specs.Rows.{plain, withLeft, withRight, withParent, withName, withKey, withMark, withType, withContent}
 use Rattle.block.specs.Kinds.{GC, SKIP, TYPE, isItem, isNamed, maxType}
-use Rattle.grammar.specs.Grammar.{Grammar, ask, emit, stop, done, _>>=_}
+use Rattle.grammar.specs.Grammar.{Grammar, ask, emit, stop, done}
+use Rattle.grammar.specs.GrammarInner.{_>>=_}
 use Rattle.grammar.specs.Grammar as grammar
 use Rattle.grammar.specs.Blocks as blocks
 use Rattle.roles.specs.declared.Role.{Role}
 use Rattle.roles.specs.declared.Role.the-variants as role
 use Rattle.roles.specs.declared.Plan.{Plan}
-use Rattle.roles.specs.Roles.{start, goTo, sectioned, announced, onward, headed, informed, lengthened, infoRole, contentRole, toRight, toParent, toNode, behind, after, codeOf, settled, isEnded, isOver, isKept, isBare, blockRole, sectionRole}
-use Rattle.telling.specs.Telling.{fieldOf, heard}
+use Rattle.roles.specs.Roles.{start, goTo, sectioned, announced, onward, headed, informed, lengthened, infoRole, contentRole, toRight, toParent, toNode, behind, after, codeOf, settled, isEnded, blockRole, sectionRole}
+use Rattle.roles.specs.RolesInner.{isOver, isKept, isBare}
+use Rattle.telling.specs.Telling.{heard}
+use Rattle.telling.specs.TellingInner.{fieldOf}
 use Rattle.explainer.specs.Record.{headRow, idRow, contentRow, nameRow, rowed}
 use Rattle.explainer.proofs.Fits.{Within, Meets, partOf, begun, told, Passed, Fits, fits-bind, fits-more, not-both, onward-goes, settled-here, settled-ended, never, fits-settled}
 

@@ -13,7 +13,8 @@ use Rattle.roles.specs.declared.Role.the-variants as role
 use Rattle.roles.specs.declared.Plan.{Plan}
 use Rattle.roles.specs.Roles.{goTo, sectioned, announced, onward, headed, behind, codeOf, isEnded, blockRole, sectionRole}
 use Rattle.grammar.specs.Grammar.{Answer}
-use Rattle.telling.specs.Telling.{fieldOf, heard}
+use Rattle.telling.specs.Telling.{heard}
+use Rattle.telling.specs.TellingInner.{fieldOf}
 use Rattle.explainer.specs.Explanation.{Sheet}
 use Rattle.explainer.proofs.Fits.{Within, Meets}
 use Rattle.explainer.proofs.Going.{weight, left, most, Own, Goes, own-goes, info-goes}

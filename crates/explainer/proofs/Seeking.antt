@@ -7,7 +7,7 @@ use lib.Dec.{eqb}
 use borrow.Author.Tests.{eqb-false}
 use Rattle.numbers.specs.Number.{pick}
 use Rattle.roles.specs.declared.Plan.{Plan}
-use Rattle.roles.specs.Roles.{isKept}
+use Rattle.roles.specs.RolesInner.{isKept}
 use Rattle.explainer.specs.Following.{isFound}
 use Rattle.explainer.proofs.Fits.{not-both}
 

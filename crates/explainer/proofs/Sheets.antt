@@ -14,7 +14,7 @@ use Rattle.roles.specs.Roles.{keyText}
 use Rattle.origins.specs.declared.Line.{Line}
 use Rattle.origins.specs.Origins.{linesIn, linesInLine, textLine, keyLines}
 use Rattle.origins.specs.Sheets.{lineIn, linesFrom, Above}
-use Rattle.telling.specs.Telling.{linesOf}
+use Rattle.telling.specs.TellingInner.{linesOf}
 use Rattle.explainer.proofs.Going.{most}
 
 pub lines-stay : (k : ℕ) (sh sh₁ : List ℕ) → Above k sh sh₁ → (i n : ℕ) → i + n ≤ k → linesFrom sh₁ i n ≡ linesFrom sh i n

@@ -18,17 +18,20 @@ use Rattle.grammar.specs.Course.{Drawn, got, not, onDrawn, ending, run}
 use Rattle.grammar.specs.Blocks.{allBlocks}
 use Rattle.decoder.specs.Line.{bounded, varAt, upTo}
 use Rattle.decoder.specs.States.{State}
-use Rattle.decoder.specs.Columned.{onto, fields}
+use Rattle.decoder.specs.Columned.{onto}
+use Rattle.decoder.specs.ColumnedInner.{fields}
 use Rattle.decoder.proofs.Laws.{fields-up-to}
 use Rattle.cells.specs.Cells.{stateIn, Small}
 use Rattle.roles.specs.declared.Role.the-variants as role
 use Rattle.roles.specs.declared.Plan.{Plan}
-use Rattle.roles.specs.Roles.{start, codeOf, behind, after, onward, settled, isEnded, isOver, isKept}
+use Rattle.roles.specs.Roles.{start, codeOf, behind, after, onward, settled, isEnded}
+use Rattle.roles.specs.RolesInner.{isOver, isKept}
 use Rattle.origins.specs.declared.Line.{Line}
 use Rattle.origins.specs.Sheets.{linesFrom}
 use Rattle.telling.specs.declared.Told as telling-told
 use Rattle.telling.specs.declared.Told.the-variants as tell
-use Rattle.telling.specs.Telling.{fieldAt, heard, linesOf, Draws, Draws-not, Says, Tells}
+use Rattle.telling.specs.Telling.{heard}
+use Rattle.telling.specs.TellingInner.{fieldAt, linesOf, Draws, Draws-not, Says, Tells}
 use Rattle.explainer.specs.Watch.{Seen, kept, onSeen, watch}
 use Rattle.explainer.specs.Explanation.{Sheet, blank, noted, clockLine, found}
 use Rattle.explainer.specs.Following.{isWhole, Reads, Placed, isFound, aheadOf, followed}

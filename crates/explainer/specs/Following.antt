@@ -9,12 +9,13 @@ use Rattle.numbers.specs.Number.{pick}
 use Rattle.grammar.specs.Course.{Run, ending, run}
 use Rattle.grammar.specs.Blocks.{allBlocks}
 use Rattle.decoder.specs.States.{State}
-use Rattle.decoder.specs.Columned.{fields}
+use Rattle.decoder.specs.ColumnedInner.{fields}
 use Rattle.decoder.specs.Update.{blocksOf}
 use Rattle.roles.specs.declared.Plan.{Plan}
-use Rattle.roles.specs.Roles.{start, codeOf, isKept}
+use Rattle.roles.specs.Roles.{start, codeOf}
+use Rattle.roles.specs.RolesInner.{isKept}
 use Rattle.origins.specs.declared.Line.{Line}
-use Rattle.telling.specs.Telling.{linesOf}
+use Rattle.telling.specs.TellingInner.{linesOf}
 use Rattle.origins.specs.Sheets.{lineIn, Above}
 use Rattle.explainer.specs.Watch.{watch}
 use Rattle.explainer.specs.Explanation.{clockLine, found, blank}

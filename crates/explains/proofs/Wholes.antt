@@ -12,7 +12,7 @@ use Rattle.ranges.specs.Ranges.{Range}
 use Rattle.deletes.specs.declared.Checked.{Checked}
 use Rattle.deletes.specs.declared.Checked.the-variants as checked
 use Rattle.content.specs.declared.Scanned.the-variants as scanned
-use Rattle.content.specs.Content.{scannedOf}
+use Rattle.content.specs.ContentInner.{scannedOf}
 use Rattle.content.proofs.Seek.{scanned-row, scanned-refused}
 use Rattle.explainer.specs.Following.{isWhole, Readable}
 use Rattle.explains.specs.declared.Whole.{Whole}

@@ -25,7 +25,8 @@ use Rattle.grammar.specs.Grammar.{Field}
 use Rattle.grammar.specs.Course as course
 use Rattle.decoder.specs.Line.{numberAt, varAt, bounded, upTo, byteAt, soMany, bytesAt, checked, line, numberOf}
 use Rattle.decoder.specs.States.{Texts, State, movedTo, withClient, withLeft, withRight, withInfo, withText, withParent, withLen}
-use Rattle.decoder.specs.Columned.{onto, numberIn, columned, fields}
+use Rattle.decoder.specs.Columned.{onto, numberIn, columned}
+use Rattle.decoder.specs.ColumnedInner.{fields}
 use Rattle.decoder.proofs.Laws.{fields-columned}
 use Rattle.cells.specs.declared.Drawn.{Drawn}
 use Rattle.cells.specs.declared.Drawn.the-variants.{Number, Refused}

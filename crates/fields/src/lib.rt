@@ -11,7 +11,8 @@ ghost use Prim.Native.Nat.{_+_, _≤_, _<_};
 ghost use lib.ListN.{length};
 ghost use Rattle.grammar.specs.Grammar as grammar;
 ghost use Rattle.decoder.specs.Line.{upTo, byteAt, bytesAt, checked};
-ghost use Rattle.decoder.specs.Columned.{onto, fields};
+ghost use Rattle.decoder.specs.Columned.{onto};
+ghost use Rattle.decoder.specs.ColumnedInner.{fields};
 ghost use Rattle.cells.specs.Cells.{NumberDrawn, atIn, stateIn, Small, Beside, given};
 ghost use Rattle.fields.specs.Fields.{clockAt, Narrow, partGiven, textGiven, Given, PartGiven, TextGiven, TextDrawn};
 

@@ -8,7 +8,8 @@ use Rattle.numbers.specs.declared.Refusal.{Refusal}
 use Rattle.block.specs.declared.Block.{Block}
 use Rattle.grammar.specs.Course.{Course, item, over, stopped, items, ending}
 use Rattle.decoder.specs.Update.{blocksOf, deleteSet}
-use Rattle.readings.specs.Sound.{Sound, All}
+use Rattle.readings.specs.Sound.{All}
+use Rattle.readings.specs.SoundInner.{Sound}
 use Rattle.readings.proofs.Sounds.{blocks-sound}
 use Rattle.readings.proofs.Counts.{blocks-groups}
 use Rattle.deletes.specs.declared.Checked.{Checked}

@@ -18,7 +18,8 @@ use Rattle.update.specs.Steps.{comes, Fine, left, Stepped}
 use Rattle.update.proofs.Answers.{on-block, on-on, on-done, on-refused}
 use Rattle.deletes.specs.declared.Checked.the-variants as checked
 use Rattle.summary.specs.Rows.{Row}
-use Rattle.summary.specs.Words.{wordsIn, rowsIn}
+use Rattle.summary.specs.Words.{wordsIn}
+use Rattle.summary.specs.WordsInner.{rowsIn}
 use Rattle.summary.proofs.Laws.{rows-are}
 use Rattle.tally.specs.Tally.{Falls, Few, placeOf, isFirst, addedAt, Counted}
 use Rattle.gathered.specs.declared.Scanned.the-variants as scanned

@@ -3,7 +3,8 @@ use Prim.Native.Nat.{ℕ}
 use mathlib.Core.Path.{_≡_, refl, sym, ap, _∙_}
 use mathlib.Core.Bool.{Bool, true, false}
 use Rattle.numbers.specs.Number.{pick}
-use Rattle.grammar.specs.Grammar.{Field, Answer, Grammar, ask, emit, stop, done, _>>=_}
+use Rattle.grammar.specs.Grammar.{Field, Answer, Grammar, ask, emit, stop, done}
+use Rattle.grammar.specs.GrammarInner.{_>>=_}
 use Rattle.grammar.specs.Course.{Drawn, got, not, Reader, Run, item, over, stopped, onDrawn, run}
 
 -- a choice that is made on both sides alike

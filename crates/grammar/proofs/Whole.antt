@@ -1,6 +1,7 @@
 -- The whole update, read, is its blocks read and then its delete ranges.
 use mathlib.Core.Path.{_≡_, refl, ap, ap₂, _∙_}
-use Rattle.grammar.specs.Grammar.{Answer, Grammar, ask, emit, stop, done, _>>=_}
+use Rattle.grammar.specs.Grammar.{Answer, Grammar, ask, emit, stop, done}
+use Rattle.grammar.specs.GrammarInner.{_>>=_}
 use Rattle.grammar.specs.Course.{Drawn, got, not, Reader, Run, item, over, stopped, onDrawn, run}
 use Rattle.grammar.specs.Blocks.{allBlocks}
 use Rattle.grammar.specs.Deletes.{allRanges}

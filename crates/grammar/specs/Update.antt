@@ -1,7 +1,8 @@
 -- The whole update as one grammar: blocks, then delete ranges.
 use Rattle.block.specs.declared.Block.{Block}
 use Rattle.ranges.specs.Ranges.{Range}
-use Rattle.grammar.specs.Grammar.{Grammar, ask, emit, stop, done, _>>=_}
+use Rattle.grammar.specs.Grammar.{Grammar, ask, emit, stop, done}
+use Rattle.grammar.specs.GrammarInner.{_>>=_}
 use Rattle.grammar.specs.Blocks.{allBlocks}
 use Rattle.grammar.specs.Deletes.{allRanges}
 

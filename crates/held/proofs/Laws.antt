@@ -7,10 +7,11 @@ use Rattle.block.specs.declared.Block.{Block}
 use Rattle.block.specs.Rows.{withMark}
 use Rattle.text.specs.declared.Part.{Part}
 use Rattle.text.specs.declared.Units.{Units}
-use Rattle.grammar.specs.Grammar.{Number, Field, number, text, key, Answer, Grammar, stop, done, draw, _>>=_}
+use Rattle.grammar.specs.Grammar.{Number, Field, number, text, key, Answer, Grammar, stop, done, draw}
+use Rattle.grammar.specs.GrammarInner.{_>>=_}
 use Rattle.grammar.specs.Course.{Drawn, got, not, Reader, Run, over, stopped, onDrawn, run}
 use Rattle.grammar.proofs.Runs.{andThen, run-bind}
-use Rattle.decoder.specs.Columned.{fields}
+use Rattle.decoder.specs.ColumnedInner.{fields}
 use Rattle.cells.specs.declared.Drawn.the-variants as drawn
 use Rattle.cells.specs.declared.Field as cells-field
 use Rattle.cells.specs.declared.Field.the-variants as field

@@ -12,7 +12,7 @@ use Rattle.grammar.specs.Grammar.{Grammar}
 use Rattle.grammar.specs.Course as course
 use Rattle.grammar.specs.Course.{Run, run}
 use Rattle.decoder.specs.States.{State}
-use Rattle.decoder.specs.Columned.{fields}
+use Rattle.decoder.specs.ColumnedInner.{fields}
 use Rattle.cells.specs.declared.Field as cells-field
 use Rattle.cells.specs.declared.Field.the-variants as field
 use Rattle.cells.specs.Cells.{stateIn, whyIn, Small, partIn}

@@ -10,7 +10,7 @@ use Rattle.ranges.specs.Ranges.{Range, normal}
 use Rattle.deletes.specs.declared.Set.the-variants as set
 use Rattle.deletes.specs.DeleteSet.{taken, setOf}
 use Rattle.held_answers.specs.declared.HeldRead.{HeldRead}
-use Rattle.held_answers.specs.Answers.{given, notGiven, readHeld}
+use Rattle.held_answers.specs.AnswersInner.{given, notGiven, readHeld}
 
 module _ (m : ℕ) where
   by-ranges : (c : Course Range) (n t : ℕ) → set.Ranges n t ≡ ending c (λ e. set.Ranges m e) set.Refused → given n ≡ ending c (λ e. given m) (λ why. notGiven (why .number))

@@ -5,7 +5,8 @@ use sorter::Sorting;
 use updates::Update;
 ghost use mathlib.Core.Path.{_≡_};
 ghost use lib.ListN.{length};
-ghost use Rattle.held_answers.specs.Answers.{readHeld, wordsGiven, refusedWith, answered, answerTo};
+ghost use Rattle.held_answers.specs.Answers.{refusedWith, answered};
+ghost use Rattle.held_answers.specs.AnswersInner.{readHeld, wordsGiven, answerTo};
 
 // How many blocks were taken, how many clients each report names, how many blocks and delete ranges were read, and how many held ranges.
 #[repr(C)]

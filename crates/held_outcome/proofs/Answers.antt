@@ -4,8 +4,8 @@ use mathlib.Core.Path.{_≡_, refl, ap, _∙_}
 use mathlib.Core.List.{List, []}
 use lib.ListN.{length, take}
 use Rattle.block.specs.declared.Block.{Block}
-use Rattle.ranges.specs.Ranges.{Normal}
-use Rattle.ranges.specs.Table.{rowsFrom}
+use Rattle.ranges.specs.RangesInner.{Normal}
+use Rattle.ranges.specs.TableInner.{rowsFrom}
 use Rattle.picker.specs.Picker.{nowhere}
 use Rattle.reports.specs.Reports.{fitted}
 use Rattle.sorting.specs.Held.{orderHeld, countsHeld, pendingHeld}

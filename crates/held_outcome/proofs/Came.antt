@@ -11,18 +11,20 @@ use Rattle.numbers.specs.Limits.{maxClock, maxClients, maxBlocks}
 use Rattle.block.specs.declared.Id.{Id}
 use Rattle.block.specs.declared.Block.{Block}
 use Rattle.block.specs.Row.{leftId, rightId, parentId}
-use Rattle.ranges.specs.Ranges.{Range, Normal}
-use Rattle.ranges.specs.Table.{rowsFrom}
+use Rattle.ranges.specs.Ranges.{Range}
+use Rattle.ranges.specs.RangesInner.{Normal}
+use Rattle.ranges.specs.TableInner.{rowsFrom}
 use Rattle.vector.specs.Vector.{clientsIn}
 use Rattle.kept.specs.Kept.{remote}
-use Rattle.readings.specs.Sound.{owner, All, Ordered}
+use Rattle.readings.specs.Sound.{owner, All}
+use Rattle.readings.specs.SoundInner.{Ordered}
 use Rattle.readings.specs.Groups.{groups}
 use Rattle.slots.specs.Slots.{Slot, slot}
 use Rattle.picker.specs.Picker.{Desk, nowhere, allPicked}
 use Rattle.picker.proofs.FrontLaws.{length-opened, opened-front}
 use Rattle.sorting.specs.Steps.{State}
 use Rattle.sorting.specs.Rules.{queue, below}
-use Rattle.sorting.specs.Rule28.{rule28}
+use Rattle.sorting.specs.Rule28Inner.{rule28}
 use Rattle.sorting.specs.Named.{asksOf, ruleOf}
 use Rattle.sorting.specs.Sorted.{clients, outcome, numbersFrom, countsIn, outcomeOf, orderOf}
 use Rattle.sorting.specs.Held.{ruleHeld, heldIn, owners, outcomeHeld, orderHeld, countsHeld}

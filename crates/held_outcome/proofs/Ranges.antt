@@ -10,8 +10,9 @@ use lib.ListN.{length, getD}
 use borrow.Author.Tests.{ltb-true, ltb-false, lt-ltb, le-ltb, leb-true, leb-false, le-leb, lt-leb, eqb-true, eqb-false, eq-eqb, ne-eqb}
 use Rattle.numbers.specs.Number.{pick}
 use Rattle.block.specs.declared.Id.{Id}
-use Rattle.ranges.specs.Ranges.{Range, Hit, Deleted, Apart, Leads, Normal}
-use Rattle.ranges.specs.Table.{row, rowsFrom}
+use Rattle.ranges.specs.Ranges.{Range}
+use Rattle.ranges.specs.RangesInner.{Hit, Deleted, Apart, Leads, Normal}
+use Rattle.ranges.specs.TableInner.{row, rowsFrom}
 use Rattle.ranges.proofs.Theory.{After, after}
 use Rattle.sorting.specs.Held.{within, heldIn}
 use Rattle.sorting.proofs.Held.{within-is, ranges-hold}

@@ -12,7 +12,7 @@ use Rattle.numbers.specs.Number.{pick}
 use Rattle.numbers.specs.Limits.{maxClock, maxBlocks}
 use Rattle.block.specs.declared.Block.{Block}
 use Rattle.block.specs.Row.{noBlock}
-use Rattle.readings.specs.Sound.{Ordered, Chain}
+use Rattle.readings.specs.SoundInner.{Ordered, Chain}
 use Rattle.slots.specs.Slots.{Slot, slot, rank, isNamed}
 use Rattle.slots.proofs.Ranks.{clientAt, named-slot, slot-rank, slot-named}
 use Rattle.sorting.specs.Rules.{queue, isSkip}

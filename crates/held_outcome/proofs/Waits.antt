@@ -13,8 +13,8 @@ use Rattle.numbers.specs.Number.{pick}
 use Rattle.block.specs.declared.Id.{Id}
 use Rattle.block.specs.declared.Block.{Block}
 use Rattle.block.specs.Row.{noId, noBlock, leftId, rightId, parentId}
-use Rattle.ranges.specs.Ranges.{Normal}
-use Rattle.ranges.specs.Table.{rowsFrom}
+use Rattle.ranges.specs.RangesInner.{Normal}
+use Rattle.ranges.specs.TableInner.{rowsFrom}
 use Rattle.slots.specs.Slots.{Slot, slot}
 use Rattle.slots.proofs.Clients.{clientsOf}
 use Rattle.picker.specs.declared.fronts.Front.{Front}
@@ -26,7 +26,8 @@ use Rattle.picker.specs.Fronts.{frontAt}
 use Rattle.picker.specs.Picker.{isMet, holds, nowhere}
 use Rattle.sorting.specs.Steps.{State, Stuck}
 use Rattle.sorting.specs.Rules.{queue, isSkip, also, deps, others, unmet, waits, free, system, report, below}
-use Rattle.sorting.specs.Rule28.{asks28, rule28}
+use Rattle.sorting.specs.Rule28.{asks28}
+use Rattle.sorting.specs.Rule28Inner.{rule28}
 use Rattle.sorting.specs.Named.{asksOf, ruleOf}
 use Rattle.sorting.specs.Sorted.{clients, steps, order, outcome, waiting, pendingIn, outcomeOf}
 use Rattle.sorting.specs.Held.{ruleHeld, owners, pendingHeld}

@@ -20,7 +20,8 @@ use Rattle.block.specs.declared.Block.{Block}
 use Rattle.numbers.specs.declared.Refusal.{Refusal}
 use Rattle.sorter.specs.declared.Sorting.{Sorting}
 use Rattle.updates.specs.declared.Update.{Update}
-use Rattle.held_answers.specs.Answers.{answerTo, answered, readHeld, refusedWith, wordsGiven}
+use Rattle.held_answers.specs.Answers.{answered, refusedWith}
+use Rattle.held_answers.specs.AnswersInner.{answerTo, readHeld, wordsGiven}
 use Rattle.held_sorter.specs.HeldSorter.{countsBy, orderBy, pendingBy, sortingBy}
 use Rattle.numbers.specs.Output.{padded}
 use Rattle.reports.specs.Reports.{fitted}

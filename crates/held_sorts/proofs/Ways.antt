@@ -12,8 +12,10 @@ use Rattle.numbers.specs.Number.{pick, nowhere}
 use Rattle.numbers.specs.Output.{padded}
 use Rattle.block.specs.declared.Block.{Block}
 use Rattle.grammar.specs.Course.{Course, item, over, stopped, fit, items, ending}
-use Rattle.ranges.specs.Ranges.{Range, Normal, normal}
-use Rattle.ranges.specs.Table.{flat, rowsFrom}
+use Rattle.ranges.specs.Ranges.{Range, normal}
+use Rattle.ranges.specs.RangesInner.{Normal}
+use Rattle.ranges.specs.Table.{flat}
+use Rattle.ranges.specs.TableInner.{rowsFrom}
 use Rattle.ranges.proofs.Flat.{length-flat, rows-flat}
 use Rattle.ranges.proofs.Theory.{normal-length, normal-is}
 use Rattle.decoder.specs.Update.{deleteSet}
@@ -24,11 +26,13 @@ use Rattle.reports.proofs.Fitted.{fitted-padded, fitted-length}
 use Rattle.sorter.specs.declared.Sorting.{Sorting}
 use Rattle.updates.specs.Promises.{Reading, refused, reading, answer, rowsOf, wordsOf}
 use Rattle.updates.proofs.Read.{length-padded, reading-good, rows-length, words-length, rows-fit}
-use Rattle.sort_answers.specs.Answers.{Room, whyNot, judged}
+use Rattle.sort_answers.specs.Answers.{Room, whyNot}
+use Rattle.sort_answers.specs.AnswersInner.{judged}
 use Rattle.held_outcome.proofs.Came.{Fit}
 use Rattle.held_answers.specs.declared.HeldRead.{HeldRead}
 use Rattle.held_answers.specs.declared.SortedHeld.{SortedHeld}
-use Rattle.held_answers.specs.Answers.{SortHeld, refusedWith, answered, given, notGiven, readHeld, wordsGiven, answerTo}
+use Rattle.held_answers.specs.Answers.{SortHeld, refusedWith, answered}
+use Rattle.held_answers.specs.AnswersInner.{given, notGiven, readHeld, wordsGiven, answerTo}
 use Rattle.held_sorts.specs.Promises.{lent, Found, Finder, whole, whySort, fitting, against, afterReading, sortHeldBy, Leaves}
 
 -- ---- held ids that were refused, and those that were read

@@ -6,8 +6,8 @@ use mathlib.Core.List.{List, []}
 use native.Mathlib.Omega.{arith}
 use lib.ListN.{length, getD, take, replicate, length-replicate, getD-replicate}
 use Rattle.block.specs.declared.Block.{Block}
-use Rattle.ranges.specs.Ranges.{Normal}
-use Rattle.ranges.specs.Table.{rowsFrom}
+use Rattle.ranges.specs.RangesInner.{Normal}
+use Rattle.ranges.specs.TableInner.{rowsFrom}
 use Rattle.kept.specs.Kept.{remote}
 use Rattle.slots.specs.Slots.{Slot}
 use Rattle.picker.specs.Picker.{nowhere}

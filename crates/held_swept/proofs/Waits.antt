@@ -11,14 +11,15 @@ use borrow.Author.Tests.{ltb-true, ltb-false, lt-ltb, le-ltb}
 use Rattle.block.specs.declared.Id.{Id}
 use Rattle.block.specs.declared.Block.{Block}
 use Rattle.block.specs.Row.{noBlock}
-use Rattle.ranges.specs.Ranges.{Normal}
-use Rattle.ranges.specs.Table.{rowsFrom}
+use Rattle.ranges.specs.RangesInner.{Normal}
+use Rattle.ranges.specs.TableInner.{rowsFrom}
 use Rattle.slots.specs.Slots.{Slot}
 use Rattle.slots.proofs.Clients.{clientsOf}
 use Rattle.picker.specs.Picker.{nowhere}
 use Rattle.sorting.specs.Steps.{State, Stuck}
 use Rattle.sorting.specs.Rules.{queue, isSkip, deps, others, unmet, waits, system, report}
-use Rattle.sorting.specs.Rule28.{asks28, rule28}
+use Rattle.sorting.specs.Rule28.{asks28}
+use Rattle.sorting.specs.Rule28Inner.{rule28}
 use Rattle.sorting.specs.Named.{asksOf}
 use Rattle.sorting.specs.Sorted.{steps, outcome, waiting, pendingIn, outcomeOf}
 use Rattle.sorting.specs.Held.{ruleHeld, owners, pendingHeld}

@@ -21,7 +21,8 @@ use Rattle.grammar.specs.Grammar as grammar
 use Rattle.grammar.specs.Course.{Drawn, got, not}
 use Rattle.decoder.specs.Line.{bounded, varAt, upTo, line, numberOf}
 use Rattle.decoder.specs.States.{Differences, State}
-use Rattle.decoder.specs.Columned.{differenceDrawn, fromDifferences, onto, numberIn, columned, fields}
+use Rattle.decoder.specs.Columned.{differenceDrawn, fromDifferences, onto, numberIn, columned}
+use Rattle.decoder.specs.ColumnedInner.{fields}
 use Rattle.fields.specs.Fields.{clockAt}
 
 -- what a draw gives, if it gives a number, is a clock

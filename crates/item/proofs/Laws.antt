@@ -5,9 +5,10 @@ use mathlib.Core.List.{List}
 use lib.ListN.{length, set}
 use Rattle.block.specs.declared.Id.{Id}
 use Rattle.block.specs.declared.Block.{Block}
-use Rattle.grammar.specs.Grammar.{Grammar, done, _>>=_}
+use Rattle.grammar.specs.Grammar.{Grammar, done}
+use Rattle.grammar.specs.GrammarInner.{_>>=_}
 use Rattle.grammar.specs.Course.{stopped, run}
-use Rattle.decoder.specs.Columned.{fields}
+use Rattle.decoder.specs.ColumnedInner.{fields}
 use Rattle.cells.specs.declared.Field.the-variants as field
 use Rattle.cells.specs.Cells.{stateIn, whyIn}
 use Rattle.cells.proofs.States.{row-first, row-second}

@@ -13,7 +13,7 @@ use Rattle.anys.specs.declared.Skipped.the-variants.{At}
 use Rattle.anys.specs.Any.{anys}
 use Rattle.anys.proofs.Places.{Ends}
 use Rattle.anys.proofs.Laws.{anys-none, anys-ends, anys-cut}
-use Rattle.readings.specs.Sound.{Lies, AreValues, Sound}
+use Rattle.readings.specs.SoundInner.{Lies, AreValues, Sound}
 use Rattle.kept.specs.Kept.{Piece}
 use Rattle.kept.specs.Cut.{spanOf, span, cutList, isWhole, partOf, torn}
 

@@ -17,7 +17,8 @@ use Rattle.text.specs.Utf8.{wellFormed, unitsOf, took, takeUnits}
 use Rattle.text.proofs.Cutting.{cut, found}
 use Rattle.block.specs.declared.Block.{Block}
 use Rattle.block.specs.Kinds.{TEXT, ANY, isText, isAny}
-use Rattle.readings.specs.Sound.{bytesIn, Lies, Sound}
+use Rattle.readings.specs.Sound.{bytesIn}
+use Rattle.readings.specs.SoundInner.{Lies, Sound}
 use Rattle.parts.specs.Brim.{brim}
 use Rattle.kept.specs.Kept.{Piece, piece, wholePiece}
 use Rattle.kept.specs.Cut.{bytesFor, broken, before, cutPart, span, cutList, tornText, isWhole, partOf, front, behind, shortened, begunLater, cutRow, torn}

@@ -11,8 +11,10 @@ use Rattle.numbers.specs.Number.{pick}
 use Rattle.block.specs.declared.Block.{Block}
 use Rattle.block.specs.Row.{noBlock}
 use Rattle.vector.specs.Vector.{Entry}
-use Rattle.readings.specs.Sound.{Sound, All, Ordered}
-use Rattle.readings.specs.Groups.{groups, joined}
+use Rattle.readings.specs.Sound.{All}
+use Rattle.readings.specs.SoundInner.{Sound, Ordered}
+use Rattle.readings.specs.Groups.{groups}
+use Rattle.readings.specs.GroupsInner.{joined}
 use Rattle.readings.proofs.Groups.{groups-joined, groups-all, ordered-distinct}
 use Rattle.parts.specs.Brim.{brim}
 use Rattle.kept.specs.Kept.{Section, remote, falls, piece, wholePiece, keepFrom, withPieces, keepEach, place, falling, clientOf, sectionsOf}

@@ -12,10 +12,13 @@ use Rattle.numbers.specs.Number.{pick}
 use Rattle.block.specs.declared.Block.{Block}
 use Rattle.block.specs.Kinds.{isSkip}
 use Rattle.vector.specs.Vector.{Entry}
-use Rattle.readings.specs.Sound.{Sound, All, Ordered, Chain}
-use Rattle.readings.specs.Groups.{groups, joined, Single, clients, Distinct}
+use Rattle.readings.specs.Sound.{All}
+use Rattle.readings.specs.SoundInner.{Sound, Ordered, Chain}
+use Rattle.readings.specs.Groups.{groups, Distinct}
+use Rattle.readings.specs.GroupsInner.{joined, Single, clients}
 use Rattle.readings.proofs.Groups.{groups-joined, groups-single, groups-all, ordered-distinct, ordered-chains}
-use Rattle.kept.specs.Kept.{Piece, Section, remote, falls, piece, wholePiece, keepFrom, withPieces, keepEach, clientOf, sectionsOf, Descends, clientsOf, pieceCount, rowsOf, Begins, Whole, Pieces, SoundSection}
+use Rattle.kept.specs.Kept.{Piece, Section, remote, falls, piece, wholePiece, keepFrom, withPieces, keepEach, clientOf, sectionsOf}
+use Rattle.kept.specs.KeptInner.{Descends, clientsOf, pieceCount, rowsOf, Begins, Whole, Pieces, SoundSection}
 use Rattle.kept.proofs.SectionsPlaced.{falling-all, falling-length, falling-count, falling-descends, descends-distinct}
 
 -- ---- a block that does not fall

@@ -11,8 +11,10 @@ use borrow.Author.Tests.{ne-eqb}
 use Rattle.numbers.specs.Number.{pick}
 use Rattle.block.specs.declared.Block.{Block}
 use Rattle.vector.specs.Vector.{Entry}
-use Rattle.readings.specs.Sound.{All, Ordered}
-use Rattle.readings.specs.Groups.{groups, joined, Single, clients, Distinct}
+use Rattle.readings.specs.Sound.{All}
+use Rattle.readings.specs.SoundInner.{Ordered}
+use Rattle.readings.specs.Groups.{groups, Distinct}
+use Rattle.readings.specs.GroupsInner.{joined, Single, clients}
 use Rattle.readings.proofs.Groups.{all-map, groups-joined, groups-single, ordered-distinct}
 use Rattle.parts.specs.Brim.{brim}
 use Rattle.kept.specs.declared.plan.Planning.{Planning}

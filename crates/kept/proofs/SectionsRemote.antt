@@ -11,9 +11,11 @@ use Rattle.block.specs.declared.Block.{Block}
 use Rattle.block.specs.Kinds.{isSkip}
 use Rattle.vector.specs.Vector.{Entry}
 use Rattle.readings.specs.Sound.{All}
-use Rattle.readings.specs.Groups.{groups, Single}
+use Rattle.readings.specs.Groups.{groups}
+use Rattle.readings.specs.GroupsInner.{Single}
 use Rattle.readings.proofs.Groups.{groups-all, groups-single}
-use Rattle.kept.specs.Kept.{Section, remote, falls, piece, wholePiece, keepFrom, withPieces, keepEach, falling, clientOf, sectionsOf, withoutLead, wholeEach}
+use Rattle.kept.specs.Kept.{Section, remote, falls, piece, wholePiece, keepFrom, withPieces, keepEach, falling, clientOf, sectionsOf}
+use Rattle.kept.specs.KeptInner.{withoutLead, wholeEach}
 
 -- ---- only the clocks of clients that have blocks count
 

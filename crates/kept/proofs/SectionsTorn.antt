@@ -9,7 +9,8 @@ use Rattle.numbers.specs.Number.{pick}
 use Rattle.block.specs.declared.Block.{Block}
 use Rattle.block.specs.Kinds.{isFormat}
 use Rattle.vector.specs.Vector.{Entry}
-use Rattle.readings.specs.Sound.{Sound, All, Ordered}
+use Rattle.readings.specs.Sound.{All}
+use Rattle.readings.specs.SoundInner.{Sound, Ordered}
 use Rattle.readings.specs.Groups.{groups}
 use Rattle.readings.proofs.Groups.{groups-all}
 use Rattle.parts.specs.Brim.{brim}

@@ -10,8 +10,10 @@ use Rattle.numbers.specs.Output.{padded}
 use Rattle.grammar.specs.Course.{Course, item, over, stopped, items, ending}
 use Rattle.vector.specs.declared.Entries.{Entries}
 use Rattle.vector.specs.declared.Entries.the-variants.{Read, Refused}
-use Rattle.vector.specs.Vector.{Entry, clientsIn, clocksIn, kept}
+use Rattle.vector.specs.Vector.{Entry, clientsIn}
+use Rattle.vector.specs.VectorInner.{clocksIn, kept}
 use Rattle.vector.specs.Vector as vector
+use Rattle.vector.specs.VectorInner as vector-inner
 use Rattle.kept.specs.Plan.{paired, entriesOf}
 
 -- ---- how a course ends
@@ -89,8 +91,8 @@ pub record WasRead (c : Course Entry) (m : ℕ) : Type 1 where
   pub clients : (k : ℕ) → take m (padded k (clientsIn (kept c))) ≡ clientsIn (items c)
   pub entries : (k l : ℕ) → entriesOf m (padded k (clientsIn (kept c))) (padded l (clocksIn (kept c))) ≡ items c
 
-pub was-read : (c : Course Entry) (m : ℕ) → vector.entriesOf c ≡ Read m → WasRead c m
-unfolding vector.entriesOf kept
+pub was-read : (c : Course Entry) (m : ℕ) → vector-inner.entriesOf c ≡ Read m → WasRead c m
+unfolding vector-inner.entriesOf kept
 was-read c m e = go (ends c)
   where
     go : ((s : ℕ) × Over c s) ⊎ ((why : Refusal) × Stopped c why) → WasRead c m
@@ -109,8 +111,8 @@ was-read c m e = go (ends c)
     go (inr x) = absurd (subst read-is (sym e ∙ stopped-ends c (x .0) (λ (s : ℕ). Read (length (items c))) (λ (why : Refusal). Refused why) (x .1)) tt)
 
 -- it was refused
-pub was-refused : {X : Type 0} (c : Course Entry) (why : Refusal) → vector.entriesOf c ≡ Refused why → (f : ℕ → X) (g : Refusal → X) → ending c f g ≡ g why
-unfolding vector.entriesOf
+pub was-refused : {X : Type 0} (c : Course Entry) (why : Refusal) → vector-inner.entriesOf c ≡ Refused why → (f : ℕ → X) (g : Refusal → X) → ending c f g ≡ g why
+unfolding vector-inner.entriesOf
 was-refused {X} c why e f g = go (ends c)
   where
     go : ((s : ℕ) × Over c s) ⊎ ((r : Refusal) × Stopped c r) → ending c f g ≡ g why

@@ -12,7 +12,8 @@ use Rattle.numbers.specs.declared.Read.{Read}
 use Rattle.numbers.specs.declared.Read.the-variants as read
 use Rattle.numbers.specs.Number.{pick, Spelt, got, short, long, spelt, placed, readUnsigned}
 use Rattle.numbers.specs.Limits.{maxClients, maxValue, maxClock}
-use Rattle.grammar.specs.Grammar.{Grammar, _>>=_}
+use Rattle.grammar.specs.Grammar.{Grammar}
+use Rattle.grammar.specs.GrammarInner.{_>>=_}
 use Rattle.grammar.specs.Course.{Drawn, got as drew, not, Course, item, over, stopped, onDrawn, run, items, ending}
 use Rattle.decoder.specs.Line.{numberAt, varAt, bounded, upTo, numberOf, line}
 use Rattle.vector.specs.Vector.{Entry, entry, holds, entries, aVector, vectorOf}

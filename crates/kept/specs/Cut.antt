@@ -78,9 +78,6 @@ partOf u p =
 abbrev pub leftOf : Block → ℕ → Id
 leftOf b from = pick (isItem (b .kind)) (record { client = b .client; clock = b .clock + from - 1 }) noId
 
-abbrev pub idBefore : Piece → Id
-idBefore p = leftOf (p .row) (p .from)
-
 -- a row's units up to one, and between two; its text has this part then
 abbrev pub front : ℕ → Part → Block → Block
 front to part b = lasting to (withPart part b)

@@ -24,7 +24,8 @@ use Rattle.grammar.specs.Grammar as grammar
 use Rattle.grammar.specs.Course.{Drawn, got, not}
 use Rattle.decoder.specs.Line.{wordOf, spanned, valuesAt, line}
 use Rattle.decoder.specs.States.{maxKeys, State, movedTo, withKey, withText, withKeys}
-use Rattle.decoder.specs.Columned.{onto, textDrawn, textIn, joining, numbered, keyIn, columned, fields}
+use Rattle.decoder.specs.Columned.{onto, textDrawn, textIn, joining, numbered, keyIn, columned}
+use Rattle.decoder.specs.ColumnedInner.{fields}
 use Rattle.decoder.proofs.Laws.{fields-columned}
 use Rattle.cells.specs.declared.Drawn as cells-drawn
 use Rattle.cells.specs.declared.Drawn.the-variants as drawn

@@ -15,7 +15,8 @@ use Rattle.numbers.proofs.Laws.{pow7}
 use Rattle.grammar.specs.Grammar as grammar
 use Rattle.decoder.specs.Line.{numberAt, varAt, bounded, upTo, line, numberOf}
 use Rattle.decoder.specs.States.{withTypes}
-use Rattle.decoder.specs.Columned.{onto, numberIn, columned, fields}
+use Rattle.decoder.specs.Columned.{onto, numberIn, columned}
+use Rattle.decoder.specs.ColumnedInner.{fields}
 use Rattle.decoder.proofs.Laws.{fields-columned}
 use Rattle.cells.specs.declared.Drawn.{Drawn}
 use Rattle.cells.specs.Cells.{atIn, stateIn, given, NumberDrawn}

@@ -12,7 +12,8 @@ ghost use Rattle.block.specs.Row.{noPart};
 ghost use Rattle.grammar.specs.Grammar as grammar;
 ghost use Rattle.decoder.specs.Line.{wordOf};
 ghost use Rattle.decoder.specs.States.{maxKeys};
-ghost use Rattle.decoder.specs.Columned.{textIn, joining, keyIn, fields};
+ghost use Rattle.decoder.specs.Columned.{textIn, joining, keyIn};
+ghost use Rattle.decoder.specs.ColumnedInner.{fields};
 ghost use Rattle.cells.specs.Cells.{keyCount, keysIn, stateIn, Small, Beside, partIn};
 ghost use Rattle.fields.specs.Fields.{Given, WordGiven};
 

@@ -14,7 +14,8 @@ use Rattle.numbers.specs.Number.{pick}
 use Rattle.block.specs.declared.Id.{Id}
 use Rattle.block.specs.declared.Block.{Block}
 use Rattle.block.specs.Row.{noBlock}
-use Rattle.kept.specs.Kept.{piece, falls, wholePiece, keepFrom, rowsOf}
+use Rattle.kept.specs.Kept.{piece, falls, wholePiece, keepFrom}
+use Rattle.kept.specs.KeptInner.{rowsOf}
 use Rattle.sorting.specs.Steps.{start, after, Run, Ends}
 use Rattle.sorting.specs.Rules.{queue, isSkip, unmet, waits, free, system, below, byReaches}
 use Rattle.sorting.specs.Rule28.{asks28}

@@ -8,7 +8,8 @@ use native.Mathlib.Omega.{arith}
 use Rattle.numbers.specs.Number.{pick}
 use Rattle.block.specs.declared.Id.{Id}
 use Rattle.block.specs.declared.Block.{Block}
-use Rattle.ranges.specs.Ranges.{Range, Deleted}
+use Rattle.ranges.specs.Ranges.{Range}
+use Rattle.ranges.specs.RangesInner.{Deleted}
 use Rattle.sorting.specs.Quick.{Listed}
 use Rattle.sorting.specs.Sorted.{order}
 use Rattle.sorting.specs.Held.{within, ruleHeld, heldIn, owners, orderHeld}

@@ -7,7 +7,8 @@ use mathlib.Core.List.{List, [], _∷_}
 use lib.Dec.{T}
 use Rattle.block.specs.declared.Id.{Id}
 use Rattle.block.specs.declared.Block.{Block}
-use Rattle.kept.specs.Kept.{keepFrom, rowsOf}
+use Rattle.kept.specs.Kept.{keepFrom}
+use Rattle.kept.specs.KeptInner.{rowsOf}
 use Rattle.sorting.specs.Rules.{deps, others, unmet, free}
 
 -- e is what is left of the block b of client c, against the remote clock k: it is of the same kind and ends where b ends; it starts where b starts, or at or

@@ -13,10 +13,13 @@ use Rattle.block.specs.declared.Block.{Block}
 use Rattle.block.specs.Row.{noId, leftId, rightId, parentId}
 use Rattle.block.specs.Kinds.{isItem}
 use Rattle.vector.specs.Vector.{Entry}
-use Rattle.readings.specs.Sound.{All, Sound, Ordered, owner, linked}
-use Rattle.readings.specs.Groups.{groups, joined, Single, Distinct, clients}
+use Rattle.readings.specs.Sound.{All, owner, linked}
+use Rattle.readings.specs.SoundInner.{Sound, Ordered}
+use Rattle.readings.specs.Groups.{groups, Distinct}
+use Rattle.readings.specs.GroupsInner.{joined, Single, clients}
 use Rattle.readings.proofs.Groups.{groups-joined, groups-single, ordered-distinct}
-use Rattle.kept.specs.Kept.{Piece, piece, Section, remote, falls, wholePiece, keepFrom, withPieces, keepEach, place, falling, clientOf, sectionsOf, rowsOf, SoundSection}
+use Rattle.kept.specs.Kept.{Piece, piece, Section, remote, falls, wholePiece, keepFrom, withPieces, keepEach, place, falling, clientOf, sectionsOf}
+use Rattle.kept.specs.KeptInner.{rowsOf, SoundSection}
 use Rattle.kept.specs.Cut.{isWhole, cutRow, shortened, begunLater}
 use Rattle.kept.proofs.SectionsKept.{not-fallen, sections-sound}
 use Rattle.written.specs.Written.{Alike, AllAlike, keyless, reread, piecesRead, sectionsRead}

@@ -4,7 +4,8 @@ use mathlib.Core.Path.{_≡_}
 use mathlib.Core.List.{List}
 use lib.ListN.{length, take}
 use Rattle.block.specs.declared.Block.{Block}
-use Rattle.ranges.specs.Ranges.{Range, Deleted}
+use Rattle.ranges.specs.Ranges.{Range}
+use Rattle.ranges.specs.RangesInner.{Deleted}
 use Rattle.held_answers.specs.declared.SortedHeld.{SortedHeld}
 use Rattle.held_answers.specs.Answers.{SortHeld}
 use Rattle.held_sorts.specs.Promises.{lent, sortHeldOf, SortUpdateHeld}

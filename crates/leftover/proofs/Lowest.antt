@@ -8,7 +8,8 @@ use native.Mathlib.Omega.{arith}
 use lib.Dec.{ltb}
 use borrow.Author.Tests.{ltb-true, ltb-false, le-ltb}
 use Rattle.numbers.specs.Number.{pick}
-use Rattle.leftover.specs.Leftover.{Stretch, lower, lowest, Among, Spent}
+use Rattle.leftover.specs.Leftover.{Stretch, lower, lowest}
+use Rattle.leftover.specs.LeftoverInner.{Among, Spent}
 
 -- what a stretch makes of n: n, where nothing of it is below; else its first byte
 record Lowers (n : ℕ) (x : Stretch) (m : ℕ) : Type 0 where

@@ -1,7 +1,6 @@
 -- Which bytes of an update stay unread: what lies behind the place of reading in each column, texts that no text takes, and what follows the delete set. A run
 -- is read as a whole with its first value, so what it could still give is no byte that stays.
-use Prim.Native.Nat.{ℕ, _≤_, _<_}
-use mathlib.Core.Logic.{_⊎_}
+use Prim.Native.Nat.{ℕ}
 use mathlib.Core.List.{List, [], _∷_}
 use lib.Dec.{ltb, eqb}
 use lib.ListN.{length}
@@ -61,15 +60,3 @@ lowest n (x ∷ xs) = lowest (lower n x) xs
 -- the lowest byte of an update that stays unread; its end, where all are read
 unfoldable pub lowestLeft : ℕ → List ℕ → ℕ
 lowestLeft form u = lowest (length u) (left form u)
-
--- ---- in words
-
--- byte p is one of these
-unfoldable pub Among : ℕ → List Stretch → Type 0
-Among p [] = ⊥
-Among p (x ∷ xs) = ((x .from ≤ p) × (p < x .to)) ⊎ Among p xs
-
--- no stretch has a byte
-unfoldable pub Spent : List Stretch → Type 0
-Spent [] = Unit {0}
-Spent (x ∷ xs) = (x .to ≤ x .from) × Spent xs

@@ -1,2 +1,3 @@
 -- Which bytes of an update stay unread.
 pub mod Leftover
+pub mod LeftoverInner

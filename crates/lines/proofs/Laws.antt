@@ -11,7 +11,8 @@ use lib.Seq.{sets, length-sets, take-all, take-nil, take-suc-set, drop-set-lt, s
 use lib.Dec.{ltb, lit<}
 use borrow.Author.Tests.{lt-ltb, le-ltb}
 use Rattle.numbers.proofs.Laws.{below-or}
-use Rattle.lines.specs.Lines.{overlay, digits, decimal}
+use Rattle.lines.specs.Lines.{digits, decimal}
+use Rattle.lines.specs.LinesInner.{overlay}
 
 -- ---- overlay, as stores one after another
 

@@ -1,2 +1,3 @@
 -- What the crate is believed to mean.
 pub mod Lines
+pub mod LinesInner

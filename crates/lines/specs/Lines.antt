@@ -2,12 +2,7 @@
 use Prim.Native.Nat.{ℕ, zero, suc, _+_, _-_, _/_, _%_}
 use mathlib.Core.Bool.{cond}
 use mathlib.Core.List.{List, [], _∷_, _++_}
-use lib.ListN.{length, take, drop}
 use lib.Dec.{ltb}
-
--- bs stands in out from place `used` on, as far as out reaches; all else is as before
-unfoldable pub overlay : List ℕ → ℕ → List ℕ → List ℕ
-overlay out used bs = take used out ++ take (length out - used) bs ++ drop (used + length bs) out
 
 -- the last digits of v, at most so many, with no zero in front; 48 is `0`
 unfoldable pub digits : ℕ → ℕ → List ℕ

@@ -4,7 +4,8 @@ ghost use mathlib.Core.Path.{_≡_};
 ghost use Prim.Native.Nat.{_+_, _^_, _<_};
 ghost use mathlib.Core.List.{[], _∷_};
 ghost use lib.ListN.{length};
-ghost use Rattle.lines.specs.Lines.{overlay, decimal};
+ghost use Rattle.lines.specs.Lines.{decimal};
+ghost use Rattle.lines.specs.LinesInner.{overlay};
 
 pub fn put_byte(out: &mut [u8], used: usize, b: u8) -> usize
     requires { ⌜ used + 1 < 2 ^ 63 ⌝ }

@@ -17,9 +17,9 @@ use Rattle.walks.proofs.Rows.{Has, byte, word}
 use Rattle.walks.proofs.Refs.{Seat, val, mut, read, pass, Card, since}
 use Rattle.block.specs.declared.Block.{Block}
 use Rattle.numbers.specs.declared.Refusal.{Refusal}
-use Rattle.lines.specs.Lines.{overlay}
+use Rattle.lines.specs.LinesInner.{overlay}
 use Rattle.listing_text.specs.Listing.{blockLines, endLine, header, listing, rangeLines, refusedLine}
-use Rattle.ranges.specs.Table.{rowsFrom}
+use Rattle.ranges.specs.TableInner.{rowsFrom}
 use Rattle.reader.proofs.Sorts.{refusal}
 use Rattle.table.proofs.Sorts.{block}
 use Rattle.listing_text.proofs.put_refused as listing-text·put-refused-fn

@@ -15,9 +15,10 @@ use Rattle.numbers.specs.Output.{padded}
 use Rattle.block.specs.declared.Block.{Block}
 use Rattle.block.specs.Row.{noBlock}
 use Rattle.ranges.specs.Ranges.{Range}
-use Rattle.ranges.specs.Table.{rowsFrom, flat}
+use Rattle.ranges.specs.Table.{flat}
+use Rattle.ranges.specs.TableInner.{rowsFrom}
 use Rattle.ranges.proofs.Flat.{length-flat, length-rows, rows-flat}
-use Rattle.lines.specs.Lines.{overlay}
+use Rattle.lines.specs.LinesInner.{overlay}
 use Rattle.lines.proofs.Laws.{Put, overlay-whole}
 use Rattle.updates.specs.Promises.{Reading, reading, answer, rowsOf, wordsOf}
 use Rattle.listing_text.specs.Listing.{listing, header, blockLines, rangeLines, endLine, emptyLine, refusedLine}

@@ -5,8 +5,8 @@ use numbers::Written;
 ghost use mathlib.Core.Path.{_≡_};
 ghost use Prim.Native.Nat.{_+_, _*_, _^_, _≤_, _<_};
 ghost use lib.ListN.{length, take};
-ghost use Rattle.ranges.specs.Table.{rowsFrom};
-ghost use Rattle.lines.specs.Lines.{overlay};
+ghost use Rattle.ranges.specs.TableInner.{rowsFrom};
+ghost use Rattle.lines.specs.LinesInner.{overlay};
 ghost use Rattle.listing_text.specs.Listing.{listing};
 ghost use Rattle.listed.specs.Listed.{maxText, same, isEmpty, listedReading, listedUpdate, listed, Lists};
 

@@ -16,7 +16,7 @@ use denote.Triple.Clauses.{atExit}
 use Rattle.walks.proofs.Rows.{Has, byte, word}
 use Rattle.walks.proofs.Refs.{Seat, val, mut, Card, since}
 use Rattle.block.specs.declared.Block.{Block}
-use Rattle.lines.specs.Lines.{overlay}
+use Rattle.lines.specs.LinesInner.{overlay}
 use Rattle.listing_text.specs.Listing.{blockLine}
 use Rattle.table.proofs.Sorts.{block}
 use Rattle.listing_text.proofs.put_block as listing-text·put-block-fn

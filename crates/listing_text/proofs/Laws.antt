@@ -11,8 +11,8 @@ use lib.Dec.{eqb}
 use Rattle.block.specs.declared.Block.{Block}
 use Rattle.block.specs.Row.{noBlock}
 use Rattle.ranges.specs.Ranges.{Range}
-use Rattle.ranges.specs.Table.{row, rowsFrom}
-use Rattle.lines.specs.Lines.{overlay}
+use Rattle.ranges.specs.TableInner.{row, rowsFrom}
+use Rattle.lines.specs.LinesInner.{overlay}
 use Rattle.lines.proofs.Laws.{decimal-short, overlay-nil, Put, put-then}
 use Rattle.listing_text.specs.Listing.{number, named, kindName, blockLine, blockLines, rangeLine, rangeLines, header, endLine, listing}
 use Rattle.listing_text.specs.Words.{wordForm, wordBlocks, wordRanges}

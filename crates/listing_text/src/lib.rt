@@ -2,8 +2,9 @@
 ghost use mathlib.Core.Path.{_≡_};
 ghost use Prim.Native.Nat.{_+_, _*_, _^_, _≤_, _<_};
 ghost use lib.ListN.{length, take};
-ghost use Rattle.ranges.specs.Table.{range, rowsFrom};
-ghost use Rattle.lines.specs.Lines.{overlay};
+ghost use Rattle.ranges.specs.Table.{range};
+ghost use Rattle.ranges.specs.TableInner.{rowsFrom};
+ghost use Rattle.lines.specs.LinesInner.{overlay};
 ghost use Rattle.listing_text.specs.Listing.{number, named, kindName, blockLine, blockLines, rangeLine, rangeLines};
 ghost use Rattle.listing_text.specs.Listing.{header, endLine, emptyLine, refusedLine};
 use block::Block;

@@ -8,7 +8,8 @@ use borrow.Author.Tests.{eq-eqb, ne-eqb}
 use Rattle.block.specs.declared.Block.{Block}
 use Rattle.block.specs.Kinds.{isNamed}
 use Rattle.readings.specs.Sound.{bytesIn}
-use Rattle.tokens.specs.Tokens.{field, text, len, typeNumber, var, buf, value, values}
+use Rattle.tokens.specs.Tokens.{field, text, len, var, buf, value, values}
+use Rattle.tokens.specs.TokensInner.{typeNumber}
 use Rattle.tokens.proofs.Keys.{isKey, keyless}
 use Rattle.marked.specs.Marked.{mark, formatTokens, typeTokens, markedTokens}
 

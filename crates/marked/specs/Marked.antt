@@ -7,7 +7,8 @@ use Rattle.text.specs.Utf8.{countedIn}
 use Rattle.block.specs.declared.Block.{Block}
 use Rattle.block.specs.Kinds.{isFormat, isType, isAny, isNamed}
 use Rattle.readings.specs.Sound.{bytesIn}
-use Rattle.tokens.specs.Tokens.{Token, len, typeNumber, key, value, values}
+use Rattle.tokens.specs.Tokens.{Token, len, key, value, values}
+use Rattle.tokens.specs.TokensInner.{typeNumber}
 
 -- a mark's key, or a node name
 abbrev pub mark : List ℕ → Part → Token

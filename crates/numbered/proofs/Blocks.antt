@@ -13,7 +13,8 @@ use Rattle.block.specs.declared.Id.{Id}
 use Rattle.block.specs.declared.Block.{Block}
 use Rattle.block.specs.Row.{noBlock}
 use Rattle.vector.specs.Vector.{Entry}
-use Rattle.readings.specs.Sound.{owner, All, Follows, Stays, Ordered}
+use Rattle.readings.specs.Sound.{owner, All}
+use Rattle.readings.specs.SoundInner.{Follows, Stays, Ordered}
 use Rattle.sorting.specs.Rules.{queue}
 use Rattle.sorting.specs.Sorted.{numbersFrom, clients}
 use Rattle.sorting.proofs.Numbers.{numbersFrom-length, numbersFrom-at, numbered, number-below, owner-at, each-numbered}

@@ -13,7 +13,8 @@ use Rattle.numbers.specs.Limits.{maxClock, maxBlocks}
 use Rattle.block.specs.declared.Id.{Id}
 use Rattle.block.specs.declared.Block.{Block}
 use Rattle.block.specs.Row.{noBlock}
-use Rattle.readings.specs.Sound.{All, Follows, Stays, Ordered, Adjoins, Chain}
+use Rattle.readings.specs.Sound.{All}
+use Rattle.readings.specs.SoundInner.{Follows, Stays, Ordered, Adjoins, Chain}
 use Rattle.sorting.specs.Rules.{queue, isSkip}
 use Rattle.sorting.specs.Held.{within}
 use Rattle.sorting.proofs.Numbers.{one-more}

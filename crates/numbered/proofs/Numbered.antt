@@ -16,10 +16,11 @@ use Rattle.block.specs.declared.Block.{Block}
 use Rattle.block.specs.Row.{noBlock, leftId, rightId, parentId}
 use Rattle.vector.specs.Vector.{Entry}
 use Rattle.kept.specs.Kept.{remote}
-use Rattle.readings.specs.Sound.{Ordered}
+use Rattle.readings.specs.SoundInner.{Ordered}
 use Rattle.sorting.specs.Steps.{State, start, can, step, after}
 use Rattle.sorting.specs.Rules.{queue, isSkip, also, deps, others, unmet, waits, free, system, below, byReaches}
-use Rattle.sorting.specs.Rule28.{asks28, rule28}
+use Rattle.sorting.specs.Rule28.{asks28}
+use Rattle.sorting.specs.Rule28Inner.{rule28}
 use Rattle.sorting.specs.Sorted.{clients, steps, order, outcome, numbersFrom, numbersBy, countsIn, outcomeOf, orderOf}
 use Rattle.sorting.specs.Held.{ruleHeld, owners}
 use Rattle.sorting.proofs.Outcome.{Moved, step-taken, step-own, can-fits}

@@ -11,11 +11,11 @@ use Rattle.numbers.specs.Limits.{maxBlocks}
 use Rattle.block.specs.declared.Id.{Id}
 use Rattle.block.specs.declared.Block.{Block}
 use Rattle.kept.specs.Kept.{remote}
-use Rattle.readings.specs.Sound.{Ordered}
+use Rattle.readings.specs.SoundInner.{Ordered}
 use Rattle.sorting.specs.Steps.{System, State, start, can, step, after}
 use Rattle.sorting.specs.Quick.{left}
 use Rattle.sorting.specs.Rules.{queue}
-use Rattle.sorting.specs.Rule28.{rule28}
+use Rattle.sorting.specs.Rule28Inner.{rule28}
 use Rattle.sorting.specs.Sorted.{numbersFrom, numbersBy}
 use Rattle.sorting.specs.Slow.{lowestFirst, again, fronts, drain, sweep, sweeps, slow, slowly, slowOrderOf}
 use Rattle.sorting.specs.Held.{ruleHeld, owners}

@@ -11,7 +11,8 @@ use borrow.Author.Tests.{lt-ltb, le-ltb, ltb-true, ltb-false, eq-eqb, eqb-true}
 use Rattle.numbers.specs.Number.{pick}
 use Rattle.tokens.specs.Tokens.{Token, field, text, var, buf, key, value, values}
 use Rattle.decoder.specs.States.{maxKeys}
-use Rattle.tokens.specs.Keys.{same, numberOf, isKnown, isFull, remembered, crowded, keysIn, distinct, distinctKeys}
+use Rattle.tokens.specs.Keys.{same, numberOf, isKnown, isFull, remembered, crowded}
+use Rattle.tokens.specs.KeysInner.{keysIn, distinct, distinctKeys}
 use Rattle.tokens.proofs.Keys.{isKey, by-key, not-key, remembered-new, remembered-le}
 
 -- ---- equal bytes

@@ -13,7 +13,8 @@ use Rattle.text.specs.declared.Part.{Part}
 use Rattle.readings.specs.Sound.{bytesIn}
 use Rattle.tokens.specs.Tokens.{Token, field, text, key, keys}
 use Rattle.decoder.specs.States.{maxKeys}
-use Rattle.tokens.specs.Keys.{numberOf, isKnown, isFull, remembered, keysAfter, crowded, byNumber, numbered, spelled, knownAfter}
+use Rattle.tokens.specs.Keys.{numberOf, isKnown, isFull, remembered, crowded, byNumber, numbered}
+use Rattle.tokens.specs.KeysInner.{keysAfter, spelled, knownAfter}
 use Rattle.tokens.specs.Lanes.{Lane}
 use Rattle.tokens.specs.Desk.{putTokens, laidTokens, deskIn, keyCount, knownIn, crowdedIn, Wrote, WroteKeys}
 use Rattle.tokens.proofs.Wrote.{each-append, laid-each-append}

@@ -14,13 +14,15 @@ use borrow.Author.Tests.{le-leb, lt-leb, leb-true, leb-false, lt-ltb, le-ltb, eq
 use Rattle.numbers.specs.declared.Written.{Written}
 use Rattle.numbers.specs.Number.{pick, spell, unsigned, signed}
 use Rattle.numbers.specs.Limits.{maxValue, maxClock}
-use Rattle.numbers.specs.Output.{padded, refusal, written, put}
+use Rattle.numbers.specs.Output.{padded, written, put}
+use Rattle.numbers.specs.OutputInner.{refusal}
 use Rattle.numbers.proofs.Output.{verdict-why, verdict-room, refused-answer, refused-bytes}
 use Rattle.runs.specs.declared.Column.{Column}
 use Rattle.runs.specs.declared.Column.the-variants.{Number, Difference, Byte}
 use Rattle.runs.specs.declared.writer.Writer.{Writer}
 use Rattle.runs.specs.Difference.{keyBetween}
-use Rattle.runs.specs.Runs.{coding, signedRun, nearKey, columnOf, whyOf}
+use Rattle.runs.specs.Runs.{coding, nearKey, columnOf, whyOf}
+use Rattle.runs.specs.RunsInner.{signedRun}
 use Rattle.runs.specs.Writer.{Judge, ends, keyAfter, emitted, finished, moved, pushed, runFits, lastFitsIn, overLimit, goesOn, judged, sentence}
 use Rattle.runs.proofs.Writing.{number-run, difference-run, byte-length, key-most}
 use Rattle.runs.proofs.Standing.{whyAhead, holds-room}

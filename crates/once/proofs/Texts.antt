@@ -12,7 +12,8 @@ use lib.ListN.{length, take, drop, getD, set, length-append, length-drop, drop-o
 use lib.Seq.{sets, length-sets, take-suc, drop-cons, drop-drop, length-take-le}
 use borrow.Author.Tests.{eqb-true}
 use Rattle.numbers.specs.Number.{pick, unsigned}
-use Rattle.numbers.specs.Output.{padded, refusal, written, put}
+use Rattle.numbers.specs.Output.{padded, written, put}
+use Rattle.numbers.specs.OutputInner.{refusal}
 use Rattle.numbers.proofs.Laws.{below-or}
 use Rattle.numbers.proofs.Output.{sets-append, take-sets}
 use Rattle.text.specs.declared.Taken.{Taken}

@@ -9,7 +9,8 @@ use lib.ListN.{length, take}
 use lib.Seq.{sets}
 use Rattle.numbers.specs.declared.Written.{Written}
 use Rattle.numbers.specs.Number.{pick}
-use Rattle.numbers.specs.Output.{padded, refusal, written, put}
+use Rattle.numbers.specs.Output.{padded, written, put}
+use Rattle.numbers.specs.OutputInner.{refusal}
 use Rattle.runs.specs.declared.Column.{Column}
 use Rattle.runs.specs.declared.writer.Writer.{Writer}
 use Rattle.runs.specs.Runs.{coding, columnOf, whyOf}

@@ -18,7 +18,7 @@ use Rattle.string.specs.declared.Place as string-place
 use Rattle.string.specs.declared.Opened as string-opened
 use Rattle.string.specs.declared.Opened.the-variants as opened
 use Rattle.string.specs.String as strings
-use Rattle.grammar.specs.Grammar.{_>>=_}
+use Rattle.grammar.specs.GrammarInner.{_>>=_}
 use Rattle.grammar.specs.Course as course
 use Rattle.decoder.specs.Line.{line, numberOf, byteAt, soMany, bytesAt}
 use Rattle.decoder.specs.States.{State, Texts, withText, withKeys, movedTo}

@@ -14,7 +14,8 @@ use Rattle.numbers.specs.Limits.{maxClock, maxBlocks}
 use Rattle.block.specs.declared.Block.{Block}
 use Rattle.vector.specs.Vector.{Entry}
 use Rattle.kept.specs.Kept.{remote}
-use Rattle.readings.specs.Sound.{All, Sound}
+use Rattle.readings.specs.Sound.{All}
+use Rattle.readings.specs.SoundInner.{Sound}
 use Rattle.parts.specs.Brim.{brim}
 use Rattle.slots.specs.Slots.{Slot}
 use Rattle.slots.proofs.Ranks.{clientAt}

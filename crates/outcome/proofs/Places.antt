@@ -12,7 +12,8 @@ use borrow.Author.Tests.{ltb-true, ltb-false}
 use Rattle.block.specs.declared.Block.{Block}
 use Rattle.block.specs.Row.{noBlock}
 use Rattle.vector.specs.Vector.{Entry}
-use Rattle.readings.specs.Sound.{All, Ordered}
+use Rattle.readings.specs.Sound.{All}
+use Rattle.readings.specs.SoundInner.{Ordered}
 use Rattle.slots.specs.Slots.{Slot, slot, Falling, rank}
 use Rattle.slots.proofs.Ranks.{clientAt, rank-above, slot-rank}
 use Rattle.sorting.specs.Quick.{Listed}

@@ -12,7 +12,8 @@ use Rattle.block.specs.declared.Block.{Block}
 use Rattle.block.specs.Row.{noBlock}
 use Rattle.vector.specs.Vector.{Entry}
 use Rattle.kept.specs.Kept.{remote}
-use Rattle.readings.specs.Sound.{All, Ordered}
+use Rattle.readings.specs.Sound.{All}
+use Rattle.readings.specs.SoundInner.{Ordered}
 use Rattle.slots.specs.Slots.{Slot, slot, Falling, isNamed, rank}
 use Rattle.picker.specs.declared.fronts.Front.{Front}
 use Rattle.picker.specs.Fronts.{never, frontAt, fresh}

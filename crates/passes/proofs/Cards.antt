@@ -19,7 +19,7 @@ use Rattle.records.specs.Records.{deleteTokens}
 use Rattle.records.specs.DeleteRows.{InLine}
 use Rattle.encoder.specs.Passes.{plannedTokens}
 use Rattle.passes.specs.Forms.{begun, ledBytes}
-use Rattle.ranges.specs.Table.{rowsFrom}
+use Rattle.ranges.specs.TableInner.{rowsFrom}
 use Rattle.walks.proofs.Rows.{Has, byte, word, bool-kind, unit-kind}
 use Rattle.walks.proofs.Refs.{Seat, val, mut, read, pass, Card, Told, since}
 use Rattle.block.specs.declared.Block.{Block}

@@ -9,7 +9,8 @@ use lib.Seq.{take-at}
 use borrow.Author.Tests.{eqb-true, eqb-false}
 use Rattle.numbers.specs.Number.{pick, unsigned}
 use Rattle.tokens.specs.Tokens.{Token, var, keys, rest, whole}
-use Rattle.tokens.specs.Keys.{spelled, manyKeys, crowded}
+use Rattle.tokens.specs.Keys.{manyKeys, crowded}
+use Rattle.tokens.specs.KeysInner.{spelled}
 use Rattle.tokens.specs.Lanes.{Lane, freshLane, ahead, laidAt, putAll, laidAll}
 use Rattle.tokens.specs.Desk.{putTokens, laidTokens, laneIn, lanesIn, deskIn, keyCount, knownIn, crowdedIn, aliasCount, Tidy, closedEach, laidEnds, WroteKeys}
 use Rattle.tokens.proofs.Wrote.{wrote-var}

@@ -8,7 +8,8 @@ use lib.Dec.{eqb}
 use Rattle.numbers.specs.Number.{pick}
 use Rattle.readings.specs.Sound.{All}
 use Rattle.tokens.specs.Tokens.{Token, var, lefts, rights, rest, whole, taken, takenAll, inLine, lane}
-use Rattle.tokens.specs.Keys.{spelled, numbered, knownAfter, keysAfter, manyKeys, crowded}
+use Rattle.tokens.specs.Keys.{numbered, manyKeys, crowded}
+use Rattle.tokens.specs.KeysInner.{spelled, knownAfter, keysAfter}
 use Rattle.tokens.specs.Bytes.{form1, form2, bytesOf, nearIn, near}
 use Rattle.tokens.proofs.Taking.{var-line, var-rest, var-other}
 use Rattle.tokens.proofs.Fitting.{taken-append}

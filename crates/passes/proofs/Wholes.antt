@@ -17,7 +17,8 @@ use Rattle.readings.specs.Sound.{All}
 use Rattle.parts.specs.Brim.{brim}
 use Rattle.runs.specs.declared.Column.the-variants.{Difference}
 use Rattle.runs.specs.Runs.{coding, spellable}
-use Rattle.tokens.specs.Keys.{numbered, spelled}
+use Rattle.tokens.specs.Keys.{numbered}
+use Rattle.tokens.specs.KeysInner.{spelled}
 use Rattle.tokens.specs.Tokens.{Token, var, keys, lefts, rights, texts, units, rest, whole, led, taken, takenAll, inLine, columnIn, lane}
 use Rattle.tokens.specs.Bytes.{form1, form2, bytesOf, nearIn, near}
 use Rattle.tokens.specs.Lanes.{Lane, freshLane, putAll, laidAll, closed}

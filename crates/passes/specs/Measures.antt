@@ -2,7 +2,8 @@
 use Prim.Native.Nat.{ℕ}
 use mathlib.Core.List.{List, []}
 use Rattle.tokens.specs.Tokens.{Token}
-use Rattle.tokens.specs.Keys.{spelled, manyKeys}
+use Rattle.tokens.specs.Keys.{manyKeys}
+use Rattle.tokens.specs.KeysInner.{spelled}
 use Rattle.passes.specs.declared.Measured.{Measured}
 use Rattle.passes.specs.Forms.{farFor}
 

@@ -29,7 +29,8 @@ use Rattle.columns.specs.Difference.{nextDifference}
 use Rattle.columns.specs.Byte.{nextByte}
 use Rattle.string.specs.String.{openText, nextText}
 use Rattle.grammar.specs.Grammar as grammar
-use Rattle.grammar.specs.Grammar.{Number, Field, _>>=_}
+use Rattle.grammar.specs.Grammar.{Number, Field}
+use Rattle.grammar.specs.GrammarInner.{_>>=_}
 use Rattle.grammar.specs.Course.{Drawn, got, not, Run, item, over, stopped, onDrawn, run}
 use Rattle.grammar.specs.Blocks.{allBlocks}
 use Rattle.grammar.proofs.Runs.{both}

@@ -12,7 +12,7 @@ use Rattle.block.specs.Row.{noBlock}
 use Rattle.block.specs.Rows.{idsAre, parentIs, plain}
 use Rattle.block.specs.Kinds.{GC, SKIP}
 use Rattle.ranges.specs.Ranges.{Range}
-use Rattle.ranges.specs.Table.{row}
+use Rattle.ranges.specs.TableInner.{row}
 use Rattle.slots.specs.Slots.{Slot, slot, rank, isNamed}
 use Rattle.picker.specs.declared.stages.Dependency.{Dependency}
 use Rattle.picker.specs.Waits.{dep, noDependency}

@@ -10,7 +10,7 @@ ghost use mathlib.Core.Path.{_≡_};
 ghost use Prim.Native.Nat.{_+_, _-_, _*_, _≤_, _<_};
 ghost use lib.ListN.{length};
 ghost use Rattle.numbers.specs.Limits.{maxClock};
-ghost use Rattle.ranges.specs.Table.{row};
+ghost use Rattle.ranges.specs.TableInner.{row};
 ghost use Rattle.slots.specs.Slots.{slotAt, slotsFrom, Falling};
 ghost use Rattle.placing.specs.Halving.{middle, narrowed, clipped, found};
 ghost use Rattle.placing.specs.Placing.{isBefore, begins, isHeld, isAsked, spanAt, spanOf, firstOf, pastRow, capped, numberAt, numberedBlock, onNumber};

@@ -5,7 +5,7 @@ use Prim.Native.Nat.{ℕ, zero, suc, _+_, _≤_, _<_}
 use native.Mathlib.Omega.{arith}
 use native.Mathlib.Decide.{ℕ-discrete}
 use Rattle.ranges.specs.Ranges.{Range, hull, add, normal}
-use Rattle.ranges.specs.Table.{row, rowsFrom, Fine, AllFine, normalCount, normalized}
+use Rattle.ranges.specs.TableInner.{row, rowsFrom, Fine, AllFine, normalCount, normalized}
 use Rattle.ranges.proofs.Theory.{add-by, normal-by}
 use Rattle.ranges.proofs.Flat.{normalized-rows}
 

@@ -10,7 +10,8 @@ use Rattle.numbers.proofs.Output.{take-sets}
 use Rattle.numbers.proofs.Rows.{Rows, first-words, next-first, next-word}
 use Rattle.numbers.proofs.Rows as rows
 use Rattle.ranges.specs.Ranges.{Range, normal}
-use Rattle.ranges.specs.Table.{range, row, put, rowsFrom, flat, normalCount, normalized}
+use Rattle.ranges.specs.Table.{range, flat}
+use Rattle.ranges.specs.TableInner.{row, put, rowsFrom, normalCount, normalized}
 use Rattle.ranges.proofs.Theory.{normal-length}
 
 abbrev words : Range → List ℕ

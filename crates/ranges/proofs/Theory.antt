@@ -8,7 +8,8 @@ use native.Mathlib.Omega.{arith}
 use lib.Dec.{ltb}
 use lib.ListN.{length}
 use borrow.Author.Tests.{ltb-true, ltb-false}
-use Rattle.ranges.specs.Ranges.{Range, Hit, Deleted, Apart, Leads, Normal, hull, add, normal}
+use Rattle.ranges.specs.Ranges.{Range, hull, add, normal}
+use Rattle.ranges.specs.RangesInner.{Hit, Deleted, Apart, Leads, Normal}
 
 pub ltb-cases : (a b : ℕ) → ((ltb a b ≡ true) × (a < b)) ⊎ ((ltb a b ≡ false) × (b ≤ a))
 ltb-cases a b = go (ltb a b) refl

@@ -26,7 +26,8 @@ use Rattle.decoder.specs.Update.{inColumns, blocksOf}
 use Rattle.update.specs.Steps.{reads, comes, Fine, Starts, Stepped}
 use Rattle.numbers.specs.Limits.{maxClients}
 use Rattle.numbers.specs.Output.{padded}
-use Rattle.vector.specs.Vector.{clientsIn, clocksIn, entriesOf, kept, vectorOf}
+use Rattle.vector.specs.Vector.{clientsIn, vectorOf}
+use Rattle.vector.specs.VectorInner.{clocksIn, entriesOf, kept}
 use Rattle.reader.specs.Reader.{filledOf, rowsOf, Stands}
 use Rattle.reader.proofs.Sorts.{update·spot, update·step, begun, filled, entries}
 use Rattle.table.proofs.Sorts.{block}

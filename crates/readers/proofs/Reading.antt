@@ -27,6 +27,7 @@ use Rattle.string.specs.declared.Opened.the-variants as opening
 use Rattle.string.specs.declared.Answer as string-answer
 use Rattle.string.specs.declared.Answer.the-variants as string
 use Rattle.string.specs.String as strings
+use Rattle.string.specs.StringInner as strings-inner
 use Rattle.columns.specs.Reading.{Draw, drew, stop, andThen, reads, numberDraw, differenceDraw, byteDraw, readNumbers, readDifferences, readBytes}
 use Rattle.readers.specs.declared.Kind.the-variants as kind
 use Rattle.readers.specs.declared.Place.{Place}
@@ -132,16 +133,16 @@ worded-onwards s zero a = refl
 worded-onwards s (suc k) a = ap (λ (l : List (Refusal × List ℕ)). worded s a ∷ l) (worded-onwards s k a)
 
 text-turn : (k : ℕ) (s : RefT (List ℕ)) (p : string-place.Place) (r : string-answer.Answer) → stepOf (now s) (Text p) ≡ textStep p r
-    → ((d : string-place.Place) → map (worded (now s)) (answers k (reader s (Text d))) ≡ toldTexts k (strings.readTexts k (now s) d))
-    → map (worded (now s)) (answers (suc k) (reader s (Text p))) ≡ toldTexts (suc k) (strings.andThen (now s) r (λ d. strings.readTexts k (now s) d))
-unfolding onwards strings.andThen textStep
+    → ((d : string-place.Place) → map (worded (now s)) (answers k (reader s (Text d))) ≡ toldTexts k (strings-inner.readTexts k (now s) d))
+    → map (worded (now s)) (answers (suc k) (reader s (Text p))) ≡ toldTexts (suc k) (strings-inner.andThen (now s) r (λ d. strings-inner.readTexts k (now s) d))
+unfolding onwards strings-inner.andThen textStep
 text-turn k s p (string.Next w d) e on =
     ap (map (worded (now s))) (one k s (Text p) _ e) ∙ ap (λ (l : List (Refusal × List ℕ)). (none, slice (w .place) (w .place + w .bytes .0) (now s)) ∷ l) (on d)
 text-turn k s p (string.Bad why) e on = ap (map (worded (now s))) (stuck (suc k) s (Text p) _ e) ∙ worded-onwards (now s) (suc k) (refused why)
 
 pub texts-read : (k : ℕ) (s : RefT (List ℕ)) (p : string-place.Place)
-    → map (worded (now s)) (answers k (reader s (Text p))) ≡ toldTexts k (strings.readTexts k (now s) p)
-unfolding answers strings.readTexts onwards stepOf
+    → map (worded (now s)) (answers k (reader s (Text p))) ≡ toldTexts k (strings-inner.readTexts k (now s) p)
+unfolding answers strings-inner.readTexts onwards stepOf
 texts-read zero s p = refl
 texts-read (suc k) s p = text-turn k s p (strings.nextText (now s) p) refl (texts-read k s)
 

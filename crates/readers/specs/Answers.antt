@@ -5,7 +5,7 @@ use lib.Seq.{slice}
 use Rattle.numbers.specs.declared.Refusal.{Refusal}
 use Rattle.numbers.specs.Number.{none}
 use Rattle.columns.specs.Reading.{Reading}
-use Rattle.string.specs.String.{Texts}
+use Rattle.string.specs.StringInner.{Texts}
 use Rattle.readers.specs.declared.Column.{Column}
 use Rattle.readers.specs.declared.Answer.{Answer}
 use Rattle.readers.specs.Readers.{valued, refused, answerOf, after}

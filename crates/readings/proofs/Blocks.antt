@@ -14,12 +14,15 @@ use Rattle.text.specs.declared.Units.{Units}
 use Rattle.text.specs.Utf8.{wellFormed, after, settled}
 use Rattle.block.specs.declared.Block.{Block}
 use Rattle.block.specs.Row.{noId, noPart, leftId, rightId, parentId}
-use Rattle.block.specs.Kinds.{GC, SKIP, DELETED, BINARY, TEXT, FORMAT, TYPE, ANY, isFormat, isType, isBare, isItem, isBlock, hasPart, maxType, isNamed, isMarked}
+use Rattle.block.specs.Kinds.{GC, SKIP, DELETED, BINARY, TEXT, FORMAT, TYPE, ANY, isFormat, isType, isItem, maxType, isNamed}
+use Rattle.block.specs.KindsInner.{isBare, isBlock, hasPart, isMarked}
 use Rattle.block.specs.Rows.{plain, withLeft, withRight, withKey, markIs, withContent}
 use Rattle.grammar.specs.Grammar as fields
-use Rattle.grammar.specs.Grammar.{Number, Grammar, _>>=_}
+use Rattle.grammar.specs.Grammar.{Number, Grammar}
+use Rattle.grammar.specs.GrammarInner.{_>>=_}
 use Rattle.grammar.specs.Blocks as grammar
-use Rattle.readings.specs.Sound.{bytesIn, Lies, SoundId, SoundText, linked, Shape, Stored, Sound, Valued}
+use Rattle.readings.specs.Sound.{bytesIn, linked}
+use Rattle.readings.specs.SoundInner.{Lies, SoundId, SoundText, Shape, Stored, Sound, Valued}
 use Rattle.readings.proofs.Walks as walks
 use Rattle.readings.proofs.Columns.{clash, chosen, WholeText}
 use Rattle.readings.proofs.Fields.{GoodNumber, Word, Good, values-lie}

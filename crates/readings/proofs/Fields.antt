@@ -45,7 +45,8 @@ use Rattle.decoder.specs.Line.{bounded, upTo, varAt, numberOf, soMany, bytesAt,
 use Rattle.decoder.specs.States.{maxKeys, Numbers, Differences, Bytes, State, withText}
 use Rattle.decoder.specs.Columned.{numberDrawn, fromNumbers, differenceDrawn, fromDifferences, byteDrawn, fromBytes, textDrawn, onto, numberIn, textIn, joining, numbered, keyIn, columned}
 use Rattle.decoder.specs.Opening.{heads, withOpened, textOpened, onHeads, openedOf}
-use Rattle.readings.specs.Sound.{bytesIn, Lies, AreValues, All}
+use Rattle.readings.specs.Sound.{bytesIn, All}
+use Rattle.readings.specs.SoundInner.{Lies, AreValues}
 use Rattle.readings.proofs.Groups.{all-at, all-more}
 use Rattle.readings.proofs.Walks.{Gives, Faithful}
 use Rattle.readings.proofs.Columns.{clash, chosen, ValueHeld, number-held, Clock, clock-held, Within, Opens, WholeText, TextHeld, text-opens, text-held, whole-of}

@@ -10,8 +10,10 @@ use lib.ListN.{length, getD}
 use borrow.Author.Tests.{eqb-true, eqb-false}
 use Rattle.numbers.specs.Number.{pick}
 use Rattle.block.specs.declared.Block.{Block}
-use Rattle.readings.specs.Sound.{owner, All, Follows, Stays, Ordered, Adjoins, Chain}
-use Rattle.readings.specs.Groups.{join, groups, joined, Single, clients, Distinct}
+use Rattle.readings.specs.Sound.{owner, All}
+use Rattle.readings.specs.SoundInner.{Follows, Stays, Ordered, Adjoins, Chain}
+use Rattle.readings.specs.Groups.{join, groups, Distinct}
+use Rattle.readings.specs.GroupsInner.{joined, Single, clients}
 
 -- what makes Q of P makes all Q of all P
 pub all-map : {A : Type 0} (P Q : A → Type 0) → ((a : A) → P a → Q a) → (l : List A) → All P l → All Q l

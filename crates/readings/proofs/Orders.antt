@@ -12,7 +12,8 @@ use Rattle.numbers.specs.Number.{pick}
 use Rattle.block.specs.declared.Block.{Block}
 use Rattle.grammar.specs.Course.{items}
 use Rattle.decoder.specs.Update.{blocksOf}
-use Rattle.readings.specs.Sound.{All, Follows, Stays, Ordered}
+use Rattle.readings.specs.Sound.{All}
+use Rattle.readings.specs.SoundInner.{Follows, Stays, Ordered}
 use Rattle.readings.proofs.Groups.{all-map}
 use Rattle.readings.proofs.Sections.{OfSections, OfPart, Holds, blocks-by}
 

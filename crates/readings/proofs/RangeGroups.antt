@@ -4,7 +4,8 @@ use mathlib.Core.Path.{_≡_, refl, sym, subst}
 use mathlib.Core.Logic.{inl, inr, _≢_}
 use mathlib.Core.List.{List, [], _∷_}
 use native.Mathlib.Omega.{arith}
-use Rattle.ranges.specs.Ranges.{Range, Apart, Leads, Normal}
+use Rattle.ranges.specs.Ranges.{Range}
+use Rattle.ranges.specs.RangesInner.{Apart, Leads, Normal}
 use Rattle.readings.specs.Groups.{join, groups}
 use Rattle.readings.specs.Sound.{All}
 use Rattle.readings.proofs.Groups.{all-map, join-cases}

@@ -10,13 +10,15 @@ use lib.ListN.{length}
 use borrow.Author.Tests.{ltb-false, eqb-false}
 use Rattle.numbers.specs.Number.{pick}
 use Rattle.numbers.specs.Limits.{maxClock, maxValue, maxClients}
-use Rattle.grammar.specs.Grammar.{Grammar, emit, stop, _>>=_}
+use Rattle.grammar.specs.Grammar.{Grammar, emit, stop}
+use Rattle.grammar.specs.GrammarInner.{_>>=_}
 use Rattle.grammar.specs.Course.{fit, items}
 use Rattle.grammar.specs.Deletes as grammar
 use Rattle.decoder.specs.Line.{line}
 use Rattle.decoder.specs.Update.{deleteSet}
 use Rattle.ranges.specs.Ranges.{Range, hull, add, normal}
-use Rattle.ranges.specs.Table.{range, Fine}
+use Rattle.ranges.specs.Table.{range}
+use Rattle.ranges.specs.TableInner.{Fine}
 use Rattle.ranges.proofs.Theory.{normal-is, add-by, normal-by}
 use Rattle.ranges.proofs.Fines.{hull-fine}
 use Rattle.readings.specs.Groups.{groups}

@@ -11,7 +11,8 @@ use Rattle.numbers.specs.Words.{among}
 use Rattle.numbers.specs.Number.{pick}
 use Rattle.numbers.specs.Limits.{maxValue, maxClock, maxClients, maxBlocks}
 use Rattle.block.specs.declared.Block.{Block}
-use Rattle.grammar.specs.Grammar.{Grammar, stop, _>>=_}
+use Rattle.grammar.specs.Grammar.{Grammar, stop}
+use Rattle.grammar.specs.GrammarInner.{_>>=_}
 use Rattle.grammar.specs.Course.{Drawn, got, not, Run, item, over, stopped, onDrawn, run, items}
 use Rattle.grammar.specs.Blocks as grammar
 use Rattle.decoder.specs.Line.{line}
@@ -19,7 +20,7 @@ use Rattle.decoder.specs.States.{State}
 use Rattle.decoder.specs.Columned.{columned}
 use Rattle.decoder.specs.Opening.{openedOf}
 use Rattle.decoder.specs.Update.{placed, inColumns, blocksOf}
-use Rattle.readings.specs.Sound.{Sound, Valued}
+use Rattle.readings.specs.SoundInner.{Sound, Valued}
 use Rattle.readings.proofs.Walks as walks
 use Rattle.readings.proofs.Walks.{Gives}
 use Rattle.readings.proofs.Columns.{chosen}

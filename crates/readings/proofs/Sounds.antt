@@ -4,7 +4,8 @@ use mathlib.Core.List.{List}
 use Rattle.block.specs.declared.Block.{Block}
 use Rattle.grammar.specs.Course.{items}
 use Rattle.decoder.specs.Update.{blocksOf}
-use Rattle.readings.specs.Sound.{Sound, Valued, All}
+use Rattle.readings.specs.Sound.{All}
+use Rattle.readings.specs.SoundInner.{Sound, Valued}
 use Rattle.readings.proofs.Groups.{all-map}
 use Rattle.readings.proofs.Sections.{OfSections, OfPart, Holds, blocks-by}
 

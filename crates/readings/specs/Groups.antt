@@ -1,8 +1,7 @@
 -- A list in groups: neighbours of one client together. Of an update's blocks, and of delete ranges in normal form, a client has one group.
 use Prim.Native.Nat.{ℕ}
-use mathlib.Core.Path.{_≡_}
 use mathlib.Core.Logic.{_≢_}
-use mathlib.Core.List.{List, [], _∷_, _++_}
+use mathlib.Core.List.{List, [], _∷_}
 use lib.Dec.{eqb}
 use Rattle.numbers.specs.Number.{pick}
 use Rattle.readings.specs.Sound.{All}
@@ -18,22 +17,6 @@ groups client [] = []
 groups client (a ∷ rest) = join client a (groups client rest)
 
 -- ---- what is said of groups
-
--- the groups one after the other
-unfoldable pub joined : {A : Type 0} → List (List A) → List A
-joined [] = []
-joined (g ∷ gs) = g ++ joined gs
-
--- some elements, all of one client
-unfoldable pub Single : {A : Type 0} → (A → ℕ) → List A → Type 0
-Single client [] = ⊥
-Single {A} client (a ∷ g) = All (λ (b : A). client b ≡ client a) g
-
--- the client of each group: its first element's
-unfoldable pub clients : {A : Type 0} → (A → ℕ) → List (List A) → List ℕ
-clients client [] = []
-clients client ([] ∷ gs) = clients client gs
-clients client ((a ∷ g) ∷ gs) = client a ∷ clients client gs
 
 -- each differs from all later ones
 unfoldable pub Distinct : List ℕ → Type 0

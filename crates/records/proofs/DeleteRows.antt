@@ -11,7 +11,7 @@ use lib.ListN.{length}
 use borrow.Author.Tests.{eq-eqb, ne-eqb}
 use Rattle.numbers.specs.Number.{pick}
 use Rattle.ranges.specs.Ranges.{Range}
-use Rattle.ranges.specs.Table.{row, rowsFrom}
+use Rattle.ranges.specs.TableInner.{row, rowsFrom}
 use Rattle.readings.specs.Groups.{join, groups}
 use Rattle.readings.proofs.Groups.{two}
 use Rattle.tokens.specs.Tokens.{Token, var}

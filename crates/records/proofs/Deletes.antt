@@ -11,7 +11,7 @@ use lib.ListN.{length}
 use borrow.Author.Tests.{eq-eqb, ne-eqb, eqb-true, eqb-false}
 use Rattle.numbers.specs.Number.{pick}
 use Rattle.ranges.specs.Ranges.{Range}
-use Rattle.ranges.specs.Table.{row, rowsFrom}
+use Rattle.ranges.specs.TableInner.{row, rowsFrom}
 use Rattle.readings.specs.Groups.{groups}
 use Rattle.readings.specs.Sound.{All}
 use Rattle.tokens.specs.Tokens.{Token, var, taken, takenAll, rest, whole}

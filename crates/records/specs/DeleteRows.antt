@@ -6,7 +6,7 @@ use mathlib.Core.List.{List, [], _∷_, _++_}
 use lib.Dec.{eqb}
 use Rattle.numbers.specs.Number.{pick}
 use Rattle.ranges.specs.Ranges.{Range}
-use Rattle.ranges.specs.Table.{row, rowsFrom}
+use Rattle.ranges.specs.TableInner.{row, rowsFrom}
 use Rattle.tokens.specs.Tokens.{Token, var, whole}
 use Rattle.tokens.specs.Lanes.{freshLane, putAll, laidAll}
 use Rattle.records.specs.Records.{clockFrom, lengthOf}

@@ -10,7 +10,7 @@ use Rattle.text.specs.declared.Part.{Part}
 use Rattle.text.specs.Utf8.{countedIn}
 use Rattle.block.specs.declared.Block.{Block}
 use Rattle.block.specs.Kinds.{isGc, isSkip, isDeleted, isBinary, isText, isItem}
-unfoldable pub use Rattle.block.specs.Kinds.{contentNumber}
+unfoldable pub use Rattle.block.specs.KindsInner.{contentNumber}
 use Rattle.ranges.specs.Ranges.{Range}
 use Rattle.readings.specs.Sound.{bytesIn, linked}
 use Rattle.readings.specs.Groups.{groups}

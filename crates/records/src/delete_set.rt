@@ -2,7 +2,7 @@
 ghost use mathlib.Core.Path.{_≡_};
 ghost use Prim.Native.Nat.{_+_, _-_, _*_, _≤_, _<_};
 ghost use lib.ListN.{length};
-ghost use Rattle.ranges.specs.Table.{row, rowsFrom};
+ghost use Rattle.ranges.specs.TableInner.{row, rowsFrom};
 ghost use Rattle.readings.specs.Groups.{groups};
 ghost use Rattle.records.specs.Records.{ownerOf, deleteTokens};
 ghost use Rattle.records.specs.DeleteRows.{isFirst, endBefore, siblings, ownerTokens, rangeTokens, InLine};

@@ -14,7 +14,8 @@ use Rattle.block.specs.declared.Block.{Block}
 use Rattle.grammar.specs.Course.{items}
 use Rattle.decoder.specs.Update.{blocksOf}
 use Rattle.updates.specs.Promises.{Reading, reading}
-use Rattle.readings.specs.Sound.{linked, Ordered}
+use Rattle.readings.specs.Sound.{linked}
+use Rattle.readings.specs.SoundInner.{Ordered}
 use Rattle.readings.proofs.Orders.{blocks-ordered}
 use Rattle.kept.specs.Kept.{Piece, Section, remote}
 use Rattle.kept.specs.Cut.{isWhole, cutRow, shortened, begunLater}

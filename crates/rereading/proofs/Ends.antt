@@ -12,6 +12,7 @@ use Rattle.numbers.specs.Number.{pick, nowhere, none, spelt, after, placed, rea
 use Rattle.numbers.specs.Output.{verdict}
 use Rattle.runs.specs.Runs.{spellable}
 use Rattle.grammar.specs.Grammar as grammar
+use Rattle.grammar.specs.GrammarInner as grammar-inner
 use Rattle.grammar.specs.Course.{onDrawn, run, items}
 use Rattle.decoder.specs.Line.{numberAt, varAt, bounded, upTo, numberOf, line}
 use Rattle.vector.specs.Vector.{Entry, entries, aVector, vectorOf}
@@ -22,7 +23,8 @@ use Rattle.readings.specs.Groups.{groups}
 use Rattle.tokens.specs.Tokens.{Token, var, lefts, rights, rest, whole, taken, takenAll}
 use Rattle.tokens.specs.Keys.{crowded, manyKeys}
 use Rattle.tokens.specs.Bytes.{bytesOf, nearIn, near}
-use Rattle.kept.specs.Kept.{Section, falling, clientOf, sectionsOf, wholeEach}
+use Rattle.kept.specs.Kept.{Section, falling, clientOf, sectionsOf}
+use Rattle.kept.specs.KeptInner.{wholeEach}
 use Rattle.kept.specs.Cut.{anyTorn, anyFormat}
 use Rattle.kept.proofs.SectionsRemote.{nothing-kept, against-nothing}
 use Rattle.records.specs.Records.{sectionsTokens, deleteTokens, updateTokens}
@@ -132,7 +134,7 @@ module _ (form : ℕ) (u : List ℕ) (to m n room : ℕ) where
   -- ---- nothing: every block, but for a client's leading Skips and leading blocks that end at 0
 
   no-entries : entriesIn emptyVector ≡ []
-  unfolding vectorOf aVector entries grammar._>>=_ run onDrawn line numberOf upTo varAt numberAt bounded items readUnsigned placed spelt after
+  unfolding vectorOf aVector entries grammar-inner._>>=_ run onDrawn line numberOf upTo varAt numberAt bounded items readUnsigned placed spelt after
   no-entries = refl
 
   pub against-empty : diffOf form u emptyVector to m n room .refusal .number ≡ 0

@@ -11,11 +11,14 @@ use Rattle.block.specs.declared.Block.{Block}
 use Rattle.block.specs.Kinds.{isGc, isSkip, isDeleted, isBinary, isText, isFormat, isType, isAny, isItem, isNamed}
 use Rattle.ranges.specs.Ranges.{Range}
 use Rattle.readings.specs.Sound.{linked}
-use Rattle.readings.specs.Groups.{groups, joined}
+use Rattle.readings.specs.Groups.{groups}
+use Rattle.readings.specs.GroupsInner.{joined}
 use Rattle.readings.proofs.Columns.{chosen}
 use Rattle.readings.proofs.Groups.{groups-joined, groups-length}
-use Rattle.tokens.specs.Tokens.{Token, typeNumber}
-use Rattle.kept.specs.Kept.{Piece, Section, pieceCount}
+use Rattle.tokens.specs.Tokens.{Token}
+use Rattle.tokens.specs.TokensInner.{typeNumber}
+use Rattle.kept.specs.Kept.{Piece, Section}
+use Rattle.kept.specs.KeptInner.{pieceCount}
 use Rattle.kept.specs.Cut.{cutRow}
 use Rattle.records.specs.Records.{leftTokens, rightTokens, parentTokens, keyTokens, placeTokens, mark, formatTokens, typeTokens, markedTokens, contentTokens, blockTokens, piecesTokens, sectionTokens, sectionsTokens, rangesTokens, clientTokens, ownerOf, deleteTokens, updateTokens}
 use Rattle.written.specs.Kept.{Kept}

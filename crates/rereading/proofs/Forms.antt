@@ -7,7 +7,7 @@ use Rattle.numbers.specs.Limits.{maxUpdate}
 use Rattle.block.specs.declared.Block.{Block}
 use Rattle.updates.specs.Promises.{Reading, reading}
 use Rattle.written.specs.Written.{Alike, AllAlike, sectionsRead}
-use Rattle.kept.specs.Kept.{pieceCount}
+use Rattle.kept.specs.KeptInner.{pieceCount}
 use Rattle.diffs.specs.Promises.{diffOf}
 use Rattle.rereading.specs.Again.{keptBy, ReadAgain, Agree}
 use Rattle.rereading.proofs.Done.{done}

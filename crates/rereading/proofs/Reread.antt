@@ -15,14 +15,16 @@ use Rattle.grammar.specs.Course.{items}
 use Rattle.ranges.specs.Ranges.{Range}
 use Rattle.decoder.specs.Update.{blocksOf}
 use Rattle.agreement.proofs.Readings.{read-on}
-use Rattle.leftover.specs.Leftover.{left, Spent}
+use Rattle.leftover.specs.Leftover.{left}
+use Rattle.leftover.specs.LeftoverInner.{Spent}
 use Rattle.updates.specs.Promises.{Reading, refused, withRanges, withBlocks, known, reading}
 use Rattle.readings.specs.Sound.{All}
 use Rattle.tokens.specs.Tokens.{Token}
 use Rattle.tokens.specs.Keys.{manyKeys}
 use Rattle.tokens.specs.Bytes.{form2, bytesOf, near}
 use Rattle.draws.proofs.Drawn.{draws}
-use Rattle.kept.specs.Kept.{Piece, Section, sectionsOf, pieceCount}
+use Rattle.kept.specs.Kept.{Piece, Section, sectionsOf}
+use Rattle.kept.specs.KeptInner.{pieceCount}
 use Rattle.kept.specs.Cut.{torn, tornPieces, anyTorn, anyFormat}
 use Rattle.kept.proofs.SectionsKept.{sections-count}
 use Rattle.records.specs.Records.{updateTokens}

@@ -1,7 +1,7 @@
 -- What each draw of an update's blocks is drawn for: the role of the next one, by what was drawn before. A label for the grammar's draws, which
 -- stand in `grammar`; that the labels fit is proved (`explainer`, proofs).
 use Prim.Native.Nat.{ℕ, _+_, _-_, _%_}
-use mathlib.Core.Bool.{Bool, true, _||_}
+use mathlib.Core.Bool.{Bool}
 use lib.Dec.{ltb, eqb}
 use Rattle.numbers.specs.Number.{pick}
 use Rattle.numbers.specs.Limits.{maxBlocks}
@@ -117,9 +117,6 @@ lengthened r n q =
       length = n;
     }
 
-abbrev pub ended : Role
-ended = Ended
-
 -- nothing more of this block is drawn, and it has so many clocks
 abbrev pub lasting : ℕ → Plan → Plan
 lasting n q = lengthened Ended n q
@@ -229,18 +226,7 @@ keyText = 27
 unfoldable pub isEnded : Plan → Bool
 isEnded q = eqb (codeOf (q .role)) 0
 
-unfoldable pub isOver : Plan → Bool
-isOver q = eqb (codeOf (q .role)) 28
-
 -- ---- from one block to the next
-
--- exactly 0 and exactly 10: a GC, a Skip
-unfoldable pub isBare : ℕ → Bool
-isBare i = eqb i 0 || eqb i 10
-
--- of a block that ended: it is no item of length 0
-unfoldable pub isKept : Plan → Bool
-isKept q = pick (eqb (q .length) 0) (isBare (q .info)) true
 
 -- what is drawn next, where a block has ended
 unfoldable pub settled : Plan → Plan

@@ -2,8 +2,10 @@
 ghost use mathlib.Core.Path.{_≡_};
 ghost use Prim.Native.Nat.{_+_, _≤_};
 ghost use Rattle.roles.specs.Roles as roles;
+ghost use Rattle.roles.specs.RolesInner as roles-inner;
 ghost use Rattle.roles.specs.Roles.{goTo, sectioned, announced, headed, informed, lengthened, infoRole, contentRole};
-ghost use Rattle.roles.specs.Roles.{toContent, toKey, codeOf, isBare, isKept};
+ghost use Rattle.roles.specs.Roles.{toContent, toKey, codeOf};
+ghost use Rattle.roles.specs.RolesInner.{isBare, isKept};
 
 // What a field is drawn for. A section has its block count, its client and its first clock; a block its info byte, and then what that byte announces. `Ended`:
 // nothing more of a block is drawn. `Over`: nothing more of the update's blocks.
@@ -192,7 +194,7 @@ fn lengthen(role: Role, n: u64, q: Plan) -> Plan
 
 // Nothing more of this block is drawn, and it has so many clocks.
 fn last(n: u64, q: Plan) -> Plan
-    ensures { λ r. ⌜ r ≡ lengthened roles.ended n q ⌝ }
+    ensures { λ r. ⌜ r ≡ lengthened roles-inner.ended n q ⌝ }
 {
     lengthen(Role::Ended, n, q)
 }
@@ -383,7 +385,7 @@ pub fn is_ended(q: Plan) -> bool
 
 // Nothing more of the update's blocks is drawn.
 pub fn is_over(q: Plan) -> bool
-    ensures { λ r. ⌜ r ≡ roles.isOver q ⌝ }
+    ensures { λ r. ⌜ r ≡ roles-inner.isOver q ⌝ }
 {
     let role = q.role;
     code_of(role) == 28

@@ -15,7 +15,8 @@ use Rattle.runs.specs.declared.writer.Writer.{Writer}
 use Rattle.runs.specs.Number as number
 use Rattle.runs.specs.Difference as difference
 use Rattle.runs.specs.Byte as byte
-use Rattle.runs.specs.Runs.{keyMost, coding, column, signedRun}
+use Rattle.runs.specs.Runs.{coding, column}
+use Rattle.runs.specs.RunsInner.{keyMost, signedRun}
 use Rattle.runs.specs.Writer.{ends, keyAfter, emitted, finished, moved, pushed}
 
 -- ---- how a run is spelled

@@ -3,4 +3,5 @@ pub mod Number
 pub mod Difference
 pub mod Byte
 pub mod Runs
+pub mod RunsInner
 pub mod Writer

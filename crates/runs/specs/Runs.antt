@@ -3,7 +3,7 @@ use Prim.Native.Nat.{ℕ, _+_, _-_}
 use mathlib.Core.List.{List, [], _∷_, _++_}
 use mathlib.Core.Bool.{Bool, true, false}
 use lib.Dec.{ltb, leb, eqb}
-use Rattle.numbers.specs.Number.{pick, signed, unsigned}
+use Rattle.numbers.specs.Number.{pick}
 use Rattle.numbers.specs.Limits.{maxValue, maxClock, maxCount}
 use Rattle.runs.specs.declared.Column.{Column}
 use Rattle.runs.specs.declared.Column.the-variants.{Number, Difference, Byte}
@@ -65,10 +65,6 @@ why c vs = pick (within (c .most) vs) (pick (storable c 0 vs) (pick (spellable c
 
 -- ---- the three columns of numbers
 
--- how number and difference column spell a run: a signed number, and where it stands more than once, how often less two
-unfoldable pub signedRun : Bool → ℕ → ℕ → List ℕ
-signedRun m x n = signed m x ++ pick (eqb n 0) [] (unsigned (n - 1))
-
 abbrev pub itself : ℕ → ℕ → ℕ
 itself p v = v
 
@@ -101,9 +97,3 @@ columnOf col vs = column (coding col) vs
 
 abbrev pub whyOf : Column → List ℕ → ℕ
 whyOf col vs = why (coding col) vs
-
--- the largest key of a column
-unfoldable pub keyMost : Column → ℕ
-keyMost Number = 9007199254740991
-keyMost Difference = 4294967295
-keyMost Byte = 255

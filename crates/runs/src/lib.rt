@@ -11,7 +11,8 @@ ghost use mathlib.Core.Bool.{Bool};
 ghost use Prim.Native.Nat.{_+_, _≤_};
 ghost use lib.ListN.{length};
 ghost use lib.Seq.{sets};
-ghost use Rattle.runs.specs.Runs.{coding, keyMost, signedRun};
+ghost use Rattle.runs.specs.Runs.{coding};
+ghost use Rattle.runs.specs.RunsInner.{keyMost, signedRun};
 
 // The columns of numbers.
 pub enum Column {

@@ -16,7 +16,7 @@ use Rattle.updates.proofs.Read.{rows-length, rows-back}
 use Rattle.slow_held_sorter.specs.SlowHeld.{sortingAt, orderBy, countsBy, pendingBy}
 use Rattle.held_swept.proofs.Answers.{order-is, counts-are, pending-are, sorting-is}
 use Rattle.held_answers.specs.declared.HeldRead.{HeldRead}
-use Rattle.held_answers.specs.Answers.{readHeld, wordsGiven}
+use Rattle.held_answers.specs.AnswersInner.{readHeld, wordsGiven}
 use Rattle.slow_held_sorts.specs.Promises.{slowly}
 use Rattle.held_sorts.proofs.Ways.{back, is-normal, fine, Gives}
 

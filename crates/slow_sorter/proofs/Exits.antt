@@ -12,8 +12,10 @@ use Rattle.numbers.specs.Output.{padded}
 use Rattle.block.specs.declared.Block.{Block}
 use Rattle.grammar.specs.Course.{Course, items, ending}
 use Rattle.vector.specs.declared.Entries.the-variants.{Read, Refused}
-use Rattle.vector.specs.Vector.{Entry, clientsIn, clocksIn, kept}
+use Rattle.vector.specs.Vector.{Entry, clientsIn}
+use Rattle.vector.specs.VectorInner.{clocksIn, kept}
 use Rattle.vector.specs.Vector as vector
+use Rattle.vector.specs.VectorInner as vector-inner
 use Rattle.kept.specs.Plan.{entriesOf}
 use Rattle.kept.proofs.VectorRead.{was-read, was-refused}
 use Rattle.slots.specs.Slots.{Slot, slotsFrom, stored, Falling}
@@ -99,7 +101,7 @@ module _ (rule : ℕ) (rows : List Block) (blocks : ℕ) (names : List ℕ) (v :
 -- ---- a vector that was read, or refused
 
 module _ (rule : ℕ) (c : Course Entry) (rows : List Block) (blocks : ℕ) (order counts reaches pending : List ℕ) where
-  module _ (m k l : ℕ) (e : vector.entriesOf c ≡ Read m) where
+  module _ (m k l : ℕ) (e : vector-inner.entriesOf c ≡ Read m) where
     abbrev names : List ℕ
     names = take m (padded k (clientsIn (kept c)))
 
@@ -120,7 +122,7 @@ module _ (rule : ℕ) (c : Course Entry) (rows : List Block) (blocks : ℕ) (ord
         leaves _ _ (ap (λ (v : List Entry). by names v) (r .entries k l) ∙ ap (λ (ns : List ℕ). by ns (items c)) (r .clients k)
         ∙ sym (r .ends-so (λ (s : ℕ). by (clientsIn (items c)) (items c)) (λ why. unswept (why .number) order counts reaches pending)))
 
-  pub exit-refused : (why : Refusal) → vector.entriesOf c ≡ Refused why
+  pub exit-refused : (why : Refusal) → vector-inner.entriesOf c ≡ Refused why
       → Leaves (sweptRead rule c rows blocks order counts reaches pending) (noSorting (why .number)) order counts reaches pending
   unfolding sweptRead unswept
   exit-refused why e = leaves (unswept (why .number) order counts reaches pending) _

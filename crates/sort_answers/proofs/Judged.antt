@@ -3,7 +3,8 @@ use Prim.Native.Nat.{ℕ, _≤_, _<_}
 use mathlib.Core.Path.{_≡_, refl}
 use borrow.Author.Tests.{lt-ltb, le-ltb, eq-eqb, ne-eqb}
 use Rattle.sorter.specs.declared.Sorting.{Sorting}
-use Rattle.sort_answers.specs.Answers.{whyNot, judged}
+use Rattle.sort_answers.specs.Answers.{whyNot}
+use Rattle.sort_answers.specs.AnswersInner.{judged}
 
 module _ (s : Sorting) (order counts reaches pending : ℕ) where
   abbrev here : ℕ

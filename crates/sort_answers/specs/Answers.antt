@@ -6,10 +6,8 @@ use mathlib.Core.List.{List, []}
 use lib.Dec.{ltb, eqb}
 use lib.ListN.{length}
 use Rattle.numbers.specs.declared.Refusal.{Refusal}
-use Rattle.numbers.specs.Number.{pick, none}
+use Rattle.numbers.specs.Number.{pick}
 use Rattle.updates.specs.Promises.{Reading, refused}
-use Rattle.updates.specs.declared.Update.{Update}
-use Rattle.sorter.specs.declared.Sorting.{Sorting}
 use Rattle.sort_answers.specs.declared.Sorted.{Sorted}
 
 pub record Sort : Type 0 where
@@ -54,23 +52,4 @@ answered s =
       pending = length (s .pending) / 3;
       blocks = length (s .reading .blocks);
       ranges = length (s .reading .ranges);
-    }
-
--- ---- how the answer is made of what the sorter says
-
-unfoldable pub judged : Sorting → ℕ → ℕ → ℕ → ℕ → ℕ
-judged s order counts reaches pending =
-    pick (eqb (s .number) 0)
-    (whyNot (record { order = order; counts = counts; reaches = reaches; pending = pending }) (s .steps) (s .counts) (s .reaches) (s .pending)) (s .number)
-
-unfoldable pub answerTo : Update → Sorting → Sorted
-answerTo read s =
-    record {
-      refusal = none;
-      steps = s .steps;
-      counts = s .counts / 2;
-      reaches = s .reaches / 2;
-      pending = s .pending / 3;
-      blocks = read .blocks;
-      ranges = read .ranges;
     }

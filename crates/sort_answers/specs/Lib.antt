@@ -1,2 +1,3 @@
 -- What a sort answers.
 pub mod Answers
+pub mod AnswersInner

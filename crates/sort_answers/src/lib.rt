@@ -3,7 +3,8 @@ use numbers::Refusal;
 use sorter::Sorting;
 use updates::Update;
 ghost use mathlib.Core.Path.{_≡_};
-ghost use Rattle.sort_answers.specs.Answers.{isRule, refusedWith, answered, judged, answerTo};
+ghost use Rattle.sort_answers.specs.Answers.{isRule, refusedWith, answered};
+ghost use Rattle.sort_answers.specs.AnswersInner.{judged, answerTo};
 
 // How many blocks were taken, how many clients each report names, and how many blocks and delete ranges were read.
 #[repr(C)]

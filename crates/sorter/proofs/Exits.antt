@@ -9,8 +9,10 @@ use Rattle.numbers.specs.Output.{padded}
 use Rattle.block.specs.declared.Block.{Block}
 use Rattle.grammar.specs.Course.{Course, items, ending}
 use Rattle.vector.specs.declared.Entries.the-variants.{Read, Refused}
-use Rattle.vector.specs.Vector.{Entry, clientsIn, clocksIn, kept}
+use Rattle.vector.specs.Vector.{Entry, clientsIn}
+use Rattle.vector.specs.VectorInner.{clocksIn, kept}
 use Rattle.vector.specs.Vector as vector
+use Rattle.vector.specs.VectorInner as vector-inner
 use Rattle.kept.specs.Plan.{entriesOf}
 use Rattle.kept.proofs.VectorRead.{was-read, was-refused}
 use Rattle.slots.specs.declared.Noted.{Noted}
@@ -141,7 +143,7 @@ module _ (rule : ℕ) (c : Course Entry) (rows : List Block) (blocks : ℕ) (ord
       (r ≡ sortingRead rule c rows blocks order) × (order₁ ≡ orderRead rule c rows blocks order) × (counts₁ ≡ countsRead rule c rows blocks order counts)
       × (reaches₁ ≡ reachesRead rule c rows blocks order reaches) × (pending₁ ≡ pendingRead rule c rows blocks order pending)
 
-  module _ (m k l : ℕ) (e : vector.entriesOf c ≡ Read m) where
+  module _ (m k l : ℕ) (e : vector-inner.entriesOf c ≡ Read m) where
     abbrev names : List ℕ
     names = take m (padded k (clientsIn (kept c)))
 
@@ -173,7 +175,7 @@ module _ (rule : ℕ) (c : Course Entry) (rows : List Block) (blocks : ℕ) (ord
       by-read (λ ns v. fitted (length pending) (pendingOn rule (slotsOf ns) rows blocks v order)) (λ why. pending),
     )
 
-  pub exit-refused : (why : Refusal) → vector.entriesOf c ≡ Refused why → Right (noSorting (why .number)) order counts reaches pending
+  pub exit-refused : (why : Refusal) → vector-inner.entriesOf c ≡ Refused why → Right (noSorting (why .number)) order counts reaches pending
   unfolding sortingRead orderRead countsRead reachesRead pendingRead
   exit-refused why e = (
     sym (was-refused c why e _ (λ r. noSorting (r .number))),

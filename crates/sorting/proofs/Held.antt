@@ -13,7 +13,8 @@ use Rattle.numbers.specs.Number.{pick}
 use Rattle.block.specs.declared.Id.{Id}
 use Rattle.block.specs.declared.Block.{Block}
 use Rattle.block.specs.Row.{noBlock}
-use Rattle.ranges.specs.Ranges.{Range, Hit, Deleted}
+use Rattle.ranges.specs.Ranges.{Range}
+use Rattle.ranges.specs.RangesInner.{Hit, Deleted}
 use Rattle.readings.specs.Sound.{All}
 use Rattle.sorting.specs.Steps.{State, start, step, after, Ends, Highest, Sorts}
 use Rattle.sorting.specs.Rules.{queue, isSkip, deps, others, waits, free, system, report}

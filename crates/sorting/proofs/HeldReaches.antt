@@ -18,7 +18,8 @@ use Rattle.kept.specs.Kept.{remote}
 use Rattle.sorting.specs.Steps.{State, start, can, step, after}
 use Rattle.sorting.specs.Quick.{Listed}
 use Rattle.sorting.specs.Rules.{queue, isSkip, Rule, unmet, waits, free, system, below, byReaches}
-use Rattle.sorting.specs.Rule28.{asks28, rule28}
+use Rattle.sorting.specs.Rule28.{asks28}
+use Rattle.sorting.specs.Rule28Inner.{rule28}
 use Rattle.sorting.specs.Sorted.{clients, steps, order, outcome, numbersFrom, numbersBy, countsIn, outcomeOf, orderOf}
 use Rattle.sorting.specs.Held.{within, ruleHeld, owners}
 use Rattle.sorting.proofs.Outcome.{Moved, step-taken}

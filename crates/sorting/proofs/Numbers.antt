@@ -12,7 +12,8 @@ use borrow.Author.Tests.{eqb-true, eqb-false}
 use Rattle.numbers.specs.Number.{pick}
 use Rattle.block.specs.declared.Block.{Block}
 use Rattle.block.specs.Row.{noBlock}
-use Rattle.readings.specs.Sound.{All, Stays, Ordered}
+use Rattle.readings.specs.Sound.{All}
+use Rattle.readings.specs.SoundInner.{Stays, Ordered}
 use Rattle.sorting.specs.Steps.{State, step, after}
 use Rattle.sorting.specs.Rules.{queue, Rule}
 use Rattle.sorting.specs.Sorted.{steps, numbersFrom, numbersBy}

@@ -7,7 +7,8 @@ use Prim.Native.Nat.{ℕ, suc, _+_, _-_, _≤_, _<_}
 use native.Mathlib.Omega.{arith}
 use native.Mathlib.Decide.{decLt}
 use lib.Dec.{T, ltb, eqb, ltb→lt, lt→ltb, eqb→eq, eqb-refl}
-use Rattle.sorting.specs.Steps.{System, State, start, can, step, after, Run, Stuck, Ends, Takes, Monotone, Highest, Sorts}
+use Rattle.sorting.specs.Steps.{System, State, start, can, step, after, Run, Stuck, Ends, Takes, Highest, Sorts}
+use Rattle.sorting.specs.StepsInner.{Monotone}
 
 pub both : (a b : Bool) → T (a && b) → T a × T b
 both true b t = (tt, t)

@@ -9,7 +9,8 @@ use native.Mathlib.Omega.{arith}
 use lib.Dec.{T, ltb, ltb→lt, nltb→le}
 use lib.ListN.{length}
 use Rattle.numbers.specs.Number.{pick}
-use Rattle.sorting.specs.Steps.{System, State, start, can, step, after, Run, Stuck, Ends, Monotone, Highest, Sorts}
+use Rattle.sorting.specs.Steps.{System, State, start, can, step, after, Run, Stuck, Ends, Highest, Sorts}
+use Rattle.sorting.specs.StepsInner.{Monotone}
 use Rattle.sorting.specs.Quick.{Listed, next, higher, order, left, best, quick}
 use Rattle.sorting.proofs.Outcome.{can-fits, step-own, step-up, one-order, sorts}
 

@@ -15,8 +15,10 @@ use Rattle.block.specs.declared.Block.{Block}
 use Rattle.block.specs.Row.{noBlock}
 use Rattle.sorting.specs.Steps.{State}
 use Rattle.sorting.specs.Rules.{deps, others, unmet, waits, free, report, below, byReaches}
-use Rattle.sorting.specs.Rule28.{asks28, rule28}
-use Rattle.sorting.specs.Rule13.{before, asks13, rule13}
+use Rattle.sorting.specs.Rule28.{asks28}
+use Rattle.sorting.specs.Rule28Inner.{rule28}
+use Rattle.sorting.specs.Rule13.{before, asks13}
+use Rattle.sorting.specs.Rule13Inner.{rule13}
 use Rattle.sorting.proofs.Rules.{report-waits}
 
 abbrev pub orElse : Option Id → Option Id → Option Id

@@ -12,7 +12,8 @@ use Rattle.block.specs.declared.Block.{Block}
 use Rattle.readings.specs.Sound.{All}
 use Rattle.sorting.specs.Steps.{State}
 use Rattle.sorting.specs.Rules.{deps, others, waits, free, report, below, byReaches}
-use Rattle.sorting.specs.Rule28.{asks28, rule28}
+use Rattle.sorting.specs.Rule28.{asks28}
+use Rattle.sorting.specs.Rule28Inner.{rule28}
 use Rattle.sorting.proofs.Rules.{unmet-is, report-waits, others-are, others-free}
 
 -- what is waited for is another client's, and its clock is not below that client's reach

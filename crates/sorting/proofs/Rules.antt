@@ -14,7 +14,8 @@ use Rattle.block.specs.declared.Id.{Id}
 use Rattle.block.specs.declared.Block.{Block}
 use Rattle.block.specs.Row.{noBlock}
 use Rattle.readings.specs.Sound.{owner, All}
-use Rattle.sorting.specs.Steps.{State, Monotone}
+use Rattle.sorting.specs.Steps.{State}
+use Rattle.sorting.specs.StepsInner.{Monotone}
 use Rattle.sorting.specs.Quick.{Listed}
 use Rattle.sorting.specs.Rules.{queue, isSkip, others, Rule, unmet, waits, free, system, report, below, byReaches}
 

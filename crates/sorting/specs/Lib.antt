@@ -2,9 +2,12 @@
 -- their numbers (Named), the order in which the highest client goes first (Quick), what is reported of an update (Sorted), the slow plain order (Slow), and
 -- sorting by held ids (Held).
 pub mod Steps
+pub mod StepsInner
 pub mod Rules
 pub mod Rule28
+pub mod Rule28Inner
 pub mod Rule13
+pub mod Rule13Inner
 pub mod Named
 pub mod Quick
 pub mod Sorted

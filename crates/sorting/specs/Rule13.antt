@@ -4,7 +4,7 @@ use Prim.Native.Nat.{ℕ, zero, suc}
 use mathlib.Core.List.{List, [], _∷_, _++_}
 use Rattle.block.specs.declared.Id.{Id}
 use Rattle.block.specs.declared.Block.{Block}
-use Rattle.sorting.specs.Rules.{deps, others, Rule, byReaches}
+use Rattle.sorting.specs.Rules.{deps, others}
 
 -- the id before a clock of client c, if there is one
 unfoldable pub before : ℕ → ℕ → List Id
@@ -13,6 +13,3 @@ before c (suc k) = record { client = c; clock = k } ∷ []
 
 unfoldable pub asks13 : ℕ → Block → List Id
 asks13 c b = others c (deps b) ++ before c (b .clock)
-
-abbrev pub rule13 : Rule ℕ
-rule13 = byReaches asks13

@@ -3,11 +3,8 @@ use Prim.Native.Nat.{ℕ}
 use mathlib.Core.List.{List}
 use Rattle.block.specs.declared.Id.{Id}
 use Rattle.block.specs.declared.Block.{Block}
-use Rattle.sorting.specs.Rules.{deps, others, Rule, byReaches}
+use Rattle.sorting.specs.Rules.{deps, others}
 
 -- left id, right id, parent id, those of other clients
 unfoldable pub asks28 : ℕ → Block → List Id
 asks28 c b = others c (deps b)
-
-abbrev pub rule28 : Rule ℕ
-rule28 = byReaches asks28

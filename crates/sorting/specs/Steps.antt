@@ -53,10 +53,6 @@ module _ {A : Type 0} (S : System A) where
   Takes s [] c k = ⊥
   Takes s (d ∷ cs) c k = ((c ≡ d) × (k ≡ s .taken d)) ⊎ Takes (step s d) cs c k
 
-  -- who knows more holds no block back
-  unfoldable pub Monotone : Type 0
-  Monotone = (κ κ′ : A → ℕ) → ((a : A) → κ a ≤ κ′ a) → (c k : ℕ) → T (S .ready κ c k) → T (S .ready κ′ c k)
-
   -- each step of the order takes the highest client that may be taken
   unfoldable pub Highest : State A → List ℕ → Type 0
   Highest s [] = Unit {0}

@@ -7,7 +7,8 @@ use lib.ListN.{length, take, replicate, length-replicate}
 use Rattle.numbers.specs.Limits.{maxClock, maxClients, maxBlocks}
 use Rattle.block.specs.declared.Block.{Block}
 use Rattle.vector.specs.Vector.{Entry, clientsIn}
-use Rattle.readings.specs.Sound.{owner, All, Sound, Ordered}
+use Rattle.readings.specs.Sound.{owner, All}
+use Rattle.readings.specs.SoundInner.{Sound, Ordered}
 use Rattle.readings.specs.Groups.{groups}
 use Rattle.readings.proofs.Groups.{all-map}
 use Rattle.slots.specs.Slots.{Slot, slot}

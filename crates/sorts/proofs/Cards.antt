@@ -20,7 +20,8 @@ use Rattle.numbers.specs.declared.Refusal.{Refusal}
 use Rattle.sorter.specs.declared.Sorting.{Sorting}
 use Rattle.updates.specs.declared.Update.{Update}
 use Rattle.numbers.specs.Output.{padded}
-use Rattle.sort_answers.specs.Answers.{answerTo, answered, isRule, judged, refusedWith}
+use Rattle.sort_answers.specs.Answers.{answered, isRule, refusedWith}
+use Rattle.sort_answers.specs.AnswersInner.{answerTo, judged}
 use Rattle.sorter.specs.Sorter.{countsRead, orderRead, pendingRead, reachesRead, sortingRead}
 use Rattle.updates.specs.Promises.{refused, rowsOf, wordsOf}
 use Rattle.vector.specs.Vector.{vectorOf}

@@ -18,8 +18,8 @@ use Rattle.kept.specs.Kept.{remote}
 use Rattle.kept.proofs.Vectors.{whyVector, by-number}
 use Rattle.sorting.specs.Steps.{State, start, after, Ends}
 use Rattle.sorting.specs.Rules.{queue, Rule, report}
-use Rattle.sorting.specs.Rule28.{rule28}
-use Rattle.sorting.specs.Rule13.{rule13}
+use Rattle.sorting.specs.Rule28Inner.{rule28}
+use Rattle.sorting.specs.Rule13Inner.{rule13}
 use Rattle.sorting.specs.Named.{asksOf, ruleOf}
 use Rattle.sorting.specs.Sorted.{clients, steps, order, outcome, outcomeOf, orderOf, countsIn, countsOf, reachesIn, reachesOf, pendingIn, pendingOf}
 use Rattle.sorting.proofs.Rules.{RuleMonotone, reaches-mono}

@@ -24,7 +24,8 @@ use Rattle.updates.proofs.Read.{rows-length, words-length}
 use Rattle.sort_answers.specs.declared.Sorted.{Sorted}
 use Rattle.sort_answers.specs.Answers.{isRule, Sort, refusedWith, Room, whyNot}
 use Rattle.sorts.specs.Promises.{lent, Found, Finder, whole, whySort, fitting, against, afterReading, sortBy, Leaves}
-use Rattle.sort_answers.specs.Answers.{answered, judged, answerTo}
+use Rattle.sort_answers.specs.Answers.{answered}
+use Rattle.sort_answers.specs.AnswersInner.{judged, answerTo}
 
 -- ---- 0 says that there is room for all of it
 

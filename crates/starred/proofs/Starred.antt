@@ -6,7 +6,9 @@ use Rattle.numbers.specs.Number as spelling
 use Rattle.numbers.specs.Words as words
 use Rattle.numbers.specs.Number.{spelt, placed, readUnsigned, readSigned, speltSigned, minusOf, withSign, spell, unsigned}
 use Rattle.string.specs.String as string
-use Rattle.string.specs.String.{openText, readTexts}
+use Rattle.string.specs.StringInner as string-inner
+use Rattle.string.specs.String.{openText}
+use Rattle.string.specs.StringInner.{readTexts}
 use Rattle.text.specs.Utf8.{lead, next, after, settled, wellFormed, width, gain, takeFrom, takeUnits}
 use Rattle.columns.specs.Number as number
 use Rattle.columns.specs.Difference as difference
@@ -16,6 +18,7 @@ use Rattle.runs.specs.Runs as runs
 use Rattle.columns.specs.Reading.{Reading, andThen, reads, numberDraw, differenceDraw, byteDraw}
 use Rattle.columns.proofs.RoundTrip.{byte-on}
 use Rattle.grammar.specs.Grammar as grammar
+use Rattle.grammar.specs.GrammarInner as grammar-inner
 use Rattle.grammar.specs.Course as course
 use Rattle.grammar.specs.Blocks as blocks
 use Rattle.grammar.specs.Deletes as deletes
@@ -54,7 +57,7 @@ Updates n m =
     × (reading 1 updateM3 (suc (suc n)) m ≡ blocksRead (after-id 5 9 8 ∷ after-id 9 5 16 ∷ []))
 
 updates : (n m : ℕ) → Updates n m
-unfolding words.among ranges.normal promises.withRanges promises.withBlocks promises.known promises.early promises.reading utf8.charsFrom utf8.chars utf8.widths utf8.unitsOf utf8.lead utf8.next utf8.width utf8.after utf8.settled utf8.wellFormed utf8.gain utf8.takeFrom utf8.takeUnits spelling.after spelt placed readUnsigned readSigned speltSigned minusOf withSign number.drawn number.counted number.begun number.nextNumber byte.counted byte.begun byte.nextByte string.opened string.openText string.ending string.taken string.drawn string.nextText utf8.ended line.numberAt line.varAt line.bounded line.upTo line.byteAt line.restored line.deleteAt line.numberOf line.soMany line.bytesAt line.checked line.line grammar._>>=_ course.onDrawn course.run course.fit course.items course.ending blocks.anId blocks.left blocks.right blocks.parentAfter blocks.parent blocks.key blocks.place blocks.deleted blocks.binary blocks.string blocks.content blocks.contentOf blocks.anItem blocks.bare blocks.body blocks.block blocks.dropped blocks.kept blocks.blocks blocks.sections blocks.allBlocks deletes.ranges deletes.clients deletes.allRanges columned.numberDrawn columned.differenceDrawn columned.byteDrawn columned.textDrawn columned.onto columned.numberIn columned.columned opening.cut opening.heads opening.withOpened opening.textOpened opening.onHeads opening.openedOf update.placed update.inColumns update.blocksOf update.deleteSet
+unfolding words.among ranges.normal promises.withRanges promises.withBlocks promises.known promises.early promises.reading utf8.charsFrom utf8.chars utf8.widths utf8.unitsOf utf8.lead utf8.next utf8.width utf8.after utf8.settled utf8.wellFormed utf8.gain utf8.takeFrom utf8.takeUnits spelling.after spelt placed readUnsigned readSigned speltSigned minusOf withSign number.drawn number.counted number.begun number.nextNumber byte.counted byte.begun byte.nextByte string.opened string.openText string.ending string.taken string.drawn string.nextText utf8.ended line.numberAt line.varAt line.bounded line.upTo line.byteAt line.restored line.deleteAt line.numberOf line.soMany line.bytesAt line.checked line.line grammar-inner._>>=_ course.onDrawn course.run course.fit course.items course.ending blocks.anId blocks.left blocks.right blocks.parentAfter blocks.parent blocks.key blocks.place blocks.deleted blocks.binary blocks.string blocks.content blocks.contentOf blocks.anItem blocks.bare blocks.body blocks.block blocks.dropped blocks.kept blocks.blocks blocks.sections blocks.allBlocks deletes.ranges deletes.clients deletes.allRanges columned.numberDrawn columned.differenceDrawn columned.byteDrawn columned.textDrawn columned.onto columned.numberIn columned.columned opening.cut opening.heads opening.withOpened opening.textOpened opening.onHeads opening.openedOf update.placed update.inColumns update.blocksOf update.deleteSet
 updates zero zero = (refl, refl, refl, refl, refl, refl, refl)
 updates zero (suc m) = (refl, refl, refl, refl, refl, refl, refl)
 updates (suc n) zero = (refl, refl, refl, refl, refl, refl, refl)
@@ -76,7 +79,7 @@ against r = afterReading quickly (ruleOf 28) (record { order = 2; counts = 4; re
 sorting : (against (blocksRead (after-id 5 9 8 ∷ in-parent 9 15 17 ∷ [])) ≡ sorted (1 ∷ 0 ∷ []) (9 ∷ 1 ∷ 5 ∷ 1 ∷ []) (9 ∷ 1 ∷ 5 ∷ 1 ∷ []) [] (after-id 5 9 8 ∷ in-parent 9 15 17 ∷ []))
     × (against (blocksRead (after-id 5 9 8 ∷ [])) ≡ sorted [] (5 ∷ 0 ∷ []) (5 ∷ 0 ∷ []) (5 ∷ 9 ∷ 0 ∷ []) (after-id 5 9 8 ∷ []))
     × (against (blocksRead (after-id 5 9 8 ∷ after-id 9 5 16 ∷ [])) ≡ sorted [] (9 ∷ 0 ∷ 5 ∷ 0 ∷ []) (9 ∷ 0 ∷ 5 ∷ 0 ∷ []) (9 ∷ 5 ∷ 0 ∷ 5 ∷ 9 ∷ 0 ∷ []) (after-id 5 9 8 ∷ after-id 9 5 16 ∷ []))
-unfolding sort-answers.whyNot sort-promises.whole sort-promises.whySort sort-promises.fitting sort-promises.against sort-promises.afterReading vector.holds vector.entries vector.aVector vector.vectorOf spelling.after spelt placed readUnsigned remote outcomes.insert outcomes.insertAll outcomes.clients outcomes.order outcomes.outcome outcomes.numbersFrom outcomes.numbersBy outcomes.orderOf outcomes.countsIn outcomes.countsOf outcomes.reachesIn outcomes.reachesOf outcomes.pendingIn outcomes.pendingOf quick.order quick.left quick.best quick.quick steps.can steps.step steps.after rules.queue rules.deps rules.others rules.system rules.unmet rules.waits rules.report rules.byReaches rule28.asks28 asksOf line.numberAt line.varAt line.bounded line.upTo line.byteAt line.restored line.deleteAt line.numberOf line.soMany line.bytesAt line.checked line.line grammar._>>=_ course.onDrawn course.run course.items course.ending
+unfolding sort-answers.whyNot sort-promises.whole sort-promises.whySort sort-promises.fitting sort-promises.against sort-promises.afterReading vector.holds vector.entries vector.aVector vector.vectorOf spelling.after spelt placed readUnsigned remote outcomes.insert outcomes.insertAll outcomes.clients outcomes.order outcomes.outcome outcomes.numbersFrom outcomes.numbersBy outcomes.orderOf outcomes.countsIn outcomes.countsOf outcomes.reachesIn outcomes.reachesOf outcomes.pendingIn outcomes.pendingOf quick.order quick.left quick.best quick.quick steps.can steps.step steps.after rules.queue rules.deps rules.others rules.system rules.unmet rules.waits rules.report rules.byReaches rule28.asks28 asksOf line.numberAt line.varAt line.bounded line.upTo line.byteAt line.restored line.deleteAt line.numberOf line.soMany line.bytesAt line.checked line.line grammar-inner._>>=_ course.onDrawn course.run course.items course.ending
 sorting = (refl, refl, refl)
 
 sorts-M : (n m : ℕ) → (sorts updateM1 n m ≡ sorted (1 ∷ 0 ∷ []) (9 ∷ 1 ∷ 5 ∷ 1 ∷ []) (9 ∷ 1 ∷ 5 ∷ 1 ∷ []) [] (after-id 5 9 8 ∷ in-parent 9 15 17 ∷ []))
@@ -90,7 +93,7 @@ sorts-M n m = (
 )
 
 pub starred : Starred
-unfolding spelling.after spelt placed readUnsigned readSigned speltSigned minusOf withSign spell unsigned number.drawn number.counted number.begun number.nextNumber difference.drawn difference.outside difference.keyRead difference.counted difference.begun difference.nextDifference byte.counted byte.begun byte.nextByte byte-run.runBytes runs.over runs.opened runs.column runs.coding runs.why runs.within runs.overFits runs.storable runs.spellable runs.fitsLessOne andThen reads numberDraw differenceDraw byteDraw lead next width gain takeFrom takeUnits after settled wellFormed string.opened string.openText string.ending string.taken string.drawn string.nextText string.andThen string.readTexts firstOf
+unfolding spelling.after spelt placed readUnsigned readSigned speltSigned minusOf withSign spell unsigned number.drawn number.counted number.begun number.nextNumber difference.drawn difference.outside difference.keyRead difference.counted difference.begun difference.nextDifference byte.counted byte.begun byte.nextByte byte-run.runBytes runs.over runs.opened runs.column runs.coding runs.why runs.within runs.overFits runs.storable runs.spellable runs.fitsLessOne andThen reads numberDraw differenceDraw byteDraw lead next width gain takeFrom takeUnits after settled wellFormed string.opened string.openText string.ending string.taken string.drawn string.nextText string-inner.andThen string-inner.readTexts firstOf
 starred = record {
   A = λ n m. updates n m .0;
   B = λ n m. updates n m .1;

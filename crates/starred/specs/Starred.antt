@@ -6,7 +6,8 @@ use lib.ListN.{replicate}
 use Rattle.numbers.specs.Number.{none}
 use Rattle.string.specs.declared.Opened.{Opened}
 use Rattle.string.specs.declared.Opened.the-variants.{At, Not}
-use Rattle.string.specs.String.{Texts, openText, readTexts}
+use Rattle.string.specs.String.{openText}
+use Rattle.string.specs.StringInner.{Texts, readTexts}
 use Rattle.columns.specs.Number as number
 use Rattle.columns.specs.Difference as difference
 use Rattle.columns.specs.Byte as byte

@@ -15,7 +15,8 @@ use Rattle.grammar.specs.Course.{Course, item, over, stopped, fit, ending}
 use Rattle.grammar.specs.Numbered as grammar
 use Rattle.decoder.specs.Update.{blocksOf, deleteSet}
 use Rattle.ranges.specs.Ranges.{Range}
-use Rattle.leftover.specs.Leftover.{left, lowest, lowestLeft, Among}
+use Rattle.leftover.specs.Leftover.{left, lowest, lowestLeft}
+use Rattle.leftover.specs.LeftoverInner.{Among}
 use Rattle.leftover.proofs.Lowest.{none-below, lowest-among}
 use Rattle.updates.specs.Promises.{Reading, refused, withRanges, withBlocks, known, early, reading}
 use Rattle.updates.proofs.Read as today

@@ -27,7 +27,8 @@ use Rattle.columns.specs.Number.{startAt, nextNumber}
 use Rattle.runs.specs.Runs.{columnOf, whyOf}
 use Rattle.columns.specs.Reading as reading
 use Rattle.columns.specs.Reading.{Reading, numberDraw, reads, readNumbers}
-use Rattle.string.specs.String.{placeAt, opened, openText, ending, taken, drawn, nextText, Texts, andThen, readTexts, takesMore, takesAll, textHead, textColumn, whyTexts}
+use Rattle.string.specs.String.{placeAt, opened, openText, ending, taken, drawn, nextText, takesMore, takesAll, textHead, textColumn, whyTexts}
+use Rattle.string.specs.StringInner.{Texts, andThen, readTexts}
 use Rattle.columns.proofs.Back.{atEnd}
 use Rattle.columns.proofs.RoundTrip.{number-back, number-end}
 use Rattle.string.proofs.Texts.{head-length, why-none, why-says}

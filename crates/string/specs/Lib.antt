@@ -1,2 +1,3 @@
 -- The text column.
 pub mod String
+pub mod StringInner

@@ -1,16 +1,13 @@
 -- The text column: byte length, UTF-8 bytes, then a number column of unit lengths. A text takes whole characters until its units are used.
-use Prim.Native.Nat.{ℕ, zero, suc, _+_, _-_, _≤_}
-use mathlib.Core.Path.{_≡_}
-use mathlib.Core.Logic.{_⊎_}
+use Prim.Native.Nat.{ℕ, _+_, _-_}
 use mathlib.Core.List.{List, [], _∷_, _++_}
 use mathlib.Core.Bool.{Bool, true, false}
 use lib.Dec.{ltb, eqb}
 use lib.ListN.{length, drop}
 use lib.Seq.{slice}
-use Rattle.numbers.specs.declared.Refusal.{Refusal}
 use Rattle.numbers.specs.declared.Read.{Read}
 use Rattle.numbers.specs.declared.Read.the-variants as read
-use Rattle.numbers.specs.Number.{pick, none, readUnsigned, unsigned}
+use Rattle.numbers.specs.Number.{pick, readUnsigned, unsigned}
 use Rattle.text.specs.declared.Taken.{Taken}
 use Rattle.text.specs.declared.Taken.the-variants as units
 use Rattle.text.specs.Utf8.{wellFormed, takeUnits}
@@ -48,11 +45,6 @@ unfoldable pub ending : ℕ → ℕ → number-place.Place → Taken → Answer
 ending at end rest (units.Took b) = Next (record { place = at; bytes = b }) (placeAt (at + b .0) end rest)
 ending at end rest (units.Refused why) = Bad (record { number = why; place = at })
 
--- what is taken from a place on lies in the bytes, or is nothing
-unfoldable pub TookWithin : List ℕ → ℕ → Taken → Type 0
-TookWithin s at (units.Took b) = (at + b .0 ≤ length s) ⊎ (b .0 ≡ 0)
-TookWithin s at (units.Refused why) = Unit {0}
-
 unfoldable pub taken : List ℕ → ℕ → ℕ → ℕ → number-place.Place → Answer
 taken s at end u rest = ending at end rest (takeUnits 7 u (slice at end s))
 
@@ -62,26 +54,6 @@ drawn s at end (number.Bad why) = Bad why
 
 unfoldable pub nextText : List ℕ → Place → Answer
 nextText s c = drawn s (c .at) (c .end) (nextNumber s (c .units))
-
-abbrev pub whyText : Answer → Refusal
-whyText (Next p c) = none
-whyText (Bad why) = why
-
--- ---- reading on
-
--- the texts drawn, and the refusal that ended them; `none` where none did
-pub record Texts : Type 0 where
-  pub texts : List (List ℕ)
-  pub refusal : Refusal
-
-unfoldable pub andThen : List ℕ → Answer → (Place → Texts) → Texts
-andThen s (Next p c) f = record { texts = slice (p .place) (p .place + p .bytes .0) s ∷ (f c .texts); refusal = f c .refusal }
-andThen s (Bad why) f = record { texts = []; refusal = why }
-
--- at most k texts from a place on
-unfoldable pub readTexts : ℕ → List ℕ → Place → Texts
-readTexts zero s c = record { texts = []; refusal = none }
-readTexts (suc k) s c = andThen s (nextText s c) (λ d. readTexts k s d)
 
 -- ---- writing
 

@@ -12,7 +12,8 @@ ghost use Prim.Native.Nat.{_+_, _≤_};
 ghost use lib.ListN.{length};
 ghost use lib.Seq.{slice};
 ghost use Rattle.text.specs.Utf8.{takeUnits};
-ghost use Rattle.string.specs.String.{openText, TookWithin, taken, nextText, whyText};
+ghost use Rattle.string.specs.String.{openText, taken, nextText};
+ghost use Rattle.string.specs.StringInner.{TookWithin, whyText};
 
 // The next text's first byte, the end of all texts, and the place of the next unit length.
 #[repr(C)]

@@ -18,7 +18,8 @@ use Rattle.summary.specs.declared.Rows.the-variants as rows-are
 use Rattle.summary.specs.Rows.{Row}
 use Rattle.summary.specs.Summary as summary
 use Rattle.summary.specs.Summary.{one, summaryBits, summaryOf}
-use Rattle.summary.specs.Words.{wordsIn, rowsIn, answerOf}
+use Rattle.summary.specs.Words.{wordsIn}
+use Rattle.summary.specs.WordsInner.{rowsIn, answerOf}
 use Rattle.summary.proofs.Laws as laws
 use Rattle.summary.proofs.RoundTrip.{length-summary}
 use Rattle.gathered.specs.declared.Gathered.{Gathered}

@@ -14,11 +14,13 @@ use Rattle.numbers.specs.Limits.{maxBlocks}
 use Rattle.block.specs.declared.Block.{Block}
 use Rattle.grammar.specs.Course.{items}
 use Rattle.decoder.specs.Update.{blocksOf}
-use Rattle.readings.specs.Sound.{Sound, All, Follows, Stays, Ordered}
+use Rattle.readings.specs.Sound.{All}
+use Rattle.readings.specs.SoundInner.{Sound, Follows, Stays, Ordered}
 use Rattle.readings.proofs.Sounds.{blocks-sound}
 use Rattle.readings.proofs.Orders.{blocks-ordered}
 use Rattle.readings.proofs.Counts.{blocks-count}
-use Rattle.summary.specs.Rows.{Row, AllFit}
+use Rattle.summary.specs.Rows.{Row}
+use Rattle.summary.specs.RowsInner.{AllFit}
 use Rattle.summary.specs.Summary.{inOrder, legal}
 use Rattle.gathered.specs.RowsOf.{ofClient, firstClock, lastEnd, rowOf, clientsAfter, rowsOf}
 use Rattle.gathered.proofs.Clients.{Under, Descends, descends-after, of-few, some-of}

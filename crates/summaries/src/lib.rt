@@ -8,7 +8,7 @@ ghost use Prim.Native.Nat.{_*_, _≤_};
 ghost use lib.ListN.{length, take};
 ghost use Rattle.numbers.specs.Output.{padded};
 ghost use Rattle.summary.specs.Summary.{one, summaryOf};
-ghost use Rattle.summary.specs.Words.{rowsIn};
+ghost use Rattle.summary.specs.WordsInner.{rowsIn};
 ghost use Rattle.summaries.specs.Promises.{bytes, refused, fitted, summarized, bytesIn, WriteSummary, ReadSummary};
 
 // What a summary that is written says: a refusal, zeros for done, and how many bytes.

@@ -18,7 +18,8 @@ use Rattle.summary.specs.declared.Taken.the-variants as taken
 use Rattle.summary.specs.declared.Rows as rows
 use Rattle.summary.specs.declared.Rows.the-variants as rows-are
 use Rattle.summary.specs.Summary.{one, Found, read, refused, filled, rowsAfter, behind, readOf}
-use Rattle.summary.specs.Words.{All, Took, answerOf, wordsOf, Answers}
+use Rattle.summary.specs.Words.{wordsOf}
+use Rattle.summary.specs.WordsInner.{All, Took, answerOf, Answers}
 use Rattle.summary.proofs.Taking.{field-got, field-short}
 
 -- a refusal, whatever the words were before

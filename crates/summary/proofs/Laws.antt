@@ -16,7 +16,8 @@ use Rattle.bits.proofs.Passing.{cut, slot, pack, in-bits-add, lowest-bits}
 use Rattle.bits.proofs.Places.{adds-none, adds-adds, starts-none}
 use Rattle.summary.specs.Rows.{Row}
 use Rattle.summary.specs.Summary.{one, rowBits, rowsBits, summaryBits}
-use Rattle.summary.specs.Words.{row, wordsIn, rowIn, rowsIn}
+use Rattle.summary.specs.Words.{row, wordsIn}
+use Rattle.summary.specs.WordsInner.{rowIn, rowsIn}
 
 -- ---- bits
 

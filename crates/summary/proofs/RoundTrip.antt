@@ -13,7 +13,8 @@ use Rattle.numbers.specs.Number.{pick}
 use Rattle.bits.specs.Bits.{inBits, number, ofBytes, packed}
 use Rattle.bits.proofs.Laws.{number-none, number-lt, length-in-bits}
 use Rattle.bits.proofs.Inverse.{number-back, bits-back, zeros-are, filling, packed-back, filling-short, length-packed, packed-of, number-zeros}
-use Rattle.summary.specs.Rows.{Row, Fits, AllFit}
+use Rattle.summary.specs.Rows.{Row}
+use Rattle.summary.specs.RowsInner.{Fits, AllFit}
 use Rattle.summary.specs.Summary.{Version, one, rowBits, rowsBits, summaryBits, summaryOf, Found, read, refused, field, aRow, legal, filled, rowsAfter, behind, readOf}
 use Rattle.summary.specs.Words.{row}
 use Rattle.summary.proofs.Laws.{length-row-bits}

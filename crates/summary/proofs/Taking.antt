@@ -15,7 +15,8 @@ use Rattle.bits.specs.Bits.{number, ofBytes}
 use Rattle.bits.proofs.Laws.{length-of-bytes}
 use Rattle.summary.specs.Rows.{Row}
 use Rattle.summary.specs.Summary.{Found, read, refused, field, aRow, inOrder, legal, filled, rowsAfter}
-use Rattle.summary.specs.Words.{row, wordsIn, fine, All}
+use Rattle.summary.specs.Words.{row, wordsIn}
+use Rattle.summary.specs.WordsInner.{fine, All}
 use Rattle.summary.proofs.Laws.{length-words, words-append}
 
 -- ---- fields

@@ -1,20 +1,8 @@
 -- A row of a summary: what is said of one client.
-use Prim.Native.Nat.{ℕ, _^_, _<_}
-use mathlib.Core.List.{List, [], _∷_}
+use Prim.Native.Nat.{ℕ}
 
 pub record Row : Type 0 where
   pub client : ℕ
   pub first : ℕ
   pub end : ℕ
   pub blocks : ℕ
-
--- each number has room in its bits
-pub record Fits (r : Row) : Type 0 where
-  pub client : r .client < 2 ^ 53
-  pub first : r .first < 2 ^ 31
-  pub end : r .end < 2 ^ 31
-  pub blocks : r .blocks < 2 ^ 16
-
-abbrev pub AllFit : List Row → Type 0
-AllFit [] = Unit {0}
-AllFit (r ∷ rows) = Fits r × AllFit rows

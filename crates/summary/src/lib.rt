@@ -11,7 +11,8 @@ ghost use Rattle.numbers.specs.Output.{padded};
 ghost use Rattle.bits.specs.Bits.{inBits, ofBytes};
 ghost use Rattle.bits.specs.Places.{Adds, Starts};
 ghost use Rattle.summary.specs.Summary.{one, rowBits, rowsBits, summaryBits, refused, filled, rowsAfter, readOf};
-ghost use Rattle.summary.specs.Words.{row, rowIn, rowsIn, wordsIn, fine, Took, answerOf, wordsOf, Answers};
+ghost use Rattle.summary.specs.Words.{row, wordsIn, wordsOf};
+ghost use Rattle.summary.specs.WordsInner.{rowIn, rowsIn, fine, Took, answerOf, Answers};
 
 // How many rows at most, and how many words one has.
 pub const MOST: usize = 64;

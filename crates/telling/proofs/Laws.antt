@@ -12,7 +12,7 @@ use Rattle.numbers.specs.Number.{pick}
 use Rattle.text.specs.declared.Part.{Part}
 use Rattle.grammar.specs.Grammar as grammar
 use Rattle.grammar.specs.Grammar.{Field, Answer, Number}
-use Rattle.decoder.specs.Columned.{fields}
+use Rattle.decoder.specs.ColumnedInner.{fields}
 use Rattle.cells.specs.declared.Drawn.the-variants as drawn
 use Rattle.cells.specs.declared.Field.the-variants as field
 use Rattle.cells.specs.Cells.{atIn, keyCount, keysIn, placeIn, whyIn, stateIn, partIn, given, Beside, differencesIn, cell}
@@ -26,7 +26,8 @@ use Rattle.telling.specs.declared.Stored.the-variants as stored-as
 use Rattle.telling.specs.declared.Told as telling-told
 use Rattle.telling.specs.declared.Told.the-variants as told
 use Rattle.telling.specs.Asked.{stored, storedIn}
-use Rattle.telling.specs.Telling.{heard, linesOf, Draws, Draws-not, Says, Tells}
+use Rattle.telling.specs.Telling.{heard}
+use Rattle.telling.specs.TellingInner.{linesOf, Draws, Draws-not, Says, Tells}
 
 pub above-none : (i : ℕ) (sh : List ℕ) → Above i sh sh
 above-none i sh = record { size = refl; same = λ j l. refl }

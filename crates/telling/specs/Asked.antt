@@ -5,7 +5,7 @@ use Rattle.text.specs.declared.Part.{Part}
 use Rattle.grammar.specs.Grammar as grammar
 use Rattle.grammar.specs.Course.{Drawn}
 use Rattle.decoder.specs.States.{State}
-use Rattle.decoder.specs.Columned.{fields}
+use Rattle.decoder.specs.ColumnedInner.{fields}
 use Rattle.origins.specs.Numerals.{numeral}
 use Rattle.telling.specs.declared.Stored as telling-stored
 use Rattle.telling.specs.declared.Stored.the-variants as stored-as

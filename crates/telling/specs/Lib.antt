@@ -1,3 +1,4 @@
 -- A draw, told.
 pub mod Asked
 pub mod Telling
+pub mod TellingInner

@@ -13,12 +13,12 @@ ghost use mathlib.Core.Path.{_≡_};
 ghost use Prim.Native.Nat.{_+_, _*_, _≤_};
 ghost use lib.ListN.{length};
 ghost use Rattle.grammar.specs.Grammar as grammar;
-ghost use Rattle.decoder.specs.Columned.{fields};
+ghost use Rattle.decoder.specs.ColumnedInner.{fields};
 ghost use Rattle.cells.specs.Cells.{stateIn, partIn, Small};
 ghost use Rattle.fields.specs.Fields.{Given, WordGiven};
 ghost use Rattle.roles.specs.Roles.{codeOf};
 ghost use Rattle.origins.specs.Numerals.{numeral};
-ghost use Rattle.telling.specs.Telling.{fieldAt, Tells};
+ghost use Rattle.telling.specs.TellingInner.{fieldAt, Tells};
 ghost use Rattle.telling.specs.Asked.{stored, storedIn, asks};
 
 // What the plan hears of a draw: the number, or a text's units; the place that the number is blamed at; and how many lines were told.

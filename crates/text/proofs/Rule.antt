@@ -11,7 +11,8 @@ use borrow.Author.Needs.{needs}
 use borrow.Author.Tests.{lt-ltb, le-ltb}
 use Rattle.text.specs.declared.State.{State}
 use Rattle.text.specs.declared.State.the-variants.{Open, Broken}
-use Rattle.text.specs.Utf8.{pick, start, lead, next, after, settled, wellFormed, charsFrom, chars, width, widths, unitsOf, gain, Plain}
+use Rattle.text.specs.Utf8.{pick, start, lead, next, after, settled, wellFormed, charsFrom, chars, width, widths, unitsOf, gain}
+use Rattle.text.specs.Utf8Inner.{Plain}
 use Rattle.text.specs.Rule.{continues, worth, byRule}
 use Rattle.text.proofs.Laws.{choose, byRow, widths-cons, sum-nil, cons, none}
 use Rattle.text.proofs.Joining.{clash, broken}

@@ -9,7 +9,7 @@ use borrow.Author.Tests.{eq-eqb}
 use Rattle.numbers.specs.Number.{pick}
 use Rattle.tokens.specs.Tokens.{Token}
 use Rattle.decoder.specs.States.{maxKeys}
-use Rattle.tokens.specs.Keys.{spelled, knownAfter}
+use Rattle.tokens.specs.KeysInner.{spelled, knownAfter}
 use Rattle.tokens.specs.Lanes.{Lane}
 use Rattle.tokens.specs.Desk.{putTokens, laidTokens, deskIn, keyCount, keyAt, knownFrom, knownIn, crowdedIn, aliasCount, aliasAt, aliasNumber, Tidy, Aliased, SameKeys, Wrote, WroteKeys}
 use Rattle.tokens.proofs.Wrote.{each-append, laid-each-append, wrote-none}

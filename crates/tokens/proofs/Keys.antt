@@ -13,7 +13,8 @@ use Rattle.runs.specs.declared.Column.the-variants.{Difference}
 use Rattle.runs.specs.Runs.{coding, nearKey, spellable}
 use Rattle.tokens.specs.Tokens.{Token, field, text, var, buf, key, value, values, keys, texts, units, whole, taken, takenAll, columnIn}
 use Rattle.decoder.specs.States.{maxKeys}
-use Rattle.tokens.specs.Keys.{same, numberOf, isKnown, isFull, remembered, keysAfter, crowded, byNumber, numbered, spelled, knownAfter}
+use Rattle.tokens.specs.Keys.{same, numberOf, isKnown, isFull, remembered, crowded, byNumber, numbered}
+use Rattle.tokens.specs.KeysInner.{keysAfter, spelled, knownAfter}
 use Rattle.tokens.proofs.Laying.{pick-same}
 use Rattle.tokens.proofs.Taking.{field-own, field-other, text-other, key-other}
 use Rattle.tokens.proofs.Passes.{no-bytes}

@@ -13,7 +13,8 @@ use Rattle.numbers.specs.Number.{pick}
 use Rattle.runs.specs.declared.Column.{Column}
 use Rattle.runs.specs.declared.Column.the-variants.{Number, Difference, Byte}
 use Rattle.runs.specs.declared.writer.Writer.{Writer}
-use Rattle.runs.specs.Runs.{coding, keyMost}
+use Rattle.runs.specs.Runs.{coding}
+use Rattle.runs.specs.RunsInner.{keyMost}
 use Rattle.runs.proofs.Writing.{key-most}
 use Rattle.runs.specs.Writer.{ends, keyAfter, emitted, moved, pushed}
 use Rattle.parts.specs.Brim.{brim}

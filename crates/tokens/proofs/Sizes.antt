@@ -11,7 +11,8 @@ use Rattle.numbers.proofs.Laws.{unsigned-le}
 use Rattle.runs.specs.declared.Column.{Column}
 use Rattle.runs.specs.declared.Column.the-variants.{Number, Difference, Byte}
 use Rattle.runs.specs.declared.writer.Writer.{Writer}
-use Rattle.runs.specs.Runs.{coding, over, opened, column, columnOf, signedRun}
+use Rattle.runs.specs.Runs.{coding, over, opened, column, columnOf}
+use Rattle.runs.specs.RunsInner.{signedRun}
 use Rattle.runs.specs.Difference.{zeroKey, magnitude, odd}
 use Rattle.runs.specs.Writer.{ends, keyAfter, emitted}
 use Rattle.runs.proofs.Writing.{number-run, difference-run, byte-length}

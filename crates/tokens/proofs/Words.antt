@@ -9,7 +9,8 @@ use lib.Dec.{ltb, eqb}
 use lib.ListN.{length, getD, set, length-set}
 use lib.Seq.{getD-set-same, getD-set-other}
 use borrow.Author.Tests.{eqb-true, eqb-false}
-use Rattle.runs.specs.Runs.{coding, keyMost}
+use Rattle.runs.specs.Runs.{coding}
+use Rattle.runs.specs.RunsInner.{keyMost}
 use Rattle.runs.specs.Writer.{Sound}
 use Rattle.tokens.specs.Tokens.{columnIn}
 use Rattle.tokens.specs.Lanes.{Lane, movedTo}

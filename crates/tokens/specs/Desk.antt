@@ -14,7 +14,8 @@ use Rattle.runs.specs.Writer.{Sound}
 use Rattle.readings.specs.Sound.{bytesIn}
 use Rattle.tokens.specs.Tokens.{Token, columnIn, rest, whole}
 use Rattle.decoder.specs.States.{maxKeys}
-use Rattle.tokens.specs.Keys.{numberOf, crowded, spelled, knownAfter}
+use Rattle.tokens.specs.Keys.{numberOf, crowded}
+use Rattle.tokens.specs.KeysInner.{spelled, knownAfter}
 use Rattle.tokens.specs.Lanes.{Lane, freshLane, put, laid, pushedOn, laidValue, closed, laidEnd}
 
 -- ---- a token onto every lane

@@ -31,17 +31,6 @@ isFull ks = pick (ltb (length ks) maxKeys) false true
 unfoldable pub remembered : List (List ℕ) → List ℕ → List (List ℕ)
 remembered ks b = pick (isKnown b ks) ks (pick (isFull ks) ks (ks ++ (b ∷ [])))
 
--- after tokens
-unfoldable pub keysAfter : List (List ℕ) → List Token → List (List ℕ)
-keysAfter ks [] = ks
-keysAfter ks (key b n ∷ ts) = keysAfter (remembered ks b) ts
-keysAfter ks (field j v ∷ ts) = keysAfter ks ts
-keysAfter ks (text b n ∷ ts) = keysAfter ks ts
-keysAfter ks (var v ∷ ts) = keysAfter ks ts
-keysAfter ks (buf b ∷ ts) = keysAfter ks ts
-keysAfter ks (value b ∷ ts) = keysAfter ks ts
-keysAfter ks (values b ∷ ts) = keysAfter ks ts
-
 -- one of these keys finds no room
 unfoldable pub crowded : List (List ℕ) → List Token → Bool
 crowded ks [] = false
@@ -68,33 +57,6 @@ numbered ks (buf b ∷ ts) = buf b ∷ numbered ks ts
 numbered ks (value b ∷ ts) = value b ∷ numbered ks ts
 numbered ks (values b ∷ ts) = values b ∷ numbered ks ts
 
--- as a form has them
-unfoldable pub spelled : ℕ → List (List ℕ) → List Token → List Token
-spelled form ks ts = pick (eqb form 1) ts (numbered ks ts)
-
-unfoldable pub knownAfter : ℕ → List (List ℕ) → List Token → List (List ℕ)
-knownAfter form ks ts = pick (eqb form 1) ks (keysAfter ks ts)
-
 -- more keys than form 2 may have
 unfoldable pub manyKeys : ℕ → List Token → Bool
 manyKeys form ts = pick (eqb form 1) false (crowded [] ts)
-
--- ---- in plain words: more than so many distinct keys
-
-unfoldable pub keysIn : List Token → List (List ℕ)
-keysIn [] = []
-keysIn (key b n ∷ ts) = b ∷ keysIn ts
-keysIn (field j v ∷ ts) = keysIn ts
-keysIn (text b n ∷ ts) = keysIn ts
-keysIn (var v ∷ ts) = keysIn ts
-keysIn (buf b ∷ ts) = keysIn ts
-keysIn (value b ∷ ts) = keysIn ts
-keysIn (values b ∷ ts) = keysIn ts
-
--- each once
-unfoldable pub distinct : List (List ℕ) → List (List ℕ)
-distinct [] = []
-distinct (b ∷ bs) = pick (isKnown b bs) (distinct bs) (b ∷ distinct bs)
-
-abbrev pub distinctKeys : List Token → List (List ℕ)
-distinctKeys ts = distinct (keysIn ts)

@@ -78,9 +78,6 @@ parentInfo v = field parents v
 abbrev pub len : ℕ → Token
 len v = field lens v
 
-abbrev pub typeNumber : ℕ → Token
-typeNumber v = field types v
-
 -- bytes led by their length
 abbrev pub led : List ℕ → List ℕ
 led b = unsigned (length b) ++ b

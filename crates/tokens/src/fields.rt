@@ -7,7 +7,8 @@ ghost use mathlib.Core.List.{[], _∷_};
 ghost use Prim.Native.Nat.{_<_};
 ghost use Rattle.readings.specs.Sound.{bytesIn};
 ghost use Rattle.runs.specs.declared.Column.the-variants.{Number, Difference, Byte};
-ghost use Rattle.tokens.specs.Tokens.{client, left, right, info, parentInfo, text, len, typeNumber, value};
+ghost use Rattle.tokens.specs.Tokens.{client, left, right, info, parentInfo, text, len, value};
+ghost use Rattle.tokens.specs.TokensInner.{typeNumber};
 ghost use Rattle.tokens.specs.Desk.{Tidy, Wrote};
 
 pub fn write_client(out: &mut [u8], lanes: &mut [u64], form: u8, at: usize, v: u64) -> usize

@@ -16,13 +16,15 @@ use Rattle.numbers.specs.Words.{among}
 use Rattle.numbers.specs.Limits.{maxClock, maxClients, maxBlocks}
 use Rattle.block.specs.declared.Block as row
 use Rattle.grammar.specs.Grammar as grammar
-use Rattle.grammar.specs.Grammar.{Number, Grammar, ask, stop, _>>=_, draw}
+use Rattle.grammar.specs.Grammar.{Number, Grammar, ask, stop, draw}
+use Rattle.grammar.specs.GrammarInner.{_>>=_}
 use Rattle.grammar.specs.Course.{Drawn, got, not, Run, item, stopped, onDrawn, run}
 use Rattle.grammar.specs.Blocks.{block, dropped, kept, blocks, sections, allBlocks}
 use Rattle.grammar.proofs.Runs.{andThen, run-bind}
 use Rattle.decoder.specs.Line.{bounded, varAt, upTo, line}
 use Rattle.decoder.specs.States.{State}
-use Rattle.decoder.specs.Columned.{onto, fields}
+use Rattle.decoder.specs.Columned.{onto}
+use Rattle.decoder.specs.ColumnedInner.{fields}
 use Rattle.decoder.specs.Opening.{openedOf}
 use Rattle.decoder.specs.Update.{placed, inColumns, blocksOf}
 use Rattle.decoder.proofs.Laws.{placed-line, run-columned, fields-up-to}

@@ -6,11 +6,12 @@ use mathlib.Core.List.{List}
 use lib.ListN.{length, take}
 use Rattle.numbers.specs.Limits.{maxClock, maxBlocks}
 use Rattle.block.specs.declared.Block as row
-use Rattle.grammar.specs.Grammar.{Grammar, _>>=_}
+use Rattle.grammar.specs.Grammar.{Grammar}
+use Rattle.grammar.specs.GrammarInner.{_>>=_}
 use Rattle.grammar.specs.Course.{Course, Run, item, over, stopped, run}
 use Rattle.grammar.specs.Blocks.{blocks, sections, allBlocks}
 use Rattle.decoder.specs.States.{State, movedTo}
-use Rattle.decoder.specs.Columned.{fields}
+use Rattle.decoder.specs.ColumnedInner.{fields}
 use Rattle.decoder.specs.Update.{placed, inColumns, blocksOf}
 use Rattle.cells.specs.Cells.{stateIn, Small}
 use Rattle.item.specs.Row.{rowIn, Narrow}

@@ -16,11 +16,13 @@ use Rattle.block.specs.declared.Block.{Block}
 use Rattle.block.specs.Row.{noBlock}
 use Rattle.grammar.specs.Course.{Course, item, over, stopped, fit, items, ending}
 use Rattle.ranges.specs.Ranges.{Range, normal}
-use Rattle.ranges.specs.Table.{flat, rowsFrom}
+use Rattle.ranges.specs.Table.{flat}
+use Rattle.ranges.specs.TableInner.{rowsFrom}
 use Rattle.ranges.proofs.Flat.{length-flat, rows-flat}
 use Rattle.ranges.proofs.Theory.{normal-length}
 use Rattle.decoder.specs.Update.{blocksOf, deleteSet}
-use Rattle.readings.specs.Sound.{owner, Sound, All, Ordered}
+use Rattle.readings.specs.Sound.{owner, All}
+use Rattle.readings.specs.SoundInner.{Sound, Ordered}
 use Rattle.readings.specs.Groups.{groups}
 use Rattle.readings.proofs.Sounds.{blocks-sound}
 use Rattle.readings.proofs.Orders.{blocks-ordered}

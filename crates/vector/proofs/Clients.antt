@@ -12,7 +12,8 @@ use Rattle.numbers.specs.Number.{pick}
 use Rattle.numbers.specs.Words.{among}
 use Rattle.numbers.specs.Limits.{maxClock, maxClients}
 use Rattle.grammar.specs.Grammar as grammar
-use Rattle.grammar.specs.Grammar.{number, stop, ask, emit, _>>=_}
+use Rattle.grammar.specs.Grammar.{number, stop, ask, emit}
+use Rattle.grammar.specs.GrammarInner.{_>>=_}
 use Rattle.grammar.specs.Course.{Drawn, got, not, Reader, Run, item, over, stopped, onDrawn, run, items}
 use Rattle.decoder.specs.Line.{upTo, line, numberOf}
 use Rattle.vector.specs.Vector.{Entry, entry, clientsIn, holds, entries, aVector, vectorOf}

@@ -14,17 +14,20 @@ use borrow.Author.Tests.{lt-ltb, le-ltb, ltb-false}
 use Rattle.numbers.specs.declared.Refusal.{Refusal}
 use Rattle.numbers.specs.declared.Read.{Read as Reading}
 use Rattle.numbers.specs.declared.Read.the-variants as read
-use Rattle.numbers.specs.Number.{pick, none, whyRead}
+use Rattle.numbers.specs.Number.{pick, none}
+use Rattle.numbers.specs.NumberInner.{whyRead}
 use Rattle.numbers.specs.Words.{among}
 use Rattle.numbers.specs.Limits.{maxClients, maxValue, maxClock}
 use Rattle.numbers.specs.Output.{padded}
 use Rattle.numbers.proofs.Output.{padded-some}
-use Rattle.grammar.specs.Grammar.{Grammar, _>>=_}
+use Rattle.grammar.specs.Grammar.{Grammar}
+use Rattle.grammar.specs.GrammarInner.{_>>=_}
 use Rattle.grammar.specs.Course.{Drawn, got, not, Course, item, over, stopped, onDrawn, run, items, ending}
 use Rattle.decoder.specs.Line.{numberAt, bounded, upTo, numberOf, line}
 use Rattle.vector.specs.declared.Entries.{Entries}
 use Rattle.vector.specs.declared.Entries.the-variants.{Read, Refused}
-use Rattle.vector.specs.Vector.{Entry, entry, clientsIn, clocksIn, holds, entries, aVector, vectorOf, entriesOf, kept, countIn, Filled, wordsIn, joined, refusedVector, vectorAnswer, vectorWords}
+use Rattle.vector.specs.Vector.{Entry, entry, clientsIn, holds, entries, aVector, vectorOf, wordsIn, refusedVector, vectorAnswer, vectorWords}
+use Rattle.vector.specs.VectorInner.{clocksIn, entriesOf, kept, countIn, Filled, joined}
 
 -- ---- a number by its place, and its field
 

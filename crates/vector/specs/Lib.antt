@@ -1,2 +1,3 @@
 -- What a state vector is.
 pub mod Vector
+pub mod VectorInner

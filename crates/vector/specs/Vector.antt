@@ -1,20 +1,17 @@
 -- A state vector: how many entries, then a client and its clock each, all of it in line. What comes after them is not read.
-use Prim.Native.Nat.{ℕ, zero, suc, _*_, _≤_}
-use mathlib.Core.Path.{_≡_}
+use Prim.Native.Nat.{ℕ, zero, suc, _*_}
 use mathlib.Core.List.{List, [], _∷_, _++_, map}
 use mathlib.Core.Bool.{Bool}
 use lib.Dec.{ltb}
-use lib.ListN.{length, take}
-use Rattle.numbers.specs.declared.Refusal.{Refusal}
+use lib.ListN.{length}
 use Rattle.numbers.specs.Number.{pick, none, nowhere}
 use Rattle.numbers.specs.Words.{among}
 use Rattle.numbers.specs.Limits.{maxClock, maxClients}
 use Rattle.numbers.specs.Output.{padded}
-use Rattle.grammar.specs.Grammar.{client, upTo, number, Grammar, emit, stop, done, draw, _>>=_}
+use Rattle.grammar.specs.Grammar.{client, upTo, number, Grammar, emit, stop, done, draw}
+use Rattle.grammar.specs.GrammarInner.{_>>=_}
 use Rattle.grammar.specs.Course.{Course, run, items, ending}
 use Rattle.decoder.specs.Line.{line}
-use Rattle.vector.specs.declared.Entries.{Entries}
-use Rattle.vector.specs.declared.Entries.the-variants.{Read, Refused}
 use Rattle.vector.specs.declared.Vector.{Vector}
 
 pub record Entry : Type 0 where
@@ -26,9 +23,6 @@ entry c k = record { client = c; clock = k }
 
 abbrev pub clientsIn : List Entry → List ℕ
 clientsIn es = map (λ (e : Entry). e .client) es
-
-abbrev pub clocksIn : List Entry → List ℕ
-clocksIn es = map (λ (e : Entry). e .clock) es
 
 -- whether a client has an entry
 unfoldable pub holds : ℕ → List Entry → Bool
@@ -49,40 +43,11 @@ aVector = draw (number (upTo maxClients)) >>= λ (n, _). entries n []
 unfoldable pub vectorOf : List ℕ → Course Entry
 vectorOf v = run (line 1 v) aVector 0
 
--- ---- what is read of it: all entries or none
-
-unfoldable pub entriesOf : Course Entry → Entries
-entriesOf c = ending c (λ s. Read (length (items c))) (λ why. Refused why)
-
-unfoldable pub kept : Course Entry → List Entry
-kept c = ending c (λ s. items c) (λ why. [])
-
-abbrev pub whyEntries : Entries → Refusal
-whyEntries (Read n) = none
-whyEntries (Refused why) = why
-
-abbrev pub countIn : Entries → ℕ
-countIn (Read n) = n
-countIn (Refused why) = 0
-
--- read into words for clients and clocks, which are now xs and ys
-pub record Filled (v : List ℕ) (r : Entries) (xs ys : List ℕ) : Type 0 where
-  pub answer : r ≡ entriesOf (vectorOf v)
-  pub few : countIn r ≤ maxClients
-  pub clients : take (countIn r) xs ≡ clientsIn (kept (vectorOf v))
-  pub clocks : take (countIn r) ys ≡ clocksIn (kept (vectorOf v))
-
 -- ---- two words an entry, into so many
 
 unfoldable pub wordsIn : List Entry → List ℕ
 wordsIn [] = []
 wordsIn (e ∷ es) = e .client ∷ (e .clock ∷ wordsIn es)
-
--- the same of clients and clocks apart
-unfoldable pub joined : List ℕ → List ℕ → List ℕ
-joined [] ys = []
-joined (x ∷ xs) [] = []
-joined (x ∷ xs) (y ∷ ys) = x ∷ (y ∷ joined xs ys)
 
 -- a vector's refusal blames no byte
 abbrev pub refusedVector : ℕ → Vector

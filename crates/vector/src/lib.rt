@@ -10,7 +10,8 @@ ghost use lib.ListN.{length, take};
 ghost use Rattle.numbers.specs.Limits.{maxClients};
 ghost use Rattle.numbers.specs.Output.{padded};
 ghost use Rattle.decoder.specs.Line.{numberAt, upTo};
-ghost use Rattle.vector.specs.Vector.{clientsIn, clocksIn, vectorOf, entriesOf, kept, Filled, whyEntries, countIn, joined, refusedVector, vectorAnswer, vectorWords};
+ghost use Rattle.vector.specs.Vector.{clientsIn, vectorOf, refusedVector, vectorAnswer, vectorWords};
+ghost use Rattle.vector.specs.VectorInner.{clocksIn, entriesOf, kept, Filled, whyEntries, countIn, joined};
 
 // How many entries were read.
 pub enum Entries {

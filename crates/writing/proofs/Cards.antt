@@ -20,12 +20,13 @@ use Rattle.encoder.specs.declared.steps.Outcome.{Outcome}
 use Rattle.passes.specs.declared.Measured.{Measured}
 use Rattle.encoder.specs.Passes.{outcomeFor, plannedTokens, wordsFor}
 use Rattle.kept.specs.Plan.{entriesOf}
-use Rattle.numbers.specs.Output.{done, padded, refusal}
+use Rattle.numbers.specs.Output.{padded}
+use Rattle.numbers.specs.OutputInner.{done, refusal}
 use Rattle.passes.specs.Forms.{endFor, outFor, sizesFor}
 use Rattle.passes.specs.Measures.{measuredFor}
-use Rattle.ranges.specs.Table.{rowsFrom}
+use Rattle.ranges.specs.TableInner.{rowsFrom}
 use Rattle.records.specs.Records.{deleteTokens}
-use Rattle.tokens.specs.Keys.{spelled}
+use Rattle.tokens.specs.KeysInner.{spelled}
 use Rattle.tokens.specs.Tokens.{var}
 use Rattle.writing.specs.Writing.{job, keptAnswer, keptOut, plannedAnswer, plannedOut, sizesIn, whyFor}
 use Rattle.encoder.proofs.Sorts.{outcome}

@@ -5,13 +5,16 @@ use mathlib.Core.List.{List, []}
 use lib.ListN.{length}
 use Rattle.numbers.specs.declared.Refusal.{Refusal}
 use Rattle.numbers.specs.declared.Written.{Written}
-use Rattle.numbers.specs.Output.{padded, refusal}
+use Rattle.numbers.specs.Output.{padded}
+use Rattle.numbers.specs.OutputInner.{refusal}
 use Rattle.block.specs.declared.Block.{Block}
 use Rattle.grammar.specs.Course.{Course}
 use Rattle.ranges.specs.Ranges.{Range}
 use Rattle.vector.specs.declared.Entries.the-variants.{Read, Refused}
-use Rattle.vector.specs.Vector.{Entry, clientsIn, clocksIn, kept}
+use Rattle.vector.specs.Vector.{Entry, clientsIn}
+use Rattle.vector.specs.VectorInner.{clocksIn, kept}
 use Rattle.vector.specs.Vector as vector
+use Rattle.vector.specs.VectorInner as vector-inner
 use Rattle.kept.specs.Plan.{entriesOf}
 use Rattle.kept.proofs.VectorRead.{was-read, was-refused}
 use Rattle.writing.specs.Writing.{keptAnswer, keptOut, readAnswer, readOut}
@@ -23,7 +26,7 @@ module _ (u : List ℕ) (c : Course Entry) (from form : ℕ) (rows : List Block)
   abbrev with-entries : ℕ → ℕ → ℕ → List Entry
   with-entries m k l = entriesOf m (padded k (clientsIn (kept c))) (padded l (clocksIn (kept c)))
 
-  pub exit-read : (m k l : ℕ) → vector.entriesOf c ≡ Read m
+  pub exit-read : (m k l : ℕ) → vector-inner.entriesOf c ≡ Read m
       → Right (keptAnswer u (with-entries m k l) from form rows n rs (length out)) (keptOut u (with-entries m k l) from form rows n rs out)
   unfolding readAnswer readOut
   exit-read m k l e =
@@ -32,6 +35,6 @@ module _ (u : List ℕ) (c : Course Entry) (from form : ℕ) (rows : List Block)
         ap (λ (v : List Entry). keptOut u v from form rows n rs out) (r .entries k l) ∙ sym (r .ends-so _ _),
       )
 
-  pub exit-refused : (why : Refusal) → vector.entriesOf c ≡ Refused why → Right (refusal (why .number)) (padded (length out) [])
+  pub exit-refused : (why : Refusal) → vector-inner.entriesOf c ≡ Refused why → Right (refusal (why .number)) (padded (length out) [])
   unfolding readAnswer readOut
   exit-refused why e = (sym (was-refused c why e _ _), sym (was-refused c why e _ _))

@@ -8,7 +8,8 @@ use lib.ListN.{length, take}
 use borrow.Author.Tests.{not-true, not-false}
 use Rattle.numbers.specs.declared.Written.{Written}
 use Rattle.numbers.specs.Number.{pick}
-use Rattle.numbers.specs.Output.{padded, refusal, done}
+use Rattle.numbers.specs.Output.{padded}
+use Rattle.numbers.specs.OutputInner.{refusal, done}
 use Rattle.block.specs.declared.Block.{Block}
 use Rattle.ranges.specs.Ranges.{Range}
 use Rattle.vector.specs.Vector.{Entry}

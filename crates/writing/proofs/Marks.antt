@@ -15,12 +15,15 @@ use Rattle.block.specs.declared.Block.{Block}
 use Rattle.block.specs.Row.{noBlock}
 use Rattle.block.specs.Kinds.{TEXT, isGc, isSkip, isDeleted, isBinary, isText, isFormat, isType, isAny, isItem, isNamed}
 use Rattle.vector.specs.Vector.{Entry}
-use Rattle.readings.specs.Sound.{bytesIn, linked, Sound, All, Ordered}
+use Rattle.readings.specs.Sound.{bytesIn, linked, All}
+use Rattle.readings.specs.SoundInner.{Sound, Ordered}
 use Rattle.readings.proofs.Columns.{chosen}
-use Rattle.readings.specs.Groups.{groups, joined}
+use Rattle.readings.specs.Groups.{groups}
+use Rattle.readings.specs.GroupsInner.{joined}
 use Rattle.readings.proofs.Groups.{groups-joined, groups-all, ordered-distinct}
 use Rattle.parts.specs.Brim.{brim}
-use Rattle.tokens.specs.Tokens.{Token, field, text, var, buf, key, value, values, client, info, len, typeNumber, keys, taken, takenAll}
+use Rattle.tokens.specs.Tokens.{Token, field, text, var, buf, key, value, values, client, info, len, keys, taken, takenAll}
+use Rattle.tokens.specs.TokensInner.{typeNumber}
 use Rattle.tokens.specs.Keys.{isKnown, isFull, remembered, crowded, manyKeys}
 use Rattle.tokens.proofs.Keys.{isKey, by-key, not-key, keyless}
 use Rattle.tokens.proofs.Fitting.{taken-append}

@@ -9,16 +9,19 @@ use lib.ListN.{length, take, length-replicate}
 use borrow.Author.Tests.{eqb-true, eqb-false}
 use Rattle.numbers.specs.Number.{pick}
 use Rattle.numbers.specs.Limits.{maxUpdate, maxClients, maxBlocks}
-use Rattle.numbers.specs.Output.{padded, refusal, written, put}
+use Rattle.numbers.specs.Output.{padded, written, put}
+use Rattle.numbers.specs.OutputInner.{refusal}
 use Rattle.numbers.proofs.Output.{verdict-why, refused-answer, refused-bytes}
 use Rattle.block.specs.declared.Block.{Block}
 use Rattle.ranges.specs.Ranges.{Range}
 use Rattle.vector.specs.Vector.{Entry}
-use Rattle.readings.specs.Sound.{Sound, All, Ordered}
+use Rattle.readings.specs.Sound.{All}
+use Rattle.readings.specs.SoundInner.{Sound, Ordered}
 use Rattle.readings.specs.Groups.{groups}
 use Rattle.parts.specs.Brim.{brim}
 use Rattle.tokens.specs.Tokens.{Token, var, keys, takenAll}
-use Rattle.tokens.specs.Keys.{spelled, manyKeys}
+use Rattle.tokens.specs.Keys.{manyKeys}
+use Rattle.tokens.specs.KeysInner.{spelled}
 use Rattle.tokens.specs.Bytes.{bytesOf, near}
 use Rattle.tokens.proofs.Fitting.{sizeAll, legalAll}
 use Rattle.kept.specs.Kept.{clientOf, sectionsOf}

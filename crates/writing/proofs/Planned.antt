@@ -10,11 +10,13 @@ use lib.ListN.{length, take, replicate}
 use lib.Seq.{sets}
 use borrow.Author.Tests.{ltb-true, ltb-false, lt-leb, le-leb}
 use Rattle.numbers.specs.Number.{pick}
-use Rattle.numbers.specs.Output.{padded, verdict, refusal, done, written, put}
+use Rattle.numbers.specs.Output.{padded, verdict, written, put}
+use Rattle.numbers.specs.OutputInner.{refusal, done}
 use Rattle.numbers.proofs.Output.{take-sets, refused-answer, refused-bytes, done-answer, done-bytes}
 use Rattle.readings.specs.Sound.{All}
 use Rattle.tokens.specs.Tokens.{Token, var, keys, takenAll}
-use Rattle.tokens.specs.Keys.{spelled, manyKeys}
+use Rattle.tokens.specs.Keys.{manyKeys}
+use Rattle.tokens.specs.KeysInner.{spelled}
 use Rattle.tokens.specs.Bytes.{bytesOf, near}
 use Rattle.tokens.proofs.Fitting.{sizeAll, legalAll}
 use Rattle.records.proofs.Deletes.{deletes-plain}

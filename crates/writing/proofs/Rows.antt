@@ -9,11 +9,13 @@ use borrow.Author.Tests.{ne-eqb}
 use Rattle.block.specs.declared.Block.{Block}
 use Rattle.ranges.specs.Ranges.{Range}
 use Rattle.vector.specs.Vector.{Entry}
-use Rattle.readings.specs.Sound.{Sound, All, Ordered}
+use Rattle.readings.specs.Sound.{All}
+use Rattle.readings.specs.SoundInner.{Sound, Ordered}
 use Rattle.readings.specs.Groups.{groups}
 use Rattle.parts.specs.Brim.{brim}
 use Rattle.tokens.specs.Tokens.{Token, client, var}
-use Rattle.kept.specs.Kept.{Piece, Section, SoundSection, clientOf, sectionsOf, rowsOf}
+use Rattle.kept.specs.Kept.{Piece, Section, clientOf, sectionsOf}
+use Rattle.kept.specs.KeptInner.{SoundSection, rowsOf}
 use Rattle.kept.specs.Cut.{cutRow, anyTorn}
 use Rattle.kept.specs.Plan.{Stop, Of, Opens, further, GoesOn, Goes, stopsOf, plannedFrom}
 use Rattle.kept.proofs.SectionsKept.{sections-sound}

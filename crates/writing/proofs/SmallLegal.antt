@@ -19,13 +19,17 @@ use Rattle.block.specs.Kinds.{TYPE, isGc, isSkip, isDeleted, isBinary, isText, 
 use Rattle.block.specs.Row.{noId, leftId, rightId, parentId}
 use Rattle.vector.specs.Vector.{Entry}
 use Rattle.ranges.specs.Ranges.{Range}
-use Rattle.readings.specs.Sound.{bytesIn, linked, Sound, SoundId, All, Ordered}
+use Rattle.readings.specs.Sound.{bytesIn, linked, All}
+use Rattle.readings.specs.SoundInner.{Sound, SoundId, Ordered}
 use Rattle.readings.specs.Groups.{groups}
 use Rattle.readings.proofs.Columns.{chosen}
-use Rattle.tokens.specs.Tokens.{Token, columnIn, client, left, right, info, parentInfo, text, len, typeNumber, var, buf, key, value, values}
+use Rattle.tokens.specs.Tokens.{Token, columnIn, client, left, right, info, parentInfo, text, len, var, buf, key, value, values}
+use Rattle.tokens.specs.TokensInner.{typeNumber}
 use Rattle.tokens.proofs.Fitting.{legal, legalAll, legal-append}
-use Rattle.kept.specs.Kept.{Piece, Section, sectionsOf, rowsOf, Whole, Pieces, SoundSection}
-use Rattle.kept.specs.Cut.{isWhole, shortened, idBefore, begunLater, cutRow}
+use Rattle.kept.specs.Kept.{Piece, Section, sectionsOf}
+use Rattle.kept.specs.KeptInner.{rowsOf, Whole, Pieces, SoundSection}
+use Rattle.kept.specs.Cut.{isWhole, shortened, begunLater, cutRow}
+use Rattle.kept.specs.CutInner.{idBefore}
 use Rattle.kept.proofs.SectionsKept.{sections-sound}
 use Rattle.records.specs.Records.{contentNumber, infoByte, bit, name, leftTokens, rightTokens, parentTokens, keyTokens, placeTokens, mark, formatTokens, typeTokens, markedTokens, contentTokens, blockTokens, piecesTokens, startOf, sectionTokens, sectionsTokens, clockFrom, lengthOf, rangesTokens, clientTokens, ownerOf, deleteTokens, updateTokens}
 

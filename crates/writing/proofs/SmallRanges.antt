@@ -17,7 +17,8 @@ use Rattle.numbers.proofs.Laws.{at-end, below-or}
 use Rattle.ranges.specs.Ranges.{Range, normal}
 use Rattle.ranges.specs.Table.{range}
 use Rattle.ranges.proofs.Theory.{normal-length}
-use Rattle.grammar.specs.Grammar.{Grammar, _>>=_}
+use Rattle.grammar.specs.Grammar.{Grammar}
+use Rattle.grammar.specs.GrammarInner.{_>>=_}
 use Rattle.grammar.specs.Course.{Drawn, got, not, Course, item, over, stopped, onDrawn, run, fit, items}
 use Rattle.grammar.specs.Deletes.{ranges, clients, allRanges}
 use Rattle.decoder.specs.Line.{numberAt, varAt, bounded, upTo, restored, deleteAt, numberOf, line}

@@ -10,12 +10,14 @@ use Rattle.block.specs.Kinds.{isGc, isSkip, isDeleted, isBinary, isText, isForm
 use Rattle.vector.specs.Vector.{Entry}
 use Rattle.ranges.specs.Ranges.{Range}
 use Rattle.readings.specs.Sound.{linked}
-use Rattle.readings.specs.Groups.{groups, joined}
+use Rattle.readings.specs.Groups.{groups}
+use Rattle.readings.specs.GroupsInner.{joined}
 use Rattle.readings.proofs.Columns.{chosen}
 use Rattle.readings.proofs.Groups.{groups-joined, groups-length}
 use Rattle.tokens.specs.Tokens.{Token}
 use Rattle.tokens.proofs.Fitting.{sizeOf, sizeAll, size-append}
-use Rattle.kept.specs.Kept.{Piece, Section, clientOf, sectionsOf, pieceCount}
+use Rattle.kept.specs.Kept.{Piece, Section, clientOf, sectionsOf}
+use Rattle.kept.specs.KeptInner.{pieceCount}
 use Rattle.kept.specs.Cut.{cutRow}
 use Rattle.kept.proofs.SectionsKept.{sections-length, sections-count}
 use Rattle.records.specs.Records.{leftTokens, rightTokens, parentTokens, keyTokens, placeTokens, formatTokens, typeTokens, markedTokens, contentTokens, blockTokens, piecesTokens, sectionTokens, sectionsTokens, rangesTokens, clientTokens, ownerOf, deleteTokens, updateTokens}

@@ -7,13 +7,14 @@ use lib.Dec.{ltb, eqb}
 use lib.ListN.{length, take, replicate}
 use Rattle.numbers.specs.declared.Written.{Written}
 use Rattle.numbers.specs.Number.{pick}
-use Rattle.numbers.specs.Output.{padded, refusal, done}
+use Rattle.numbers.specs.Output.{padded}
+use Rattle.numbers.specs.OutputInner.{refusal, done}
 use Rattle.block.specs.declared.Block.{Block}
 use Rattle.grammar.specs.Course.{Course, items, ending}
 use Rattle.ranges.specs.Ranges.{Range}
 use Rattle.vector.specs.Vector.{Entry}
 use Rattle.tokens.specs.Tokens.{Token, var}
-use Rattle.tokens.specs.Keys.{spelled}
+use Rattle.tokens.specs.KeysInner.{spelled}
 use Rattle.records.specs.Records.{deleteTokens}
 use Rattle.encoder.specs.declared.steps.Outcome.{Outcome}
 use Rattle.encoder.specs.Passes.{outcomeFor, wordsFor, plannedTokens}

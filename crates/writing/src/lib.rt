@@ -7,7 +7,7 @@ use vector::Entries;
 ghost use mathlib.Core.Path.{_≡_};
 ghost use Prim.Native.Nat.{_*_, _≤_};
 ghost use lib.ListN.{length};
-ghost use Rattle.ranges.specs.Table.{rowsFrom};
+ghost use Rattle.ranges.specs.TableInner.{rowsFrom};
 ghost use Rattle.vector.specs.Vector.{vectorOf};
 ghost use Rattle.kept.specs.Plan.{entriesOf};
 ghost use Rattle.writing.specs.Writing.{job, sizesIn, plannedAnswer, plannedOut, turned, whyFor, keptAnswer, keptOut, readAnswer, readOut};

@@ -15,7 +15,8 @@ use Rattle.grammar.specs.Grammar as grammar
 use Rattle.grammar.specs.Course.{got, Reader, over, run}
 use Rattle.grammar.specs.Blocks as blocks
 use Rattle.grammar.specs.Blocks.{anItem, body}
-use Rattle.readings.specs.Sound.{linked, Sound}
+use Rattle.readings.specs.Sound.{linked}
+use Rattle.readings.specs.SoundInner.{Sound}
 use Rattle.tokens.specs.Tokens.{Token, info, len, var}
 use Rattle.draws.specs.Draws.{laneField, Draws, Lined}
 use Rattle.draws.proofs.Splits.{split}

@@ -10,14 +10,17 @@ use Rattle.text.specs.declared.Part.{Part}
 use Rattle.block.specs.declared.Block.{Block}
 use Rattle.block.specs.Row.{noPart}
 use Rattle.block.specs.Rows.{withContent, withMark, withType, markIs}
-use Rattle.block.specs.Kinds.{DELETED, BINARY, TEXT, FORMAT, TYPE, ANY, isFormat, isType, isItem, hasPart, maxType, isNamed, isMarked}
+use Rattle.block.specs.Kinds.{DELETED, BINARY, TEXT, FORMAT, TYPE, ANY, isFormat, isType, isItem, maxType, isNamed}
+use Rattle.block.specs.KindsInner.{hasPart, isMarked}
 use Rattle.block.proofs.OfKinds.{AnItem, item-kinds}
 use Rattle.grammar.specs.Grammar as grammar
-use Rattle.grammar.specs.Grammar.{draw, done, _>>=_}
+use Rattle.grammar.specs.Grammar.{draw, done}
+use Rattle.grammar.specs.GrammarInner.{_>>=_}
 use Rattle.grammar.specs.Course.{Reader, over, run}
 use Rattle.grammar.specs.Blocks.{deleted, binary, string, format, node, type, anyList, contentOf, content}
 use Rattle.readings.specs.Sound.{bytesIn}
-use Rattle.tokens.specs.Tokens.{text, len, typeNumber, buf, value, values}
+use Rattle.tokens.specs.Tokens.{text, len, buf, value, values}
+use Rattle.tokens.specs.TokensInner.{typeNumber}
 use Rattle.draws.specs.Draws.{laneField, Draws}
 use Rattle.records.specs.Records.{contentNumber, mark, formatTokens, typeTokens, markedTokens, contentTokens}
 use Rattle.written.proofs.Courses.{draw-on}

@@ -7,7 +7,8 @@ use lib.ListN.{length}
 use Rattle.numbers.specs.declared.Refusal.{Refusal}
 use Rattle.block.specs.declared.Block.{Block}
 use Rattle.grammar.specs.Grammar as grammar
-use Rattle.grammar.specs.Grammar.{Field, Answer, Grammar, draw, _>>=_}
+use Rattle.grammar.specs.Grammar.{Field, Answer, Grammar, draw}
+use Rattle.grammar.specs.GrammarInner.{_>>=_}
 use Rattle.grammar.specs.Course.{got, Reader, Run, item, over, onDrawn, run, Course, fit, items, ending}
 use Rattle.grammar.proofs.Runs.{andThen, run-bind}
 use Rattle.draws.specs.Draws.{Lined}

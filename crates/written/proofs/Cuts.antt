@@ -12,13 +12,17 @@ use Rattle.columns.proofs.Back.{both}
 use Rattle.text.specs.Utf8.{wellFormed, after, settled}
 use Rattle.block.specs.declared.Block.{Block}
 use Rattle.block.specs.Row.{noId, noPart}
-use Rattle.block.specs.Kinds.{TEXT, ANY, isText, isAny, isItem, hasPart}
+use Rattle.block.specs.Kinds.{TEXT, ANY, isText, isAny, isItem}
+use Rattle.block.specs.KindsInner.{hasPart}
 use Rattle.block.proofs.OfKinds.{part-text, part-any}
 use Rattle.block.proofs.Rows.{same-key}
-use Rattle.readings.specs.Sound.{bytesIn, Lies, SoundId, SoundText, linked, Stored, Sound, Valued}
+use Rattle.readings.specs.Sound.{bytesIn, linked}
+use Rattle.readings.specs.SoundInner.{Lies, SoundId, SoundText, Stored, Sound, Valued}
 use Rattle.readings.proofs.Columns.{chosen}
-use Rattle.kept.specs.Kept.{Piece, Whole, Inside}
-use Rattle.kept.specs.Cut.{cutPart, isWhole, partOf, shortened, idBefore, begunLater, cutRow, torn}
+use Rattle.kept.specs.Kept.{Piece}
+use Rattle.kept.specs.KeptInner.{Whole, Inside}
+use Rattle.kept.specs.Cut.{cutPart, isWhole, partOf, shortened, begunLater, cutRow, torn}
+use Rattle.kept.specs.CutInner.{idBefore}
 use Rattle.kept.proofs.Lists.{IsList, list-part, list-piece}
 use Rattle.written.specs.Written.{keyless, reread, Writable}
 use Rattle.written.specs.Kept.{KeptPiece}

@@ -10,17 +10,20 @@ use borrow.Author.Tests.{le-ltb, ne-eqb}
 use Rattle.numbers.specs.Number.{pick}
 use Rattle.numbers.specs.Limits.{maxClock, maxClients, maxValue}
 use Rattle.grammar.specs.Grammar as grammar
-use Rattle.grammar.specs.Grammar.{_>>=_}
+use Rattle.grammar.specs.GrammarInner.{_>>=_}
 use Rattle.grammar.specs.Course.{got, Reader, item, over, run}
 use Rattle.grammar.specs.Deletes.{ranges, clients, allRanges}
 use Rattle.grammar.proofs.Runs.{run-bind}
 use Rattle.decoder.specs.Line.{varAt, upTo, restored, deleteAt, numberOf, line}
 use Rattle.decoder.specs.Update.{deleteSet}
-use Rattle.ranges.specs.Ranges.{Range, Normal, normal}
-use Rattle.ranges.specs.Table.{Fine, range}
+use Rattle.ranges.specs.Ranges.{Range, normal}
+use Rattle.ranges.specs.RangesInner.{Normal}
+use Rattle.ranges.specs.Table.{range}
+use Rattle.ranges.specs.TableInner.{Fine}
 use Rattle.ranges.proofs.Theory.{same-range, is-normal}
 use Rattle.readings.specs.Sound.{All}
-use Rattle.readings.specs.Groups.{groups, joined}
+use Rattle.readings.specs.Groups.{groups}
+use Rattle.readings.specs.GroupsInner.{joined}
 use Rattle.readings.proofs.Groups.{groups-joined, groups-all}
 use Rattle.readings.proofs.RangeGroups.{Rising, Grouped, grouped}
 use Rattle.draws.specs.Draws.{Draws, Lined}

@@ -3,8 +3,9 @@ use Prim.Native.Nat.{ℕ, _+_, _≤_}
 use mathlib.Core.List.{List}
 use Rattle.numbers.specs.Limits.{maxClock}
 use Rattle.block.specs.declared.Block.{Block}
-use Rattle.block.specs.Kinds.{isMarked}
-use Rattle.readings.specs.Sound.{SoundText, linked, Stored, Sound}
+use Rattle.block.specs.KindsInner.{isMarked}
+use Rattle.readings.specs.Sound.{linked}
+use Rattle.readings.specs.SoundInner.{SoundText, Stored, Sound}
 use Rattle.readings.proofs.Columns.{chosen}
 use Rattle.written.specs.Written.{keyless, reread}
 

@@ -14,12 +14,14 @@ use Rattle.decoder.specs.Update.{blocksOf, deleteSet}
 use Rattle.vector.specs.Vector.{Entry}
 use Rattle.ranges.specs.Ranges.{normal}
 use Rattle.ranges.proofs.Theory.{normal-is}
-use Rattle.readings.specs.Sound.{Sound, Valued, All, Adjoins, Chain}
+use Rattle.readings.specs.Sound.{All}
+use Rattle.readings.specs.SoundInner.{Sound, Valued, Adjoins, Chain}
 use Rattle.readings.proofs.Sounds.{blocks-sound}
 use Rattle.readings.proofs.Orders.{blocks-ordered}
 use Rattle.readings.proofs.Counts.{blocks-count, blocks-groups}
 use Rattle.readings.proofs.RangesFound.{normal-fine, fit-fine, range-clients}
-use Rattle.kept.specs.Kept.{Piece, Section, sectionsOf, rowsOf, Begins, Whole, Inside, Pieces, SoundSection}
+use Rattle.kept.specs.Kept.{Piece, Section, sectionsOf}
+use Rattle.kept.specs.KeptInner.{rowsOf, Begins, Whole, Inside, Pieces, SoundSection}
 use Rattle.kept.specs.Cut.{torn, anyFormat}
 use Rattle.kept.proofs.SectionsKept.{sections-length, sections-count, sections-distinct, sections-sound}
 use Rattle.written.specs.Kept.{KeptPiece, Meets, Joined, KeptSection, Kept, Clean, KeptRanges}

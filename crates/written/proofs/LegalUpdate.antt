@@ -7,7 +7,7 @@ use lib.Dec.{eqb}
 use lib.ListN.{length}
 use Rattle.numbers.specs.Limits.{maxClock, maxBlocks, maxValue, maxUpdate}
 use Rattle.ranges.specs.Ranges.{Range}
-use Rattle.ranges.specs.Table.{Fine}
+use Rattle.ranges.specs.TableInner.{Fine}
 use Rattle.readings.specs.Sound.{All}
 use Rattle.readings.specs.Groups.{groups}
 use Rattle.readings.proofs.Columns.{chosen}
@@ -15,7 +15,8 @@ use Rattle.readings.proofs.Groups.{groups-all}
 use Rattle.readings.proofs.RangeGroups.{Rising, Grouped, grouped}
 use Rattle.tokens.specs.Tokens.{Token, client, var}
 use Rattle.draws.specs.Draws.{most, isField, Legal, AllLegal}
-use Rattle.kept.specs.Kept.{Piece, Section, pieceCount}
+use Rattle.kept.specs.Kept.{Piece, Section}
+use Rattle.kept.specs.KeptInner.{pieceCount}
 use Rattle.kept.specs.Cut.{cutRow}
 use Rattle.records.specs.Records.{blockTokens, piecesTokens, startOf, sectionTokens, sectionsTokens, clockFrom, lengthOf, rangesTokens, clientTokens, ownerOf, deleteTokens, updateTokens}
 use Rattle.written.specs.Kept.{KeptPiece, KeptSection, Kept, KeptRanges}

@@ -15,7 +15,8 @@ use Rattle.block.specs.declared.Id.{Id}
 use Rattle.block.specs.declared.Block.{Block}
 use Rattle.block.specs.Row.{leftId, rightId, parentId}
 use Rattle.block.specs.Kinds.{TEXT, FORMAT, TYPE, ANY, isGc, isSkip, isDeleted, isBinary, isText, isFormat, isType, isAny, isItem, isNamed}
-use Rattle.readings.specs.Sound.{bytesIn, SoundId, linked, Sound, Valued}
+use Rattle.readings.specs.Sound.{bytesIn, linked}
+use Rattle.readings.specs.SoundInner.{SoundId, Sound, Valued}
 use Rattle.readings.proofs.Columns.{chosen}
 use Rattle.tokens.specs.Tokens.{Token, client, left, right, info, parentInfo, text, len, var, buf, value, values}
 use Rattle.draws.specs.Draws.{most, isField, LegalText, LegalValue, Legal, AllLegal}

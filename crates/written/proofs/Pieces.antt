@@ -14,7 +14,8 @@ use Rattle.block.specs.declared.Block.{Block}
 use Rattle.block.specs.Kinds.{isItem}
 use Rattle.grammar.specs.Course.{Reader, item, over, run}
 use Rattle.grammar.specs.Blocks.{block, dropped, kept, blocks}
-use Rattle.readings.specs.Sound.{linked, Sound, All}
+use Rattle.readings.specs.Sound.{linked, All}
+use Rattle.readings.specs.SoundInner.{Sound}
 use Rattle.readings.proofs.Columns.{chosen}
 use Rattle.draws.specs.Draws.{Draws, Lined}
 use Rattle.draws.proofs.Splits.{split}

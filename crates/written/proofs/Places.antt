@@ -10,11 +10,13 @@ use Rattle.block.specs.declared.Id.{Id}
 use Rattle.block.specs.declared.Block.{Block}
 use Rattle.block.specs.Row.{noId, noPart, leftId, rightId, parentId}
 use Rattle.block.specs.Rows.{plain}
-use Rattle.block.specs.Kinds.{isDeleted, isBinary, isText, isFormat, isType, isAny, isItem, isMarked}
+use Rattle.block.specs.Kinds.{isDeleted, isBinary, isText, isFormat, isType, isAny, isItem}
+use Rattle.block.specs.KindsInner.{isMarked}
 use Rattle.block.proofs.OfKinds.{item-part}
 use Rattle.grammar.specs.Course.{Reader}
 use Rattle.grammar.specs.Blocks.{place}
-use Rattle.readings.specs.Sound.{bytesIn, linked, Sound}
+use Rattle.readings.specs.Sound.{bytesIn, linked}
+use Rattle.readings.specs.SoundInner.{Sound}
 use Rattle.readings.proofs.Columns.{clash}
 use Rattle.draws.specs.Draws.{Draws}
 use Rattle.draws.proofs.Splits.{split}

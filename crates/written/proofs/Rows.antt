@@ -11,12 +11,14 @@ use Rattle.block.specs.Kinds.{FORMAT, isFormat}
 use Rattle.grammar.specs.Course.{items}
 use Rattle.decoder.specs.Update.{blocksOf}
 use Rattle.vector.specs.Vector.{Entry}
-use Rattle.readings.specs.Sound.{Valued, All}
+use Rattle.readings.specs.Sound.{All}
+use Rattle.readings.specs.SoundInner.{Valued}
 use Rattle.readings.specs.Groups.{groups}
 use Rattle.readings.proofs.Columns.{clash}
 use Rattle.readings.proofs.Groups.{groups-all}
 use Rattle.readings.proofs.Sounds.{blocks-valued}
-use Rattle.kept.specs.Kept.{Piece, Section, remote, falls, piece, wholePiece, keepFrom, withPieces, keepEach, clientOf, sectionsOf, rowsOf}
+use Rattle.kept.specs.Kept.{Piece, Section, remote, falls, piece, wholePiece, keepFrom, withPieces, keepEach, clientOf, sectionsOf}
+use Rattle.kept.specs.KeptInner.{rowsOf}
 use Rattle.kept.specs.Cut.{formatIn, anyFormat}
 use Rattle.kept.proofs.SectionsPlaced.{falling-all}
 

@@ -12,7 +12,7 @@ use Rattle.numbers.specs.Number.{pick}
 use Rattle.numbers.specs.Limits.{maxClock}
 use Rattle.numbers.specs.Words.{among}
 use Rattle.grammar.specs.Grammar as grammar
-use Rattle.grammar.specs.Grammar.{_>>=_}
+use Rattle.grammar.specs.GrammarInner.{_>>=_}
 use Rattle.grammar.specs.Course.{Reader, over, run}
 use Rattle.grammar.specs.Blocks.{blocks, sections}
 use Rattle.grammar.proofs.Runs.{run-bind}
@@ -20,7 +20,8 @@ use Rattle.readings.specs.Sound.{All}
 use Rattle.readings.specs.Groups.{Distinct}
 use Rattle.draws.specs.Draws.{laneField, Draws, Lined}
 use Rattle.draws.proofs.Splits.{split}
-use Rattle.kept.specs.Kept.{Piece, Section, Whole, Inside, pieceCount}
+use Rattle.kept.specs.Kept.{Piece, Section}
+use Rattle.kept.specs.KeptInner.{Whole, Inside, pieceCount}
 use Rattle.records.specs.Records.{piecesTokens, startOf, sectionTokens, sectionsTokens}
 use Rattle.written.specs.Written.{piecesRead, sectionsRead, Goes, AlikeIn}
 use Rattle.written.specs.Kept.{KeptPiece, KeptSection, clientIn}

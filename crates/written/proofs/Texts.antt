@@ -13,7 +13,8 @@ use Rattle.text.specs.declared.Taken.the-variants as units
 use Rattle.text.specs.Utf8.{wellFormed, unitsOf, takeUnits}
 use Rattle.text.proofs.Cutting.{cut}
 use Rattle.text.proofs.Slices.{slice-rest, slice-front}
-use Rattle.readings.specs.Sound.{bytesIn, Lies}
+use Rattle.readings.specs.Sound.{bytesIn}
+use Rattle.readings.specs.SoundInner.{Lies}
 use Rattle.kept.specs.Cut.{bytesFor, broken, cutPart, tornText}
 
 pub clash : {A : Type 0} → true ≡ false → A

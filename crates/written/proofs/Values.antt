@@ -9,7 +9,8 @@ use Rattle.text.specs.declared.Part.{Part}
 use Rattle.anys.specs.declared.Skipped.the-variants.{At}
 use Rattle.anys.specs.Any.{anys}
 use Rattle.anys.proofs.Moves.{anys-copied}
-use Rattle.readings.specs.Sound.{bytesIn, Lies, AreValues}
+use Rattle.readings.specs.Sound.{bytesIn}
+use Rattle.readings.specs.SoundInner.{Lies, AreValues}
 use Rattle.draws.specs.Draws.{AreAll}
 
 pub values-all : (u : List ℕ) (n : ℕ) (p : Part) → Lies u p → AreValues u n p → AreAll n (bytesIn u p)

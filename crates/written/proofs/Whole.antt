@@ -11,11 +11,14 @@ use Rattle.grammar.specs.Grammar as grammar
 use Rattle.grammar.specs.Course.{Course, fit, items, ending}
 use Rattle.grammar.specs.Blocks.{allBlocks}
 use Rattle.decoder.specs.Update.{blocksOf, deleteSet}
-use Rattle.ranges.specs.Ranges.{Range, Normal, normal}
-use Rattle.leftover.specs.Leftover.{setEnd, left, Spent}
+use Rattle.ranges.specs.Ranges.{Range, normal}
+use Rattle.ranges.specs.RangesInner.{Normal}
+use Rattle.leftover.specs.Leftover.{setEnd, left}
+use Rattle.leftover.specs.LeftoverInner.{Spent}
 use Rattle.draws.specs.Draws.{Draws, DrawnAgain}
 use Rattle.draws.proofs.Splits.{split}
-use Rattle.kept.specs.Kept.{Piece, Section, pieceCount}
+use Rattle.kept.specs.Kept.{Piece, Section}
+use Rattle.kept.specs.KeptInner.{pieceCount}
 use Rattle.records.specs.Records.{sectionsTokens, deleteTokens, updateTokens}
 use Rattle.written.specs.Written.{AllAlike, piecesRead, sectionsRead, AlikeIn, WrittenReads}
 use Rattle.written.specs.Kept.{clientIn, Kept, KeptRanges}

@@ -6,11 +6,14 @@ use mathlib.Core.Bool.{false}
 use mathlib.Core.List.{List, [], _∷_, map}
 use lib.ListN.{length}
 use Rattle.numbers.specs.Limits.{maxClients, maxBlocks}
-use Rattle.ranges.specs.Ranges.{Range, Normal}
-use Rattle.ranges.specs.Table.{Fine}
-use Rattle.readings.specs.Sound.{Sound, Valued, All}
+use Rattle.ranges.specs.Ranges.{Range}
+use Rattle.ranges.specs.RangesInner.{Normal}
+use Rattle.ranges.specs.TableInner.{Fine}
+use Rattle.readings.specs.Sound.{All}
+use Rattle.readings.specs.SoundInner.{Sound, Valued}
 use Rattle.readings.specs.Groups.{groups, Distinct}
-use Rattle.kept.specs.Kept.{Piece, Section, Whole, Inside, pieceCount}
+use Rattle.kept.specs.Kept.{Piece, Section}
+use Rattle.kept.specs.KeptInner.{Whole, Inside, pieceCount}
 use Rattle.kept.specs.Cut.{torn}
 use Rattle.records.specs.Records.{ownerOf}
 

@@ -6,12 +6,15 @@ use mathlib.Core.List.{List, [], _∷_, _++_}
 use Rattle.numbers.specs.Number.{pick}
 use Rattle.block.specs.declared.Block.{Block}
 use Rattle.block.specs.Row.{noPart}
-use Rattle.block.specs.Rows.{nameIs, keyIs, withMark, withPart, withoutKey}
+use Rattle.block.specs.Rows.{nameIs, keyIs, withMark, withPart}
+use Rattle.block.specs.RowsInner.{withoutKey}
 use Rattle.ranges.specs.Ranges.{Range}
 use Rattle.grammar.specs.Course.{Run, item, over}
 use Rattle.decoder.specs.Update.{blocksOf, deleteSet}
-use Rattle.leftover.specs.Leftover.{columnsLeft, Spent}
-use Rattle.readings.specs.Sound.{bytesIn, linked, Sound, Valued}
+use Rattle.leftover.specs.Leftover.{columnsLeft}
+use Rattle.leftover.specs.LeftoverInner.{Spent}
+use Rattle.readings.specs.Sound.{bytesIn, linked}
+use Rattle.readings.specs.SoundInner.{Sound, Valued}
 use Rattle.kept.specs.Kept.{Piece, Section}
 use Rattle.kept.specs.Cut.{cutRow}
 

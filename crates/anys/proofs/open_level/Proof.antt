@@ -1,7 +1,7 @@
 -- `anys::open_level` meets its contract: the depth first, and then the count.
 use mathlib.Core.Path.{ap, _∙_}
 use borrow.Author.Tests.{not-true, not-false}
-use Rattle.numbers.specs.Number.{whyRead}
+use Rattle.numbers.specs.NumberInner.{whyRead}
 use Rattle.anys.specs.declared.Next.the-variants as next
 use Rattle.anys.specs.Steps.{opening, openAt}
 use borrow.Author.Needs.{needs}

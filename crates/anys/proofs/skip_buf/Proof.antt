@@ -1,6 +1,6 @@
 -- `anys::skip_buf` meets its contract: a length that is read ends within the bytes.
 use mathlib.Core.Path.{sym, ap, _∙_}
-use Rattle.numbers.specs.Number.{whyRead}
+use Rattle.numbers.specs.NumberInner.{whyRead}
 use Rattle.anys.specs.declared.Skipped.the-variants.{Refused}
 use Rattle.anys.specs.Any.{counted, bytesAt}
 use Rattle.anys.proofs.Places.{read-ends}

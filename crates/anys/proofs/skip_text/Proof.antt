@@ -1,6 +1,6 @@
 -- `anys::skip_text` meets its contract: length, bytes, and whether they are UTF-8.
 use mathlib.Core.Path.{sym, ap, _∙_}
-use Rattle.numbers.specs.Number.{whyRead}
+use Rattle.numbers.specs.NumberInner.{whyRead}
 use Rattle.anys.specs.declared.Skipped.the-variants.{Refused}
 use Rattle.anys.specs.Any.{counted, thenAt, textFrom, textAt}
 use Rattle.anys.proofs.Places.{read-ends, bytes-span}

@@ -1,7 +1,7 @@
 -- `block::content_number` meets its contract: a kind, a number.
 use native.Mathlib.Omega.{arith}
 use borrow.Author.Tests.{ne-eqb}
-use Rattle.block.specs.Kinds.{contentNumber}
+use Rattle.block.specs.KindsInner.{contentNumber}
 use Rattle.block.proofs.content_number.Statement.{statement}
 use Rattle.block.proofs.content_number.Tie as tie
 

@@ -1,6 +1,6 @@
 -- `block::has_part` meets its contract: binary, text, format or any.
 use borrow.Author.Tests.{ne-eqb}
-use Rattle.block.specs.Kinds.{hasPart}
+use Rattle.block.specs.KindsInner.{hasPart}
 use Rattle.block.proofs.has_part.Statement.{statement}
 use Rattle.block.proofs.has_part.Tie as tie
 

@@ -1,7 +1,7 @@
 -- `block::is_marked` meets its contract: a format, or a type that has a node name.
 use borrow.Author.Needs.{needs}
 use borrow.Author.Tests.{ne-eqb}
-use Rattle.block.specs.Kinds.{isMarked}
+use Rattle.block.specs.KindsInner.{isMarked}
 use Rattle.block.proofs.is_marked.Statement.{statement}
 use Rattle.block.proofs.is_marked.Tie as tie
 

@@ -3,7 +3,8 @@ use mathlib.Core.Path.{_≡_, ap, _∙_}
 use denote.Ref.{now}
 use borrow.Author.Tests.{lt-ltb, le-ltb, not-true, not-false}
 use Rattle.numbers.specs.declared.Signed.the-variants.{Value}
-use Rattle.numbers.specs.Number.{readUnsigned, whyRead}
+use Rattle.numbers.specs.Number.{readUnsigned}
+use Rattle.numbers.specs.NumberInner.{whyRead}
 use Rattle.columns.specs.declared.number.Answer.the-variants.{Bad}
 use Rattle.columns.specs.Number.{begun, counted}
 use borrow.Author.Needs.{needs}

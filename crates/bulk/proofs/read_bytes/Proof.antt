@@ -10,7 +10,8 @@ use Rattle.numbers.specs.Number.{pick, none}
 use Rattle.columns.specs.declared.byte.Place.{Place}
 use Rattle.columns.specs.declared.byte.Answer.{Answer}
 use Rattle.columns.specs.declared.byte.Answer.the-variants.{Next, Bad}
-use Rattle.columns.specs.Byte.{nextByte, whyByte}
+use Rattle.columns.specs.Byte.{nextByte}
+use Rattle.columns.specs.ByteInner.{whyByte}
 use Rattle.bulk.specs.declared.BytesRead.{BytesRead}
 use Rattle.bulk.specs.Bulk.{drew, stop, byteDraw}
 use Rattle.bulk.specs.Promises.{bytesAnswer}

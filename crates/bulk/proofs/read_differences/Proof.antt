@@ -10,7 +10,8 @@ use Rattle.numbers.specs.Number.{pick, none}
 use Rattle.columns.specs.declared.difference.Place.{Place}
 use Rattle.columns.specs.declared.difference.Answer.{Answer}
 use Rattle.columns.specs.declared.difference.Answer.the-variants.{Next, Bad}
-use Rattle.columns.specs.Difference.{nextDifference, whyDifference}
+use Rattle.columns.specs.Difference.{nextDifference}
+use Rattle.columns.specs.DifferenceInner.{whyDifference}
 use Rattle.bulk.specs.declared.DifferencesRead.{DifferencesRead}
 use Rattle.bulk.specs.Bulk.{drew, stop, differenceDraw}
 use Rattle.bulk.specs.Promises.{differencesAnswer}

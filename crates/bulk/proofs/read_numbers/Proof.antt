@@ -10,7 +10,8 @@ use Rattle.numbers.specs.Number.{pick, none}
 use Rattle.columns.specs.declared.number.Place.{Place}
 use Rattle.columns.specs.declared.number.Answer.{Answer}
 use Rattle.columns.specs.declared.number.Answer.the-variants.{Next, Bad}
-use Rattle.columns.specs.Number.{nextNumber, whyNumber}
+use Rattle.columns.specs.Number.{nextNumber}
+use Rattle.columns.specs.NumberInner.{whyNumber}
 use Rattle.bulk.specs.declared.NumbersRead.{NumbersRead}
 use Rattle.bulk.specs.Bulk.{stop, numberDraw}
 use Rattle.bulk.specs.Promises.{numbersAnswer}

@@ -12,7 +12,8 @@ use Rattle.text.specs.declared.Part.{Part}
 use Rattle.string.specs.declared.Place.{Place}
 use Rattle.string.specs.declared.Answer.{Answer}
 use Rattle.string.specs.declared.Answer.the-variants.{Next, Bad}
-use Rattle.string.specs.String.{nextText, whyText}
+use Rattle.string.specs.String.{nextText}
+use Rattle.string.specs.StringInner.{whyText}
 use Rattle.bulk.specs.declared.TextsRead.{TextsRead}
 use Rattle.bulk.specs.Bulk.{drew, stop, textDraw, partWords}
 use Rattle.bulk.specs.Promises.{textsAnswer}

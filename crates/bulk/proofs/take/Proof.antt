@@ -7,7 +7,8 @@ use denote.Ref.{now}
 use lib.ListN.{length}
 use Rattle.text.specs.declared.Taken.{Taken}
 use Rattle.text.specs.declared.Taken.the-variants as units
-use Rattle.string.specs.String.{TookWithin, ending, taken}
+use Rattle.string.specs.String.{ending, taken}
+use Rattle.string.specs.StringInner.{TookWithin}
 use borrow.Author.Needs.{needs}
 use Rattle.bulk.proofs.take.Statement.{statement}
 use Rattle.bulk.proofs.take.Tie as tie

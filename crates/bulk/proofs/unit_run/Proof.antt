@@ -1,6 +1,6 @@
 -- `bulk::unit_run` meets its contract: each return is an arm of `begun`, by the number that was read.
 use mathlib.Core.Path.{ap, _∙_}
-use Rattle.numbers.specs.Number.{whySigned}
+use Rattle.numbers.specs.NumberInner.{whySigned}
 use Rattle.columns.specs.declared.number.Answer.the-variants.{Bad}
 use Rattle.columns.specs.Number.{begun}
 use borrow.Author.Needs.{needs}

@@ -2,7 +2,7 @@
 use Rattle.cells.proofs.Numbers.{first-cell, number-refused, number-drawn, next-begun}
 use Rattle.cells.specs.Cells.{cell, numbersIn}
 use Rattle.columns.specs.Number.{begun, counted, nextNumber}
-use Rattle.numbers.specs.Number.{whySigned, whyRead}
+use Rattle.numbers.specs.NumberInner.{whySigned, whyRead}
 use borrow.Author.Tests.{lt-ltb, le-ltb}
 use lib.ListN.{getD, take}
 use denote.Ref.{now}

@@ -5,7 +5,7 @@ use lib.ListN.{replicate}
 use Rattle.update.proofs.Answers.{begun-at, begun-refused}
 use Rattle.update.proofs.Laws.{fresh}
 use Rattle.content.specs.declared.Found.the-variants.{Refused}
-use Rattle.content.specs.Content.{whyBegun, whyScanned, whyChecked}
+use Rattle.content.specs.ContentInner.{whyBegun, whyScanned, whyChecked}
 use Rattle.content.proofs.Finds.{not-begun, not-scanned, not-checked, found}
 use borrow.Author.Needs.{needs}
 use Rattle.content.proofs.find.Statement.{statement}

@@ -1,6 +1,6 @@
 -- `content::why_begun` meets its contract, by the cases of its argument.
 use mathlib.Core.Path.{sym, ap}
-use Rattle.content.specs.Content.{whyBegun}
+use Rattle.content.specs.ContentInner.{whyBegun}
 use borrow.Author.Needs.{needs}
 use Rattle.content.proofs.why_begun.Statement.{statement}
 use Rattle.content.proofs.why_begun.Tie as tie

@@ -1,6 +1,6 @@
 -- `content::why_checked` meets its contract, by the cases of its argument.
 use mathlib.Core.Path.{sym, ap}
-use Rattle.content.specs.Content.{whyChecked}
+use Rattle.content.specs.ContentInner.{whyChecked}
 use borrow.Author.Needs.{needs}
 use Rattle.content.proofs.why_checked.Statement.{statement}
 use Rattle.content.proofs.why_checked.Tie as tie

@@ -1,6 +1,6 @@
 -- `content::why_scanned` meets its contract, by the cases of its argument.
 use mathlib.Core.Path.{sym, ap}
-use Rattle.content.specs.Content.{whyScanned}
+use Rattle.content.specs.ContentInner.{whyScanned}
 use borrow.Author.Needs.{needs}
 use Rattle.content.proofs.why_scanned.Statement.{statement}
 use Rattle.content.proofs.why_scanned.Tie as tie

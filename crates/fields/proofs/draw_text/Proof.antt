@@ -2,7 +2,7 @@
 use native.Mathlib.Omega.{arith}
 use Rattle.fields.proofs.Texts.{text-none, text-took, text-refused}
 use Rattle.cells.specs.Cells.{cell, NumberDrawn}
-use Rattle.string.specs.String.{TookWithin}
+use Rattle.string.specs.StringInner.{TookWithin}
 use mathlib.Core.Logic.{⊎-elim}
 use mathlib.Core.Path.{refl, subst}
 use borrow.Author.Needs.{needs}

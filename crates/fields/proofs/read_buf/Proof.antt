@@ -1,7 +1,7 @@
 -- `fields::read_buf` meets its contract: so many bytes are left, or not.
 use mathlib.Core.Path.{sym, ap, _∙_}
 use Prim.Native.Nat.{_+_}
-use Rattle.numbers.specs.Number.{whyRead}
+use Rattle.numbers.specs.NumberInner.{whyRead}
 use Rattle.string.proofs.Texts.{read-ends}
 use Rattle.grammar.specs.Course.{not}
 use Rattle.cells.specs.Cells.{atIn, stateIn}

@@ -1,6 +1,6 @@
 -- `fields::read_var` meets its contract: a number within its limit moves the place in line.
 use mathlib.Core.Path.{sym, ap, _∙_}
-use Rattle.numbers.specs.Number.{whyRead}
+use Rattle.numbers.specs.NumberInner.{whyRead}
 use Rattle.cells.specs.Cells.{atIn, stateIn}
 use Rattle.fields.proofs.Laws.{small-moved, given-moved, given-refused, var-refused, var-over, var-read}
 use borrow.Author.Needs.{needs}

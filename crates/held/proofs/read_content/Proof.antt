@@ -3,7 +3,7 @@ use mathlib.Core.Path.{sym, ap, _∙_}
 use borrow.Author.Tests.{ne-eqb}
 use Rattle.grammar.specs.Course.{stopped}
 use Rattle.grammar.specs.Blocks.{contentOf, content}
-use Rattle.decoder.specs.Columned.{fields}
+use Rattle.decoder.specs.ColumnedInner.{fields}
 use Rattle.cells.specs.Cells.{stateIn}
 use Rattle.held.specs.Row.{onto}
 use Rattle.held.proofs.Laws.{stop-is}

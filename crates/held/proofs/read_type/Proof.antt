@@ -13,7 +13,7 @@ use Rattle.block.specs.Kinds.{TYPE, maxType}
 use Rattle.grammar.specs.Grammar.{typeNumber, Grammar, stop}
 use Rattle.grammar.specs.Course.{stopped}
 use Rattle.grammar.specs.Blocks.{node, type}
-use Rattle.decoder.specs.Columned.{fields}
+use Rattle.decoder.specs.ColumnedInner.{fields}
 use Rattle.cells.specs.Cells.{placeIn, stateIn, given}
 use Rattle.held.specs.Row.{rowIn, onto, Reads}
 use Rattle.held.proofs.Rows.{deleted-put, type-put}

@@ -1,7 +1,7 @@
 -- `held_answers::read_held` meets its contract: as the delete set's reader says.
 use mathlib.Core.Path.{sym, _∙_}
 use lib.ListN.{length}
-use Rattle.held_answers.specs.Answers.{wordsGiven}
+use Rattle.held_answers.specs.AnswersInner.{wordsGiven}
 use Rattle.held_answers.proofs.Givens.{given-is, refused-is}
 use borrow.Author.Needs.{needs}
 use Rattle.held_answers.proofs.read_held.Statement.{statement}

@@ -37,7 +37,8 @@ use Rattle.walks.proofs.Walk.{has, retyped, Envs, envOf, locals, alloc-all, fre
 use Rattle.block.specs.declared.Block.{Block}
 use Rattle.held_answers.specs.declared.SortedHeld.{SortedHeld}
 use Rattle.numbers.specs.declared.Refusal.{Refusal}
-use Rattle.held_answers.specs.Answers.{answered, readHeld, refusedWith}
+use Rattle.held_answers.specs.Answers.{answered, refusedWith}
+use Rattle.held_answers.specs.AnswersInner.{readHeld}
 use Rattle.numbers.specs.Output.{padded}
 use Rattle.table.specs.Rows.{clearedFrom}
 use Rattle.updates.specs.Promises.{refused, rowsOf, wordsOf}

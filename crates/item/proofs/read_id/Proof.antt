@@ -1,7 +1,8 @@
 -- `item::read_id` meets its contract: client, then clock.
 use mathlib.Core.Path.{sym, ap, _∙_}
 use native.Mathlib.Omega.{arith}
-use Rattle.grammar.specs.Grammar.{client, number, draw, done, _>>=_}
+use Rattle.grammar.specs.Grammar.{client, number, draw, done}
+use Rattle.grammar.specs.GrammarInner.{_>>=_}
 use Rattle.grammar.specs.Blocks.{anId}
 use Rattle.cells.specs.Cells.{given, placeIn, stateIn}
 use Rattle.cells.proofs.States.{beside-none, beside-put, row-second}

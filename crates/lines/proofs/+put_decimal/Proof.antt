@@ -7,7 +7,8 @@ use borrow.Author.Needs.{needs}
 use lib.ListN.{length, length-append}
 use borrow.Fn.Kinds.{In}
 use borrow.Fn.PlainCycle.{Measures, is, falls, and}
-use Rattle.lines.specs.Lines.{overlay, decimal}
+use Rattle.lines.specs.Lines.{decimal}
+use Rattle.lines.specs.LinesInner.{overlay}
 use Rattle.lines.proofs.Laws.{overlay-on, decimal-last, decimal-more, decimal-short}
 use Rattle.lines.proofs.put_decimal.Reads as put-decimal
 use Rattle.lines.proofs.put_decimal.Kinds as put-decimal-kinds

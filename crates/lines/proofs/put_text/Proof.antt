@@ -7,7 +7,7 @@ use native.Mathlib.Omega.{arith}
 use borrow.Author.Needs.{needs}
 use lib.ListN.{length, take, getD}
 use lib.Seq.{take-suc, take-all, length-take-le}
-use Rattle.lines.specs.Lines.{overlay}
+use Rattle.lines.specs.LinesInner.{overlay}
 use Rattle.lines.proofs.Laws.{overlay-nil, overlay-on, length-overlay}
 use Rattle.lines.proofs.put_text.Statement.{statement}
 use Rattle.lines.proofs.put_text.Tie as tie

@@ -3,7 +3,7 @@ use Prim.Native.Nat.{ℕ, _≤_}
 use native.Mathlib.Omega.{arith}
 use mathlib.Core.Path.{_≡_, refl, ap, _∙_}
 use lib.ListN.{length}
-use Rattle.numbers.specs.Output.{done}
+use Rattle.numbers.specs.OutputInner.{done}
 use Rattle.numbers.proofs.Output.{verdict-room, verdict-done, refused-answer, refused-bytes, done-answer, done-bytes}
 use Rattle.lines.proofs.Laws.{length-overlay}
 use Rattle.listed.specs.Listed.{listed}

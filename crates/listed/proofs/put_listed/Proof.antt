@@ -3,7 +3,7 @@ use mathlib.Core.Path.{ap, _∙_}
 use native.Mathlib.Omega.{arith}
 use borrow.Author.Tests.{lt-ltb, le-ltb}
 use lib.ListN.{length}
-use Rattle.lines.specs.Lines.{overlay}
+use Rattle.lines.specs.LinesInner.{overlay}
 use Rattle.listed.specs.Listed.{maxInput}
 use Rattle.listed.proofs.Laws.{put-as, text-long, text-none, text-parts}
 use borrow.Author.Needs.{needs}

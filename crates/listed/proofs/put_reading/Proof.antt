@@ -45,10 +45,10 @@ use Rattle.walks.proofs.Walk.{has, bare, Envs, envOf, locals, alloc-all, free-a
 use Rattle.walks.proofs.Flow.{flat, tests, skip-on, return-on, big-lit}
 use Prim.Native.Nat.{_/_}
 use Rattle.block.specs.Row.{noBlock}
-use Rattle.lines.specs.Lines.{overlay}
+use Rattle.lines.specs.LinesInner.{overlay}
 use Rattle.listed.specs.Listed.{listedReading}
 use Rattle.listing_text.specs.Listing.{listing, refusedLine}
-use Rattle.ranges.specs.Table.{rowsFrom}
+use Rattle.ranges.specs.TableInner.{rowsFrom}
 use Rattle.updates.specs.Promises.{answer, reading, rowsOf, wordsOf}
 use Rattle.table.proofs.Sorts.{block}
 use Rattle.reader.proofs.Sorts.{refusal}

@@ -34,9 +34,9 @@ use native.Mathlib.Omega.{arith}
 use Rattle.listed.proofs.Laws.{blocks-fit, ranges-fit, end-fits, all-put}
 use Rattle.walks.proofs.Walk.{has, Envs, envOf, locals, alloc-all, free-all, meets}
 use Rattle.block.specs.declared.Block.{Block}
-use Rattle.lines.specs.Lines.{overlay}
+use Rattle.lines.specs.LinesInner.{overlay}
 use Rattle.listing_text.specs.Listing.{blockLines, endLine, header, listing, rangeLines}
-use Rattle.ranges.specs.Table.{rowsFrom}
+use Rattle.ranges.specs.TableInner.{rowsFrom}
 use Rattle.table.proofs.Sorts.{block}
 use Rattle.listed.proofs.Cards.{Listing-text·put-header, Listing-text·put-blocks, Listing-text·put-ranges, Listing-text·put-end, listing-text·put-header!, listing-text·put-blocks!, listing-text·put-ranges!, listing-text·put-end! }
 use Rattle.listing_text.proofs.put_header.Symbol as listing-text·put-header-def

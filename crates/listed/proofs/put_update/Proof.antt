@@ -1,6 +1,6 @@
 -- `listed::put_update` meets its contract: the empty update, or what is read.
 use mathlib.Core.Path.{sym, ap, _∙_}
-use Rattle.lines.specs.Lines.{overlay}
+use Rattle.lines.specs.LinesInner.{overlay}
 use lib.ListN.{length}
 use Rattle.listed.proofs.Laws.{put-as, text-empty, text-reading}
 use borrow.Author.Needs.{needs}

@@ -37,7 +37,7 @@ use Rattle.walks.proofs.Walk.{has, bare, Envs, envOf, locals, alloc-all, free-a
 use Rattle.walks.proofs.Flow.{tests, skip-on, exit-on, part}
 use Rattle.block.specs.declared.Block.{Block}
 use Rattle.block.specs.Row.{noBlock}
-use Rattle.lines.specs.Lines.{overlay}
+use Rattle.lines.specs.LinesInner.{overlay}
 use Rattle.listing_text.specs.Listing.{blockLine, blockLines}
 use Rattle.table.proofs.Sorts.{block}
 use Rattle.listing_text.proofs.Laws.{Rows, rows-begin, rows-on, rows-over, rows-room}

@@ -4,8 +4,8 @@ use mathlib.Core.Path.{_≡_, refl, sym, ap, _∙_}
 use mathlib.Core.List.{List, _++_}
 use native.Mathlib.Omega.{arith}
 use lib.ListN.{length, length-append}
-use Rattle.ranges.specs.Table.{row, rowsFrom}
-use Rattle.lines.specs.Lines.{overlay}
+use Rattle.ranges.specs.TableInner.{row, rowsFrom}
+use Rattle.lines.specs.LinesInner.{overlay}
 use Rattle.lines.proofs.Laws.{overlay-nil, overlay-on}
 use Rattle.listing_text.specs.Listing.{rangeLine, rangeLines}
 use Rattle.listing_text.proofs.Laws.{range-short, rest-more, rest-none}

@@ -40,7 +40,7 @@ use Rattle.walks.proofs.Flow.{tests, skip-on, exit-on, part}
 use Rattle.block.specs.declared.Block.{Block}
 use Rattle.chaining.specs.Chaining.{chainOf, chainsFrom, putChain}
 use Rattle.placing.specs.Placing.{spanAt}
-use Rattle.ranges.specs.Table.{row}
+use Rattle.ranges.specs.TableInner.{row}
 use Rattle.slots.specs.Slots.{slotAt, slotsFrom}
 use Rattle.nearby.proofs.Sorts.{chain}
 use Rattle.seeker.proofs.Sorts.{span}

@@ -38,7 +38,7 @@ use Rattle.walks.proofs.Flow.{flat, tests, skip-on, return-on}
 use Rattle.block.specs.declared.Block.{Block}
 use Rattle.chaining.specs.Chaining.{Chains, nearOf, settled, standOf, unmetWord}
 use Rattle.placing.specs.Placing.{capped, heldBy, spanOf}
-use Rattle.ranges.specs.Table.{row}
+use Rattle.ranges.specs.TableInner.{row}
 use Rattle.slots.specs.Slots.{Falling, slotsFrom}
 use Rattle.nearby.proofs.Sorts.{stand}
 use Rattle.seeker.proofs.Sorts.{span}

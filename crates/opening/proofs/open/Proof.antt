@@ -5,7 +5,7 @@ use native.Mathlib.Omega.{arith}
 use denote.Ref.{now}
 use lib.ListN.{length, set, length-set}
 use Rattle.numbers.specs.declared.Read.the-variants.{Refused}
-use Rattle.numbers.specs.Number.{whyRead}
+use Rattle.numbers.specs.NumberInner.{whyRead}
 use Rattle.string.proofs.Texts.{read-ends}
 use Rattle.cells.specs.Cells.{Small}
 use Rattle.cells.proofs.States.{small-at, small-unkeyed}

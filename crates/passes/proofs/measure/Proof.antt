@@ -44,7 +44,7 @@ use Rattle.encoder.specs.Passes.{plannedTokens}
 use Rattle.passes.specs.Forms.{anyFar, placesOf, sizesFor}
 use Rattle.passes.specs.Measures.{measuredFor}
 use Rattle.tokens.specs.Desk.{crowdedIn, lanesIn}
-use Rattle.tokens.specs.Keys.{spelled}
+use Rattle.tokens.specs.KeysInner.{spelled}
 use Rattle.passes.proofs.Sorts.{measured, measured-has}
 use Rattle.table.proofs.Sorts.{block}
 use Rattle.passes.proofs.Cards.{Encoder·put-rows, Tokens·lanes·close, Passes·leads·is-crowded, Passes·leads·note, encoder·put-rows!, tokens·lanes·close!, passes·leads·is-crowded-lanes!, passes·leads·note-lanes! }

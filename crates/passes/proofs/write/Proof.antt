@@ -38,9 +38,9 @@ use Rattle.block.specs.declared.Block.{Block}
 use Rattle.encoder.specs.Passes.{plannedTokens}
 use Rattle.numbers.specs.Number.{unsigned}
 use Rattle.passes.specs.Forms.{endFor, outFor}
-use Rattle.ranges.specs.Table.{rowsFrom}
+use Rattle.ranges.specs.TableInner.{rowsFrom}
 use Rattle.records.specs.Records.{deleteTokens}
-use Rattle.tokens.specs.Keys.{spelled}
+use Rattle.tokens.specs.KeysInner.{spelled}
 use Rattle.tokens.specs.Lanes.{ahead, laidAt}
 use Rattle.tokens.specs.Tokens.{var}
 use Rattle.table.proofs.Sorts.{block}

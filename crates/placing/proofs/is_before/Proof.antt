@@ -1,7 +1,7 @@
 -- `placing::is_before` meets its contract: of a higher client, of a lower one, or of the same and then by clocks.
 use mathlib.Core.Path.{sym}
 use Rattle.placing.proofs.Places.{before-higher, before-lower, before-not, before-by}
-use Rattle.ranges.specs.Table.{row}
+use Rattle.ranges.specs.TableInner.{row}
 use borrow.Author.Needs.{needs}
 use Rattle.placing.proofs.is_before.Statement.{statement}
 use Rattle.placing.proofs.is_before.Tie as tie

@@ -2,7 +2,7 @@
 use mathlib.Core.Path.{refl}
 use borrow.Author.Tests.{lt-ltb, le-ltb, eq-eqb, ne-eqb}
 use Rattle.placing.specs.Placing.{begins}
-use Rattle.ranges.specs.Table.{row}
+use Rattle.ranges.specs.TableInner.{row}
 use borrow.Author.Needs.{needs}
 use Rattle.placing.proofs.is_begun.Statement.{statement}
 use Rattle.placing.proofs.is_begun.Tie as tie

@@ -3,7 +3,7 @@ use mathlib.Core.Bool.{Bool}
 use mathlib.Core.Path.{_≡_, refl, sym, ap, _∙_}
 use Prim.Native.Nat.{ℕ, _-_, _≤_, _<_}
 use native.Mathlib.Omega.{arith}
-use Rattle.ranges.specs.Table.{row}
+use Rattle.ranges.specs.TableInner.{row}
 use Rattle.placing.specs.Halving.{found}
 use Rattle.placing.specs.Placing.{isBefore}
 use Rattle.placing.proofs.Halved.{found-done, turn-found, turn-less, turn-below}

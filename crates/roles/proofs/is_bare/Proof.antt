@@ -1,7 +1,7 @@
 -- `roles::is_bare` meets its contract: 0 and 10.
 use mathlib.Core.Path.{refl}
 use borrow.Author.Tests.{ne-eqb}
-use Rattle.roles.specs.Roles.{isBare}
+use Rattle.roles.specs.RolesInner.{isBare}
 use Rattle.roles.proofs.is_bare.Statement.{statement}
 use Rattle.roles.proofs.is_bare.Tie as tie
 

@@ -1,7 +1,7 @@
 -- `roles::is_kept` meets its contract: its length, or its info byte.
 use mathlib.Core.Path.{refl}
 use borrow.Author.Tests.{ne-eqb}
-use Rattle.roles.specs.Roles.{isKept}
+use Rattle.roles.specs.RolesInner.{isKept}
 use borrow.Author.Needs.{needs}
 use Rattle.roles.proofs.is_kept.Statement.{statement}
 use Rattle.roles.proofs.is_kept.Tie as tie

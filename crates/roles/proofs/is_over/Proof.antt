@@ -1,7 +1,7 @@
 -- `roles::is_over` meets its contract: the role's number says it.
 use mathlib.Core.Path.{refl}
 use borrow.Author.Needs.{needs}
-use Rattle.roles.specs.Roles.{isOver}
+use Rattle.roles.specs.RolesInner.{isOver}
 use Rattle.roles.proofs.is_over.Statement.{statement}
 use Rattle.roles.proofs.is_over.Tie as tie
 

@@ -1,7 +1,8 @@
 -- `last_size` meets its contract, column by column.
 use native.Mathlib.Omega.{arith}
 use mathlib.Core.Path.{refl}
-use Rattle.runs.specs.Runs.{keyMost, coding}
+use Rattle.runs.specs.Runs.{coding}
+use Rattle.runs.specs.RunsInner.{keyMost}
 use borrow.Author.Needs.{needs}
 use Rattle.runs.proofs.last_size.Statement.{statement}
 use Rattle.runs.proofs.last_size.Tie as tie

@@ -1,6 +1,7 @@
 -- `put_last` meets its contract, column by column.
 use native.Mathlib.Omega.{arith}
-use Rattle.runs.specs.Runs.{keyMost, coding}
+use Rattle.runs.specs.Runs.{coding}
+use Rattle.runs.specs.RunsInner.{keyMost}
 use borrow.Author.Needs.{needs}
 use Rattle.runs.proofs.put_last.Statement.{statement}
 use Rattle.runs.proofs.put_last.Tie as tie

@@ -39,7 +39,7 @@ use Rattle.placing.specs.declared.Span.{Span}
 use Rattle.block.specs.Row.{noBlock}
 use Rattle.numbers.specs.Limits.{maxClock}
 use Rattle.placing.specs.Placing.{heldBy, numberAt, sought}
-use Rattle.ranges.specs.Table.{row}
+use Rattle.ranges.specs.TableInner.{row}
 use Rattle.seeker.proofs.Sorts.{span}
 use Rattle.table.proofs.Sorts.{block}
 use Rattle.seeker.proofs.Cards.{Seeker·seek, Placing·number-of, Placing·never, seeker·seek!, placing·number-of!, placing·never! }

@@ -36,7 +36,7 @@ use Rattle.block.specs.declared.Block.{Block}
 use Rattle.block.specs.Row.{noBlock}
 use Rattle.picker.specs.Stages.{stageAt}
 use Rattle.placing.specs.Placing.{numberedBlock, placedDep, rowBy}
-use Rattle.ranges.specs.Table.{row}
+use Rattle.ranges.specs.TableInner.{row}
 use Rattle.slots.specs.Slots.{Falling, slotsFrom}
 use Rattle.seeker.proofs.Sorts.{dependency}
 use Rattle.table.proofs.Sorts.{block}

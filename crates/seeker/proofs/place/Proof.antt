@@ -36,7 +36,7 @@ use Rattle.block.specs.declared.Block.{Block}
 use Rattle.picker.specs.declared.stages.Dependency.{Dependency}
 use Rattle.picker.specs.Waits.{noDependency}
 use Rattle.placing.specs.Placing.{heldBy, onNumber, placedDep, spanOf}
-use Rattle.ranges.specs.Table.{row}
+use Rattle.ranges.specs.TableInner.{row}
 use Rattle.slots.specs.Slots.{Falling, slotsFrom}
 use Rattle.seeker.proofs.Sorts.{span, dependency}
 use Rattle.table.proofs.Sorts.{block}

@@ -39,7 +39,7 @@ use Rattle.placing.specs.declared.Span.{Span}
 use Rattle.block.specs.Row.{noBlock}
 use Rattle.placing.specs.Halving.{clipped, middle, narrowed}
 use Rattle.placing.specs.Placing.{pastRow, sought}
-use Rattle.ranges.specs.Table.{row}
+use Rattle.ranges.specs.TableInner.{row}
 use Rattle.seeker.proofs.Sorts.{span, span-lo}
 use Rattle.table.proofs.Sorts.{block}
 use Rattle.seeker.proofs.Cards.{Placing·clip, Placing·middle, Placing·narrow-rows, placing·clip!, placing·middle!, placing·narrow-rows! }

@@ -39,14 +39,15 @@ use Rattle.walks.proofs.Flow.{flat, tests, skip-on, return-on}
 use Rattle.block.specs.declared.Block.{Block}
 use Rattle.held_answers.specs.declared.SortedHeld.{SortedHeld}
 use Prim.Native.Nat.{_/_}
-use Rattle.held_answers.specs.Answers.{answerTo, answered, readHeld, refusedWith, wordsGiven}
+use Rattle.held_answers.specs.Answers.{answered, refusedWith}
+use Rattle.held_answers.specs.AnswersInner.{answerTo, readHeld, wordsGiven}
 use Rattle.slow_held_sorter.specs.SlowHeld.{countsBy, orderBy, pendingBy, sortingAt}
 use Rattle.held_sorts.specs.Promises.{lent}
 use Rattle.slow_held_sorts.specs.Promises.{slowly, slowSortHeldOf}
 use Rattle.numbers.specs.Output.{padded}
 use Rattle.ranges.specs.Table.{flat as flatRanges}
 use Rattle.reports.specs.Reports.{fitted}
-use Rattle.sort_answers.specs.Answers.{judged}
+use Rattle.sort_answers.specs.AnswersInner.{judged}
 use Rattle.sorter.specs.Sorter.{maxReaches, slotsFor}
 use Rattle.updates.specs.Promises.{answer, reading, refused, rowsOf, wordsOf}
 use Rattle.held_sorts.proofs.Sorts.{sortedheld, heldread, heldread-number, heldread-ranges}

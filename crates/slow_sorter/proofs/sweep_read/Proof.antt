@@ -43,7 +43,8 @@ use Rattle.kept.specs.Plan.{entriesOf}
 use Rattle.numbers.specs.Output.{padded}
 use Rattle.slow_sorter.specs.Slowly.{sweptOn, sweptRead}
 use Rattle.sorter.specs.Sorter.{maxReaches, noSorting, slotsFor}
-use Rattle.vector.specs.Vector.{clientsIn, clocksIn, entriesOf as vectorEntries, kept, vectorOf}
+use Rattle.vector.specs.Vector.{clientsIn, vectorOf}
+use Rattle.vector.specs.VectorInner.{clocksIn, entriesOf as vectorEntries, kept}
 use Rattle.reader.proofs.Sorts.{refusal, refusal-number, entries, entries·read-0, entries·refused-0, entries-cases}
 use Rattle.sorter.proofs.Sorts.{sorting}
 use Rattle.table.proofs.Sorts.{block}

@@ -42,7 +42,8 @@ use Prim.Native.Nat.{_/_}
 use Rattle.numbers.specs.Output.{padded}
 use Rattle.slow_sorter.specs.Slowly.{sweptRead}
 use Rattle.slow_sorts.specs.Promises.{slowSortOf}
-use Rattle.sort_answers.specs.Answers.{answerTo, answered, judged, refusedWith}
+use Rattle.sort_answers.specs.Answers.{answered, refusedWith}
+use Rattle.sort_answers.specs.AnswersInner.{answerTo, judged}
 use Rattle.sorts.specs.Promises.{lent}
 use Rattle.updates.specs.Promises.{answer, reading, refused, rowsOf, wordsOf}
 use Rattle.vector.specs.Vector.{vectorOf}

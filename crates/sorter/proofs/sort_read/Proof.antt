@@ -43,7 +43,8 @@ use Rattle.kept.specs.Plan.{entriesOf}
 use Rattle.numbers.specs.Output.{padded}
 use Rattle.reports.specs.Reports.{fitted}
 use Rattle.sorter.specs.Sorter.{countsOn, countsRead, maxReaches, noSorting, orderOn, orderRead, pendingOn, pendingRead, reachesOn, reachesRead, slotsFor, sortingOn, sortingRead}
-use Rattle.vector.specs.Vector.{clientsIn, clocksIn, entriesOf as vectorEntries, kept, vectorOf}
+use Rattle.vector.specs.Vector.{clientsIn, vectorOf}
+use Rattle.vector.specs.VectorInner.{clocksIn, entriesOf as vectorEntries, kept}
 use Rattle.reader.proofs.Sorts.{refusal, refusal-number, entries, entries·read-0, entries·refused-0, entries-cases}
 use Rattle.sorter.proofs.Sorts.{sorting}
 use Rattle.table.proofs.Sorts.{block}

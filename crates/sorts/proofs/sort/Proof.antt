@@ -40,7 +40,8 @@ use Rattle.block.specs.declared.Block.{Block}
 use Rattle.sort_answers.specs.declared.Sorted.{Sorted}
 use Prim.Native.Nat.{_/_}
 use Rattle.numbers.specs.Output.{padded}
-use Rattle.sort_answers.specs.Answers.{answerTo, answered, judged, refusedWith}
+use Rattle.sort_answers.specs.Answers.{answered, refusedWith}
+use Rattle.sort_answers.specs.AnswersInner.{answerTo, judged}
 use Rattle.sorter.specs.Sorter.{countsRead, orderRead, pendingRead, reachesRead, sortingRead}
 use Rattle.sorts.specs.Promises.{lent, sortOf}
 use Rattle.updates.specs.Promises.{answer, reading, refused, rowsOf, wordsOf}

@@ -1,7 +1,7 @@
 -- `string::next` meets its contract: each return is an arm of `drawn`, by what the unit lengths give.
 use mathlib.Core.Path.{ap, _∙_}
 use Rattle.string.specs.declared.Answer.the-variants.{Bad}
-use Rattle.columns.specs.Number.{whyNumber}
+use Rattle.columns.specs.NumberInner.{whyNumber}
 use Rattle.string.specs.String.{drawn, nextText}
 use borrow.Author.Needs.{needs}
 use Rattle.string.proofs.next.Statement.{statement}

@@ -5,7 +5,7 @@ use native.Mathlib.Omega.{arith}
 use denote.Ref.{now}
 use lib.ListN.{length}
 use borrow.Author.Tests.{lt-ltb, le-ltb, not-true, not-false}
-use Rattle.numbers.specs.Number.{whyRead}
+use Rattle.numbers.specs.NumberInner.{whyRead}
 use Rattle.string.specs.declared.Opened.the-variants.{At, Not}
 use Rattle.string.specs.String.{placeAt, opened, openText}
 use Rattle.string.proofs.Texts.{read-ends}

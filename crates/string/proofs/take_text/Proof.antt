@@ -6,7 +6,7 @@ use lib.Seq.{slice}
 use Rattle.text.specs.declared.Taken.{Taken}
 use Rattle.text.specs.declared.Taken.the-variants as units
 use Rattle.text.specs.Utf8.{takeUnits}
-use Rattle.string.specs.String.{TookWithin}
+use Rattle.string.specs.StringInner.{TookWithin}
 use Rattle.string.proofs.Texts.{slice-within, taken-within}
 use borrow.Author.Needs.{needs}
 use Rattle.string.proofs.take_text.Statement.{statement}

@@ -1,6 +1,6 @@
 -- `string::why` meets its contract: each arm is the clause of `whyText` for its variant.
 use mathlib.Core.Path.{sym, ap}
-use Rattle.string.specs.String.{whyText}
+use Rattle.string.specs.StringInner.{whyText}
 use borrow.Author.Needs.{needs}
 use Rattle.string.proofs.why.Statement.{statement}
 use Rattle.string.proofs.why.Tie as tie

@@ -8,7 +8,7 @@ use lib.ListN.{length, drop}
 use lib.Seq.{drop-drop}
 use Rattle.bits.specs.Places.{Adds}
 use Rattle.summary.specs.Summary.{rowsBits}
-use Rattle.summary.specs.Words.{rowsIn}
+use Rattle.summary.specs.WordsInner.{rowsIn}
 use Rattle.summary.proofs.Laws.{rows-added, rows-none, nothing-added}
 use borrow.Author.Needs.{needs}
 use Rattle.summary.proofs.put_rows.Statement.{statement}

@@ -1,7 +1,8 @@
 -- `summary::refuse` meets its contract: zeros everywhere.
 use mathlib.Core.Path.{refl, _∙_}
 use Rattle.numbers.proofs.Output.{padded-none}
-use Rattle.summary.specs.Words.{answerOf, wordsOf}
+use Rattle.summary.specs.Words.{wordsOf}
+use Rattle.summary.specs.WordsInner.{answerOf}
 use borrow.Author.Needs.{needs}
 use Rattle.summary.proofs.refuse.Statement.{statement}
 use Rattle.summary.proofs.refuse.Tie as tie

@@ -6,7 +6,8 @@ use mathlib.Core.List.{List, [], _∷_}
 use lib.ListN.{length}
 use lib.Seq.{length-sets}
 use Rattle.bits.specs.Bits.{ofBytes}
-use Rattle.summary.specs.Words.{row, wordsIn, Took}
+use Rattle.summary.specs.Words.{row, wordsIn}
+use Rattle.summary.specs.WordsInner.{Took}
 use Rattle.summary.proofs.Taking.{Taking, rowFrom, begins, cut-off, no-row, one-row, all-rows}
 use borrow.Author.Needs.{needs}
 use Rattle.summary.proofs.take_rows.Statement.{statement}

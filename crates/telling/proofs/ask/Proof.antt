@@ -4,7 +4,7 @@ use Rattle.roles.specs.declared.Role.{Role}
 use Rattle.roles.specs.declared.Plan.{Plan}
 use Rattle.origins.specs.Numerals.{numeral}
 use Rattle.telling.specs.Asked.{stored, asks}
-use Rattle.telling.specs.Telling.{fieldOf}
+use Rattle.telling.specs.TellingInner.{fieldOf}
 use borrow.Author.Needs.{needs}
 use Rattle.telling.proofs.ask.Statement.{statement}
 use Rattle.telling.proofs.ask.Tie as tie

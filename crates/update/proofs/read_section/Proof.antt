@@ -4,7 +4,7 @@ use mathlib.Core.Path.{_≡_, refl, sym, ap, _∙_}
 use lib.ListN.{length-set}
 use Rattle.numbers.specs.Limits.{maxClock}
 use Rattle.grammar.specs.Grammar as grammar
-use Rattle.decoder.specs.Columned.{fields}
+use Rattle.decoder.specs.ColumnedInner.{fields}
 use Rattle.cells.specs.Cells.{placeIn, stateIn, given}
 use Rattle.update.proofs.Laws.{in-line, within, refuses, goes-on, no-count, no-client, again, no-clock, headed, head-fine, head-less}
 use borrow.Author.Needs.{needs}

@@ -4,7 +4,7 @@ use mathlib.Core.Path.{_≡_, refl, _∙_}
 use native.Mathlib.Omega.{arith}
 use lib.ListN.{length, take, length-set}
 use Rattle.numbers.proofs.Output.{padded-some}
-use Rattle.vector.specs.Vector.{joined}
+use Rattle.vector.specs.VectorInner.{joined}
 use Rattle.vector.proofs.Laws.{joined-none, joined-on}
 use borrow.Author.Needs.{needs}
 use Rattle.vector.proofs.put_words.Statement.{statement}

@@ -2,7 +2,8 @@
 use native.Mathlib.Omega.{arith}
 use mathlib.Core.Path.{sym, ap, _∙_}
 use lib.ListN.{length}
-use Rattle.vector.specs.Vector.{whyEntries, refusedVector, vectorOf, kept}
+use Rattle.vector.specs.Vector.{refusedVector, vectorOf}
+use Rattle.vector.specs.VectorInner.{whyEntries, kept}
 use Rattle.vector.proofs.Laws.{refused-answer, read-count, read-short, read-done, joined-padded}
 use Rattle.vector.proofs.Clients.{vector-most}
 use borrow.Author.Needs.{needs}

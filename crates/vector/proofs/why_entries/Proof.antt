@@ -1,6 +1,6 @@
 -- `vector::why_entries` meets its contract, by the cases.
 use mathlib.Core.Path.{sym, ap}
-use Rattle.vector.specs.Vector.{whyEntries}
+use Rattle.vector.specs.VectorInner.{whyEntries}
 use borrow.Author.Needs.{needs}
 use Rattle.vector.proofs.why_entries.Statement.{statement}
 use Rattle.vector.proofs.why_entries.Tie as tie

@@ -8,7 +8,7 @@ use lib.ListN.{length}
 use lib.Seq.{length-sets}
 use Rattle.numbers.specs.Number.{signed}
 use Rattle.numbers.specs.Limits.{maxSigned}
-use Rattle.numbers.specs.Output.{done}
+use Rattle.numbers.specs.OutputInner.{done}
 use Rattle.numbers.proofs.Output.{verdict-why, verdict-room, verdict-done, refused-answer, refused-bytes, done-answer, done-bytes, take-sets}
 use Rattle.wairokabi.specs.Promises.{over}
 use borrow.Author.Needs.{needs}

@@ -40,11 +40,12 @@ use Rattle.block.specs.declared.Block.{Block}
 use Rattle.numbers.specs.declared.Written.{Written}
 use Rattle.encoder.specs.Passes.{outcomeFor, plannedTokens, wordsFor}
 use Rattle.kept.specs.Plan.{entriesOf}
-use Rattle.numbers.specs.Output.{padded, refusal}
+use Rattle.numbers.specs.Output.{padded}
+use Rattle.numbers.specs.OutputInner.{refusal}
 use Rattle.passes.specs.Forms.{sizesFor}
 use Rattle.passes.specs.Measures.{measuredFor}
-use Rattle.ranges.specs.Table.{rowsFrom}
-use Rattle.tokens.specs.Keys.{spelled}
+use Rattle.ranges.specs.TableInner.{rowsFrom}
+use Rattle.tokens.specs.KeysInner.{spelled}
 use Rattle.writing.specs.Writing.{job, keptAnswer, keptOut, plannedAnswer, plannedOut, whyFor}
 use Rattle.encoder.proofs.Sorts.{outcome, outcome-sections}
 use Rattle.passes.proofs.Sorts.{measured}

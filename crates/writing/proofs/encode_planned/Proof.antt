@@ -40,11 +40,12 @@ use Rattle.walks.proofs.Flow.{flat, tests, skip-on, return-on}
 use Rattle.block.specs.declared.Block.{Block}
 use Rattle.numbers.specs.declared.Written.{Written}
 use Rattle.encoder.specs.Passes.{plannedTokens}
-use Rattle.numbers.specs.Output.{done, padded, refusal}
+use Rattle.numbers.specs.Output.{padded}
+use Rattle.numbers.specs.OutputInner.{done, refusal}
 use Rattle.passes.specs.Forms.{endFor, outFor}
-use Rattle.ranges.specs.Table.{rowsFrom}
+use Rattle.ranges.specs.TableInner.{rowsFrom}
 use Rattle.records.specs.Records.{deleteTokens}
-use Rattle.tokens.specs.Keys.{spelled}
+use Rattle.tokens.specs.KeysInner.{spelled}
 use Rattle.tokens.specs.Tokens.{var}
 use Rattle.writing.specs.Writing.{job, plannedAnswer, plannedOut, sizesIn}
 use Rattle.table.proofs.Sorts.{block}

@@ -40,9 +40,11 @@ use Rattle.walks.proofs.Flow.{flat, switches-to, revalue}
 use Rattle.block.specs.declared.Block.{Block}
 use Rattle.numbers.specs.declared.Written.{Written}
 use Rattle.kept.specs.Plan.{entriesOf}
-use Rattle.numbers.specs.Output.{padded, refusal}
-use Rattle.ranges.specs.Table.{rowsFrom}
-use Rattle.vector.specs.Vector.{clientsIn, clocksIn, entriesOf as vectorEntries, kept, vectorOf}
+use Rattle.numbers.specs.Output.{padded}
+use Rattle.numbers.specs.OutputInner.{refusal}
+use Rattle.ranges.specs.TableInner.{rowsFrom}
+use Rattle.vector.specs.Vector.{clientsIn, vectorOf}
+use Rattle.vector.specs.VectorInner.{clocksIn, entriesOf as vectorEntries, kept}
 use Rattle.writing.specs.Writing.{keptAnswer, keptOut, readAnswer, readOut}
 use Rattle.reader.proofs.Sorts.{entries, entries·read-0, entries·refused-0, entries-cases}
 use Rattle.reader.proofs.Sorts.{refusal as refusal-kind, refusal-number}

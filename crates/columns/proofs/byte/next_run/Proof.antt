@@ -4,7 +4,8 @@ use mathlib.Core.Path.{_≡_, ap, _∙_}
 use denote.Ref.{now}
 use lib.ListN.{getD}
 use borrow.Author.Tests.{lt-ltb, le-ltb, le-leb, lt-leb}
-use Rattle.numbers.specs.Number.{readUnsigned, whyRead}
+use Rattle.numbers.specs.Number.{readUnsigned}
+use Rattle.numbers.specs.NumberInner.{whyRead}
 use Rattle.columns.specs.declared.byte.Answer.the-variants.{Bad}
 use Rattle.columns.specs.Byte.{begun, counted}
 use borrow.Author.Needs.{needs}

@@ -1,6 +1,6 @@
 -- `columns::byte::why` meets its contract: each arm is the clause of `whyByte` for its variant.
 use mathlib.Core.Path.{sym, ap}
-use Rattle.columns.specs.Byte.{whyByte}
+use Rattle.columns.specs.ByteInner.{whyByte}
 use borrow.Author.Needs.{needs}
 use Rattle.columns.proofs.byte.why.Statement.{statement}
 use Rattle.columns.proofs.byte.why.Tie as tie

@@ -5,7 +5,8 @@ use mathlib.Core.Bool.{Bool, true, false}
 use native.Mathlib.Omega.{arith}
 use denote.Ref.{now}
 use borrow.Author.Tests.{lt-ltb, le-ltb, ltb-false, leb-false, eq-eqb, ne-eqb}
-use Rattle.numbers.specs.Number.{readUnsigned, readSigned, whySigned, whyRead}
+use Rattle.numbers.specs.Number.{readUnsigned, readSigned}
+use Rattle.numbers.specs.NumberInner.{whySigned, whyRead}
 use Rattle.columns.specs.declared.difference.Answer.the-variants.{Bad}
 use Rattle.columns.specs.Difference.{outside, keyRead, begun, counted}
 use borrow.Author.Needs.{needs}

@@ -1,6 +1,6 @@
 -- `columns::difference::why` meets its contract: each arm is the clause of `whyDifference` for its variant.
 use mathlib.Core.Path.{sym, ap}
-use Rattle.columns.specs.Difference.{whyDifference}
+use Rattle.columns.specs.DifferenceInner.{whyDifference}
 use borrow.Author.Needs.{needs}
 use Rattle.columns.proofs.difference.why.Statement.{statement}
 use Rattle.columns.proofs.difference.why.Tie as tie

@@ -2,7 +2,8 @@
 use mathlib.Core.Path.{_≡_, ap, _∙_}
 use denote.Ref.{now}
 use borrow.Author.Tests.{lt-ltb, le-ltb, not-true, not-false}
-use Rattle.numbers.specs.Number.{readUnsigned, readSigned, whySigned, whyRead}
+use Rattle.numbers.specs.Number.{readUnsigned, readSigned}
+use Rattle.numbers.specs.NumberInner.{whySigned, whyRead}
 use Rattle.columns.specs.declared.number.Answer.the-variants.{Bad}
 use Rattle.columns.specs.Number.{begun, counted}
 use borrow.Author.Needs.{needs}

@@ -1,6 +1,6 @@
 -- `columns::number::why` meets its contract: each arm is the clause of `whyNumber` for its variant.
 use mathlib.Core.Path.{sym, ap}
-use Rattle.columns.specs.Number.{whyNumber}
+use Rattle.columns.specs.NumberInner.{whyNumber}
 use borrow.Author.Needs.{needs}
 use Rattle.columns.proofs.number.why.Statement.{statement}
 use Rattle.columns.proofs.number.why.Tie as tie

@@ -2,7 +2,7 @@
 use Prim.Native.Nat.{_+_, _-_, _≤_, _<_}
 use mathlib.Core.Path.{_≡_, sym, _∙_}
 use native.Mathlib.Omega.{arith}
-use Rattle.ranges.specs.Table.{rowsFrom}
+use Rattle.ranges.specs.TableInner.{rowsFrom}
 use Rattle.records.specs.DeleteRows.{leading, siblings}
 use Rattle.records.proofs.DeleteRows.{siblings-begin, leading-same, leading-other, leading-end}
 use borrow.Author.Needs.{needs}

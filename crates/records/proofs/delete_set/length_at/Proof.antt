@@ -1,6 +1,6 @@
 -- `length_at` meets its contract.
 use mathlib.Core.Path.{refl}
-use Rattle.ranges.specs.Table.{row}
+use Rattle.ranges.specs.TableInner.{row}
 use borrow.Author.Needs.{needs}
 use Rattle.records.proofs.delete_set.length_at.Statement.{statement}
 use Rattle.records.proofs.delete_set.length_at.Tie as tie

@@ -3,7 +3,7 @@ use Prim.Native.Nat.{_-_, _≤_}
 use mathlib.Core.Path.{_≡_, refl}
 use native.Mathlib.Omega.{arith}
 use lib.ListN.{length}
-use Rattle.ranges.specs.Table.{rowsFrom}
+use Rattle.ranges.specs.TableInner.{rowsFrom}
 use Rattle.readings.specs.Groups.{groups}
 use Rattle.records.specs.Records.{ownerOf}
 use Rattle.records.specs.DeleteRows.{InLine}

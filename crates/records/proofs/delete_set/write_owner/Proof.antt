@@ -2,7 +2,7 @@
 use Prim.Native.Nat.{_+_, _-_}
 use mathlib.Core.Path.{sym, _∙_}
 use borrow.Author.Tests.{not-true, not-false}
-use Rattle.ranges.specs.Table.{row}
+use Rattle.ranges.specs.TableInner.{row}
 use Rattle.records.specs.DeleteRows.{siblings}
 use Rattle.records.proofs.Lines.{line-none, line-var, line-then, line-is}
 use Rattle.records.proofs.Deletes.{owner-none, owner-some}

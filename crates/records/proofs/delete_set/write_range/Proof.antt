@@ -1,6 +1,6 @@
 -- `write_range` meets its contract: as it is, or less what came before.
 use Prim.Native.Nat.{_+_, _-_}
-use Rattle.ranges.specs.Table.{row}
+use Rattle.ranges.specs.TableInner.{row}
 use Rattle.records.specs.DeleteRows.{endBefore}
 use Rattle.records.proofs.Lines.{line-var, line-then, line-is}
 use Rattle.records.proofs.Deletes.{range-line, range-less}

@@ -5,7 +5,7 @@ use mathlib.Core.Path.{ap}
 use lib.Dec.{ltb}
 use lib.ListN.{length}
 use Rattle.runs.specs.Difference.{zeroKey}
-use Rattle.runs.specs.Runs.{signedRun}
+use Rattle.runs.specs.RunsInner.{signedRun}
 use Rattle.runs.proofs.Writing.{difference-run}
 use borrow.Author.Needs.{needs}
 use Rattle.runs.proofs.difference.put_run.Statement.{statement}

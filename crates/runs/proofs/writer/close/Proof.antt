@@ -6,7 +6,8 @@ use mathlib.Core.List.{_++_}
 use lib.ListN.{length, take, length-append}
 use lib.Seq.{length-take-le, length-sets}
 use Rattle.runs.specs.Writer.{finished}
-use Rattle.numbers.specs.Output.{verdict, done}
+use Rattle.numbers.specs.Output.{verdict}
+use Rattle.numbers.specs.OutputInner.{done}
 use Rattle.numbers.proofs.Output.{verdict-room, verdict-done, refused-answer, refused-bytes, done-answer, done-bytes, take-sets}
 use borrow.Author.Needs.{needs}
 use Rattle.runs.proofs.writer.close.Statement.{statement}

@@ -7,7 +7,8 @@ use borrow.Author.Tests.{not-true, not-false, leb-true, le-leb}
 use lib.Dec.{leb}
 use lib.ListN.{length}
 use Rattle.runs.specs.declared.Column.the-variants.{Byte}
-use Rattle.runs.specs.Runs.{coding, keyMost}
+use Rattle.runs.specs.Runs.{coding}
+use Rattle.runs.specs.RunsInner.{keyMost}
 use Rattle.runs.specs.Byte.{runBytes}
 use Rattle.tokens.proofs.Sizes.{spell-le}
 use Rattle.tokens.proofs.Places.{lay-short, lay-whole}

@@ -3,7 +3,8 @@ use Prim.Native.Nat.{_+_, _*_}
 use native.Mathlib.Omega.{arith}
 use mathlib.Core.List.{[], _∷_}
 use lib.ListN.{getD}
-use Rattle.runs.specs.Runs.{coding, keyMost}
+use Rattle.runs.specs.Runs.{coding}
+use Rattle.runs.specs.RunsInner.{keyMost}
 use Rattle.tokens.proofs.Words.{key-low}
 use Rattle.tokens.proofs.Ends.{end-none, end-laid}
 use borrow.Author.Needs.{needs}
