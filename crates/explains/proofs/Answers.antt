@@ -2,9 +2,8 @@
 use Prim.Native.Nat.{ℕ, zero, suc, _+_, _-_, _*_, _≤_, _<_}
 use native.Mathlib.Omega.{arith}
 use mathlib.Core.Path.{_≡_, refl, sym, ap, ap₂, _∙_, subst}
-use mathlib.Core.List.{List, [], _∷_, _++_}
-use lib.Dec.{ltb}
-use lib.ListN.{length, take, drop, replicate}
+use mathlib.Core.List.{List, _++_}
+use lib.ListN.{length, take, replicate}
 use lib.Seq.{paste, take-paste, length-paste}
 use borrow.Author.Tests.{lt-ltb, le-ltb}
 use Rattle.numbers.specs.declared.Refusal.{Refusal}
@@ -17,13 +16,9 @@ use Rattle.explainer.specs.Explanation.{explanation, words}
 use Rattle.explains.specs.declared.Explained.{Explained}
 use Rattle.explains.specs.declared.Whole.the-variants.{Reads, Refused}
 use Rattle.explains.specs.Whole.{wholeOf}
-use Rattle.explains.specs.Promises.{Outcome, refused, fitting, explainOf, answerOf}
+use Rattle.explains.specs.Promises.{Outcome, refused, fitting, explainOf, answerOf, Gives}
 use Rattle.explains.proofs.Sheets.{length-lines, length-words, sheet-words}
 use Rattle.explains.proofs.Wholes.{by-whole}
-
--- an outcome, as an answer r, and the words out that are then out₁
-abbrev pub Gives : Outcome → List ℕ → Explained → List ℕ → Type 0
-Gives o out r out₁ = (r ≡ answerOf o) × (out₁ ≡ padded (length out) (words (o .lines)))
 
 pub gives-by : (o was : Outcome) (out : List ℕ) (r : Explained) (out₁ : List ℕ) → o ≡ was → Gives was out r out₁ → Gives o out r out₁
 gives-by o was out r out₁ e h = subst (λ (x : Outcome). Gives x out r out₁) (sym e) h

@@ -14,7 +14,6 @@ use Rattle.numbers.specs.declared.Signed.{Signed}
 use Rattle.numbers.specs.declared.Signed.the-variants as signed
 use Rattle.numbers.specs.Limits.{maxClock, maxCount}
 use Rattle.text.specs.declared.Part.{Part}
-use Rattle.text.specs.declared.Units.{Units}
 use Rattle.block.specs.declared.Block.{Block}
 use Rattle.block.specs.Row.{noPart}
 use Rattle.block.specs.Kinds.{maxType, isNamed}

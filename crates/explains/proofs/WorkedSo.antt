@@ -1,6 +1,5 @@
 -- The explanations worked by hand, computed from the definitions.
-use mathlib.Core.Path.{_≡_, refl}
-use mathlib.Core.List.{List, [], _∷_}
+use mathlib.Core.Path.{refl}
 use Rattle.numbers.specs.Number as spelling
 use Rattle.numbers.specs.Words as words
 use Rattle.numbers.specs.Number.{spelt, placed, readUnsigned, readSigned, speltSigned, minusOf, withSign}

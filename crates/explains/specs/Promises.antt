@@ -38,8 +38,10 @@ explainOf form u n room =
 unfoldable pub answerOf : Outcome → Explained
 answerOf o = record { refusal = o .why; lines = length (o .lines) }
 
--- what `explain` answers for block n of the update u, and leaves in words that were out
+-- an outcome as an answer, and what it leaves in words that were out: the lines, then zeros
+abbrev pub Gives : Outcome → List ℕ → Explained → List ℕ → Type 0
+Gives o out r out₁ = (r ≡ answerOf o) × (out₁ ≡ padded (length out) (words (o .lines)))
+
+-- what `explain` answers for block n of the update u
 abbrev pub Explains : ℕ → List ℕ → ℕ → List ℕ → Explained → List ℕ → Type 0
-Explains form u n out r out₁ =
-    let o = explainOf form u n (length out) in
-    (r ≡ answerOf o) × (out₁ ≡ padded (length out) (words (o .lines)))
+Explains form u n out r out₁ = Gives (explainOf form u n (length out)) out r out₁

@@ -1,5 +1,5 @@
 -- What is said of every line that `explain` tells: where its value is a difference, base and difference come to that value.
-use Prim.Native.Nat.{ℕ, _+_}
+use Prim.Native.Nat.{_+_}
 use mathlib.Core.Path.{_≡_}
 use mathlib.Core.List.{List, [], _∷_}
 use Rattle.origins.specs.declared.Line.{Line}

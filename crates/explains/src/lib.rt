@@ -5,13 +5,11 @@ use deletes::Checked;
 use numbers::Refusal;
 use update::Begun;
 ghost use mathlib.Core.Path.{_≡_};
-ghost use Prim.Native.Nat.{_*_, _≤_};
+ghost use Prim.Native.Nat.{_≤_};
 ghost use lib.ListN.{length};
 ghost use lib.Seq.{paste};
-ghost use Rattle.numbers.specs.Output.{padded};
 ghost use Rattle.origins.specs.Sheets.{linesFrom};
-ghost use Rattle.explainer.specs.Explanation.{words};
-ghost use Rattle.explains.specs.Promises.{refused, fitting, answerOf, Explains};
+ghost use Rattle.explains.specs.Promises.{refused, fitting, Gives, Explains};
 ghost use Rattle.explains.specs.Whole.{wholeOf};
 
 // A refusal, zeros for done, and how many lines of twelve words each were told.
@@ -45,7 +43,7 @@ fn read_whole(form: u8, update: &[u8]) -> Whole
 }
 
 fn refuse(out: &mut [u64], why: Refusal) -> Explained
-    ensures { λ r. ⌜ (r ≡ answerOf (refused why)) × (now (out .exit) ≡ padded (length (now (out .entry))) (words (refused why .lines))) ⌝ }
+    ensures { λ r. ⌜ Gives (refused why) (now (out .entry)) r (now (out .exit)) ⌝ }
 {
     numbers::words::clear(out, 0);
     Explained {
@@ -70,8 +68,7 @@ fn copy(out: &mut [u64], sheet: &[u64], n: usize)
 // The sheet's first lines, if there are any, and if the words lent take them.
 fn told(out: &mut [u64], sheet: &[u64], lines: usize) -> Explained
     requires { ⌜ (length (now sheet) ≡ 192) × (lines ≤ 16) ⌝ }
-    ensures { λ r. ⌜ (r ≡ answerOf (fitting (length (now (out .entry))) (linesFrom (now (sheet .entry)) 0 lines)))
-        × (now (out .exit) ≡ padded (length (now (out .entry))) (words (fitting (length (now (out .entry))) (linesFrom (now (sheet .entry)) 0 lines) .lines))) ⌝ }
+    ensures { λ r. ⌜ Gives (fitting (length (now (out .entry))) (linesFrom (now (sheet .entry)) 0 lines)) (now (out .entry)) r (now (out .exit)) ⌝ }
 {
     if lines == 0 {
         return refuse(
