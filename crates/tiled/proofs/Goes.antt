@@ -24,7 +24,7 @@ use Rattle.grammar.specs.Grammar as grammar
 use Rattle.grammar.specs.Grammar.{Number, Field, Answer}
 use Rattle.grammar.specs.Course.{Drawn, got, not}
 use Rattle.decoder.specs.Line.{numberAt, varAt, bounded, upTo, byteAt, restored, deleteAt, numberOf, soMany, bytesAt, checked, wordOf, spanned, valuesAt, line}
-use Rattle.origins.specs.Origins.{inLine, storedLine, lineAt}
+use Rattle.origins.specs.Origins.{inLine, storedLine, plainLine, lineAt}
 use Rattle.tiled.specs.Tiles.{Stored, Has}
 
 module _ (form : ℕ) (u : List ℕ) where
@@ -162,7 +162,7 @@ module _ (form : ℕ) (u : List ℕ) where
   Goes f at (not why) = Unit {0}
 
   number-goes : (n : Number) (at : ℕ) (d : Drawn ℕ (ℕ × ℕ)) → Onward at d → Goes (grammar.number n) at d
-  unfolding Goes Onward Has lineAt inLine
+  unfolding Goes Onward Has lineAt plainLine inLine
   number-goes n at (got a t) h = (h .0, h .1, λ code. (refl, omega (arith, h .0)))
   number-goes n at (not why) h = tt
 
