@@ -381,6 +381,8 @@ static void update_work(const char *input, const char *work, size_t blocks, size
         measure(input, work, ours_held, 0, 3, on.update.bytes, on.update.count);
     } else if (!strncmp(work, "given", 5)) {
         on.held = load(input, "held");
+        free(on.copy);
+        on.copy = some(on.held.count);
         on.given = 1000000;
         on.holds = some(24 * on.given);
         lend(blocks, ranges);
