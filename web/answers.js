@@ -137,6 +137,46 @@ const explained = n => {
   return told.get(n)
 }
 
+// ---- what each byte is of, for its colour
+
+/** The colour of a column of form 2; of `text` those of stored parts, though names and keys stand there too. */
+const COLUMN_LIGHTS = { key: 'mark', client: 'head', 'left clock': 'left', 'right clock': 'right', info: 'info', text: 'stored', 'parent info': 'info', type: 'length', length: 'length' }
+/** Where there are more blocks, what stands in line keeps the colour of its part: each block asked for is a reading. */
+const MOST_COLOURED = 1000
+
+let colours = null
+const forgetColours = () => {
+  colours = null
+}
+
+/** A colour for each byte, by its name, in the order of bytes; '' where there is none. */
+const coloursOf = () => {
+  if (colours !== null) return colours
+  colours = new Array(now.bytes.length).fill('')
+  const paint = (from, to, light) => {
+    for (let at = from; at < to; at++) if (colours[at] === '') colours[at] = light
+  }
+  for (const { from, to, role } of places) paint(from, to, ROLES[role][1])
+  const blocks = now.read?.blocks ?? []
+  const few = now.read !== null && blocks.length <= MOST_COLOURED
+  const begin = now.parts.find(({ role }) => role === 'rest')?.from ?? 0
+  let end = begin
+  for (let n = 0; few && n < blocks.length; n++) {
+    for (const line of explained(n)) {
+      for (const { place, bytes } of spansOf(line)) {
+        paint(place, place + bytes, LIGHTS[line.field])
+        if (place >= begin) end = Math.max(end, place + bytes)
+      }
+    }
+  }
+  for (const { role, name, from, to } of now.parts) if (role === 'column') paint(from, to, COLUMN_LIGHTS[name])
+  if (!few) return colours
+  // in line, before the last draw of a block: counts, and blocks that are dropped; behind it the delete set
+  paint(begin, end, 'head')
+  paint(end, now.bytes.length, 'deletes')
+  return colours
+}
+
 /** The bytes of a line: those that it was drawn from, and those that it leads to. */
 const spansOf = ({ place, bytes, part }) => [...(place === null ? [] : [{ place, bytes }]), ...(part === null ? [] : [part])]
 const isIn = (at, { place, bytes }) => place <= at && at < place + bytes

@@ -3,14 +3,16 @@
 
 let perRow = 16
 
-/** How each byte of a row looks: which part of which block it is, what the chosen block draws from it, whether it is chosen, and whether it is blamed. */
+const ofField = light => light === '' ? '' : ` of-${light}`
+
+/** How each byte of a row looks: which field it is of, which part of which block it is, what the chosen block draws from it, whether it is chosen, and whether it
+ * is blamed. */
 const looksOf = (from, to) => {
-  const looks = Array.from({ length: to - from }, () => '')
+  const looks = Array.from({ length: to - from }, (_, k) => ofField(coloursOf()[from + k] ?? ''))
   const over = (start, end, name) => {
     for (let at = Math.max(start, from); at < Math.min(end, to); at++) looks[at - from] += ` ${name}`
   }
   for (const { role, from: start, to: end } of now.parts) if (role === 'flag' || role === 'length') over(start, end, 'frame')
-  for (let k = firstBehind(from); k < places.length && places[k].from < to; k++) over(places[k].from, places[k].to, 'known')
   if (now.part !== null) over(now.part.from, now.part.to, 'column')
   if (now.block !== null) {
     for (const { field, place, bytes } of explained(now.block)) if (place !== null) over(place, place + bytes, `drawn-${LIGHTS[field]}`)

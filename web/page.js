@@ -68,6 +68,7 @@ const read = () => {
   const { blocks, ranges } = now.read ?? { blocks: [], ranges: [] }
   setPlaces(blocks)
   forgetTold()
+  forgetColours()
   $('empty').hidden = true
   $('verdict').hidden = $('panes').hidden = false
   setWidths(blocks)
