@@ -30,37 +30,8 @@ use Rattle.agreement.specs.Numbered.{Stops}
 use Rattle.agreement.proofs.Courses.{fit-stops}
 use Rattle.agreement.proofs.Numbered.{deletes-numbered}
 use Rattle.held_sorts.specs.Promises.{Finder, quickly, whole, whySort, fitting, against, afterReading, sortHeldBy, sortHeldOf}
-use Rattle.held_sorts.specs.Demand.{Demanded, Demand3Held}
-
--- ---- of any rule under which more knowledge holds nothing back
-
-module _ {A : Type 0} (R : Rule A) (mono : RuleMonotone R) (bs : List Block) (κ : A → ℕ) (cs : List ℕ) (all : (c : ℕ) → 0 < length (queue bs c) → Listed c cs) where
-  abbrev by : List ℕ
-  by = order R bs cs κ
-
-  ends : Ends (steps R bs) (start κ) by
-  ends = sorted R mono bs cs all κ .ends
-
-  same : {X : Type 0} (f : State A → X) (ds : List ℕ) → Ends (steps R bs) (start κ) ds → f (outcome R bs cs κ) ≡ f (after (steps R bs) (start κ) ds)
-  unfolding outcome
-  same f ds e = ap f (sym (sorted R mono bs cs all κ .same ds e))
-
-  pub demanded : Demanded R bs κ cs (numbersBy R bs (start κ) by) (countsIn bs (outcome R bs cs κ) cs) (pendingIn R bs (outcome R bs cs κ) cs)
-  unfolding outcome
-  demanded = record {
-    run = by;
-    sorts = sorted R mono bs cs all κ;
-    highest = highest R mono bs cs all κ;
-    only = is-order R mono bs cs all κ;
-    numbers = refl;
-    taken = whole-takes R mono bs κ by ends;
-    missing = whole-leaves R mono bs κ by ends;
-    once = numbers-once R bs (start κ) by (ends .run);
-    inside = numbers-below R bs (start κ) by (ends .run);
-    counted = same (λ (s : State A). countsIn bs s cs);
-    waiting = same (λ (s : State A). pendingIn R bs s cs);
-    waits = left-waits R mono bs cs all κ;
-  }
+use Rattle.sorts.proofs.Demand.{demanded}
+use Rattle.held_sorts.specs.Demand.{Demand3Held}
 
 -- ---- what 0 says, whatever order the sorter takes
 

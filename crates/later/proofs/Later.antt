@@ -53,7 +53,7 @@ module _ {f g : ℕ → ℕ → Room → Sort} (asks : ℕ → Block → List Id
 pub sort-sorts : (rule form : ℕ) (u v : List ℕ) → Sorter (ruleOf rule) form u v (sortOf rule form u v)
 sort-sorts rule form u v m n room z =
     let d = demand-3 rule form u v m n room z in
-    (d .read .0, record { ran = record { run = d .run; whole = d .sorts .ends; order = d .order }; reaches = d .reaches (d .run) (d .sorts .ends) })
+    (d .read .0, record { ran = record { run = d .demanded .run; whole = d .demanded .sorts .ends; order = d .demanded .numbers }; reaches = d .reaches (d .demanded .run) (d .demanded .sorts .ends) })
 
 -- whatever meets its promise with the number 0 is such a call
 pub of-promise : (rule form : ℕ) (u v : List ℕ) (rows : List Block) (ranges order counts reaches pending : List ℕ) (r : Sorted) (rows₁ : List Block)

@@ -18,7 +18,7 @@ use Rattle.kept.proofs.Vectors.{whyVector}
 use Rattle.sorting.specs.Steps.{start, Sorts}
 use Rattle.sorting.specs.Rules.{Rule}
 use Rattle.sorting.specs.Named.{asksOf, ruleOf}
-use Rattle.sorting.specs.Sorted.{clients, steps, countsIn, reachesIn, pendingIn}
+use Rattle.sorting.specs.Sorted.{clients, steps, numbersBy, countsIn, reachesIn, pendingIn}
 use Rattle.sorting.specs.Slow.{slow, slowly as slowRun, slowOutcome, slowOrderOf, slowCountsOf, slowReachesOf, slowPendingOf}
 use Rattle.sorting.proofs.Rules.{RuleMonotone, reaches-mono}
 use Rattle.sorting.proofs.Clients.{clients-blocks}
@@ -27,7 +27,7 @@ use Rattle.updates.specs.Promises.{Reading, reading, rowsOf, wordsOf}
 use Rattle.sort_answers.specs.declared.Sorted.{Sorted}
 use Rattle.sort_answers.specs.Answers.{isRule, Sort, refusedWith, Room, whyNot, answered}
 use Rattle.sorts.specs.Promises.{lent, quickly, whole, whySort, fitting, against, afterReading, sortBy, sortOf, SortUpdate}
-use Rattle.sorts.specs.Demand.{numbersOf, endOf}
+use Rattle.sorts.specs.Demand.{endOf}
 use Rattle.sorts.proofs.Demand.{against-is, after-done}
 use Rattle.slow_sorts.specs.Promises.{slowly, slowSortOf, SortSlowly}
 
@@ -43,7 +43,7 @@ pub record Swept (R : Rule ℕ) (r : Reading) (c : Course Entry) (s : Sort) : Ty
   pub sorts : Sorts (steps R (r .blocks)) (remote (items c)) run
   pub sweeps : run ≡ slow (steps R (r .blocks)) (clients (r .blocks) (items c)) (start (remote (items c)))
   -- the numbers of the blocks that it takes, and the reports on where it ends
-  pub order : s .order ≡ numbersOf R r c run
+  pub order : s .order ≡ numbersBy R (r .blocks) (start (remote (items c))) run
   pub counts : s .counts ≡ countsIn (r .blocks) (endOf R r c run) (clients (r .blocks) (items c))
   pub reaches : s .reaches ≡ reachesIn (endOf R r c run) (clients (r .blocks) (items c))
   pub pending : s .pending ≡ pendingIn R (r .blocks) (endOf R r c run) (clients (r .blocks) (items c))

@@ -21,17 +21,18 @@ use Rattle.sorting.specs.Rules.{queue, Rule, report}
 use Rattle.sorting.specs.Rule28Inner.{rule28}
 use Rattle.sorting.specs.Rule13Inner.{rule13}
 use Rattle.sorting.specs.Named.{asksOf, ruleOf}
-use Rattle.sorting.specs.Sorted.{clients, steps, order, outcome, outcomeOf, orderOf, countsIn, countsOf, reachesIn, reachesOf, pendingIn, pendingOf}
+use Rattle.sorting.specs.Sorted.{clients, steps, order, outcome, numbersBy, outcomeOf, orderOf, countsIn, countsOf, reachesIn, reachesOf, pendingIn, pendingOf}
 use Rattle.sorting.proofs.Rules.{RuleMonotone, reaches-mono}
 use Rattle.sorting.proofs.Rule28.{reported-28}
 use Rattle.sorting.proofs.Rule13.{Behind, reported-13}
 use Rattle.sorting.proofs.Clients.{clients-blocks}
-use Rattle.sorting.proofs.Demand.{highest, is-order, left-waits, front}
-use Rattle.sorting.proofs.Taken.{sorts, taken, untaken, taken-once, taken-below}
+use Rattle.sorting.proofs.Demand.{sorted, highest, is-order, left-waits, front}
+use Rattle.sorting.proofs.Taken.{whole-takes, whole-leaves, numbers-once, numbers-below}
+use Rattle.sorting.specs.Quick.{Listed}
 use Rattle.updates.specs.Promises.{Reading, reading}
 use Rattle.sort_answers.specs.Answers.{isRule, Sort, refusedWith, Room}
 use Rattle.sorts.specs.Promises.{Finder, quickly, whole, whySort, fitting, against, afterReading, sortBy, sortOf}
-use Rattle.sorts.specs.Demand.{endOf, Demand3}
+use Rattle.sorts.specs.Demand.{endOf, Demanded, Demand3}
 
 -- ---- what 0 says
 
@@ -76,14 +77,39 @@ module _ (F : Finder) (R : Rule ℕ) (m : Room) (v : List ℕ) (r : Reading) whe
       go true e h = (eqb-true (r .refusal .number) 0 e, against-done h .0, against-done h .1)
       go false e h = absurd (eqb-false (r .refusal .number) 0 e h)
 
--- ---- what is reported of the one outcome is reported of every run's
+-- ---- of any rule under which more knowledge holds nothing back
+
+module _ {A : Type 0} (R : Rule A) (mono : RuleMonotone R) (bs : List Block) (κ : A → ℕ) (cs : List ℕ) (all : (c : ℕ) → 0 < length (queue bs c) → Listed c cs) where
+  abbrev by : List ℕ
+  by = order R bs cs κ
+
+  ends : Ends (steps R bs) (start κ) by
+  ends = sorted R mono bs cs all κ .ends
+
+  same : {X : Type 0} (f : State A → X) (ds : List ℕ) → Ends (steps R bs) (start κ) ds → f (outcome R bs cs κ) ≡ f (after (steps R bs) (start κ) ds)
+  unfolding outcome
+  same f ds e = ap f (sym (sorted R mono bs cs all κ .same ds e))
+
+  pub demanded : Demanded R bs κ cs (numbersBy R bs (start κ) by) (countsIn bs (outcome R bs cs κ) cs) (pendingIn R bs (outcome R bs cs κ) cs)
+  unfolding outcome
+  demanded = record {
+    run = by;
+    sorts = sorted R mono bs cs all κ;
+    highest = highest R mono bs cs all κ;
+    only = is-order R mono bs cs all κ;
+    numbers = refl;
+    taken = whole-takes R mono bs κ by ends;
+    missing = whole-leaves R mono bs κ by ends;
+    once = numbers-once R bs (start κ) by (ends .run);
+    inside = numbers-below R bs (start κ) by (ends .run);
+    counted = same (λ (s : State A). countsIn bs s cs);
+    waiting = same (λ (s : State A). pendingIn R bs s cs);
+    waits = left-waits R mono bs cs all κ;
+  }
+
+-- ---- a sort against a vector
 
 module _ (R : Rule ℕ) (mono : RuleMonotone R) where
-  reported : {X : Type 0} (bs : List Block) (v : List Entry) (f : State ℕ → X) (cs : List ℕ) → Ends (steps R bs) (start (remote v)) cs
-      → f (outcomeOf R bs v) ≡ f (after (steps R bs) (start (remote v)) cs)
-  unfolding outcome
-  reported bs v f cs e = ap f (sym (sorts R mono bs v .same cs e))
-
   whole-demanded : (r : Reading) (c : List ℕ) → r .refusal .number ≡ 0 → ending (vectorOf c) (λ _. true) (λ _. false) ≡ true
       → Demand3 R r (vectorOf c) (whole quickly R (items (vectorOf c)) r)
   unfolding whole outcome orderOf countsOf reachesOf pendingOf
@@ -93,19 +119,8 @@ module _ (R : Rule ℕ) (mono : RuleMonotone R) where
       record {
         read = (z, ends);
         reading = refl;
-        run = order R bs (clients bs v) (remote v);
-        sorts = sorts R mono bs v;
-        highest = highest R mono bs (clients bs v) (clients-blocks bs v) (remote v);
-        only = is-order R mono bs (clients bs v) (clients-blocks bs v) (remote v);
-        order = refl;
-        taken = taken R mono bs v;
-        missing = untaken R mono bs v;
-        once = taken-once R mono bs v;
-        inside = taken-below R mono bs v;
-        counts = reported bs v (λ (s : State ℕ). countsIn bs s (clients bs v));
-        reaches = reported bs v (λ (s : State ℕ). reachesIn s (clients bs v));
-        pending = reported bs v (λ (s : State ℕ). pendingIn R bs s (clients bs v));
-        waits = left-waits R mono bs (clients bs v) (clients-blocks bs v) (remote v);
+        demanded = demanded R mono bs (remote v) (clients bs v) (clients-blocks bs v);
+        reaches = same R mono bs (remote v) (clients bs v) (clients-blocks bs v) (λ (s : State ℕ). reachesIn s (clients bs v));
       }
 
 -- ---- the rule that is named
@@ -130,18 +145,18 @@ demand-3 rule form u v blockRows rangeRows m h = go (isRule rule) h
 
 module _ (r : Reading) (c : Course Entry) (s : Sort) (k : ℕ) where
   -- by rule 28: something of another client that is not below that client's reach
-  pub waits-28 : (p : Demand3 rule28 r c s) → endOf rule28 r c (p .run) .taken k < length (queue (r .blocks) k)
-      → (d : Id) × (report rule28 (queue (r .blocks)) (endOf rule28 r c (p .run)) k ≡ some d)
-      × (d .client ≢ k) × (endOf rule28 r c (p .run) .known (d .client) ≤ d .clock)
+  pub waits-28 : (p : Demand3 rule28 r c s) → endOf rule28 r c (p .demanded .run) .taken k < length (queue (r .blocks) k)
+      → (d : Id) × (report rule28 (queue (r .blocks)) (endOf rule28 r c (p .demanded .run)) k ≡ some d)
+      × (d .client ≢ k) × (endOf rule28 r c (p .demanded .run) .known (d .client) ≤ d .clock)
   waits-28 p h =
-      let (d, is, _) = p .waits k h in
-      let (other, above) = reported-28 (queue (r .blocks)) (endOf rule28 r c (p .run)) k d is in
+      let (d, is, _) = p .demanded .waits k h in
+      let (other, above) = reported-28 (queue (r .blocks)) (endOf rule28 r c (p .demanded .run)) k d is in
       (d, is, other, above)
 
   -- by rule 13: what rule 28 waits for; or that waits for nothing, and the block lies behind a gap: its own client's reach is below its clock
-  pub waits-13 : (p : Demand3 rule13 r c s) → endOf rule13 r c (p .run) .taken k < length (queue (r .blocks) k)
-      → (d : Id) × (report rule13 (queue (r .blocks)) (endOf rule13 r c (p .run)) k ≡ some d)
-      × Behind (endOf rule13 r c (p .run) .known) k (front (r .blocks) (endOf rule13 r c (p .run)) k) d
+  pub waits-13 : (p : Demand3 rule13 r c s) → endOf rule13 r c (p .demanded .run) .taken k < length (queue (r .blocks) k)
+      → (d : Id) × (report rule13 (queue (r .blocks)) (endOf rule13 r c (p .demanded .run)) k ≡ some d)
+      × Behind (endOf rule13 r c (p .demanded .run) .known) k (front (r .blocks) (endOf rule13 r c (p .demanded .run)) k) d
   waits-13 p h =
-      let (d, is, _) = p .waits k h in
-      (d, is, reported-13 (queue (r .blocks)) (endOf rule13 r c (p .run)) k d is)
+      let (d, is, _) = p .demanded .waits k h in
+      (d, is, reported-13 (queue (r .blocks)) (endOf rule13 r c (p .demanded .run)) k d is)
