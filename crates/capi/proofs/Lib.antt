@@ -1,3 +1,2 @@
--- What the walks share, cards of their own for the sorts by held ids (HeldCards).
-pub mod Cards
-pub mod HeldCards
+-- What the walks share: each exported function hands its parameters on.
+pub mod Forward
