@@ -35,10 +35,10 @@ use Rattle.slow_held_sorts.proofs.sort_held_slowly as slow-held-sorts·sort-hel
 use Rattle.slow_held_sorts.proofs.sort_held_slowly.Symbol.{name as #slow-held-sorts·sort-held-slowly}
 use Rattle.held_cases.proofs.sort_by as held-cases·sort-by-fn
 use Rattle.held_cases.proofs.sort_by.Symbol.{name as #held-cases·sort-by}
-use Rattle.held_cases.proofs.begin as held-cases·begin-fn
-use Rattle.held_cases.proofs.begin.Symbol.{name as #held-cases·begin}
-use Rattle.held_cases.proofs.end as held-cases·end-fn
-use Rattle.held_cases.proofs.end.Symbol.{name as #held-cases·end}
+use Rattle.held_lines.proofs.begin as held-lines·begin-fn
+use Rattle.held_lines.proofs.begin.Symbol.{name as #held-lines·begin}
+use Rattle.held_lines.proofs.end as held-lines·end-fn
+use Rattle.held_lines.proofs.end.Symbol.{name as #held-lines·end}
 
 module _ {M : Type 1} (𝓤 : URA M) (H : Heap 𝓤) (A : Atoms 𝓤) (mem : Memory → SProp 𝓤) (run : Routine → Fun 𝓤) where
   abbrev pub Held-sorts·sort-held : Contract 𝓤
@@ -50,11 +50,11 @@ module _ {M : Type 1} (𝓤 : URA M) (H : Heap 𝓤) (A : Atoms 𝓤) (mem : Mem
   abbrev pub Held-cases·sort-by : Contract 𝓤
   Held-cases·sort-by = tripleOf 𝓤 H A held-cases·sort-by-fn.signature (held-cases·sort-by-fn.spec 𝓤 H A mem run)
 
-  abbrev pub Held-cases·begin : Contract 𝓤
-  Held-cases·begin = tripleOf 𝓤 H A held-cases·begin-fn.signature (held-cases·begin-fn.spec 𝓤 H A mem run)
+  abbrev pub Held-lines·begin : Contract 𝓤
+  Held-lines·begin = tripleOf 𝓤 H A held-lines·begin-fn.signature (held-lines·begin-fn.spec 𝓤 H A mem run)
 
-  abbrev pub Held-cases·end : Contract 𝓤
-  Held-cases·end = tripleOf 𝓤 H A held-cases·end-fn.signature (held-cases·end-fn.spec 𝓤 H A mem run)
+  abbrev pub Held-lines·end : Contract 𝓤
+  Held-lines·end = tripleOf 𝓤 H A held-lines·end-fn.signature (held-lines·end-fn.spec 𝓤 H A mem run)
 
   module _ (C : Calls 𝓤 H) where
     pub held-sorts·sort-held! : Triple 𝓤 (C #held-sorts·sort-held) Held-sorts·sort-held → (form₀ : ℕ) (g-form : Has byte form₀) (at-update : Seat) (update₀ : List ℕ) (at-held : Seat) (held₀ : List ℕ) (at-rows : Seat) (rows₀ : List Block) (at-ranges : Seat) (ranges₀ : List ℕ) (at-given : Seat) (given₀ : List ℕ) (at-order : Seat) (order₀ : List ℕ) (at-counts : Seat) (counts₀ : List ℕ) (at-pending : Seat) (pending₀ : List ℕ) → Card 𝓤 H A C #held-sorts·sort-held (val byte form₀ g-form ∷ pass byte at-update update₀ ∷ pass byte at-held held₀ ∷ mut block at-rows rows₀ (rowsOf (length rows₀) ((sortHeldOf form₀ update₀ held₀ (length rows₀) (length ranges₀ / 3) (length given₀ / 3) (lent order₀ counts₀ pending₀)) .reading)) ∷ mut word at-ranges ranges₀ (wordsOf (length ranges₀) ((sortHeldOf form₀ update₀ held₀ (length rows₀) (length ranges₀ / 3) (length given₀ / 3) (lent order₀ counts₀ pending₀)) .reading)) ∷ mut word at-given given₀ (padded (length given₀) (flat ((sortHeldOf form₀ update₀ held₀ (length rows₀) (length ranges₀ / 3) (length given₀ / 3) (lent order₀ counts₀ pending₀)) .held))) ∷ mut word at-order order₀ (padded (length order₀) ((sortHeldOf form₀ update₀ held₀ (length rows₀) (length ranges₀ / 3) (length given₀ / 3) (lent order₀ counts₀ pending₀)) .order)) ∷ mut word at-counts counts₀ (padded (length counts₀) ((sortHeldOf form₀ update₀ held₀ (length rows₀) (length ranges₀ / 3) (length given₀ / 3) (lent order₀ counts₀ pending₀)) .counts)) ∷ mut word at-pending pending₀ (padded (length pending₀) ((sortHeldOf form₀ update₀ held₀ (length rows₀) (length ranges₀ / 3) (length given₀ / 3) (lent order₀ counts₀ pending₀)) .pending)) ∷ []) sortedheld (answered (sortHeldOf form₀ update₀ held₀ (length rows₀) (length ranges₀ / 3) (length given₀ / 3) (lent order₀ counts₀ pending₀)))
@@ -98,28 +98,28 @@ module _ {M : Type 1} (𝓤 : URA M) (H : Heap 𝓤) (A : Atoms 𝓤) (mem : Mem
       out = λ ns v. id⊢ 𝓤 _;
     }
 
-    pub held-cases·begin-given-order-counts-pending! : Triple 𝓤 (C #held-cases·begin) Held-cases·begin → (at-sink : Seat) (sink₀ : List ℕ) (used₀ : ℕ) (g-used : Has word used₀) (answer₀ : SortedHeld) (g-answer : Has sortedheld answer₀) (at-given : Seat) (given₀ : List ℕ) (at-order : Seat) (order₀ : List ℕ) (at-counts : Seat) (counts₀ : List ℕ) (at-pending : Seat) (pending₀ : List ℕ) → Loose 𝓤 H A C #held-cases·begin (mut byte at-sink sink₀ sink₀ ∷ val word used₀ g-used ∷ val sortedheld answer₀ g-answer ∷ read word at-given given₀ ∷ read word at-order order₀ ∷ read word at-counts counts₀ ∷ read word at-pending pending₀ ∷ []) told
-    held-cases·begin-given-order-counts-pending! known at-sink sink₀ used₀ g-used answer₀ g-answer at-given given₀ at-order order₀ at-counts counts₀ at-pending pending₀ = record {
-      contract = Held-cases·begin;
+    pub held-lines·begin-given-order-counts-pending! : Triple 𝓤 (C #held-lines·begin) Held-lines·begin → (at-sink : Seat) (sink₀ : List ℕ) (used₀ : ℕ) (g-used : Has word used₀) (answer₀ : SortedHeld) (g-answer : Has sortedheld answer₀) (at-given : Seat) (given₀ : List ℕ) (at-order : Seat) (order₀ : List ℕ) (at-counts : Seat) (counts₀ : List ℕ) (at-pending : Seat) (pending₀ : List ℕ) → Loose 𝓤 H A C #held-lines·begin (mut byte at-sink sink₀ sink₀ ∷ val word used₀ g-used ∷ val sortedheld answer₀ g-answer ∷ read word at-given given₀ ∷ read word at-order order₀ ∷ read word at-counts counts₀ ∷ read word at-pending pending₀ ∷ []) told
+    held-lines·begin-given-order-counts-pending! known at-sink sink₀ used₀ g-used answer₀ g-answer at-given given₀ at-order order₀ at-counts counts₀ at-pending pending₀ = record {
+      contract = Held-lines·begin;
       known = known;
       ghost = λ x. (x, tt);
       args = λ ns. refl;
       asked = emp 𝓤;
       asks = id⊢ 𝓤 _;
       into = λ ns. id⊢ 𝓤 _;
-      ensured = λ x r ws. held-cases·begin-fn.clauses 𝓤 H A mem run (x .0) (x .3) .ensures tt r (atExit held-cases·begin-fn.ended (x .0) (x .3) ws);
+      ensured = λ x r ws. held-lines·begin-fn.clauses 𝓤 H A mem run (x .0) (x .3) .ensures tt r (atExit held-lines·begin-fn.ended (x .0) (x .3) ws);
       out = λ ns v. id⊢ 𝓤 _;
     }
 
-    pub held-cases·end-words! : Triple 𝓤 (C #held-cases·end) Held-cases·end → (at-sink : Seat) (sink₀ : List ℕ) (begun₀ : Told) (g-begun : Has told begun₀) (told₀ : Told) (g-told : Has told told₀) (answer₀ : SortedHeld) (g-answer : Has sortedheld answer₀) (at-words : Seat) (words₀ : List ℕ) → Loose 𝓤 H A C #held-cases·end (mut byte at-sink sink₀ sink₀ ∷ val told begun₀ g-begun ∷ val told told₀ g-told ∷ val sortedheld answer₀ g-answer ∷ read word at-words words₀ ∷ []) word
-    held-cases·end-words! known at-sink sink₀ begun₀ g-begun told₀ g-told answer₀ g-answer at-words words₀ = record {
-      contract = Held-cases·end;
+    pub held-lines·end-words! : Triple 𝓤 (C #held-lines·end) Held-lines·end → (at-sink : Seat) (sink₀ : List ℕ) (begun₀ : Told) (g-begun : Has told begun₀) (told₀ : Told) (g-told : Has told told₀) (answer₀ : SortedHeld) (g-answer : Has sortedheld answer₀) (at-words : Seat) (words₀ : List ℕ) → Loose 𝓤 H A C #held-lines·end (mut byte at-sink sink₀ sink₀ ∷ val told begun₀ g-begun ∷ val told told₀ g-told ∷ val sortedheld answer₀ g-answer ∷ read word at-words words₀ ∷ []) word
+    held-lines·end-words! known at-sink sink₀ begun₀ g-begun told₀ g-told answer₀ g-answer at-words words₀ = record {
+      contract = Held-lines·end;
       known = known;
       ghost = λ x. (x, tt);
       args = λ ns. refl;
       asked = emp 𝓤;
       asks = id⊢ 𝓤 _;
       into = λ ns. id⊢ 𝓤 _;
-      ensured = λ x r ws. held-cases·end-fn.clauses 𝓤 H A mem run (x .0) (x .3) .ensures tt r (atExit held-cases·end-fn.ended (x .0) (x .3) ws);
+      ensured = λ x r ws. held-lines·end-fn.clauses 𝓤 H A mem run (x .0) (x .3) .ensures tt r (atExit held-lines·end-fn.ended (x .0) (x .3) ws);
       out = λ ns v. id⊢ 𝓤 _;
     }

@@ -4,78 +4,8 @@ use held_answers::SortedHeld;
 use stream::Done;
 use stream::input;
 use stream::input::Place;
-use stream::line;
-use update_cases::lines;
 use update_cases::rows;
-use update_cases::rows::Told;
 use update_cases::tables;
-use updates::Update;
-
-// The held ranges, and whether all words lent for them that hold none are zero.
-fn put_held(sink: &mut [u8], told: Told, count: usize, words: &[u64]) -> Told {
-    let named = line::text(sink, told.used, b" ; held");
-    let counted = line::number(sink, named, count as u64);
-    let listed = rows::ranges(sink, counted, count, words);
-    let zero = told.zero && lines::are_zero(words, listed.at);
-    Told {
-        used: listed.used,
-        zero,
-    }
-}
-
-fn put_reports(
-    sink: &mut [u8],
-    told: Told,
-    answer: SortedHeld,
-    given: &[u64],
-    counts: &[u64],
-    pending: &[u64],
-) -> Told {
-    let counted = sort_lines::put_entries(sink, told, answer.counts, counts);
-    let waited = sort_lines::put_pending(sink, counted, answer.pending, pending);
-    put_held(sink, waited, answer.held, given)
-}
-
-// The line up to the rows, and whether all words lent for the order, the reports and the held ids that hold nothing are zero; those of a refusal hold
-// nothing, whatever it says.
-fn begin(
-    sink: &mut [u8],
-    used: usize,
-    answer: SortedHeld,
-    given: &[u64],
-    order: &[u64],
-    counts: &[u64],
-    pending: &[u64],
-) -> Told {
-    let why = answer.refusal;
-    let begun = line::verdict(sink, used, why.number, why.place);
-    if why.number != 0 {
-        let zero = sort_lines::are_zero(given, order, counts, pending);
-        return Told { used: begun, zero };
-    }
-    let ordered = sort_lines::put_order(sink, begun, answer.steps, order);
-    let told = put_reports(sink, ordered, answer, given, counts, pending);
-    let parted = line::text(sink, told.used, b" ;");
-    let used = rows::blocks(sink, parted, answer.blocks);
-    Told {
-        used,
-        zero: told.zero,
-    }
-}
-
-// The line from the ranges on: as that of the update read, but the last word is on all else that was lent, too.
-fn end(sink: &mut [u8], begun: Told, told: Told, answer: SortedHeld, words: &[u64]) -> usize {
-    let seen = Told {
-        used: told.used,
-        zero: begun.zero && told.zero,
-    };
-    let read = Update {
-        refusal: answer.refusal,
-        blocks: answer.blocks,
-        ranges: answer.ranges,
-    };
-    rows::end(sink, seen, read, words)
-}
 
 // A sort, by either sorter.
 fn sort_by(
@@ -148,9 +78,9 @@ fn ask(
         counts,
         pending,
     );
-    let begun = begin(sink, used, answer, given, order, counts, pending);
+    let begun = held_lines::begin(sink, used, answer, given, order, counts, pending);
     let told = tables::put_rows(&rows[..n], answer.blocks, sink, begun.used);
-    end(sink, begun, told, answer, words)
+    held_lines::end(sink, begun, told, answer, words)
 }
 
 // What a case asks beside its update and its held ids: the sorter, the form, and how many rows and words are lent.
@@ -164,17 +94,17 @@ struct Asked {
     place: Place,
 }
 
-// The line with words lent for the reports: as many as any update can need.
-fn lend_reports(
-    case: Asked,
-    update: &[u8],
-    held: &[u8],
-    words: &mut [u64],
-    given: &mut [u64],
-    order: &mut [u64],
-    sink: &mut [u8],
-    used: usize,
-) -> usize {
+// The line with so many words lent as the case asks, and for the reports as many as any update can need.
+fn lend(case: Asked, update: &[u8], held: &[u8], sink: &mut [u8], used: usize) -> usize {
+    let ranges = case.words;
+    let holding = case.given;
+    let steps = case.order;
+    if 3072 < ranges || 3072 < holding || 512 < steps {
+        return used;
+    }
+    let mut words = [0xA5A5A5A5A5A5A5A5u64; 3072];
+    let mut given = [0xA5A5A5A5A5A5A5A5u64; 3072];
+    let mut order = [0xA5A5A5A5A5A5A5A5u64; 512];
     let mut counts = [0xA5A5A5A5A5A5A5A5u64; 128];
     let mut pending = [0xA5A5A5A5A5A5A5A5u64; 192];
     ask(
@@ -183,9 +113,9 @@ fn lend_reports(
         update,
         held,
         case.rows,
-        words,
-        given,
-        order,
+        &mut words[..ranges],
+        &mut given[..holding],
+        &mut order[..steps],
         &mut counts,
         &mut pending,
         sink,
@@ -193,67 +123,13 @@ fn lend_reports(
     )
 }
 
-// The same with so many words lent for the order.
-fn lend_order(
-    case: Asked,
-    update: &[u8],
-    held: &[u8],
-    words: &mut [u64],
-    given: &mut [u64],
-    sink: &mut [u8],
-    used: usize,
-) -> usize {
-    let lent = case.order;
-    if 512 < lent {
-        return used;
-    }
-    let mut order = [0xA5A5A5A5A5A5A5A5u64; 512];
-    lend_reports(
-        case,
-        update,
-        held,
-        words,
-        given,
-        &mut order[..lent],
-        sink,
-        used,
-    )
-}
-
-// The same with so many words lent for the held ranges.
-fn lend_given(
-    case: Asked,
-    update: &[u8],
-    held: &[u8],
-    words: &mut [u64],
-    sink: &mut [u8],
-    used: usize,
-) -> usize {
-    let lent = case.given;
-    if 3072 < lent {
-        return used;
-    }
-    let mut given = [0xA5A5A5A5A5A5A5A5u64; 3072];
-    lend_order(case, update, held, words, &mut given[..lent], sink, used)
-}
-
-// The same with so many words lent for the ranges.
-fn lend(case: Asked, update: &[u8], held: &[u8], sink: &mut [u8], used: usize) -> usize {
-    let lent = case.words;
-    if 3072 < lent {
-        return used;
-    }
-    let mut words = [0xA5A5A5A5A5A5A5A5u64; 3072];
-    lend_given(case, update, held, &mut words[..lent], sink, used)
-}
-
-fn arguments(slowly: bool, source: &mut [u8], place: Place) -> Asked {
+fn arguments(operation: u8, source: &mut [u8], place: Place) -> Asked {
     let read = tables::arguments(source, place);
     let given = input::number(source, read.place, 1024);
     let order = input::number(source, given.place, 512);
     let place = order.place;
     Asked {
-        slowly,
+        slowly: operation == 27,
         form: read.form,
         rows: read.rows,
         words: read.words,
@@ -283,16 +159,16 @@ fn finish(
     Done { place, used }
 }
 
-// A sort by held ids: form, block rows, range rows, held rows, order rows, update, held ids.
-fn read_by(
-    slowly: bool,
+// A sort by held ids: form, block rows, range rows, held rows, order rows, update, held ids. 22 by the quick sorter, 27 by the slow plain one.
+pub fn case(
+    operation: u8,
     source: &mut [u8],
     place: Place,
     bytes: &mut [u8],
     sink: &mut [u8],
     used: usize,
 ) -> Done {
-    let case = arguments(slowly, source, place);
+    let case = arguments(operation, source, place);
     let taken = input::bytes(source, case.place, bytes);
     let place = taken.place;
     if !place.good {
@@ -300,26 +176,4 @@ fn read_by(
     }
     let count = taken.count;
     finish(case, &bytes[..count], source, place, sink, used)
-}
-
-// 22: by the quick sorter.
-pub fn read(
-    source: &mut [u8],
-    place: Place,
-    bytes: &mut [u8],
-    sink: &mut [u8],
-    used: usize,
-) -> Done {
-    read_by(false, source, place, bytes, sink, used)
-}
-
-// 27: by the slow plain sorter.
-pub fn read_slowly(
-    source: &mut [u8],
-    place: Place,
-    bytes: &mut [u8],
-    sink: &mut [u8],
-    used: usize,
-) -> Done {
-    read_by(true, source, place, bytes, sink, used)
 }

@@ -143,16 +143,15 @@ struct Asked {
     place: Place,
 }
 
-// The line with words lent for the reports: as many as any update and vector can need.
-fn lend_reports(
-    case: Asked,
-    update: &[u8],
-    vector: &[u8],
-    words: &mut [u64],
-    order: &mut [u64],
-    sink: &mut [u8],
-    used: usize,
-) -> usize {
+// The line with so many words lent as the case asks, and for the reports as many as any update and vector can need.
+fn lend(case: Asked, update: &[u8], vector: &[u8], sink: &mut [u8], used: usize) -> usize {
+    let ranges = case.words;
+    let steps = case.order;
+    if 3072 < ranges || 512 < steps {
+        return used;
+    }
+    let mut words = [0xA5A5A5A5A5A5A5A5u64; 3072];
+    let mut order = [0xA5A5A5A5A5A5A5A5u64; 512];
     let mut counts = [0xA5A5A5A5A5A5A5A5u64; 256];
     let mut reaches = [0xA5A5A5A5A5A5A5A5u64; 256];
     let mut pending = [0xA5A5A5A5A5A5A5A5u64; 192];
@@ -163,41 +162,14 @@ fn lend_reports(
         update,
         vector,
         case.rows,
-        words,
-        order,
+        &mut words[..ranges],
+        &mut order[..steps],
         &mut counts,
         &mut reaches,
         &mut pending,
         sink,
         used,
     )
-}
-
-// The same with so many words lent for the order.
-fn lend_order(
-    case: Asked,
-    update: &[u8],
-    vector: &[u8],
-    words: &mut [u64],
-    sink: &mut [u8],
-    used: usize,
-) -> usize {
-    let lent = case.order;
-    if 512 < lent {
-        return used;
-    }
-    let mut order = [0xA5A5A5A5A5A5A5A5u64; 512];
-    lend_reports(case, update, vector, words, &mut order[..lent], sink, used)
-}
-
-// The same with so many words lent for the ranges.
-fn lend(case: Asked, update: &[u8], vector: &[u8], sink: &mut [u8], used: usize) -> usize {
-    let lent = case.words;
-    if 3072 < lent {
-        return used;
-    }
-    let mut words = [0xA5A5A5A5A5A5A5A5u64; 3072];
-    lend_order(case, update, vector, &mut words[..lent], sink, used)
 }
 
 fn arguments(slowly: bool, rule: u8, source: &mut [u8], place: Place) -> Asked {
@@ -257,48 +229,22 @@ fn read_by(
     finish(case, &bytes[..count], source, place, sink, used)
 }
 
-// 17: by rule 28.
-pub fn read(
+// 17: by rule 28. 25: the rule comes first. 26: the same by the slow plain sorter.
+pub fn case(
+    operation: u8,
     source: &mut [u8],
     place: Place,
     bytes: &mut [u8],
     sink: &mut [u8],
     used: usize,
 ) -> Done {
-    read_by(false, 28, source, place, bytes, sink, used)
-}
-
-// 25: the rule comes first.
-pub fn read_rule(
-    source: &mut [u8],
-    place: Place,
-    bytes: &mut [u8],
-    sink: &mut [u8],
-    used: usize,
-) -> Done {
+    if operation == 17 {
+        return read_by(false, 28, source, place, bytes, sink, used);
+    }
     let rule = input::number(source, place, 255);
+    let slowly = operation == 26;
     read_by(
-        false,
-        rule.value as u8,
-        source,
-        rule.place,
-        bytes,
-        sink,
-        used,
-    )
-}
-
-// 26: the same by the slow plain sorter.
-pub fn read_slowly(
-    source: &mut [u8],
-    place: Place,
-    bytes: &mut [u8],
-    sink: &mut [u8],
-    used: usize,
-) -> Done {
-    let rule = input::number(source, place, 255);
-    read_by(
-        true,
+        slowly,
         rule.value as u8,
         source,
         rule.place,

@@ -42,7 +42,7 @@ use Rattle.held_cases.proofs.Sorts.{sortedheld-blocks}
 use Rattle.held_sorts.proofs.Sorts.{sortedheld}
 use Rattle.table.proofs.Sorts.{block}
 use Rattle.update_cases.proofs.Sorts.{told, told-used}
-use Rattle.held_cases.proofs.Cards.{Held-cases·sort-by, Held-cases·begin, Held-cases·end, held-cases·sort-by!, held-cases·begin-given-order-counts-pending!, held-cases·end-words! }
+use Rattle.held_cases.proofs.Cards.{Held-cases·sort-by, Held-lines·begin, Held-lines·end, held-cases·sort-by!, held-lines·begin-given-order-counts-pending!, held-lines·end-words! }
 use Rattle.update_cases.proofs.Cards.{Update-cases·rows·full, Update-cases·tables·put-rows, update-cases·rows·full!, update-cases·tables·put-rows-rows! }
 use Rattle.update_cases.proofs.rows.full.Symbol as update-cases·rows·full-def
 use Rattle.update_cases.proofs.rows.full.Symbol.{name as #update-cases·rows·full}
@@ -50,15 +50,15 @@ use Rattle.update_cases.proofs.rows.full.Met as update-cases·rows·full-thm
 use Rattle.held_cases.proofs.sort_by.Symbol as held-cases·sort-by-def
 use Rattle.held_cases.proofs.sort_by.Symbol.{name as #held-cases·sort-by}
 use Rattle.held_cases.proofs.sort_by.Met as held-cases·sort-by-thm
-use Rattle.held_cases.proofs.begin.Symbol as held-cases·begin-def
-use Rattle.held_cases.proofs.begin.Symbol.{name as #held-cases·begin}
-use Rattle.held_cases.proofs.begin.Met as held-cases·begin-thm
+use Rattle.held_lines.proofs.begin.Symbol as held-lines·begin-def
+use Rattle.held_lines.proofs.begin.Symbol.{name as #held-lines·begin}
+use Rattle.held_lines.proofs.begin.Met as held-lines·begin-thm
 use Rattle.update_cases.proofs.tables.put_rows.Symbol as update-cases·tables·put-rows-def
 use Rattle.update_cases.proofs.tables.put_rows.Symbol.{name as #update-cases·tables·put-rows}
 use Rattle.update_cases.proofs.tables.put_rows.Met as update-cases·tables·put-rows-thm
-use Rattle.held_cases.proofs.end.Symbol as held-cases·end-def
-use Rattle.held_cases.proofs.end.Symbol.{name as #held-cases·end}
-use Rattle.held_cases.proofs.end.Met as held-cases·end-thm
+use Rattle.held_lines.proofs.end.Symbol as held-lines·end-def
+use Rattle.held_lines.proofs.end.Symbol.{name as #held-lines·end}
+use Rattle.held_lines.proofs.end.Met as held-lines·end-thm
 use Rattle.held_cases.proofs.ask.Key.{name as #it}
 use Rattle.held_cases.proofs.ask as f
 use Rattle.held_cases.proofs.ask.Statement as stated
@@ -152,7 +152,7 @@ module _ {M : Type 1} (𝓤 : URA M) (H : Heap 𝓤) (A : Atoms 𝓤) (W : Given
   most : ltb 512 n₀ ≡ false → n₀ ≤ 512
   most y = ltb-false 512 n₀ y
 
-  module _ (𝓣 : Tables 𝓤 H) (known-update-cases·rows·full : Triple 𝓤 (𝓣 .C #update-cases·rows·full) (Update-cases·rows·full 𝓤 H A mem run)) (known-held-cases·sort-by : Triple 𝓤 (𝓣 .C #held-cases·sort-by) (Held-cases·sort-by 𝓤 H A mem run)) (known-held-cases·begin : Triple 𝓤 (𝓣 .C #held-cases·begin) (Held-cases·begin 𝓤 H A mem run)) (known-update-cases·tables·put-rows : Triple 𝓤 (𝓣 .C #update-cases·tables·put-rows) (Update-cases·tables·put-rows 𝓤 H A mem run)) (known-held-cases·end : Triple 𝓤 (𝓣 .C #held-cases·end) (Held-cases·end 𝓤 H A mem run)) where
+  module _ (𝓣 : Tables 𝓤 H) (known-update-cases·rows·full : Triple 𝓤 (𝓣 .C #update-cases·rows·full) (Update-cases·rows·full 𝓤 H A mem run)) (known-held-cases·sort-by : Triple 𝓤 (𝓣 .C #held-cases·sort-by) (Held-cases·sort-by 𝓤 H A mem run)) (known-held-lines·begin : Triple 𝓤 (𝓣 .C #held-lines·begin) (Held-lines·begin 𝓤 H A mem run)) (known-update-cases·tables·put-rows : Triple 𝓤 (𝓣 .C #update-cases·tables·put-rows) (Update-cases·tables·put-rows 𝓤 H A mem run)) (known-held-lines·end : Triple 𝓤 (𝓣 .C #held-lines·end) (Held-lines·end 𝓤 H A mem run)) where
     walk : ent 𝓤 (onEntry 𝓤 H A f.signature κs qs a at-entry) (WpFn 𝓤 H (𝓣 .C) (𝓣 .Λ) fn (vals (ps words₀ given₀ order₀ counts₀ pending₀ sink₀)) Post)
     walk =
         qed W (raw (onEntry 𝓤 H A f.signature κs qs a at-entry) ∷ []) ∵ use1 W (‵ (refs (hs words₀ given₀ order₀ counts₀ pending₀ sink₀))) (enters 𝓤 H A W (ps words₀ given₀ order₀ counts₀ pending₀ sink₀)) $ enter ! (𝓣 .C) (𝓣 .Λ) fn (vals (ps words₀ given₀ order₀ counts₀ pending₀ sink₀)) _ $
@@ -197,7 +197,7 @@ module _ {M : Type 1} (𝓤 : URA M) (H : Heap 𝓤) (A : Atoms 𝓤) (W : Given
         assigns ! (agg ! (and-then ! (load ! (from ! (stop !)) (look ! 23 refl)) (and-then ! (load ! (from ! (fld ! refl (stop !))) (look-in ! 79 (sub ! 1 refl (whole !)))) (no-more !)))) (from ! (stop !)) (init ! 21 refl (tt, (tt, (record { fits = are .1 .1 .1 .1 .1 .1 .1 .1 .0 .0 .1 .0 }, tt)))) $
         assigns ! (addr ! (from ! (fld ! refl (hop ! (look-in ! 77 (sub ! 0 refl (whole !))) (stop !))))) (from ! (stop !)) (init ! 19 refl (tt, tt)) $
         assigns ! (agg ! (and-then ! (load ! (from ! (stop !)) (look ! 19 refl)) (and-then ! (load ! (from ! (fld ! refl (stop !))) (look-in ! 77 (sub ! 1 refl (whole !)))) (no-more !)))) (from ! (stop !)) (init ! 17 refl (tt, (tt, (record { fits = are .1 .1 .1 .1 .1 .1 .1 .1 .1 .0 .0 .1 .0 }, tt)))) $
-        calls-loosely ! (fmOf 𝓤 H (W .laws) 𝓣) (8 ∷ 4 ∷ 5 ∷ 6 ∷ 7 ∷ []) (tab block (own-seat l₁₄ n₀ ν₁₄ δ₁₄) (w₃ .1 .1 .1 .1 .0) ∷ hs (w₃ .1 .1 .1 .1 .1 .0) (w₃ .1 .1 .1 .1 .1 .1 .0) (w₃ .1 .1 .1 .1 .1 .1 .1 .0) (w₃ .1 .1 .1 .1 .1 .1 .1 .1 .0) (w₃ .1 .1 .1 .1 .1 .1 .1 .1 .1 .0) sink₀) (held-cases·begin-given-order-counts-pending! 𝓤 H A mem run (𝓣 .C) known-held-cases·begin at-sink sink₀ used₀ (are .1 .1 .1 .1 .1 .1 .1 .1 .1 .1 .1 .0) r₃ (g₃ .0) at-given (w₃ .1 .1 .1 .1 .1 .1 .0) at-order (w₃ .1 .1 .1 .1 .1 .1 .1 .0) at-counts (w₃ .1 .1 .1 .1 .1 .1 .1 .1 .0) at-pending (w₃ .1 .1 .1 .1 .1 .1 .1 .1 .1 .0)) refl (λ P. and-then ! (load ! (from ! (stop !)) (look ! 33 refl)) (and-then ! (load ! (from ! (stop !)) (look ! 73 refl)) (and-then ! (load ! (from ! (stop !)) (look ! 67 refl)) (and-then ! (load ! (from ! (stop !)) (look ! 29 refl)) (and-then ! (load ! (from ! (stop !)) (look ! 25 refl)) (and-then ! (load ! (from ! (stop !)) (look ! 21 refl)) (and-then ! (load ! (from ! (stop !)) (look ! 17 refl)) (no-more !)))))))) (λ r₄ w₄ g₄.
+        calls-loosely ! (fmOf 𝓤 H (W .laws) 𝓣) (8 ∷ 4 ∷ 5 ∷ 6 ∷ 7 ∷ []) (tab block (own-seat l₁₄ n₀ ν₁₄ δ₁₄) (w₃ .1 .1 .1 .1 .0) ∷ hs (w₃ .1 .1 .1 .1 .1 .0) (w₃ .1 .1 .1 .1 .1 .1 .0) (w₃ .1 .1 .1 .1 .1 .1 .1 .0) (w₃ .1 .1 .1 .1 .1 .1 .1 .1 .0) (w₃ .1 .1 .1 .1 .1 .1 .1 .1 .1 .0) sink₀) (held-lines·begin-given-order-counts-pending! 𝓤 H A mem run (𝓣 .C) known-held-lines·begin at-sink sink₀ used₀ (are .1 .1 .1 .1 .1 .1 .1 .1 .1 .1 .1 .0) r₃ (g₃ .0) at-given (w₃ .1 .1 .1 .1 .1 .1 .0) at-order (w₃ .1 .1 .1 .1 .1 .1 .1 .0) at-counts (w₃ .1 .1 .1 .1 .1 .1 .1 .1 .0) at-pending (w₃ .1 .1 .1 .1 .1 .1 .1 .1 .1 .0)) refl (λ P. and-then ! (load ! (from ! (stop !)) (look ! 33 refl)) (and-then ! (load ! (from ! (stop !)) (look ! 73 refl)) (and-then ! (load ! (from ! (stop !)) (look ! 67 refl)) (and-then ! (load ! (from ! (stop !)) (look ! 29 refl)) (and-then ! (load ! (from ! (stop !)) (look ! 25 refl)) (and-then ! (load ! (from ! (stop !)) (look ! 21 refl)) (and-then ! (load ! (from ! (stop !)) (look ! 17 refl)) (no-more !)))))))) (λ r₄ w₄ g₄.
         land ! (from ! (stop !)) (init ! 65 refl (g₄ .1 .0)) $
         assigns ! (addr ! (from ! (stop !))) (from ! (stop !)) (init ! 15 refl (tt, tt)) $
         assigns ! (agg ! (and-then ! (load ! (from ! (stop !)) (look ! 15 refl)) (and-then ! (load ! (from ! (stop !)) (look ! 87 refl)) (no-more !)))) (from ! (stop !)) (init ! 13 refl (tt, (tt, (record { fits = (are .1 .1 .1 .1 .0) .1 }, tt)))) $
@@ -209,7 +209,7 @@ module _ {M : Type 1} (𝓤 : URA M) (H : Heap 𝓤) (A : Atoms 𝓤) (W : Given
         assigns ! (agg ! (and-then ! (load ! (from ! (stop !)) (look ! 7 refl)) (and-then ! (load ! (from ! (fld ! refl (stop !))) (look-in ! 75 (sub ! 1 refl (whole !)))) (no-more !)))) (from ! (stop !)) (init ! 5 refl (tt, (tt, (record { fits = are .1 .1 .1 .1 .1 .1 .1 .1 .1 .1 .0 .0 .1 .0 }, tt)))) $
         assigns ! (addr ! (from ! (fld ! refl (hop ! (look-in ! 85 (sub ! 0 refl (whole !))) (stop !))))) (from ! (stop !)) (init ! 3 refl (tt, tt)) $
         assigns ! (agg ! (and-then ! (load ! (from ! (stop !)) (look ! 3 refl)) (and-then ! (load ! (from ! (fld ! refl (stop !))) (look-in ! 85 (sub ! 1 refl (whole !)))) (no-more !)))) (from ! (stop !)) (init ! 1 refl (tt, (tt, (record { fits = are .1 .1 .1 .1 .1 .0 .0 .1 .0 }, tt)))) $
-        calls-loosely ! (fmOf 𝓤 H (W .laws) 𝓣) (8 ∷ 3 ∷ []) (tab block (own-seat l₁₄ n₀ ν₁₄ δ₁₄) (w₃ .1 .1 .1 .1 .0) ∷ hs (w₃ .1 .1 .1 .1 .1 .0) (w₃ .1 .1 .1 .1 .1 .1 .0) (w₃ .1 .1 .1 .1 .1 .1 .1 .0) (w₃ .1 .1 .1 .1 .1 .1 .1 .1 .0) (w₃ .1 .1 .1 .1 .1 .1 .1 .1 .1 .0) (w₅ .1 .1 .0)) (held-cases·end-words! 𝓤 H A mem run (𝓣 .C) known-held-cases·end at-sink (w₅ .1 .1 .0) r₄ (g₄ .0) r₅ (g₅ .0) r₃ (g₃ .0) at-words (w₃ .1 .1 .1 .1 .1 .0)) refl (λ P. and-then ! (load ! (from ! (stop !)) (look ! 5 refl)) (and-then ! (load ! (from ! (stop !)) (look ! 65 refl)) (and-then ! (load ! (from ! (stop !)) (look ! 63 refl)) (and-then ! (load ! (from ! (stop !)) (look ! 67 refl)) (and-then ! (load ! (from ! (stop !)) (look ! 1 refl)) (no-more !)))))) (λ r₆ w₆ g₆.
+        calls-loosely ! (fmOf 𝓤 H (W .laws) 𝓣) (8 ∷ 3 ∷ []) (tab block (own-seat l₁₄ n₀ ν₁₄ δ₁₄) (w₃ .1 .1 .1 .1 .0) ∷ hs (w₃ .1 .1 .1 .1 .1 .0) (w₃ .1 .1 .1 .1 .1 .1 .0) (w₃ .1 .1 .1 .1 .1 .1 .1 .0) (w₃ .1 .1 .1 .1 .1 .1 .1 .1 .0) (w₃ .1 .1 .1 .1 .1 .1 .1 .1 .1 .0) (w₅ .1 .1 .0)) (held-lines·end-words! 𝓤 H A mem run (𝓣 .C) known-held-lines·end at-sink (w₅ .1 .1 .0) r₄ (g₄ .0) r₅ (g₅ .0) r₃ (g₃ .0) at-words (w₃ .1 .1 .1 .1 .1 .0)) refl (λ P. and-then ! (load ! (from ! (stop !)) (look ! 5 refl)) (and-then ! (load ! (from ! (stop !)) (look ! 65 refl)) (and-then ! (load ! (from ! (stop !)) (look ! 63 refl)) (and-then ! (load ! (from ! (stop !)) (look ! 67 refl)) (and-then ! (load ! (from ! (stop !)) (look ! 1 refl)) (no-more !)))))) (λ r₆ w₆ g₆.
         land ! (from ! (stop !)) (init ! 97 refl (g₆ .1 .0)) $
         move ! (0 ∷ 69 ∷ []) $ own-back ! tt block 512 n₀ (most y₁) r₂ (w₃ .1 .1 .1 .1 .0) l₁₄ ν₁₄ δ₁₄ (hs (w₃ .1 .1 .1 .1 .1 .0) (w₃ .1 .1 .1 .1 .1 .1 .0) (w₃ .1 .1 .1 .1 .1 .1 .1 .0) (w₃ .1 .1 .1 .1 .1 .1 .1 .1 .0) (w₃ .1 .1 .1 .1 .1 .1 .1 .1 .1 .0) (w₆ .0)) $ move ! (0 ∷ 2 ∷ 3 ∷ 4 ∷ 5 ∷ 6 ∷ 7 ∷ 8 ∷ 9 ∷ 10 ∷ 11 ∷ 12 ∷ 13 ∷ 14 ∷ 15 ∷ 16 ∷ 17 ∷ 18 ∷ 19 ∷ 20 ∷ 21 ∷ 22 ∷ 23 ∷ 24 ∷ 25 ∷ 26 ∷ 27 ∷ 28 ∷ 29 ∷ 30 ∷ 31 ∷ 32 ∷ 33 ∷ 34 ∷ 35 ∷ 36 ∷ 37 ∷ 38 ∷ 39 ∷ 40 ∷ 41 ∷ 42 ∷ 43 ∷ 44 ∷ 45 ∷ 46 ∷ 47 ∷ 48 ∷ 49 ∷ 50 ∷ 51 ∷ 52 ∷ 53 ∷ 54 ∷ 55 ∷ 56 ∷ 57 ∷ 58 ∷ 59 ∷ 60 ∷ 61 ∷ 62 ∷ 63 ∷ 64 ∷ 65 ∷ 66 ∷ 67 ∷ 68 ∷ 69 ∷ 1 ∷ []) $
         returns-within ! Post refl (look ! 97 refl) $
@@ -227,6 +227,6 @@ ask-spec 𝓤 H 𝓜 𝓖 𝓡 =
     (walk 𝓤 H A W (𝓜 .mem) (𝓡 .run) κs qs bounds a are 𝓣
     (cited 𝓤 H (Update-cases·rows·full 𝓤 H A (𝓜 .mem) (𝓡 .run)) 𝓜 𝓡 code.env #update-cases·rows·full update-cases·rows·full-def.routine code.calls-update-cases·rows·full (update-cases·rows·full-thm.met 𝓤 H 𝓜 𝓖 𝓡))
     (cited 𝓤 H (Held-cases·sort-by 𝓤 H A (𝓜 .mem) (𝓡 .run)) 𝓜 𝓡 code.env #held-cases·sort-by held-cases·sort-by-def.routine code.calls-held-cases·sort-by (held-cases·sort-by-thm.met 𝓤 H 𝓜 𝓖 𝓡))
-    (cited 𝓤 H (Held-cases·begin 𝓤 H A (𝓜 .mem) (𝓡 .run)) 𝓜 𝓡 code.env #held-cases·begin held-cases·begin-def.routine code.calls-held-cases·begin (held-cases·begin-thm.met 𝓤 H 𝓜 𝓖 𝓡))
+    (cited 𝓤 H (Held-lines·begin 𝓤 H A (𝓜 .mem) (𝓡 .run)) 𝓜 𝓡 code.env #held-lines·begin held-lines·begin-def.routine code.calls-held-lines·begin (held-lines·begin-thm.met 𝓤 H 𝓜 𝓖 𝓡))
     (cited 𝓤 H (Update-cases·tables·put-rows 𝓤 H A (𝓜 .mem) (𝓡 .run)) 𝓜 𝓡 code.env #update-cases·tables·put-rows update-cases·tables·put-rows-def.routine code.calls-update-cases·tables·put-rows (update-cases·tables·put-rows-thm.met 𝓤 H 𝓜 𝓖 𝓡))
-    (cited 𝓤 H (Held-cases·end 𝓤 H A (𝓜 .mem) (𝓡 .run)) 𝓜 𝓡 code.env #held-cases·end held-cases·end-def.routine code.calls-held-cases·end (held-cases·end-thm.met 𝓤 H 𝓜 𝓖 𝓡)))))
+    (cited 𝓤 H (Held-lines·end 𝓤 H A (𝓜 .mem) (𝓡 .run)) 𝓜 𝓡 code.env #held-lines·end held-lines·end-def.routine code.calls-held-lines·end (held-lines·end-thm.met 𝓤 H 𝓜 𝓖 𝓡)))))
