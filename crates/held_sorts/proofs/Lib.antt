@@ -1,5 +1,6 @@
 -- The ways out, whatever order the sorter takes (Ways), what the sorter gives and leaves (Exits), that the promise is demand 3 (Demand), that no other answer
--- fits (Unique), and what the walks share (Sorts, Cards).
+-- fits (Unique), the walk whatever the sorter (Walk), and what the walks share (Sorts, Cards).
+pub mod Walk
 pub mod Ways
 pub mod Exits
 pub mod Demand
