@@ -44,7 +44,7 @@ pub fn measure(
     let lanes = &mut table[..];
     let mut room = [0u8; 16];
     let nothing = &mut room[..];
-    encoder::put_rows(nothing, lanes, update, rows, plan, sections, form, 0);
+    encoder::measure_rows(lanes, update, rows, plan, sections);
     let crowded = leads::is_crowded(lanes);
     tokens::lanes::close(nothing, lanes);
     let far = leads::note(sizes, lanes);

@@ -24,7 +24,7 @@ fn bit(there: bool, n: u8) -> u8
 }
 
 // 128 for a left id, 64 for a right id, 32 for a key; the low bits are the content's number.
-fn info_byte(b: Block) -> u8
+pub fn info_byte(b: Block) -> u8
     ensures { λ r. ⌜ r ≡ infoByte b ⌝ }
 {
     let content = block::content_number(b.kind);
@@ -34,7 +34,7 @@ fn info_byte(b: Block) -> u8
     content + left + right + key
 }
 
-fn is_linked(b: Block) -> bool
+pub fn is_linked(b: Block) -> bool
     ensures { λ r. ⌜ r ≡ linked b ⌝ }
 {
     if b.has_left {

@@ -132,3 +132,11 @@ pub record Alone (k : ℕ) (e : Lane) (w w₁ : List ℕ) : Type 0 where
   pub others : (j : ℕ) → j < 10 → j ≢ k → laneIn w₁ j ≡ laneIn w j
   pub tidy : Tidy w₁
   pub keys : SameKeys w w₁
+
+-- ---- what measuring leaves: the words as if tokens were written where there is no room, wherever the place in line is
+
+abbrev pub Gauged : List Token → List ℕ → List ℕ → Type 0
+Gauged ts w w₁ = (at : ℕ) → (at₁ : ℕ) × Wrote 2 ts [] w at [] w₁ at₁
+
+abbrev pub Sized : List ℕ → List Token → List ℕ → List ℕ → Type 0
+Sized u ts w w₁ = (at : ℕ) → (at₁ : ℕ) × WroteKeys u 2 ts [] w at [] w₁ at₁

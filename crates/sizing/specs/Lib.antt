@@ -1,0 +1,2 @@
+-- What the crate is believed to mean.
+pub mod Plain
