@@ -14,7 +14,9 @@ use Rattle.block.specs.Kinds.{isGc, isDeleted, isBinary, isText, isItem}
 use Rattle.parts.specs.Brim.{brim}
 use Rattle.readings.specs.Sound.{bytesIn, linked}
 use Rattle.tokens.specs.Tokens.{Token, info, infos, lens}
+use Rattle.tokens.specs.Desk.{Tidy, Gauged}
 use Rattle.tokens.proofs.Keys.{keyless, keyless-append}
+use Rattle.tokens.proofs.Sized.{gauged-none, gauged-is}
 use Rattle.marked.proofs.Marked.{one-field, one-text, one-buf, field-field}
 use Rattle.kept.specs.declared.cursor.Ends.{Ends}
 use Rattle.kept.specs.Kept.{piece}
@@ -45,9 +47,8 @@ module _ (k : ℕ) where
       go false false true p q r s = text (eqb-true k 5 r)
       go false false false p q r s = absurd (let z : _≡_ {A = ℕ} 0 1 = cc in omega arith)
 
-  pub simple-none : k ≢ 3 → k ≢ 4 → k ≢ 5 → simple k ≡ false
-  unfolding simple
-  simple-none l m n = rw (ne-eqb k 3 l, ne-eqb k 4 m, ne-eqb k 5 n)
+  pub only-binary : simple k ≡ true → k ≢ 3 → k ≢ 5 → k ≡ 4
+  only-binary h n m = by-simple h (λ e. absurd (n e)) (λ e. e) (λ e. absurd (m e))
 
   pub simple-item : simple k ≡ true → isItem k ≡ true
   unfolding isItem
@@ -100,9 +101,9 @@ module _ (b : Block) where
       go true = rw (ne-eqb (b .kind) 1 n, s)
       go false = refl
 
-  pub plain-alone : inLimits b ≡ true → b .kind ≢ 1 → simple (b .kind) ≡ true → linked b ≡ plain b
+  pub plain-linked : inLimits b ≡ true → b .kind ≢ 1 → simple (b .kind) ≡ true → linked b ≡ plain b
   unfolding plain
-  plain-alone h n s = rw (h, ne-eqb (b .kind) 1 n, s)
+  plain-linked h n s = rw (h, ne-eqb (b .kind) 1 n, s)
 
   -- a GC, or an item beside others
   pub by-plain : {A : Type 0} → plain b ≡ true → (b .kind ≡ 1 → A) → (b .kind ≢ 1 → simple (b .kind) ≡ true → linked b ≡ true → A) → A
@@ -138,3 +139,15 @@ module _ (b : Block) where
       (λ n s l. ap keyless (item u n s)
       ∙ keyless-append (info (infoByte b) ∷ []) (placeTokens u b ++ contentTokens u b) (one-field infos (infoByte b))
       (keyless-append (placeTokens u b) (contentTokens u b) (place-keyless u b) (content-keyless u s)))
+
+  -- ---- what is measured of it
+
+  module _ (u : List ℕ) where
+    abbrev pub Told : Bool → List ℕ → List ℕ → Type 0
+    Told r w w₁ = (r ≡ plain b) × Gauged (pick (plain b) (blockTokens u b) []) w w₁
+
+    pub passed-over : {w : List ℕ} → Tidy w → false ≡ plain b → Told false w w
+    passed-over tidy h = (h, gauged-is (ap (λ (x : Bool). pick x (blockTokens u b) []) (sym h)) (gauged-none tidy))
+
+    pub measured : {w w₁ : List ℕ} → true ≡ plain b → Gauged (blockTokens u b) w w₁ → Told true w w₁
+    measured h g = (h, gauged-is (ap (λ (x : Bool). pick x (blockTokens u b) []) (sym h)) g)
