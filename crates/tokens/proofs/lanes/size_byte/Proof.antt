@@ -43,7 +43,8 @@ note-requires c κs = may-note (taking (c .before .before))
 
 returns-2 : tie.Need-returns-2
 returns-2 c =
-    way-begun (taking (c .before .before .before .before .before)) [] (c .before .before .note .last .0) (c .before .before .before .before .if2 .taken) (c .before .before .note .ensures) .0
+    way-begun (taking (c .before .before .before .before .before)) [] (c .before .before .note .last .0)
+    (c .before .before .before .before .if2 .taken) (c .before .before .note .ensures) .0
 
 add-note : tie.Need-add-note
 add-note c = omega (arith, low (taking (c .before .before .before)))
@@ -53,10 +54,11 @@ note-requires-2 c κs = may-note (taking (c .before .before .before))
 
 returns-3 : tie.Need-returns-3
 returns-3 c =
-    way-same (taking (c .before .before .before .before .before .before)) [] (c .before .before .note2 .last .0) (c .before .before .before .before .if3 .taken) (c .before .before .note2 .ensures) .0
+    way-same (taking (c .before .before .before .before .before .before)) [] (c .before .before .note2 .last .0)
+    (c .before .before .before .before .if3 .taken) (c .before .before .note2 .ensures) .0
 
-add-next : tie.Need-add-next
-add-next c = omega (arith, low (taking (c .before .before .before)), c .run-size .ensures .1)
+add-end : tie.Need-add-end
+add-end c = omega (arith, low (taking (c .before .before .before)), c .run-size .ensures .1)
 
 note-requires-3 : tie.Need-note-requires-3
 note-requires-3 c κs = may-note (taking (c .before .before .before .before))
@@ -68,12 +70,14 @@ returns-4 c =
     let a = start .args in
     let r = c .before .before .before .before .run-size in
     let at = getD (a .lanes .now) (5 * a .k) 0 in
-    lane-ended (taking (c .before .before .before .before .before .before .before)) [] (at + r .result) (c .before .before .note3 .last .0) (c .before .before .before .before .before .before .if2 .left) (c .before .before .before .before .before .if3 .left)
+    lane-ended (taking (c .before .before .before .before .before .before .before)) []
+    (at + r .result) (c .before .before .note3 .last .0) (c .before .before .before .before .before .before .if2 .left) (c .before .before .before .before .before .if3 .left)
     (rw (start .pre .2) (ap (λ (n : ℕ). at + n) (r .ensures .0))) (c .before .before .note3 .ensures)
 
 pub size-byte-spec : {M : Type 1} → statement M
 size-byte-spec =
     tie.close
     (tie.spec
-    (λ c. search needs) (λ c. search needs) (λ c. search needs) (λ c. search needs) (λ c. search needs) (λ c. search needs) (λ c. search needs) (λ c. search needs) (λ c. search needs) (λ c κs. search needs) (λ c κs. search needs) returns note-requires (λ c. search needs) returns-2 add-note note-requires-2
-    (λ c. search needs) returns-3 (λ c. search needs) (λ c κs. search needs) add-next note-requires-3 (λ c. search needs) returns-4)
+    (λ c. search needs) (λ c. search needs) (λ c. search needs) (λ c. search needs) (λ c. search needs) (λ c. search needs) (λ c. search needs)
+    (λ c. search needs) (λ c. search needs) (λ c κs. search needs) (λ c κs. search needs) returns note-requires (λ c. search needs) returns-2 add-note
+    note-requires-2 (λ c. search needs) returns-3 (λ c. search needs) (λ c κs. search needs) add-end note-requires-3 (λ c. search needs) returns-4)

@@ -69,7 +69,8 @@ note-requires c κs = may-note (taking (c .before .before .before .before))
 
 returns-3 : tie.Need-returns-3
 returns-3 c =
-    way-begun (taking (c .before .before .before .before .before .before .before)) [] (c .before .before .note .last .0) (c .before .before .before .before .if3 .taken) (c .before .before .note .ensures) .0
+    way-begun (taking (c .before .before .before .before .before .before .before)) [] (c .before .before .note .last .0)
+    (c .before .before .before .before .if3 .taken) (c .before .before .note .ensures) .0
 
 add-note : tie.Need-add-note
 add-note c = omega (arith, low (taking (c .before .before .before .before .before)))
@@ -79,7 +80,8 @@ note-requires-2 c κs = may-note (taking (c .before .before .before .before .bef
 
 returns-4 : tie.Need-returns-4
 returns-4 c =
-    way-same (taking (c .before .before .before .before .before .before .before .before)) [] (c .before .before .note2 .last .0) (c .before .before .before .before .if4 .taken) (c .before .before .note2 .ensures) .0
+    way-same (taking (c .before .before .before .before .before .before .before .before)) [] (c .before .before .note2 .last .0)
+    (c .before .before .before .before .if4 .taken) (c .before .before .note2 .ensures) .0
 
 run-size-requires : tie.Need-run-size-requires
 unfolding keyMost
@@ -87,8 +89,8 @@ run-size-requires c κs =
     let start = c .before .before .before .before .before .before .before .before .before .before .before .before .before .before .before in
     omega (arith, rw (start .pre .2) at (key-low (start .args .lanes .now) (start .args .k) (start .pre .0) (start .pre .1)))
 
-add-next : tie.Need-add-next
-add-next c = omega (arith, low (taking (c .before .before .before .before .before)), c .run-size .ensures .1)
+add-end : tie.Need-add-end
+add-end c = omega (arith, low (taking (c .before .before .before .before .before)), c .run-size .ensures .1)
 
 note-requires-3 : tie.Need-note-requires-3
 note-requires-3 c κs = may-note (taking (c .before .before .before .before .before .before))
@@ -100,12 +102,15 @@ returns-5 c =
     let a = start .args in
     let r = c .before .before .before .before .run-size in
     let at = getD (a .lanes .now) (5 * a .k) 0 in
-    lane-ended (taking (c .before .before .before .before .before .before .before .before .before)) [] (at + r .result) (c .before .before .note3 .last .0) (c .before .before .before .before .before .before .if3 .left) (c .before .before .before .before .before .if4 .left)
+    lane-ended (taking (c .before .before .before .before .before .before .before .before .before)) []
+    (at + r .result) (c .before .before .note3 .last .0) (c .before .before .before .before .before .before .if3 .left) (c .before .before .before .before .before .if4 .left)
     (rw (start .pre .2) (ap (λ (n : ℕ). at + n) (r .ensures .0))) (c .before .before .note3 .ensures)
 
 pub size-difference-spec : {M : Type 1} → statement M
 size-difference-spec =
     tie.close
     (tie.spec
-    (λ c. search needs) (λ c. search needs) (λ c. search needs) (λ c. search needs) (λ c. search needs) (λ c. search needs) (λ c. search needs) (λ c. search needs) (λ c. search needs) (λ c. search needs) (λ c. search needs) (λ c. search needs) (λ c κs. search needs) returns returns-2 key-between-requires (λ c κs. search needs) note-requires (λ c. search needs) returns-3 add-note note-requires-2
-    (λ c. search needs) returns-4 (λ c. search needs) run-size-requires add-next note-requires-3 (λ c. search needs) returns-5)
+    (λ c. search needs) (λ c. search needs) (λ c. search needs) (λ c. search needs) (λ c. search needs) (λ c. search needs) (λ c. search needs)
+    (λ c. search needs) (λ c. search needs) (λ c. search needs) (λ c. search needs) (λ c. search needs) (λ c κs. search needs) returns returns-2
+    key-between-requires (λ c κs. search needs) note-requires (λ c. search needs) returns-3 add-note note-requires-2 (λ c. search needs) returns-4
+    (λ c. search needs) run-size-requires add-end note-requires-3 (λ c. search needs) returns-5)
