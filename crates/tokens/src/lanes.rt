@@ -257,8 +257,8 @@ pub fn size_number(lanes: &mut [u64], k: usize, v: u64)
         note(lanes, k, at, v, v, count + 1);
         return;
     }
-    let next = at + runs::number::run_size(key, count - 1);
-    note(lanes, k, next, v, v, 1);
+    let end = at + runs::number::run_size(key, count - 1);
+    note(lanes, k, end, v, v, 1);
 }
 
 pub fn size_difference(lanes: &mut [u64], k: usize, v: u64)
@@ -286,8 +286,8 @@ pub fn size_difference(lanes: &mut [u64], k: usize, v: u64)
         note(lanes, k, at, v, step, count + 1);
         return;
     }
-    let next = at + runs::difference::run_size(key, count - 1);
-    note(lanes, k, next, v, step, 1);
+    let end = at + runs::difference::run_size(key, count - 1);
+    note(lanes, k, end, v, step, 1);
 }
 
 pub fn size_byte(lanes: &mut [u64], k: usize, v: u8)
@@ -310,8 +310,8 @@ pub fn size_byte(lanes: &mut [u64], k: usize, v: u8)
         note(lanes, k, at, value, value, count + 1);
         return;
     }
-    let next = at + runs::byte::run_size(key, count - 1);
-    note(lanes, k, next, value, value, 1);
+    let end = at + runs::byte::run_size(key, count - 1);
+    note(lanes, k, end, value, value, 1);
 }
 
 // The bytes of a text.
@@ -323,8 +323,8 @@ pub fn size_text(update: &[u8], lanes: &mut [u64], p: Part)
     if parts::BRIM <= at {
         return;
     }
-    let next = at + parts::bytes_inside(update, p);
-    lanes[25] = next as u64;
+    let end = at + parts::bytes_inside(update, p);
+    lanes[25] = end as u64;
 }
 
 // ---- the ends
