@@ -6,11 +6,11 @@ use mathlib.Core.Bool.{Bool, true, false, _&&_, _||_}
 use mathlib.Core.List.{List, [], _∷_, _++_}
 use native.Mathlib.Omega.{arith}
 use lib.Dec.{ltb, leb, eqb}
-use borrow.Author.Tests.{lt-leb, le-leb, lt-ltb, le-ltb, leb-true, ltb-true, eq-eqb, ne-eqb, eqb-true, eqb-false}
+use borrow.Author.Tests.{leb-true, ltb-true, eq-eqb, ne-eqb, eqb-true, eqb-false}
 use Rattle.numbers.specs.Number.{pick}
 use Rattle.numbers.specs.Limits.{maxClock}
 use Rattle.block.specs.declared.Block.{Block}
-use Rattle.block.specs.Kinds.{isGc, isDeleted, isBinary, isText, isItem}
+use Rattle.block.specs.Kinds.{isItem}
 use Rattle.parts.specs.Brim.{brim}
 use Rattle.readings.specs.Sound.{bytesIn, linked}
 use Rattle.tokens.specs.Tokens.{Token, info, infos, lens}
@@ -18,13 +18,11 @@ use Rattle.tokens.specs.Desk.{Tidy, Gauged}
 use Rattle.tokens.proofs.Keys.{keyless, keyless-append}
 use Rattle.tokens.proofs.Sized.{gauged-none, gauged-is}
 use Rattle.marked.proofs.Marked.{one-field, one-text, one-buf, field-field}
-use Rattle.kept.specs.declared.cursor.Ends.{Ends}
-use Rattle.kept.specs.Kept.{piece}
 use Rattle.kept.specs.Cut.{isWhole}
 use Rattle.kept.specs.Plan.{restOf, sane, cutAt}
 use Rattle.kept.proofs.Sane.{within-sane}
 use Rattle.records.specs.Records.{infoByte, leftTokens, rightTokens, placeTokens, contentTokens, blockTokens}
-use Rattle.records.specs.Stops.{headTokens, rowTokens}
+use Rattle.records.specs.Stops.{rowTokens}
 use Rattle.records.proofs.Writes.{place-beside, content-deleted, content-binary, content-text, block-gc, block-item, head-none, row-some}
 use Rattle.records.proofs.Keyless.{place-keyless}
 use Rattle.sizing.specs.Plain.{inLimits, simple, plain}

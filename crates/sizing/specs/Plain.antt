@@ -1,6 +1,6 @@
 -- Which rows are measured without being written: those of most updates.
 use Prim.Native.Nat.{ℕ, _+_}
-use mathlib.Core.Bool.{Bool, true, false, _&&_, _||_}
+use mathlib.Core.Bool.{Bool, _&&_, _||_}
 use lib.Dec.{ltb, leb}
 use Rattle.numbers.specs.Limits.{maxClock}
 use Rattle.block.specs.declared.Block.{Block}
