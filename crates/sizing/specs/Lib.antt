@@ -1,2 +1,2 @@
--- What the crate is believed to mean.
+-- Which rows are measured and not written.
 pub mod Plain
