@@ -10,11 +10,10 @@ use borrow.Author.Tests.{eqb-true, eqb-false}
 use Rattle.numbers.specs.Number.{pick, unsigned}
 use Rattle.tokens.specs.Tokens.{Token, var, keys, rest, whole}
 use Rattle.tokens.specs.Keys.{manyKeys, crowded}
-use Rattle.tokens.specs.KeysInner.{spelled}
+use Rattle.tokens.specs.KeysInner.{isKey, keyless, spelled}
 use Rattle.tokens.specs.Lanes.{Lane, freshLane, ahead, laidAt, putAll, laidAll}
 use Rattle.tokens.specs.Desk.{putTokens, laidTokens, laneIn, lanesIn, deskIn, keyCount, knownIn, crowdedIn, aliasCount, Tidy, closedEach, laidEnds, WroteKeys}
 use Rattle.tokens.proofs.Wrote.{wrote-var}
-use Rattle.tokens.proofs.Keys.{isKey, keyless}
 use Rattle.tokens.proofs.Keyed.{known-none, zeros-known, zeros-crowd, wrote-keys, wrote-keys-then}
 use Rattle.records.specs.DeleteRows.{InLine}
 use Rattle.passes.specs.declared.Measured.{Measured}

@@ -8,7 +8,8 @@ use Rattle.numbers.specs.Number.{pick}
 use Rattle.block.specs.declared.Block.{Block}
 use Rattle.readings.specs.Sound.{linked}
 use Rattle.tokens.specs.Tokens.{Token}
-use Rattle.tokens.proofs.Keys.{isKey, keyless, keyless-append}
+use Rattle.tokens.specs.KeysInner.{isKey, keyless}
+use Rattle.tokens.proofs.Keys.{keyless-append}
 use Rattle.records.specs.Records.{leftTokens, rightTokens, parentTokens, keyTokens, placeTokens}
 use Rattle.records.specs.Stops.{headTokens}
 
