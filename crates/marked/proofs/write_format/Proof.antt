@@ -13,9 +13,11 @@ use Rattle.marked.proofs.write_format.Tie as tie
 write-key-requires : tie.Need-write-key-requires
 write-key-requires c κs =
     let start = c .before .before .before .before .before in
-    let a = start .args in
-    (start .pre .0, room-first (mark (a .update .now) (a .b .mark) ∷ []) (value (bytesIn (a .update .now) (a .b .part)) ∷ [])
-    (room-is (format-is (a .update .now) (a .b)) (start .pre .1)))
+    let a = start .args in (
+      start .pre .0,
+      room-first (mark (a .update .now) (a .b .mark) ∷ []) (value (bytesIn (a .update .now) (a .b .part)) ∷ [])
+          (room-is (format-is (a .update .now) (a .b)) (start .pre .1)),
+    )
 
 returns : tie.Need-returns
 returns c =

@@ -18,10 +18,11 @@ write-key-requires c κs =
     let p15 = p8 .before .before .before .before .before .before .before in
     let a = p15 .args in
     let typed = p8 .write-type in
-    let b = a .b in
-    (aliased-same (a .update .now) (a .lanes .now) (typed .last .1 .0) (typed .ensures .keys) (typed .ensures .tidy) (p15 .pre .0),
-    room-same (typed .kept .1 .0) (room-later (typeNumber (b .«type_number») ∷ []) (mark (a .update .now) (b .mark) ∷ [])
-    (room-is (type-named (a .update .now) b (sym (c .before .before .before .is-named .ensures) ∙ c .before .before .if1 .taken)) (p15 .pre .1))))
+    let b = a .b in (
+      aliased-same (a .update .now) (a .lanes .now) (typed .last .1 .0) (typed .ensures .keys) (typed .ensures .tidy) (p15 .pre .0),
+      room-same (typed .kept .1 .0) (room-later (typeNumber (b .«type_number») ∷ []) (mark (a .update .now) (b .mark) ∷ [])
+          (room-is (type-named (a .update .now) b (sym (c .before .before .before .is-named .ensures) ∙ c .before .before .if1 .taken)) (p15 .pre .1))),
+    )
 
 returns : tie.Need-returns
 returns c =
