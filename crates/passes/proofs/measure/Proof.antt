@@ -47,7 +47,7 @@ use Rattle.tokens.specs.Desk.{Blank, Room, WroteKeys, closedEach, crowdedIn, la
 use Rattle.tokens.specs.KeysInner.{spelled}
 use Rattle.passes.proofs.Sorts.{measured, measured-has}
 use Rattle.table.proofs.Sorts.{block}
-use Rattle.passes.proofs.Cards.{Encoder·put-rows, Tokens·lanes·close, Passes·leads·is-crowded, Passes·leads·note, Passes·leads·clear, encoder·put-rows!, tokens·lanes·close!, passes·leads·is-crowded-lanes!, passes·leads·note-lanes!, passes·leads·clear!}
+use Rattle.passes.proofs.Cards.{Encoder·put-rows, Tokens·lanes·close, Passes·leads·is-crowded, Passes·leads·note, Passes·leads·clear, encoder·put-rows!, tokens·lanes·close!, passes·leads·is-crowded-lanes!, passes·leads·note-lanes!, passes·leads·clear! }
 use Rattle.encoder.proofs.put_rows.Symbol as encoder·put-rows-def
 use Rattle.encoder.proofs.put_rows.Symbol.{name as #encoder·put-rows}
 use Rattle.encoder.proofs.put_rows.Met as encoder·put-rows-thm
@@ -146,7 +146,7 @@ module _ {M : Type 1} (𝓤 : URA M) (H : Heap 𝓤) (A : Atoms 𝓤) (W : Given
         params1 ! $ pass1 ! (init ! 60 refl (tt, (tt, (record { fits = are .0 .0 .1 .0 }, tt)))) $ pass1 ! (init ! 58 refl (tt, (tt, (record { fits = are .1 .0 .0 .1 .0 }, tt)))) $ pass1 ! (init ! 56 refl (tt, (tt, (record { fits = are .1 .1 .0 .0 .1 .0 }, tt)))) $ pass1 ! (init ! 54 refl (tt, (tt, (record { fits = are .1 .1 .1 .0 .0 .1 .0 }, tt)))) $ pass1 ! (init ! 52 refl (tt, (tt, (record { fits = are .1 .1 .1 .1 .0 .0 .1 .0 }, tt)))) $ pass1 ! (init ! 50 refl (word .lawful M 𝓤 H A W .typed sections₀ _ (are .1 .1 .1 .1 .1 .0) .0)) $ pass1 ! (init ! 48 refl (byte .lawful M 𝓤 H A W .typed form₀ _ (are .1 .1 .1 .1 .1 .1 .0) .0)) $ pass0 ! $ move ! (64 ∷ []) $
         -- [the references; _31 at 1; _30 at 3; _29 at 5; _28 at 7; _27 at 9; _26 at 11; _25 at 13; _24 at 15; _23 at 17; _22 at 19; _21 at 21; _20 at 23; _19 at 25; _18 at 27; _17 at 29; _16 at 31; _15 at 33; _14 at 35; _13 at 37; _12 at 39; _11 at 41; _10 at 43; _9 at 45; _8 at 47; _7 at 49; _6 at 51; _5 at 53; _4 at 55; _3 at 57; _2 at 59; _1 at 61; _0 at 63]
         assigns ! (bin ! (load ! (from ! (stop !)) (look ! 49 refl)) (lit ! tt) tt) (from ! (stop !)) (init ! 39 refl (tt, tt)) $
-        tests ! (load ! (from ! (stop !)) (look ! 39 refl))   -- eqb form₀ 1
+        tests ! (load ! (from ! (stop !)) (look ! 39 refl))  -- eqb form₀ 1
         (λ y₁.
         flat ! $
         assigns ! (agg ! (and-then ! (false-lit !) (and-then ! (false-lit !) (no-more !)))) (from ! (stop !)) (init ! 63 refl (measured .lawful M 𝓤 H A W .typed (record { far = false; crowded = false }) _ (measured-has false refl false refl) .0)) $
@@ -199,7 +199,6 @@ module _ {M : Type 1} (𝓤 : URA M) (H : Heap 𝓤) (A : Atoms 𝓤) (W : Given
         lanes-out : {out out₁ w₁ : List ℕ} {r : ℕ} → eqb form₀ 1 ≡ false → WroteKeys update₀ form₀ (plannedTokens update₀ rows₀ plan₀ sections₀) out lanes₀ 0 out₁ w₁ r → (w₂ : List ℕ) → lanesIn w₂ ≡ closedEach (lanesIn w₁)
             → {w₃ : List ℕ} → Blank w₃ → Right (record { far = anyFar (lanesIn w₂); crowded = crowdedIn w₁ }) w₃ (placesOf (lanesIn w₂))
         lanes-out y wrote w₂ c b = let m = measured-lanes form₀ ts y (req .2) wrote w₂ c sizes₀ in (m .0, m .1, b)
-
 
 pub measure-spec : {M : Type 1} → stated.statement M
 unfolding code.routine tablesOf
