@@ -13,11 +13,11 @@ use Rattle.block.specs.declared.Block.{Block}
 use Rattle.block.specs.Row.{noBlock}
 use Rattle.tokens.specs.Tokens.{Token, var}
 use Rattle.tokens.specs.Keys.{numbered, crowded}
-use Rattle.tokens.specs.KeysInner.{keysAfter, spelled, knownAfter}
+use Rattle.tokens.specs.KeysInner.{isKey, keyless, keysAfter, spelled, knownAfter}
 use Rattle.tokens.specs.Lanes.{Lane}
-use Rattle.tokens.specs.Desk.{putTokens, knownIn, Tidy, WroteKeys, Gauged, Sized}
+use Rattle.tokens.specs.Desk.{putTokens, knownIn, Tidy, Room, WroteKeys, Gauged, Sized}
+use Rattle.tokens.proofs.Rooms.{room-same, room-first, room-later, room-is}
 use Rattle.tokens.proofs.Sized.{gauged-var, wrote-sized, sized-gauged, sized-none, sized-then, sized-is}
-use Rattle.tokens.proofs.Keys.{keyless, isKey}
 use Rattle.kept.specs.declared.cursor.Cursor.{Cursor}
 use Rattle.kept.specs.declared.cursor.Ends.{Ends}
 use Rattle.kept.specs.Plan.{nowhere, openedAt, advanced, planned, plannedFrom, restOf, sane, onward, stopsOf, cutAt}
@@ -105,6 +105,31 @@ module _ {u w w₁ : List ℕ} (tidy : Tidy w) where
       go true h = sized-is (ap (λ (m : ℕ). rowTokens u m e b) (eqb-true n 0 h)) (rw h at s)
       go false h = headed (sane b e) h (rw h at s)
 
+-- nor is it a key: words for a row's keys are there for the plan of it
+module _ {w : List ℕ} where
+  count-room : (m n : ℕ) (ts : List Token) → Room 2 (var m ∷ ts) w → Room 2 (var n ∷ ts) w
+  unfolding keyless isKey
+  count-room m n ts r = record { words = r .words }
+
+  head-room : (u : List ℕ) (n : ℕ) (e : Ends) (b : Block) → Room 2 (rowTokens u n e b) w → Room 2 (rowTokens u (pick (eqb n 0) 0 1) e b) w
+  unfolding rowTokens headTokens
+  head-room u n e b r = go (eqb n 0) refl
+    where
+      headed : (y : Bool) → eqb n 0 ≡ false → Room 2 (pick y (headTokens n (e .from .0) b ++ blockTokens u (cutAt b e)) []) w
+          → Room 2 (pick y (headTokens 1 (e .from .0) b ++ blockTokens u (cutAt b e)) []) w
+      headed true h r = count-room n 1 _ (rw h at r)
+      headed false h r = r
+
+      go : (x : Bool) → eqb n 0 ≡ x → Room 2 (rowTokens u (pick (eqb n 0) 0 1) e b) w
+      go true h = rw h (room-is (ap (λ (m : ℕ). rowTokens u m e b) (eqb-true n 0 h)) r)
+      go false h = rw h (headed (sane b e) h r)
+
+  pub alone-holds : (u : List ℕ) (rows : List Block) (c : Cursor) → c .row < length rows → Room 2 (tokensAt u rows c) w → Room 2 (plannedTokens u rows (onePlan c) 1) w
+  unfolding tokensAt
+  alone-holds u rows c l r =
+      let b = getD rows (c .row) noBlock in
+      room-is (sym (one-row u rows c l)) (head-room u (c .head) (restOf b (c .from .0) (c .skip .0)) b r)
+
 pub one-plan-length : (c : Cursor) → length (onePlan c) ≡ 5
 unfolding onePlan
 one-plan-length c = refl
@@ -181,6 +206,16 @@ module _ (lanes₀ : List ℕ) (u : List ℕ) (rows : List Block) (w : List ℕ)
           sized = sized-none tidy;
           all = opens u rows (length rows) most w n 0 room ∙ ap (λ (m : ℕ). stopsTokens u rows (length rows) (stopsOf rows (plannedFrom w 0 m))) q;
         }
+
+    -- words for keys, where the next row has one
+    pub measure-holds : (c : Cursor) (lanes : List ℕ) → Measuring c lanes → c .row < length rows → length lanes ≡ length lanes₀
+        → Room 2 (plannedTokens u rows w n) lanes₀ → Room 2 (tokensAt u rows c) lanes
+    unfolding tokensAt
+    measure-holds c lanes g l s r =
+        room-same s
+        (room-first (tokensAt u rows c) (before (advanced w n c))
+        (room-later (g .done) (tokensAt u rows c ++ before (advanced w n c))
+        (room-is (sym (g .all) ∙ ap (λ (ts : List Token). g .done ++ ts) (goes u rows (length rows) most w n c room l)) r)))
 
     pub measure-turns : (c : Cursor) (lanes : List ℕ) → Measuring c lanes → c .row < length rows → (lanes₁ : List ℕ) → Sized u (tokensAt u rows c) lanes lanes₁
         → Measuring (advanced w n c) lanes₁

@@ -15,7 +15,8 @@ use Rattle.parts.specs.Brim.{brim}
 use Rattle.readings.specs.Sound.{bytesIn, linked}
 use Rattle.tokens.specs.Tokens.{Token, info, infos, lens}
 use Rattle.tokens.specs.Desk.{Tidy, Gauged}
-use Rattle.tokens.proofs.Keys.{keyless, keyless-append}
+use Rattle.tokens.specs.KeysInner.{keyless}
+use Rattle.tokens.proofs.Keys.{keyless-append}
 use Rattle.tokens.proofs.Sized.{gauged-none, gauged-is}
 use Rattle.marked.proofs.Marked.{one-field, one-text, one-buf, field-field}
 use Rattle.kept.specs.Cut.{isWhole}

@@ -9,7 +9,7 @@ use lib.ListN.{length, take}
 use lib.Seq.{take-at}
 use Rattle.numbers.specs.Number.{unsigned}
 use Rattle.tokens.specs.Tokens.{Token, field, text, var, buf, led, texts, units, rest, inLine}
-use Rattle.tokens.specs.KeysInner.{spelled}
+use Rattle.tokens.specs.KeysInner.{keyless, spelled}
 use Rattle.tokens.specs.Lanes.{Lane, freshLane, ahead, laidAt, forward, laidBytes, pushedOn, laidValue, put, laid, putAll, laidAll}
 use Rattle.tokens.specs.Desk.{putEach, laidEach, putTokens, laidTokens, laneIn, lanesIn, deskIn, knownIn, Tidy, Aliased, SameKeys, Wrote, WroteKeys, Alone, Gauged, Sized}
 use Rattle.tokens.proofs.Laying.{values-one}
@@ -18,7 +18,6 @@ use Rattle.tokens.proofs.Taking.{in-rest}
 use Rattle.tokens.proofs.Passes.{bytes-length, values-length, laid-length}
 use Rattle.tokens.proofs.Deskwise.{wrote-field, wrote-text}
 use Rattle.tokens.proofs.Wrote.{wrote-none, wrote-then, wrote-is, wrote-var, wrote-buf, line-place}
-use Rattle.tokens.proofs.Keys.{keyless}
 use Rattle.tokens.proofs.Keyed.{wrote-keys, wrote-keys-none, wrote-keys-then, wrote-keys-is}
 
 -- ---- where there is no room nothing is written

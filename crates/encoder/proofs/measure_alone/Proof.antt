@@ -34,12 +34,12 @@ use Rattle.walks.proofs.Rows.{Has, byte, word, unit-kind}
 use Rattle.walks.proofs.Refs.{Seat, seatOf, Arg, val, mut, pass, Held, tab, refs, back, vals, ends, enters, leaves, calls-by, calls-knowing}
 use Rattle.walks.proofs.Params.{Form, by-value, by-mut, by-ref, stays, goes, spells, tells}
 use Rattle.walks.proofs.Own.{own-seat, array-typed, own-lends, own-back}
-use Rattle.encoder.proofs.Alone.{one-plan-length, measured-alone}
+use Rattle.encoder.proofs.Alone.{one-plan-length, alone-holds, measured-alone}
 use Rattle.walks.proofs.Walk.{has, retyped, Envs, envOf, locals, alloc-all, free-all, meets}
 use Rattle.block.specs.declared.Block.{Block}
 use Rattle.kept.specs.declared.cursor.Cursor.{Cursor}
 use Rattle.encoder.specs.Alone.{onePlan, tokensAt}
-use Rattle.tokens.specs.Desk.{Aliased, Sized}
+use Rattle.tokens.specs.Desk.{Room, Aliased, Sized}
 use Rattle.encoder.proofs.Sorts.{cursor}
 use Rattle.table.proofs.Sorts.{block}
 use Rattle.encoder.proofs.Cards.{Encoder·plan-one, Encoder·put-rows, encoder·plan-one!, encoder·put-rows-plan! }
@@ -105,7 +105,7 @@ module _ {M : Type 1} (𝓤 : URA M) (H : Heap 𝓤) (A : Atoms 𝓤) (W : Given
   exits r lanes₁ g e = leaves 𝓤 H A W (ps lanes₁) (refl, tt) unit-kind r g (Right r lanes₁) e (Post (unit-kind .val r)) (λ fit. ends-at 𝓤 H A f.ended (stays fs) (f.clauses 𝓤 H A mem run) W ((κs, qs, bounds, a, at-entry), tt) (unit-kind .val r) r (ends (ps lanes₁)) fit)
 
   module _ (𝓣 : Tables 𝓤 H) (known-encoder·plan-one : Triple 𝓤 (𝓣 .C #encoder·plan-one) (Encoder·plan-one 𝓤 H A mem run)) (known-encoder·put-rows : Triple 𝓤 (𝓣 .C #encoder·put-rows) (Encoder·put-rows 𝓤 H A mem run)) where
-    walk : (Aliased update₀ lanes₀ × (c₀ .row < length rows₀)) → ent 𝓤 (onEntry 𝓤 H A f.signature κs qs a at-entry) (WpFn 𝓤 H (𝓣 .C) (𝓣 .Λ) fn (vals (ps lanes₀)) Post)
+    walk : (Aliased update₀ lanes₀ × (c₀ .row < length rows₀) × Room 2 (tokensAt update₀ rows₀ c₀) lanes₀) → ent 𝓤 (onEntry 𝓤 H A f.signature κs qs a at-entry) (WpFn 𝓤 H (𝓣 .C) (𝓣 .Λ) fn (vals (ps lanes₀)) Post)
     walk req =
         qed W (raw (onEntry 𝓤 H A f.signature κs qs a at-entry) ∷ []) ∵ use1 W (‵ (refs (hs lanes₀))) (enters 𝓤 H A W (ps lanes₀)) $ enter ! (𝓣 .C) (𝓣 .Λ) fn (vals (ps lanes₀)) _ $
         alloc-all ! (fn .locals) (λ l₀ l₁ l₂ l₃ l₄ l₅ l₆ l₇ l₈ l₉ l₁₀ l₁₁ l₁₂ l₁₃ l₁₄ l₁₅ l₁₆ l₁₇ l₁₈ l₁₉ l₂₀. let ls : List ℕ = l₀ ∷ l₁ ∷ l₂ ∷ l₃ ∷ l₄ ∷ l₅ ∷ l₆ ∷ l₇ ∷ l₈ ∷ l₉ ∷ l₁₀ ∷ l₁₁ ∷ l₁₂ ∷ l₁₃ ∷ l₁₄ ∷ l₁₅ ∷ l₁₆ ∷ l₁₇ ∷ l₁₈ ∷ l₁₉ ∷ l₂₀ ∷ [] in let En : Envs = envOf (fn .locals) ls in
@@ -131,7 +131,7 @@ module _ {M : Type 1} (𝓤 : URA M) (H : Heap 𝓤) (A : Atoms 𝓤) (W : Given
         assigns ! (agg ! (and-then ! (load ! (from ! (stop !)) (look ! 7 refl)) (and-then ! (load ! (from ! (fld ! refl (stop !))) (look-in ! 39 (sub ! 1 refl (whole !)))) (no-more !)))) (from ! (stop !)) (init ! 5 refl (tt, (tt, (record { fits = are .0 .0 .1 .0 }, tt)))) $
         assigns ! (addr ! (from ! (fld ! refl (hop ! (look-in ! 25 (sub ! 0 refl (whole !))) (stop !))))) (from ! (stop !)) (init ! 3 refl (tt, tt)) $
         assigns ! (agg ! (and-then ! (load ! (from ! (stop !)) (look ! 3 refl)) (and-then ! (load ! (from ! (fld ! refl (stop !))) (look-in ! 25 (sub ! 1 refl (whole !)))) (no-more !)))) (from ! (stop !)) (init ! 1 refl (tt, (tt, (record { fits = lit< tt }, tt)))) $
-        calls-knowing ! (fmOf 𝓤 H (W .laws) 𝓣) (1 ∷ 2 ∷ 3 ∷ 4 ∷ 0 ∷ []) (tab word (own-seat l₇ 5 ν₇ δ₇) (onePlan c₀) ∷ tab byte (own-seat l₅ 16 ν₅ δ₅) (replicate 16 0) ∷ hs lanes₀) (encoder·put-rows-plan! 𝓤 H A mem run (𝓣 .C) known-encoder·put-rows (own-seat l₅ 16 ν₅ δ₅) (replicate 16 0) at-lanes lanes₀ at-update update₀ at-rows rows₀ (own-seat l₇ 5 ν₇ δ₇) (onePlan c₀) 1 (refl, lit< tt) 2 (refl, lit< tt) 0 (refl, lit< tt) (req .0, omega (arith, one-plan-length c₀))) refl (λ P. and-then ! (load ! (from ! (stop !)) (look ! 9 refl)) (and-then ! (load ! (from ! (stop !)) (look ! 5 refl)) (and-then ! (load ! (from ! (stop !)) (look ! 37 refl)) (and-then ! (load ! (from ! (stop !)) (look ! 35 refl)) (and-then ! (load ! (from ! (stop !)) (look ! 1 refl)) (and-then ! (lit ! tt) (and-then ! (lit ! tt) (and-then ! (lit ! tt) (no-more !))))))))) (λ r₂ w₂ g₂ e₂.
+        calls-knowing ! (fmOf 𝓤 H (W .laws) 𝓣) (1 ∷ 2 ∷ 3 ∷ 4 ∷ 0 ∷ []) (tab word (own-seat l₇ 5 ν₇ δ₇) (onePlan c₀) ∷ tab byte (own-seat l₅ 16 ν₅ δ₅) (replicate 16 0) ∷ hs lanes₀) (encoder·put-rows-plan! 𝓤 H A mem run (𝓣 .C) known-encoder·put-rows (own-seat l₅ 16 ν₅ δ₅) (replicate 16 0) at-lanes lanes₀ at-update update₀ at-rows rows₀ (own-seat l₇ 5 ν₇ δ₇) (onePlan c₀) 1 (refl, lit< tt) 2 (refl, lit< tt) 0 (refl, lit< tt) (req .0, omega (arith, one-plan-length c₀), alone-holds update₀ rows₀ c₀ (req .1) (req .2))) refl (λ P. and-then ! (load ! (from ! (stop !)) (look ! 9 refl)) (and-then ! (load ! (from ! (stop !)) (look ! 5 refl)) (and-then ! (load ! (from ! (stop !)) (look ! 37 refl)) (and-then ! (load ! (from ! (stop !)) (look ! 35 refl)) (and-then ! (load ! (from ! (stop !)) (look ! 1 refl)) (and-then ! (lit ! tt) (and-then ! (lit ! tt) (and-then ! (lit ! tt) (no-more !))))))))) (λ r₂ w₂ g₂ e₂.
         land ! (from ! (stop !)) (init ! 13 refl (g₂ .1 .0)) $
         assigns ! (of-opd ! (unit-lit !)) (from ! (stop !)) (init ! 41 refl (tt, tt)) $
         move ! (0 ∷ 27 ∷ []) $ own-back ! tt word 5 5 (omega (arith)) 0 (onePlan c₀) l₇ ν₇ δ₇ (tab byte (own-seat l₅ 16 ν₅ δ₅) (w₂ .0) ∷ hs (w₂ .1 .0)) $ move ! (0 ∷ 2 ∷ 3 ∷ 4 ∷ 5 ∷ 6 ∷ 7 ∷ 8 ∷ 9 ∷ 10 ∷ 11 ∷ 12 ∷ 13 ∷ 14 ∷ 15 ∷ 16 ∷ 17 ∷ 18 ∷ 19 ∷ 20 ∷ 21 ∷ 22 ∷ 23 ∷ 24 ∷ 25 ∷ 26 ∷ 27 ∷ 1 ∷ []) $

@@ -29,9 +29,10 @@ use denote.Triple.Spec.{tripleOf}
 use denote.Triple.Table.{entered, cited}
 use denote.Triple.Walked.{needs, walkOf, ends-at}
 use Rattle.walks.proofs.Rows.{Has, byte, word, unit-kind}
-use Rattle.walks.proofs.Refs.{Seat, seatOf, Arg, val, mut, pass, Held, refs, back, vals, ends, enters, leaves, calls-by, calls-knowing}
+use Rattle.walks.proofs.Refs.{Seat, seatOf, Arg, val, mut, pass, Held, refs, back, vals, ends, enters, leaves, knows, calls-by, calls-knowing}
 use Rattle.walks.proofs.Params.{Form, by-value, by-mut, by-ref, stays, goes, spells, tells}
 use Rattle.encoder.proofs.Alone.{measured-plain, not-plain}
+use Rattle.tokens.proofs.Rooms.{room-same}
 use Rattle.tokens.proofs.Sized.{sized-aliased, sized-then}
 use Rattle.walks.proofs.Walk.{has, bare, retyped, Envs, envOf, locals, alloc-all, free-all, meets}
 use Rattle.walks.proofs.Flow.{flat, tests, skip-on, return-on}
@@ -39,7 +40,7 @@ use Rattle.block.specs.declared.Block.{Block}
 use Rattle.kept.specs.declared.cursor.Cursor.{Cursor}
 use Rattle.block.specs.Row.{noBlock}
 use Rattle.encoder.specs.Alone.{tokensAt}
-use Rattle.tokens.specs.Desk.{Aliased, Sized}
+use Rattle.tokens.specs.Desk.{Room, Aliased, Sized}
 use Rattle.encoder.proofs.Sorts.{cursor, cursor-row}
 use Rattle.table.proofs.Sorts.{block}
 use Rattle.encoder.proofs.Cards.{Encoder·is-further, Sizing·size-block, Encoder·measure-alone, encoder·is-further!, sizing·size-block!, encoder·measure-alone! }
@@ -112,7 +113,7 @@ module _ {M : Type 1} (𝓤 : URA M) (H : Heap 𝓤) (A : Atoms 𝓤) (W : Given
   exits r lanes₁ g e = leaves 𝓤 H A W (ps lanes₁) (refl, tt) unit-kind r g (Right r lanes₁) e (Post (unit-kind .val r)) (λ fit. ends-at 𝓤 H A f.ended (stays fs) (f.clauses 𝓤 H A mem run) W ((κs, qs, bounds, a, at-entry), tt) (unit-kind .val r) r (ends (ps lanes₁)) fit)
 
   module _ (𝓣 : Tables 𝓤 H) (known-encoder·is-further : Triple 𝓤 (𝓣 .C #encoder·is-further) (Encoder·is-further 𝓤 H A mem run)) (known-table·fetch : Triple 𝓤 (𝓣 .C #table·fetch) (Table·fetch 𝓤 H A mem run)) (known-sizing·size-block : Triple 𝓤 (𝓣 .C #sizing·size-block) (Sizing·size-block 𝓤 H A mem run)) (known-encoder·measure-alone : Triple 𝓤 (𝓣 .C #encoder·measure-alone) (Encoder·measure-alone 𝓤 H A mem run)) where
-    walk : (Aliased update₀ lanes₀ × (c₀ .row < length rows₀)) → ent 𝓤 (onEntry 𝓤 H A f.signature κs qs a at-entry) (WpFn 𝓤 H (𝓣 .C) (𝓣 .Λ) fn (vals (ps lanes₀)) Post)
+    walk : (Aliased update₀ lanes₀ × (c₀ .row < length rows₀) × Room 2 (tokensAt update₀ rows₀ c₀) lanes₀) → ent 𝓤 (onEntry 𝓤 H A f.signature κs qs a at-entry) (WpFn 𝓤 H (𝓣 .C) (𝓣 .Λ) fn (vals (ps lanes₀)) Post)
     walk req =
         qed W (raw (onEntry 𝓤 H A f.signature κs qs a at-entry) ∷ []) ∵ use1 W (‵ (refs (hs lanes₀))) (enters 𝓤 H A W (ps lanes₀)) $ enter ! (𝓣 .C) (𝓣 .Λ) fn (vals (ps lanes₀)) _ $
         alloc-all ! (fn .locals) (λ l₀ l₁ l₂ l₃ l₄ l₅ l₆ l₇ l₈ l₉ l₁₀ l₁₁ l₁₂. let ls : List ℕ = l₀ ∷ l₁ ∷ l₂ ∷ l₃ ∷ l₄ ∷ l₅ ∷ l₆ ∷ l₇ ∷ l₈ ∷ l₉ ∷ l₁₀ ∷ l₁₁ ∷ l₁₂ ∷ [] in let En : Envs = envOf (fn .locals) ls in
@@ -140,13 +141,14 @@ module _ {M : Type 1} (𝓤 : URA M) (H : Heap 𝓤) (A : Atoms 𝓤) (W : Given
         free-all ! (_ ∷ []) En (has _ ∷ has _ ∷ has _ ∷ has _ ∷ has _ ∷ has _ ∷ has _ ∷ has _ ∷ has _ ∷ has _ ∷ []) [] $ by ! (exits tt (w₄ .1 .0) refl (measured-plain rows₀ c₀ y₂ (sym (e₄ .0) ∙ y₅) (e₄ .1))))
         (λ y₅.
         skip-on ! $
+        knows ! (hs (w₄ .1 .0)) (λ sz.
         assigns ! (addr ! (from ! (fld ! refl (hop ! (look-in ! 23 (sub ! 0 refl (whole !))) (stop !))))) (from ! (stop !)) (init ! 3 refl (tt, tt)) $
         assigns ! (agg ! (and-then ! (load ! (from ! (stop !)) (look ! 3 refl)) (and-then ! (load ! (from ! (fld ! refl (stop !))) (look-in ! 23 (sub ! 1 refl (whole !)))) (no-more !)))) (from ! (stop !)) (init ! 1 refl (tt, (tt, (record { fits = are .0 .0 .1 .0 }, tt)))) $
-        calls-knowing ! (fmOf 𝓤 H (W .laws) 𝓣) (0 ∷ 1 ∷ 2 ∷ []) (hs (w₄ .1 .0)) (encoder·measure-alone! 𝓤 H A mem run (𝓣 .C) known-encoder·measure-alone at-lanes (w₄ .1 .0) at-update update₀ at-rows rows₀ c₀ (are .1 .1 .1 .0) (sized-aliased (req .0) (not-plain (getD rows₀ (c₀ .row) noBlock) (sym (e₄ .0) ∙ y₅) (e₄ .1)), req .1)) refl (λ P. and-then ! (load ! (from ! (stop !)) (look ! 1 refl)) (and-then ! (load ! (from ! (stop !)) (look ! 21 refl)) (and-then ! (load ! (from ! (stop !)) (look ! 19 refl)) (and-then ! (load ! (from ! (stop !)) (look ! 17 refl)) (no-more !))))) (λ r₆ w₆ g₆ e₆.
+        calls-knowing ! (fmOf 𝓤 H (W .laws) 𝓣) (0 ∷ 1 ∷ 2 ∷ []) (hs (w₄ .1 .0)) (encoder·measure-alone! 𝓤 H A mem run (𝓣 .C) known-encoder·measure-alone at-lanes (w₄ .1 .0) at-update update₀ at-rows rows₀ c₀ (are .1 .1 .1 .0) (sized-aliased (req .0) (not-plain (getD rows₀ (c₀ .row) noBlock) (sym (e₄ .0) ∙ y₅) (e₄ .1)), req .1, room-same (sz .0) (req .2))) refl (λ P. and-then ! (load ! (from ! (stop !)) (look ! 1 refl)) (and-then ! (load ! (from ! (stop !)) (look ! 21 refl)) (and-then ! (load ! (from ! (stop !)) (look ! 19 refl)) (and-then ! (load ! (from ! (stop !)) (look ! 17 refl)) (no-more !))))) (λ r₆ w₆ g₆ e₆.
         land ! (from ! (stop !)) (init ! 5 refl (g₆ .1 .0)) $
         assigns ! (of-opd ! (unit-lit !)) (from ! (stop !)) (init ! 25 refl (tt, tt)) $
         returns-within ! Post refl (look ! 25 refl) $
-        free-all ! (_ ∷ []) En (has _ ∷ has _ ∷ has _ ∷ has _ ∷ has _ ∷ has _ ∷ has _ ∷ has _ ∷ has _ ∷ has _ ∷ has _ ∷ has _ ∷ has _ ∷ []) [] $ by ! (exits tt (w₆ .0) refl (sized-then (not-plain (getD rows₀ (c₀ .row) noBlock) (sym (e₄ .0) ∙ y₅) (e₄ .1)) e₆)))))))
+        free-all ! (_ ∷ []) En (has _ ∷ has _ ∷ has _ ∷ has _ ∷ has _ ∷ has _ ∷ has _ ∷ has _ ∷ has _ ∷ has _ ∷ has _ ∷ has _ ∷ has _ ∷ []) [] $ by ! (exits tt (w₆ .0) refl (sized-then (not-plain (getD rows₀ (c₀ .row) noBlock) (sym (e₄ .0) ∙ y₅) (e₄ .1)) e₆))))))))
         (λ y₂.
         skip-on ! $
         assigns ! (addr ! (from ! (fld ! refl (hop ! (look-in ! 23 (sub ! 0 refl (whole !))) (stop !))))) (from ! (stop !)) (init ! 3 refl (tt, tt)) $

@@ -35,7 +35,7 @@ use denote.Triple.Walked.{needs, walkOf, ends-at}
 use Rattle.walks.proofs.Rows.{Has, byte, word, unit-kind}
 use Rattle.walks.proofs.Refs.{Seat, seatOf, seat-val, Arg, val, mut, pass, Held, refs, back, vals, ends, enters, leaves, knows, calls-by, calls-by-last, calls-knowing}
 use Rattle.walks.proofs.Params.{Form, by-value, by-mut, by-ref, stays, goes, spells, tells}
-use Rattle.encoder.proofs.Alone.{Measuring, measure-begins, measure-turns, all-measured}
+use Rattle.encoder.proofs.Alone.{Measuring, measure-begins, measure-holds, measure-turns, all-measured}
 use Rattle.encoder.proofs.Cursors.{stopsAt, fewer}
 use Rattle.kept.specs.Plan.{nowhere, advanced, openedAt}
 use Rattle.tokens.proofs.Sized.{sized-aliased}
@@ -44,7 +44,7 @@ use Rattle.walks.proofs.Flow.{tests, skip-on, exit-on, part}
 use Rattle.block.specs.declared.Block.{Block}
 use Rattle.kept.specs.declared.cursor.Cursor.{Cursor}
 use Rattle.encoder.specs.Passes.{plannedTokens}
-use Rattle.tokens.specs.Desk.{Aliased, Sized}
+use Rattle.tokens.specs.Desk.{Room, Aliased, Sized}
 use Rattle.encoder.proofs.Sorts.{cursor}
 use Rattle.table.proofs.Sorts.{block}
 use Rattle.encoder.proofs.Cards.{Kept·cursor·open, Kept·cursor·advance, Encoder·measure-row, kept·cursor·open!, kept·cursor·advance!, encoder·measure-row! }
@@ -135,7 +135,7 @@ module _ {M : Type 1} (𝓤 : URA M) (H : Heap 𝓤) (A : Atoms 𝓤) (W : Given
   Inv ls t = ‵ (refs (hs (t .lanes))) ∷ locals (envOf (fn .locals) ls) (bare ∷ has (seat-val at-lanes) ∷ has (seat-val at-update) ∷ has (seat-val at-rows) ∷ has (seat-val at-plan) ∷ has (vint w64 sections₀) ∷ has (cursor .val (t .v6)) ∷ []) []
 
   module _ (𝓣 : Tables 𝓤 H) (known-kept·cursor·open : Triple 𝓤 (𝓣 .C #kept·cursor·open) (Kept·cursor·open 𝓤 H A mem run)) (known-encoder·measure-row : Triple 𝓤 (𝓣 .C #encoder·measure-row) (Encoder·measure-row 𝓤 H A mem run)) (known-kept·cursor·advance : Triple 𝓤 (𝓣 .C #kept·cursor·advance) (Kept·cursor·advance 𝓤 H A mem run)) where
-    walk : (Aliased update₀ lanes₀ × (5 * sections₀ ≤ length plan₀)) → ent 𝓤 (onEntry 𝓤 H A f.signature κs qs a at-entry) (WpFn 𝓤 H (𝓣 .C) (𝓣 .Λ) fn (vals (ps lanes₀)) Post)
+    walk : (Aliased update₀ lanes₀ × (5 * sections₀ ≤ length plan₀) × Room 2 (plannedTokens update₀ rows₀ plan₀ sections₀) lanes₀) → ent 𝓤 (onEntry 𝓤 H A f.signature κs qs a at-entry) (WpFn 𝓤 H (𝓣 .C) (𝓣 .Λ) fn (vals (ps lanes₀)) Post)
     unfolding afterTurn
     walk req =
         qed W (raw (onEntry 𝓤 H A f.signature κs qs a at-entry) ∷ []) ∵ use1 W (‵ (refs (hs lanes₀))) (enters 𝓤 H A W (ps lanes₀)) $ enter ! (𝓣 .C) (𝓣 .Λ) fn (vals (ps lanes₀)) _ $
@@ -153,7 +153,7 @@ module _ {M : Type 1} (𝓤 : URA M) (H : Heap 𝓤) (A : Atoms 𝓤) (W : Given
         skip-on ! $
         assigns ! (addr ! (from ! (fld ! refl (hop ! (look-in ! 21 (sub ! 0 refl (whole !))) (stop !))))) (from ! (stop !)) (init ! 3 refl (tt, tt)) $
         assigns ! (agg ! (and-then ! (load ! (from ! (stop !)) (look ! 3 refl)) (and-then ! (load ! (from ! (fld ! refl (stop !))) (look-in ! 21 (sub ! 1 refl (whole !)))) (no-more !)))) (from ! (stop !)) (init ! 1 refl (tt, (tt, (record { fits = are .0 .0 .1 .0 }, tt)))) $
-        calls-knowing ! (fmOf 𝓤 H (W .laws) 𝓣) (0 ∷ 1 ∷ 2 ∷ []) (hs (t .lanes)) (encoder·measure-row! 𝓤 H A mem run (𝓣 .C) known-encoder·measure-row at-lanes (t .lanes) at-update update₀ at-rows rows₀ (t .v6) (t .g6) (sized-aliased (req .0) (t .known .sized), under t y₂)) refl (λ P. and-then ! (load ! (from ! (stop !)) (look ! 1 refl)) (and-then ! (load ! (from ! (stop !)) (look ! 19 refl)) (and-then ! (load ! (from ! (stop !)) (look ! 17 refl)) (and-then ! (load ! (from ! (stop !)) (look ! 11 refl)) (no-more !))))) (λ r₃ w₃ g₃ e₃.
+        calls-knowing ! (fmOf 𝓤 H (W .laws) 𝓣) (0 ∷ 1 ∷ 2 ∷ []) (hs (t .lanes)) (encoder·measure-row! 𝓤 H A mem run (𝓣 .C) known-encoder·measure-row at-lanes (t .lanes) at-update update₀ at-rows rows₀ (t .v6) (t .g6) (sized-aliased (req .0) (t .known .sized), under t y₂, measure-holds lanes₀ update₀ rows₀ plan₀ sections₀ rows-fit (req .1) (t .v6) (t .lanes) (t .known) (under t y₂) (sz .0) (req .2))) refl (λ P. and-then ! (load ! (from ! (stop !)) (look ! 1 refl)) (and-then ! (load ! (from ! (stop !)) (look ! 19 refl)) (and-then ! (load ! (from ! (stop !)) (look ! 17 refl)) (and-then ! (load ! (from ! (stop !)) (look ! 11 refl)) (no-more !))))) (λ r₃ w₃ g₃ e₃.
         land ! (from ! (stop !)) (init ! 5 refl (g₃ .1 .0)) $
         calls-by-last ! (fmOf 𝓤 H (W .laws) 𝓣) (3 ∷ []) (hs (w₃ .0)) (kept·cursor·advance! 𝓤 H A mem run (𝓣 .C) known-kept·cursor·advance at-plan plan₀ sections₀ (are .1 .1 .1 .1 .0) (t .v6) (t .g6)) refl (λ P. and-then ! (load ! (from ! (stop !)) (look ! 15 refl)) (and-then ! (load ! (from ! (stop !)) (look ! 13 refl)) (and-then ! (load ! (from ! (stop !)) (look ! 11 refl)) (no-more !)))) (λ g₄.
         land-last ! (from ! (stop !)) (store ! 11 refl (g₄ .1 .0)) $
