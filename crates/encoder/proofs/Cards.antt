@@ -13,14 +13,15 @@ use contract.Monad.{Fun, fact, factI}
 use denote.Triple.Statement.{Contract, Triple}
 use denote.Triple.Spec.{tripleOf}
 use denote.Triple.Clauses.{atExit}
-use Rattle.walks.proofs.Rows.{Has, byte, word}
+use Rattle.walks.proofs.Rows.{Has, byte, word, bool-kind}
 use Rattle.walks.proofs.Refs.{Seat, val, mut, pass, Card, Told, since}
 use Rattle.block.specs.declared.Block.{Block}
+use Rattle.block.specs.KindsInner.{isMarked}
 use Rattle.kept.specs.declared.cursor.Cursor.{Cursor}
 use Rattle.kept.specs.declared.plan.Planning.{Planning}
 use Rattle.encoder.specs.Passes.{outcomeOf}
 use Rattle.kept.specs.Plan.{advanced, endedWords, entriesOf, openedAt, planStep, planWords, restOf, unplanned}
-use Rattle.tokens.specs.Desk.{Aliased, WroteKeys}
+use Rattle.tokens.specs.Desk.{Room, Aliased, WroteKeys}
 use Rattle.records.specs.Stops.{rowTokens}
 use Rattle.encoder.proofs.Sorts.{cursor, planning, outcome}
 use Rattle.table.proofs.Sorts.{block}
@@ -30,6 +31,8 @@ use Rattle.kept.proofs.plan.see as kept·plan·see-fn
 use Rattle.kept.proofs.plan.see.Symbol.{name as #kept·plan·see}
 use Rattle.encoder.proofs.steps.end_plan as encoder·steps·end-plan-fn
 use Rattle.encoder.proofs.steps.end_plan.Symbol.{name as #encoder·steps·end-plan}
+use Rattle.encoder.proofs.steps.has_key as encoder·steps·has-key-fn
+use Rattle.encoder.proofs.steps.has_key.Symbol.{name as #encoder·steps·has-key}
 use Rattle.kept.proofs.cursor.open as kept·cursor·open-fn
 use Rattle.kept.proofs.cursor.open.Symbol.{name as #kept·cursor·open}
 use Rattle.records.proofs.write_row as records·write-row-fn
@@ -55,6 +58,9 @@ module _ {M : Type 1} (𝓤 : URA M) (H : Heap 𝓤) (A : Atoms 𝓤) (mem : Mem
 
   abbrev pub Kept·cursor·advance : Contract 𝓤
   Kept·cursor·advance = tripleOf 𝓤 H A kept·cursor·advance-fn.signature (kept·cursor·advance-fn.spec 𝓤 H A mem run)
+
+  abbrev pub Encoder·steps·has-key : Contract 𝓤
+  Encoder·steps·has-key = tripleOf 𝓤 H A encoder·steps·has-key-fn.signature (encoder·steps·has-key-fn.spec 𝓤 H A mem run)
 
   module _ (C : Calls 𝓤 H) where
     pub kept·plan·begin! : Triple 𝓤 (C #kept·plan·begin) Kept·plan·begin → Card 𝓤 H A C #kept·plan·begin [] planning unplanned
@@ -113,15 +119,15 @@ module _ {M : Type 1} (𝓤 : URA M) (H : Heap 𝓤) (A : Atoms 𝓤) (mem : Mem
       said = λ ns r ws. since 𝓤 (λ e. (e, tt));
     }
 
-    pub records·write-row! : Triple 𝓤 (C #records·write-row) Records·write-row → (at-out : Seat) (out₀ : List ℕ) (at-update : Seat) (update₀ : List ℕ) (at-lanes : Seat) (lanes₀ : List ℕ) (form₀ : ℕ) (g-form : Has byte form₀) (at₀ : ℕ) (g-at : Has word at₀) (c₀ : Cursor) (g-c : Has cursor c₀) (b₀ : Block) (g-b : Has block b₀) → (Aliased update₀ lanes₀) → Told 𝓤 H A C #records·write-row (mut byte at-out out₀ out₀ ∷ pass byte at-update update₀ ∷ mut word at-lanes lanes₀ lanes₀ ∷ val byte form₀ g-form ∷ val word at₀ g-at ∷ val cursor c₀ g-c ∷ val block b₀ g-b ∷ []) word (λ r ws. WroteKeys update₀ form₀ (rowTokens update₀ (c₀ .head) (restOf b₀ (c₀ .from .0) (c₀ .skip .0)) b₀) out₀ lanes₀ at₀ (ws .0) (ws .1 .1 .0) r)
+    pub records·write-row! : Triple 𝓤 (C #records·write-row) Records·write-row → (at-out : Seat) (out₀ : List ℕ) (at-update : Seat) (update₀ : List ℕ) (at-lanes : Seat) (lanes₀ : List ℕ) (form₀ : ℕ) (g-form : Has byte form₀) (at₀ : ℕ) (g-at : Has word at₀) (c₀ : Cursor) (g-c : Has cursor c₀) (b₀ : Block) (g-b : Has block b₀) → (Aliased update₀ lanes₀ × Room form₀ (rowTokens update₀ (c₀ .head) (restOf b₀ (c₀ .from .0) (c₀ .skip .0)) b₀) lanes₀) → Told 𝓤 H A C #records·write-row (mut byte at-out out₀ out₀ ∷ pass byte at-update update₀ ∷ mut word at-lanes lanes₀ lanes₀ ∷ val byte form₀ g-form ∷ val word at₀ g-at ∷ val cursor c₀ g-c ∷ val block b₀ g-b ∷ []) word (λ r ws. WroteKeys update₀ form₀ (rowTokens update₀ (c₀ .head) (restOf b₀ (c₀ .from .0) (c₀ .skip .0)) b₀) out₀ lanes₀ at₀ (ws .0) (ws .1 .1 .0) r)
     records·write-row! known at-out out₀ at-update update₀ at-lanes lanes₀ form₀ g-form at₀ g-at c₀ g-c b₀ g-b h = record {
       loose = record {
         contract = Records·write-row;
         known = known;
         ghost = λ x. (x, tt);
         args = λ ns. refl;
-        asked = fact 𝓤 (Aliased update₀ lanes₀);
-        asks = factI 𝓤 (Aliased update₀ lanes₀) (emp 𝓤) h;
+        asked = fact 𝓤 (Aliased update₀ lanes₀ × Room form₀ (rowTokens update₀ (c₀ .head) (restOf b₀ (c₀ .from .0) (c₀ .skip .0)) b₀) lanes₀);
+        asks = factI 𝓤 (Aliased update₀ lanes₀ × Room form₀ (rowTokens update₀ (c₀ .head) (restOf b₀ (c₀ .from .0) (c₀ .skip .0)) b₀) lanes₀) (emp 𝓤) h;
         into = λ ns. id⊢ 𝓤 _;
         ensured = λ x r ws. records·write-row-fn.clauses 𝓤 H A mem run (x .0) (x .3) .ensures tt r (atExit records·write-row-fn.ended (x .0) (x .3) ws);
         out = λ ns v. id⊢ 𝓤 _;
@@ -139,6 +145,20 @@ module _ {M : Type 1} (𝓤 : URA M) (H : Heap 𝓤) (A : Atoms 𝓤) (mem : Mem
       asks = id⊢ 𝓤 _;
       into = λ ns. id⊢ 𝓤 _;
       ensured = λ x r ws. kept·cursor·advance-fn.clauses 𝓤 H A mem run (x .0) (x .3) .ensures tt r (atExit kept·cursor·advance-fn.ended (x .0) (x .3) ws);
+      out = λ ns v. id⊢ 𝓤 _;
+      said = λ ns r ws. since 𝓤 (λ e. (e, tt));
+    }
+
+    pub encoder·steps·has-key! : Triple 𝓤 (C #encoder·steps·has-key) Encoder·steps·has-key → (b₀ : Block) (g-b : Has block b₀) → Card 𝓤 H A C #encoder·steps·has-key (val block b₀ g-b ∷ []) bool-kind (isMarked (b₀ .kind) (b₀ .«type_number»))
+    encoder·steps·has-key! known b₀ g-b = record {
+      contract = Encoder·steps·has-key;
+      known = known;
+      ghost = λ x. (x, tt);
+      args = λ ns. refl;
+      asked = emp 𝓤;
+      asks = id⊢ 𝓤 _;
+      into = λ ns. id⊢ 𝓤 _;
+      ensured = λ x r ws. encoder·steps·has-key-fn.clauses 𝓤 H A mem run (x .0) (x .3) .ensures tt r (atExit encoder·steps·has-key-fn.ended (x .0) (x .3) ws);
       out = λ ns v. id⊢ 𝓤 _;
       said = λ ns r ws. since 𝓤 (λ e. (e, tt));
     }
