@@ -10,7 +10,7 @@ use borrow.Author.Tests.{eqb-true, eqb-false}
 use Rattle.numbers.specs.Number.{pick, unsigned}
 use Rattle.tokens.specs.Tokens.{Token, var, keys, rest, whole}
 use Rattle.tokens.specs.Keys.{manyKeys, crowded}
-use Rattle.tokens.specs.KeysInner.{spelled}
+use Rattle.tokens.specs.KeysInner.{spelled, knownAfter}
 use Rattle.tokens.specs.Lanes.{Lane, freshLane, ahead, laidAt, putAll, laidAll}
 use Rattle.tokens.specs.Desk.{putTokens, laidTokens, laneIn, lanesIn, deskIn, keyCount, knownIn, crowdedIn, aliasCount, Tidy, closedEach, laidEnds, WroteKeys}
 use Rattle.tokens.proofs.Wrote.{wrote-var}
@@ -87,6 +87,18 @@ module _ (form : ℕ) (ts : List Token) where
       where
         measuredSo : Bool → Measured
         measuredSo b = record { far = b; crowded = manyKeys form ts }
+
+  -- measured as form 2, whatever the form is that is not form 1
+  pub as-form : {u out w out₁ w₁ : List ℕ} {at r : ℕ} → eqb form 1 ≡ false → WroteKeys u 2 ts out w at out₁ w₁ r → WroteKeys u form ts out w at out₁ w₁ r
+  unfolding deskIn spelled knownAfter
+  as-form f h = record {
+    desk = rw f (h .desk);
+    bytes = rw f (h .bytes);
+    tidy = h .tidy;
+    known = rw f (h .known);
+    crowd = rw f (h .crowd);
+    aliased = h .aliased;
+  }
 
 -- ---- written
 

@@ -44,7 +44,8 @@ use Rattle.tokens.specs.KeysInner.{spelled}
 use Rattle.tokens.specs.Lanes.{ahead, laidAt}
 use Rattle.tokens.specs.Tokens.{var}
 use Rattle.table.proofs.Sorts.{block}
-use Rattle.passes.proofs.Cards.{Encoder·put-rows, Passes·leads·open, Tokens·line·number, Passes·leads·close, Records·delete-set·write-delete-set, encoder·put-rows!, passes·leads·open!, tokens·line·number!, passes·leads·close!, records·delete-set·write-delete-set! }
+use Rattle.encoder.proofs.Cards.{Encoder·put-rows, encoder·put-rows! }
+use Rattle.passes.proofs.Cards.{Passes·leads·open, Tokens·line·number, Passes·leads·close, Records·delete-set·write-delete-set, passes·leads·open!, tokens·line·number!, passes·leads·close!, records·delete-set·write-delete-set! }
 use Rattle.passes.proofs.leads.open.Symbol as passes·leads·open-def
 use Rattle.passes.proofs.leads.open.Symbol.{name as #passes·leads·open}
 use Rattle.passes.proofs.leads.open.Met as passes·leads·open-thm
