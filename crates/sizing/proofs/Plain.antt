@@ -92,13 +92,9 @@ module _ (b : Block) where
   unfolding plain
   plain-gc h e = rw (h, eq-eqb (b .kind) 1 e)
 
-  pub plain-other : b .kind ≢ 1 → simple (b .kind) ≡ false → false ≡ plain b
+  pub plain-other : inLimits b ≡ true → b .kind ≢ 1 → simple (b .kind) ≡ false → false ≡ plain b
   unfolding plain
-  plain-other n s = go (inLimits b)
-    where
-      go : (x : Bool) → false ≡ (x && (eqb (b .kind) 1 || (simple (b .kind) && linked b)))
-      go true = rw (ne-eqb (b .kind) 1 n, s)
-      go false = refl
+  plain-other h n s = rw (h, ne-eqb (b .kind) 1 n, s)
 
   pub plain-linked : inLimits b ≡ true → b .kind ≢ 1 → simple (b .kind) ≡ true → linked b ≡ plain b
   unfolding plain

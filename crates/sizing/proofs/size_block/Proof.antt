@@ -45,9 +45,12 @@ returns-3 : tie.Need-returns-3
 returns-3 c =
     let p1 = c .before in
     let p2 = p1 .before in
-    let p9 = p2 .before .before .before .before .before .before .before in
+    let p4 = p2 .before .before in
+    let p5 = p4 .before in
+    let p9 = p5 .before .before .before .before in
+    let near = sym (p5 .is-in-limits .ensures) ∙ not-false (p5 .is-in-limits .result) (p4 .if1 .left) in
     let other = sym (p1 .is-simple .ensures) ∙ not-true (p1 .is-simple .result) (c .if3 .taken) in
-    passed-over (p9 .args .b) (p9 .args .update .now) (p9 .pre) (plain-other (p9 .args .b) (p2 .if2 .left) other)
+    passed-over (p9 .args .b) (p9 .args .update .now) (p9 .pre) (plain-other (p9 .args .b) near (p2 .if2 .left) other)
 
 returns-4 : tie.Need-returns-4
 returns-4 c =
