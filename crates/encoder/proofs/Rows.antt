@@ -7,7 +7,8 @@ use lib.ListN.{length, getD}
 use Rattle.block.specs.declared.Block.{Block}
 use Rattle.block.specs.Row.{noBlock}
 use Rattle.tokens.specs.Tokens.{Token}
-use Rattle.tokens.specs.Desk.{Tidy, WroteKeys}
+use Rattle.tokens.specs.Desk.{Tidy, Room, WroteKeys}
+use Rattle.tokens.proofs.Rooms.{room-same, room-first, room-later, room-is}
 use Rattle.tokens.proofs.Keyed.{wrote-keys-none, wrote-keys-then, wrote-keys-is}
 use Rattle.kept.specs.declared.cursor.Cursor.{Cursor}
 use Rattle.kept.specs.Plan.{nowhere, openedAt, advanced, plannedFrom, restOf, stopsOf}
@@ -37,6 +38,15 @@ module _ (form : ℕ) (out₀ lanes₀ : List ℕ) (at₀ : ℕ) (u : List ℕ) 
           wrote = wrote-keys-none tidy;
           all = opens u rows (length rows) most w n 0 room ∙ ap (λ (m : ℕ). stopsTokens u rows (length rows) (stopsOf rows (plannedFrom w 0 m))) q;
         }
+
+    -- words for keys, where the next row has one
+    pub holds : (c : Cursor) (out lanes : List ℕ) (at : ℕ) → Going c out lanes at → c .row < length rows → length lanes ≡ length lanes₀
+        → Room form (plannedTokens u rows w n) lanes₀ → Room form (own c) lanes
+    holds c out lanes at g l s r =
+        room-same s
+        (room-first (own c) (before (advanced w n c))
+        (room-later (g .done) (own c ++ before (advanced w n c))
+        (room-is (sym (g .all) ∙ ap (λ (ts : List Token). g .done ++ ts) (goes u rows (length rows) most w n c room l)) r)))
 
     pub turns : (c : Cursor) (out lanes : List ℕ) (at : ℕ) → Going c out lanes at → c .row < length rows
         → (out₁ lanes₁ : List ℕ) (at₁ : ℕ) → WroteKeys u form (own c) out lanes at out₁ lanes₁ at₁ → Going (advanced w n c) out₁ lanes₁ at₁

@@ -5,6 +5,7 @@ use lib.ListN.{length}
 use Rattle.block.specs.declared.Block.{Block}
 use Rattle.vector.specs.Vector.{Entry}
 use Rattle.tokens.specs.Tokens.{Token}
+use Rattle.tokens.specs.Desk.{Room}
 use Rattle.kept.specs.declared.plan.Planning.{Planning}
 use Rattle.kept.specs.Plan.{unplanned, planAll, planAllWords, endedCount, endedWords, plannedFrom, stopsOf}
 use Rattle.records.specs.Stops.{stopsTokens}
@@ -25,3 +26,7 @@ wordsFor u v w bs = endedWords (planAllWords u v w unplanned 0 bs) (planAll u v 
 
 unfoldable pub plannedTokens : List ℕ → List Block → List ℕ → ℕ → List Token
 plannedTokens u rows w n = stopsTokens u rows (length rows) (stopsOf rows (plannedFrom w 0 n))
+
+-- no key is to be remembered of them, whatever their texts are
+abbrev pub Plain : ℕ → List Block → List ℕ → ℕ → Type 0
+Plain form rows w n = (u lanes : List ℕ) → Room form (plannedTokens u rows w n) lanes

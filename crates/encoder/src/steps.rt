@@ -1,6 +1,8 @@
-// The end of a plan.
+// The end of a plan, and whether a row has a key.
+use block::Block;
 use kept::plan::Planning;
 ghost use mathlib.Core.Path.{_≡_};
+ghost use Rattle.block.specs.KindsInner.{isMarked};
 ghost use Rattle.kept.specs.Plan.{endedWords};
 ghost use Rattle.encoder.specs.Passes.{outcomeOf};
 
@@ -22,4 +24,11 @@ pub fn end_plan(plan: &mut [u64], s: Planning) -> Outcome
         torn,
         formats,
     }
+}
+
+// A format has one, and a type with a node name.
+pub fn has_key(b: Block) -> bool
+    ensures { λ r. ⌜ r ≡ isMarked (b .kind) (b .«type_number») ⌝ }
+{
+    block::is_marked(b.kind, b.type_number)
 }

@@ -10,7 +10,7 @@ use Rattle.block.specs.Kinds.{isNamed}
 use Rattle.readings.specs.Sound.{bytesIn}
 use Rattle.tokens.specs.Tokens.{field, text, len, var, buf, value, values}
 use Rattle.tokens.specs.TokensInner.{typeNumber}
-use Rattle.tokens.proofs.Keys.{isKey, keyless}
+use Rattle.tokens.specs.KeysInner.{isKey, keyless}
 use Rattle.marked.specs.Marked.{mark, formatTokens, typeTokens, markedTokens}
 
 -- ---- by the kind

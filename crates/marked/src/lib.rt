@@ -1,6 +1,6 @@
 // The contents that have a mark, a type number or plain values, written token by token in either form.
 use block::Block;
-ghost use Rattle.tokens.specs.Desk.{Aliased, WroteKeys};
+ghost use Rattle.tokens.specs.Desk.{Room, Aliased, WroteKeys};
 ghost use Rattle.marked.specs.Marked.{formatTokens, typeTokens, markedTokens};
 
 // A key and its value.
@@ -12,7 +12,7 @@ fn write_format(
     at: usize,
     b: Block,
 ) -> usize
-    requires { ⌜ Aliased (now update) (now lanes) ⌝ }
+    requires { ⌜ Aliased (now update) (now lanes) × Room form (formatTokens (now update) b) (now lanes) ⌝ }
     ensures { λ r. ⌜ WroteKeys (now (update .entry)) form (formatTokens (now (update .entry)) b)
         (now (out .entry)) (now (lanes .entry)) at (now (out .exit)) (now (lanes .exit)) r ⌝ }
 {
@@ -29,7 +29,7 @@ fn write_type(
     at: usize,
     b: Block,
 ) -> usize
-    requires { ⌜ Aliased (now update) (now lanes) ⌝ }
+    requires { ⌜ Aliased (now update) (now lanes) × Room form (typeTokens (now update) b) (now lanes) ⌝ }
     ensures { λ r. ⌜ WroteKeys (now (update .entry)) form (typeTokens (now (update .entry)) b)
         (now (out .entry)) (now (lanes .entry)) at (now (out .exit)) (now (lanes .exit)) r ⌝ }
 {
@@ -49,7 +49,7 @@ pub fn write_marked(
     at: usize,
     b: Block,
 ) -> usize
-    requires { ⌜ Aliased (now update) (now lanes) ⌝ }
+    requires { ⌜ Aliased (now update) (now lanes) × Room form (markedTokens (now update) b) (now lanes) ⌝ }
     ensures { λ r. ⌜ WroteKeys (now (update .entry)) form (markedTokens (now (update .entry)) b)
         (now (out .entry)) (now (lanes .entry)) at (now (out .exit)) (now (lanes .exit)) r ⌝ }
 {

@@ -12,8 +12,8 @@ use Rattle.numbers.specs.Number.{pick}
 use Rattle.tokens.specs.Tokens.{Token, field, text, var, buf, key, value, values}
 use Rattle.decoder.specs.States.{maxKeys}
 use Rattle.tokens.specs.Keys.{same, numberOf, isKnown, isFull, remembered, crowded}
-use Rattle.tokens.specs.KeysInner.{keysIn, distinct, distinctKeys}
-use Rattle.tokens.proofs.Keys.{isKey, by-key, not-key, remembered-new, remembered-le}
+use Rattle.tokens.specs.KeysInner.{isKey, keysIn, distinct, distinctKeys}
+use Rattle.tokens.proofs.Keys.{by-key, not-key, remembered-new, remembered-le}
 
 -- ---- equal bytes
 

@@ -134,7 +134,7 @@ split P n before last i l = go (eqb i n) refl
     go true h = rw (eqb-true i n h) last
     go false h = let d = eqb-false i n h in before i (omega (arith, l, d))
 
-module _ (w : List ℕ) (t : Tidy w) (p : Part) (n count : ℕ) (e : count ≡ aliasCount w) (room : count < maxKeys) where
+module _ (w : List ℕ) (t : Tidy w) (wide : 1333 ≤ length w) (p : Part) (n count : ℕ) (e : count ≡ aliasCount w) (room : count < maxKeys) where
   abbrev w₁ : List ℕ
   w₁ = set w (565 + 3 * count) (p .place)
 
@@ -147,16 +147,16 @@ module _ (w : List ℕ) (t : Tidy w) (p : Part) (n count : ℕ) (e : count ≡ a
   abbrev w₄ : List ℕ
   w₄ = set w₃ 564 (count + 1)
 
-  size₁ : length w₁ ≡ 1333
-  size₁ = length-set w (565 + 3 * count) (p .place) ∙ t .size
+  size₁ : length w₁ ≡ length w
+  size₁ = length-set w (565 + 3 * count) (p .place)
 
-  size₂ : length w₂ ≡ 1333
+  size₂ : length w₂ ≡ length w
   size₂ = length-set w₁ (565 + 3 * count + 1) (p .bytes .0) ∙ size₁
 
-  size₃ : length w₃ ≡ 1333
+  size₃ : length w₃ ≡ length w
   size₃ = length-set w₂ (565 + 3 * count + 2) n ∙ size₂
 
-  size₄ : length w₄ ≡ 1333
+  size₄ : length w₄ ≡ length w
   size₄ = length-set w₃ 564 (count + 1) ∙ size₃
 
   -- the other words
@@ -172,7 +172,7 @@ module _ (w : List ℕ) (t : Tidy w) (p : Part) (n count : ℕ) (e : count ≡ a
 
   noted-count : aliasCount w₄ ≡ count + 1
   unfolding aliasCount
-  noted-count = getD-set-same w₃ 564 (count + 1) 0 (omega (arith, size₃))
+  noted-count = getD-set-same w₃ 564 (count + 1) 0 (omega (arith, size₃, wide))
 
   alias-before : (i : ℕ) → i < count → (aliasAt w₄ i ≡ aliasAt w i) × (aliasNumber w₄ i ≡ aliasNumber w i)
   unfolding aliasAt aliasNumber
@@ -190,14 +190,14 @@ module _ (w : List ℕ) (t : Tidy w) (p : Part) (n count : ℕ) (e : count ≡ a
       getD-set-other w₃ 564 (565 + 3 * count) (count + 1) 0 (λ h. absurd (omega (arith, h)))
       ∙ getD-set-other w₂ (565 + 3 * count + 2) (565 + 3 * count) n 0 (λ h. absurd (omega (arith, h)))
       ∙ getD-set-other w₁ (565 + 3 * count + 1) (565 + 3 * count) (p .bytes .0) 0 (λ h. absurd (omega (arith, h)))
-      ∙ getD-set-same w (565 + 3 * count) (p .place) 0 (omega (arith, t .size, room))
+      ∙ getD-set-same w (565 + 3 * count) (p .place) 0 (omega (arith, wide, room))
 
   bytes-are : getD w₄ (566 + 3 * count) 0 ≡ p .bytes .0
   bytes-are =
       ap (λ (i : ℕ). getD w₄ i 0) next
       ∙ getD-set-other w₃ 564 (565 + 3 * count + 1) (count + 1) 0 (λ h. absurd (omega (arith, h)))
       ∙ getD-set-other w₂ (565 + 3 * count + 2) (565 + 3 * count + 1) n 0 (λ h. absurd (omega (arith, h)))
-      ∙ getD-set-same w₁ (565 + 3 * count + 1) (p .bytes .0) 0 (omega (arith, size₁, room))
+      ∙ getD-set-same w₁ (565 + 3 * count + 1) (p .bytes .0) 0 (omega (arith, size₁, wide, room))
     where
       next : 566 + 3 * count ≡ 565 + 3 * count + 1
       next = omega arith
@@ -206,7 +206,7 @@ module _ (w : List ℕ) (t : Tidy w) (p : Part) (n count : ℕ) (e : count ≡ a
   number-is =
       ap (λ (i : ℕ). getD w₄ i 0) next
       ∙ getD-set-other w₃ 564 (565 + 3 * count + 2) (count + 1) 0 (λ h. absurd (omega (arith, h)))
-      ∙ getD-set-same w₂ (565 + 3 * count + 2) n 0 (omega (arith, size₂, room))
+      ∙ getD-set-same w₂ (565 + 3 * count + 2) n 0 (omega (arith, size₂, wide, room))
     where
       next : 567 + 3 * count ≡ 565 + 3 * count + 2
       next = omega arith
@@ -222,7 +222,7 @@ module _ (w : List ℕ) (t : Tidy w) (p : Part) (n count : ℕ) (e : count ≡ a
         let same-keys = known-below u w w₄ noted-below t in
         let same-count = count-below u w w₄ noted-below t in
         record {
-          tidy = still-tidy w w₄ (λ i m. noted-below i (omega (arith, m))) t (size₄ ∙ sym (t .size)) (rw same-count (t .keys));
+          tidy = still-tidy w w₄ (λ i m. noted-below i (omega (arith, m))) t size₄ (rw same-count (t .keys));
           few = omega (arith, noted-count, room);
           known = λ i m.
               split (λ (j : ℕ). aliasNumber w₄ j < keyCount w₄) count

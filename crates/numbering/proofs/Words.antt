@@ -72,7 +72,7 @@ module _ (w w₁ : List ℕ) (h : (i : ℕ) → i < 50 → getD w₁ i 0 ≡ get
 
   pub still-tidy : Tidy w → length w₁ ≡ length w → keyCount w₁ ≤ maxKeys → Tidy w₁
   still-tidy t s m = record {
-    size = s ∙ t .size;
+    size = rw s (t .size);
     sound = λ k l. subst (λ (e : Lane). Sound (e .run)) (sym (lane-same k l)) (t .sound k l);
     keys = m;
   }
@@ -140,31 +140,31 @@ module _ (w : List ℕ) (t : Tidy w) (count : ℕ) (e : count ≡ keyCount w) (p
   stored-other i a b c =
       getD-set-other w₂ 50 i (count + 1) 0 c ∙ getD-set-other w₁ (52 + 2 * count + 1) i (p .bytes .0) 0 b ∙ getD-set-other w (52 + 2 * count) i (p .place) 0 a
 
-  module _ (l : count < maxKeys) where
-    size₁ : length w₁ ≡ 1333
-    size₁ = length-set w (52 + 2 * count) (p .place) ∙ t .size
+  module _ (wide : 1333 ≤ length w) (l : count < maxKeys) where
+    size₁ : length w₁ ≡ length w
+    size₁ = length-set w (52 + 2 * count) (p .place)
 
-    size₂ : length w₂ ≡ 1333
+    size₂ : length w₂ ≡ length w
     size₂ = length-set w₁ (52 + 2 * count + 1) (p .bytes .0) ∙ size₁
 
-    size₃ : length w₃ ≡ 1333
+    size₃ : length w₃ ≡ length w
     size₃ = length-set w₂ 50 (count + 1) ∙ size₂
 
     stored-count : keyCount w₃ ≡ suc count
     unfolding keyCount
-    stored-count = getD-set-same w₂ 50 (count + 1) 0 (omega (arith, size₂)) ∙ add-one count
+    stored-count = getD-set-same w₂ 50 (count + 1) 0 (omega (arith, size₂, wide)) ∙ add-one count
 
     place-is : getD w₃ (52 + 2 * count) 0 ≡ p .place
     place-is =
         getD-set-other w₂ 50 (52 + 2 * count) (count + 1) 0 (λ h. absurd (omega arith))
         ∙ getD-set-other w₁ (52 + 2 * count + 1) (52 + 2 * count) (p .bytes .0) 0 (λ h. absurd (omega arith))
-        ∙ getD-set-same w (52 + 2 * count) (p .place) 0 (omega (arith, t .size))
+        ∙ getD-set-same w (52 + 2 * count) (p .place) 0 (omega (arith, wide))
 
     bytes-are : getD w₃ (53 + 2 * count) 0 ≡ p .bytes .0
     bytes-are =
         ap (λ (i : ℕ). getD w₃ i 0) next
         ∙ getD-set-other w₂ 50 (52 + 2 * count + 1) (count + 1) 0 (λ h. absurd (omega arith))
-        ∙ getD-set-same w₁ (52 + 2 * count + 1) (p .bytes .0) 0 (omega (arith, size₁))
+        ∙ getD-set-same w₁ (52 + 2 * count + 1) (p .bytes .0) 0 (omega (arith, size₁, wide))
       where
         next : 53 + 2 * count ≡ 52 + 2 * count + 1
         next = omega arith
@@ -198,7 +198,7 @@ module _ (w : List ℕ) (t : Tidy w) (count : ℕ) (e : count ≡ keyCount w) (p
         = λ i l. stored-other i (λ h. absurd (omega arith)) (λ h. absurd (omega arith)) (λ h. absurd (omega arith)) in
         record {
           lanes = lanes-same w w₃ low;
-          tidy = still-tidy w w₃ low t (size₃ ∙ sym (t .size)) (omega (arith, stored-count));
+          tidy = still-tidy w w₃ low t size₃ (omega (arith, stored-count));
           known = λ u. rw room (stored-known u);
           crowd = rw room stored-crowd;
           aliases = λ i m. stored-other i (λ h. absurd (omega arith)) (λ h. absurd (omega arith)) (λ h. absurd (omega arith));

@@ -3,6 +3,7 @@
 use text::Part;
 ghost use mathlib.Core.Path.{_≡_};
 ghost use Prim.Native.Nat.{_≤_, _<_};
+ghost use lib.ListN.{length};
 ghost use Rattle.decoder.specs.States.{maxKeys};
 ghost use Rattle.tokens.specs.Desk.{aliasCount, aliasAt, aliasNumber, Tidy};
 ghost use Rattle.numbering.specs.Numbering.{samePart, Notes};
@@ -14,7 +15,7 @@ pub const FIRST: usize = 565;
 
 // Whether alias i is a part: of the same place and of the same length, for a part may begin where another does.
 fn is_part(lanes: &[u64], i: usize, part: Part) -> bool
-    requires { ⌜ Tidy (now lanes) × (i < 256) ⌝ }
+    requires { ⌜ Tidy (now lanes) × (1333 ≤ length (now lanes)) × (i < 256) ⌝ }
     ensures { λ r. ⌜ r ≡ samePart (aliasAt (now (lanes .entry)) i) part ⌝ }
 {
     let base = FIRST + 3 * i;
@@ -27,7 +28,7 @@ fn is_part(lanes: &[u64], i: usize, part: Part) -> bool
 
 // A part's alias; how many there are, if it has none.
 pub fn find(lanes: &[u64], part: Part) -> usize
-    requires { ⌜ Tidy (now lanes) × (aliasCount (now lanes) ≤ maxKeys) ⌝ }
+    requires { ⌜ Tidy (now lanes) × (1333 ≤ length (now lanes)) × (aliasCount (now lanes) ≤ maxKeys) ⌝ }
     ensures { λ r. ⌜ (r < aliasCount (now (lanes .entry)) → aliasAt (now (lanes .entry)) r ≡ part) ⌝ }
 {
     let count = lanes[COUNT] as usize;
@@ -43,7 +44,7 @@ pub fn find(lanes: &[u64], part: Part) -> usize
 
 // Alias i's number.
 pub fn number(lanes: &[u64], i: usize) -> usize
-    requires { ⌜ Tidy (now lanes) × (i < 256) ⌝ }
+    requires { ⌜ Tidy (now lanes) × (1333 ≤ length (now lanes)) × (i < 256) ⌝ }
     ensures { λ r. ⌜ r ≡ aliasNumber (now (lanes .entry)) i ⌝ }
 {
     lanes[FIRST + 3 * i + 2] as usize
@@ -51,7 +52,7 @@ pub fn number(lanes: &[u64], i: usize) -> usize
 
 // An alias more, if its number is a known key's and there is room.
 pub fn note(lanes: &mut [u64], part: Part, number: usize)
-    requires { ⌜ Tidy (now lanes) × (aliasCount (now lanes) ≤ maxKeys) ⌝ }
+    requires { ⌜ Tidy (now lanes) × (1333 ≤ length (now lanes)) × (aliasCount (now lanes) ≤ maxKeys) ⌝ }
     ensures { λ _. ⌜ Notes part number (now (lanes .entry)) (now (lanes .exit)) ⌝ }
 {
     let known = lanes[crate::COUNT] as usize;

@@ -8,11 +8,12 @@ use text::Units;
 ghost use mathlib.Core.Path.{_≡_};
 ghost use mathlib.Core.List.{[], _∷_};
 ghost use Prim.Native.Nat.{_≤_, _<_};
+ghost use lib.ListN.{length};
 ghost use Rattle.text.specs.Utf8.{countedIn};
 ghost use Rattle.readings.specs.Sound.{bytesIn};
 ghost use Rattle.tokens.specs.Tokens.{key};
 ghost use Rattle.tokens.specs.Keys.{same, numberOf};
-ghost use Rattle.tokens.specs.Desk.{keyCount, keyAt, knownIn, Tidy, Aliased, WroteKeys};
+ghost use Rattle.tokens.specs.Desk.{keyCount, keyAt, knownIn, Tidy, Room, Aliased, WroteKeys};
 ghost use Rattle.numbering.specs.Numbering.{Remembers, SameBelow};
 
 // How many keys are known, whether one found no room, and the first key.
@@ -41,7 +42,7 @@ pub fn count_units(update: &[u8], part: Part) -> Units
 }
 
 fn known(lanes: &[u64], i: usize) -> Part
-    requires { ⌜ Tidy (now lanes) × (i < 256) ⌝ }
+    requires { ⌜ Tidy (now lanes) × (1333 ≤ length (now lanes)) × (i < 256) ⌝ }
     ensures { λ p. ⌜ p ≡ keyAt (now (lanes .entry)) i ⌝ }
 {
     let base = FIRST + 2 * i;
@@ -76,7 +77,7 @@ fn is_same(update: &[u8], p: Part, q: Part) -> bool
 
 // The number of a key: the next one, if it is not known.
 fn find(update: &[u8], lanes: &[u64], part: Part) -> usize
-    requires { ⌜ Tidy (now lanes) ⌝ }
+    requires { ⌜ Tidy (now lanes) × (1333 ≤ length (now lanes)) ⌝ }
     ensures { λ r. ⌜ r ≡ numberOf (bytesIn (now (update .entry)) part) (knownIn (now (update .entry)) (now (lanes .entry))) ⌝ }
 {
     let count = lanes[COUNT] as usize;
@@ -93,7 +94,7 @@ fn find(update: &[u8], lanes: &[u64], part: Part) -> usize
 
 // A key more, if there is room for it; if there is none, that is noted.
 fn remember(lanes: &mut [u64], count: usize, part: Part)
-    requires { ⌜ Tidy (now lanes) × (count ≡ keyCount (now lanes)) ⌝ }
+    requires { ⌜ Tidy (now lanes) × (1333 ≤ length (now lanes)) × (count ≡ keyCount (now lanes)) ⌝ }
     ensures { λ _. ⌜ Remembers part (now (lanes .entry)) (now (lanes .exit)) ⌝ }
 {
     if MAX_KEYS <= count {
@@ -111,7 +112,7 @@ fn remember(lanes: &mut [u64], count: usize, part: Part)
 // The number of a key, as `find` has it. In form 2 a long key stands once, and each block may name it: so a long one is compared the first two times that its
 // part is seen, and no more.
 fn look(update: &[u8], lanes: &mut [u64], part: Part) -> usize
-    requires { ⌜ Aliased (now update) (now lanes) ⌝ }
+    requires { ⌜ Aliased (now update) (now lanes) × (1333 ≤ length (now lanes)) ⌝ }
     ensures { λ r. ⌜ (r ≡ numberOf (bytesIn (now (update .entry)) part) (knownIn (now (update .entry)) (now (lanes .entry))))
         × SameBelow (now (lanes .entry)) (now (lanes .exit)) × Aliased (now (update .entry)) (now (lanes .exit)) ⌝ }
 {
@@ -138,7 +139,8 @@ pub fn write_key(
     at: usize,
     part: Part,
 ) -> usize
-    requires { ⌜ Aliased (now update) (now lanes) ⌝ }
+    requires { ⌜ Aliased (now update) (now lanes)
+        × Room form (key (bytesIn (now update) part) (countedIn (bytesIn (now update) part) .units .0) ∷ []) (now lanes) ⌝ }
     ensures { λ r. ⌜ WroteKeys (now (update .entry)) form
         (key (bytesIn (now (update .entry)) part) (countedIn (bytesIn (now (update .entry)) part) .units .0) ∷ [])
         (now (out .entry)) (now (lanes .entry)) at (now (out .exit)) (now (lanes .exit)) r ⌝ }

@@ -3,26 +3,26 @@ use Prim.Native.Nat.{ℕ}
 use mathlib.Core.Path.{_≡_, refl, sym, ap, _∙_}
 use mathlib.Core.Bool.{Bool, true, false}
 use mathlib.Core.List.{List, [], _∷_, _++_}
+use native.Mathlib.Omega.{arith}
 use lib.Dec.{eqb}
-use lib.ListN.{length, take, replicate}
+use lib.ListN.{length, take}
 use lib.Seq.{take-at}
 use borrow.Author.Tests.{eqb-true, eqb-false}
 use Rattle.numbers.specs.Number.{pick, unsigned}
 use Rattle.tokens.specs.Tokens.{Token, var, keys, rest, whole}
 use Rattle.tokens.specs.Keys.{manyKeys, crowded}
-use Rattle.tokens.specs.KeysInner.{spelled}
+use Rattle.tokens.specs.KeysInner.{isKey, keyless, spelled, knownAfter}
 use Rattle.tokens.specs.Lanes.{Lane, freshLane, ahead, laidAt, putAll, laidAll}
-use Rattle.tokens.specs.Desk.{putTokens, laidTokens, laneIn, lanesIn, deskIn, keyCount, knownIn, crowdedIn, aliasCount, Tidy, closedEach, laidEnds, WroteKeys}
+use Rattle.tokens.specs.Desk.{putTokens, laidTokens, lanesIn, deskIn, keyCount, knownIn, crowdedIn, aliasCount, Tidy, Room, Blank, closedEach, laidEnds, WroteKeys}
 use Rattle.tokens.proofs.Wrote.{wrote-var}
-use Rattle.tokens.proofs.Keys.{isKey, keyless}
-use Rattle.tokens.proofs.Keyed.{known-none, zeros-known, zeros-crowd, wrote-keys, wrote-keys-then}
+use Rattle.tokens.proofs.Keyed.{known-none, crowd-none, wrote-keys, wrote-keys-then}
 use Rattle.records.specs.DeleteRows.{InLine}
 use Rattle.passes.specs.declared.Measured.{Measured}
 use Rattle.passes.specs.Measures.{measuredFor}
 use Rattle.passes.specs.Forms.{freshFrom, measured, placesOf, anyFar, sizesFor, farFor, begun, ledBytes, lastPlace, endFor, outFor}
 use Rattle.passes.proofs.Apart.{lanes-put, none-put}
 use Rattle.passes.proofs.Plain.{count-spelled}
-use Rattle.passes.proofs.Places.{ends-line, ends-lanes}
+use Rattle.passes.proofs.Places.{blank-lane, ends-line, ends-lanes}
 
 -- ---- measured
 
@@ -35,9 +35,21 @@ all-many : (es : List Lane) (ts : List Token) → length (putTokens es ts) ≡ l
 all-many [] ts = rw (none-put ts)
 all-many (e ∷ es) ts = rw (lanes-put ts e es, all-many es ts)
 
-fresh-lanes : lanesIn (replicate {A = ℕ} 1333 0) ≡ freshFrom keys 10
-unfolding lanesIn laneIn freshFrom
-fresh-lanes = refl
+fresh-lanes : (w : List ℕ) → Blank w → lanesIn w ≡ freshFrom keys 10
+unfolding lanesIn freshFrom
+fresh-lanes w b =
+    rw (
+      blank-lane w b 0 (omega arith),
+      blank-lane w b 1 (omega arith),
+      blank-lane w b 2 (omega arith),
+      blank-lane w b 3 (omega arith),
+      blank-lane w b 4 (omega arith),
+      blank-lane w b 5 (omega arith),
+      blank-lane w b 6 (omega arith),
+      blank-lane w b 7 (omega arith),
+      blank-lane w b 8 (omega arith),
+      blank-lane w b 9 (omega arith),
+    )
 
 ten : (w : List ℕ) → length (lanesIn w) ≡ 10
 unfolding lanesIn
@@ -49,15 +61,12 @@ module _ (form : ℕ) (ts : List Token) where
   unfolding measuredFor farFor manyKeys sizesFor
   measured-line z f = rw f (refl, refl)
 
-  module _ {u out out₁ w₁ : List ℕ} {r : ℕ} (f : eqb form 1 ≡ false) (wrote : WroteKeys u form ts out (replicate {A = ℕ} 1333 0) 0 out₁ w₁ r) where
-    abbrev zeros : List ℕ
-    zeros = replicate {A = ℕ} 1333 0
-
+  module _ {u out zeros out₁ w₁ : List ℕ} {r : ℕ} (f : eqb form 1 ≡ false) (blank : Blank zeros) (wrote : WroteKeys u form ts out zeros 0 out₁ w₁ r) where
     abbrev ps : List Token
     ps = spelled form [] ts
 
     desk-put : deskIn form w₁ r ≡ putTokens (deskIn form zeros 0) ps
-    desk-put = wrote .desk ∙ ap (λ (ks : List (List ℕ)). putTokens (deskIn form zeros 0) (spelled form ks ts)) (zeros-known u)
+    desk-put = wrote .desk ∙ ap (λ (ks : List (List ℕ)). putTokens (deskIn form zeros 0) (spelled form ks ts)) (known-none u zeros (blank .keys))
 
     all-lanes : lanesIn w₁ ++ (freshLane rest r ∷ []) ≡ putTokens (lanesIn zeros ++ (freshLane rest 0 ∷ [])) ps
     unfolding deskIn
@@ -68,15 +77,15 @@ module _ (form : ℕ) (ts : List Token) where
         let old = lanesIn zeros in
         sym (take-at (lanesIn w₁) (freshLane rest r ∷ []) 10 (ten w₁)) ∙ ap (take 10) (all-lanes ∙ all-append old (freshLane rest 0 ∷ []) ps)
         ∙ take-at (putTokens old ps) (putTokens (freshLane rest 0 ∷ []) ps) 10 (all-many old ps ∙ ten zeros)
-        ∙ ap (λ (es : List Lane). putTokens es ps) fresh-lanes
+        ∙ ap (λ (es : List Lane). putTokens es ps) (fresh-lanes zeros blank)
 
     -- the keys crowd the words as they crowd form 2
     many : crowdedIn w₁ ≡ manyKeys form ts
     unfolding manyKeys
     many =
         wrote .crowd
-        ∙ ap (λ (b : Bool). pick b true (pick (eqb form 1) false (crowded (knownIn u zeros) ts))) zeros-crowd
-        ∙ ap (λ (ks : List (List ℕ)). pick (eqb form 1) false (crowded ks ts)) (zeros-known u)
+        ∙ ap (λ (b : Bool). pick b true (pick (eqb form 1) false (crowded (knownIn u zeros) ts))) (crowd-none zeros (blank .crowd))
+        ∙ ap (λ (ks : List (List ℕ)). pick (eqb form 1) false (crowded ks ts)) (known-none u zeros (blank .keys))
 
     pub measured-lanes : (w₂ : List ℕ) → lanesIn w₂ ≡ closedEach (lanesIn w₁) → (z : List ℕ)
         → (record { far = anyFar (lanesIn w₂); crowded = crowdedIn w₁ } ≡ measuredFor form ts) × (placesOf (lanesIn w₂) ≡ sizesFor form (spelled form [] ts) z)
@@ -87,6 +96,21 @@ module _ (form : ℕ) (ts : List Token) where
       where
         measuredSo : Bool → Measured
         measuredSo b = record { far = b; crowded = manyKeys form ts }
+
+  -- measured as form 2, whatever the form is that is not form 1
+  pub as-form : {u out w out₁ w₁ : List ℕ} {at r : ℕ} → eqb form 1 ≡ false → WroteKeys u 2 ts out w at out₁ w₁ r → WroteKeys u form ts out w at out₁ w₁ r
+  unfolding deskIn spelled knownAfter
+  as-form f h = record {
+    desk = rw f (h .desk);
+    bytes = rw f (h .bytes);
+    tidy = h .tidy;
+    known = rw f (h .known);
+    crowd = rw f (h .crowd);
+    aliased = h .aliased;
+  }
+
+  pub as-two : {w : List ℕ} → eqb form 1 ≡ false → Room form ts w → Room 2 ts w
+  as-two f r = record { words = λ h. r .words (rw f h) }
 
 -- ---- written
 

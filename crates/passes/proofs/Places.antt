@@ -8,14 +8,14 @@ use native.Mathlib.Omega.{arith}
 use native.Mathlib.Numerals.{add-one}
 use borrow.Author.Tests.{eq-eqb, ne-eqb, lt-ltb, eqb-true, eqb-false}
 use lib.Dec.{ltb, leb, eqb}
-use lib.ListN.{length, getD, set, take, replicate, length-set, length-replicate, getD-replicate}
+use lib.ListN.{length, getD, set, take, length-set, List·getD-eq-default}
 use lib.Seq.{getD-set-same, getD-set-other, take-suc-set, take-all}
 use Rattle.numbers.specs.Number.{pick}
 use Rattle.runs.specs.Writer.{Sound}
 use Rattle.parts.specs.Brim.{brim}
 use Rattle.tokens.specs.Tokens.{Token, var, keys, texts, units, rest, whole, inLine}
 use Rattle.tokens.specs.Lanes.{Lane, freshLane, movedTo, lay, laidBytes, lastRun, laidEnd}
-use Rattle.tokens.specs.Desk.{laneIn, lanesIn, deskIn, keyCount, aliasCount, Tidy, Aliased, laidEnds}
+use Rattle.tokens.specs.Desk.{laneIn, lanesIn, deskIn, keyCount, aliasCount, Tidy, Blank, Aliased, laidEnds}
 use Rattle.tokens.proofs.Keyed.{aliased-none}
 use Rattle.records.specs.DeleteRows.{InLine}
 use Rattle.records.proofs.Lines.{line-none, line-is}
@@ -75,7 +75,7 @@ first-same w w′ (suc n) h = rw (first-same w w′ n (λ j l. h j (omega (arith
 
 -- ---- a place noted
 
-module _ (w : List ℕ) (size : length w ≡ 1333) (k : ℕ) (l : k < 10) (at : ℕ) where
+module _ (w : List ℕ) (size : 52 ≤ length w) (k : ℕ) (l : k < 10) (at : ℕ) where
   pub own-place : laneIn (set w (5 * k) at) k ≡ movedTo (laneIn w k) at
   unfolding laneIn
   own-place =
@@ -116,46 +116,39 @@ other-aliases w k l at = getD-set-other w (5 * k) 564 at 0 (λ q. absurd (omega 
 abbrev pub Fresh : List ℕ → Type 0
 Fresh w = (j : ℕ) → j < 10 → laneIn w j ≡ freshLane j (laneIn w j .run .at)
 
-pub fresh-words : Fresh (replicate {A = ℕ} 1333 0)
-unfolding laneIn
-fresh-words zero l = refl
-fresh-words (suc zero) l = refl
-fresh-words (suc (suc zero)) l = refl
-fresh-words (suc (suc (suc zero))) l = refl
-fresh-words (suc (suc (suc (suc zero)))) l = refl
-fresh-words (suc (suc (suc (suc (suc zero))))) l = refl
-fresh-words (suc (suc (suc (suc (suc (suc zero)))))) l = refl
-fresh-words (suc (suc (suc (suc (suc (suc (suc zero))))))) l = refl
-fresh-words (suc (suc (suc (suc (suc (suc (suc (suc zero)))))))) l = refl
-fresh-words (suc (suc (suc (suc (suc (suc (suc (suc (suc zero))))))))) l = refl
-fresh-words (suc (suc (suc (suc (suc (suc (suc (suc (suc (suc j)))))))))) l = absurd (omega (arith, l))
+module _ (w : List ℕ) (b : Blank w) where
+  pub blank-lane : (k : ℕ) → k < 10 → laneIn w k ≡ freshLane k 0
+  unfolding laneIn
+  blank-lane k l =
+      rw (
+        b .lanes (5 * k) (omega (arith, l)),
+        b .lanes (5 * k + 1) (omega (arith, l)),
+        b .lanes (5 * k + 2) (omega (arith, l)),
+        b .lanes (5 * k + 3) (omega (arith, l)),
+        b .lanes (5 * k + 4) (omega (arith, l)),
+      )
 
--- no key is known, and none has an alias
-pub no-keys : keyCount (replicate {A = ℕ} 1333 0) ≡ 0
-unfolding keyCount
-no-keys = getD-replicate {A = ℕ} 1333 50 0 0 (omega arith)
+  pub blank-fresh : Fresh w
+  blank-fresh k l = rw (blank-lane k l)
 
-no-aliases : aliasCount (replicate {A = ℕ} 1333 0) ≡ 0
-unfolding aliasCount
-no-aliases = getD-replicate {A = ℕ} 1333 564 0 0 (omega arith)
-
-pub fresh-tidy : (w : List ℕ) → length w ≡ 1333 → Fresh w → keyCount w ≡ 0 → Tidy w
+pub fresh-tidy : (w : List ℕ) → 52 ≤ length w → Fresh w → keyCount w ≡ 0 → Tidy w
 fresh-tidy w size h none = record {
   size = size;
   sound = λ k l. subst (λ (e : Lane). Sound (e .run)) (sym (h k l)) (omega arith, omega arith);
   keys = omega (arith, none);
 }
 
-tidy-words : Tidy (replicate {A = ℕ} 1333 0)
-tidy-words = fresh-tidy (replicate {A = ℕ} 1333 0) (length-replicate {A = ℕ} 1333 0) fresh-words no-keys
+pub blank-tidy : (w : List ℕ) → Blank w → Tidy w
+blank-tidy w b = fresh-tidy w (b .size) (blank-fresh w b) (b .keys)
 
-pub aliased-words : (u : List ℕ) → Aliased u (replicate {A = ℕ} 1333 0)
-aliased-words u = aliased-none u (replicate {A = ℕ} 1333 0) tidy-words no-aliases
+-- no key is known, and none has an alias
+pub blank-aliased : (u w : List ℕ) → Blank w → Aliased u w
+blank-aliased u w b = aliased-none u w (blank-tidy w b) (b .aliases)
 
 -- what leads the lanes from lane k on, and where they begin, are what they are from the first on
 pub record Opening (out₀ z out w : List ℕ) (at k : ℕ) : Type 0 where
   pub below : k ≤ 10
-  pub size : length w ≡ 1333
+  pub size : 52 ≤ length w
   pub fresh : Fresh w
   pub keys : keyCount w ≡ 0
   pub aliases : aliasCount w ≡ 0
@@ -176,15 +169,15 @@ unfolding ledFrom
 led-one out o z k at r l h h′ = rw (one-more k l, h, h′)
 
 module _ (out₀ z : List ℕ) where
-  pub opens : (w : List ℕ) → w ≡ replicate {A = ℕ} 1333 0 → Opening out₀ z out₀ w 0 0
+  pub opens : (w : List ℕ) → Blank w → Opening out₀ z out₀ w 0 0
   unfolding firstIn
-  opens w h = rw h (record { below = omega arith; size = length-replicate {A = ℕ} 1333 0; fresh = fresh-words; keys = no-keys; aliases = no-aliases; lanes = refl; bytes = refl })
+  opens w h = record { below = omega arith; size = h .size; fresh = blank-fresh w h; keys = h .keys; aliases = h .aliases; lanes = refl; bytes = refl }
 
   pub opens-on : {out o w : List ℕ} {at k r : ℕ} → Opening out₀ z out w at k → k < 10 → (r ≡ leadEnd z k at) × (o ≡ leadBytes out z k at)
       → Opening out₀ z o (set w (5 * k) r) (onTo r (getD z k 0)) (k + 1)
   opens-on {out} {o} {w} {at} {k} {r} g l h = record {
     below = omega (arith, l);
-    size = length-set w (5 * k) r ∙ g .size;
+    size = rw (length-set w (5 * k) r) (g .size);
     fresh = λ j b. still j b (eqb j k) refl;
     keys = other-keys w k l r ∙ g .keys;
     aliases = other-aliases w k l r ∙ g .aliases;
@@ -234,11 +227,57 @@ module _ (out₀ z : List ℕ) where
         g .aliases,
       )
 
-  pub opened-line : {form : ℕ} {w : List ℕ} → form ≡ 1 → w ≡ replicate {A = ℕ} 1333 0 → Opened form out₀ w 0
+  pub opened-line : {form : ℕ} {w : List ℕ} → form ≡ 1 → Blank w → Opened form out₀ w 0
   unfolding deskIn firstLane lanesOf begunFrom ledFrom
   opened-line {form} {w} f h =
       let n = lead-is z whole {out = out₀} {at = 0} (whole-tokens z whole refl) line-none in
-      rw (eq-eqb form 1 f) (ap (λ (a : ℕ). freshLane whole a ∷ []) (n .0), n .1, fresh-tidy w (rw h (length-replicate {A = ℕ} 1333 0)) (rw h fresh-words) (rw h no-keys), rw h no-keys, rw h no-aliases)
+      rw (eq-eqb form 1 f) (ap (λ (a : ℕ). freshLane whole a ∷ []) (n .0), n .1, blank-tidy w h, h .keys, h .aliases)
+
+-- ---- words cleared, the first i of them
+
+pub record Clearing (w : List ℕ) (i : ℕ) : Type 0 where
+  pub below : i ≤ 52
+  pub size : 52 ≤ length w
+  pub zeros : (j : ℕ) → j < i → getD w j 0 ≡ 0
+
+pub clears : (w : List ℕ) → 52 ≤ length w → Clearing w 0
+clears w h = record { below = omega arith; size = h; zeros = λ j l. absurd (omega (arith, l)) }
+
+pub clears-on : {w : List ℕ} {i : ℕ} → Clearing w i → i < 52 → Clearing (set w i 0) (i + 1)
+clears-on {w} {i} g l = record {
+  below = omega (arith, l);
+  size = rw (length-set w i 0) (g .size);
+  zeros = λ j m. go j m (eqb j i) refl;
+}
+  where
+    go : (j : ℕ) → j < i + 1 → (b : Bool) → eqb j i ≡ b → getD (set w i 0) j 0 ≡ 0
+    go j m true e = let q = eqb-true j i e in rw q (getD-set-same w i 0 0 (omega (arith, l, g .size)))
+    go j m false e = let d = eqb-false j i e in getD-set-other w i j 0 0 d ∙ g .zeros j (omega (arith, m, d))
+
+module _ {w : List ℕ} {i : ℕ} (g : Clearing w i) (l : 52 ≤ i) where
+  -- there are no words for aliases
+  pub cleared-short : length w ≤ 564 → Blank w
+  unfolding keyCount aliasCount
+  cleared-short s = record {
+    size = g .size;
+    lanes = λ j m. g .zeros j (omega (arith, m, l));
+    keys = g .zeros 50 (omega (arith, l));
+    crowd = g .zeros 51 (omega (arith, l));
+    aliases = List·getD-eq-default w 0 {n = 564} s;
+  }
+
+  pub cleared : 564 < length w → Blank (set w 564 0)
+  unfolding keyCount aliasCount
+  cleared s = record {
+    size = rw (length-set w 564 0) (g .size);
+    lanes = λ j m. other j (omega (arith, m));
+    keys = other 50 (omega arith);
+    crowd = other 51 (omega arith);
+    aliases = getD-set-same w 564 0 0 s;
+  }
+    where
+      other : (j : ℕ) → j < 52 → getD (set w 564 0) j 0 ≡ 0
+      other j m = getD-set-other w 564 j 0 0 (λ q. absurd (omega (arith, m, q))) ∙ g .zeros j (omega (arith, m, l))
 
 -- ---- ends: a lane in line has none
 

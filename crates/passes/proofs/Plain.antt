@@ -9,11 +9,11 @@ use Rattle.numbers.specs.Number.{pick}
 use Rattle.readings.specs.Sound.{All}
 use Rattle.tokens.specs.Tokens.{Token, var, lefts, rights, rest, whole, taken, takenAll, inLine, lane}
 use Rattle.tokens.specs.Keys.{numbered, manyKeys, crowded}
-use Rattle.tokens.specs.KeysInner.{spelled, knownAfter, keysAfter}
+use Rattle.tokens.specs.KeysInner.{isKey, keyless, spelled, knownAfter, keysAfter}
 use Rattle.tokens.specs.Bytes.{form1, form2, bytesOf, nearIn, near}
 use Rattle.tokens.proofs.Taking.{var-line, var-rest, var-other}
 use Rattle.tokens.proofs.Fitting.{taken-append}
-use Rattle.tokens.proofs.Keys.{isKey, keyless, keyless-all, keyless-spelled, spelled-append, crowded-append}
+use Rattle.tokens.proofs.Keys.{keyless-all, keyless-spelled, spelled-append, crowded-append}
 
 -- a token that no lane takes but the one in line, in either form the same
 pub record Plain (t : Token) : Type 0 where

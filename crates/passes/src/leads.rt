@@ -1,8 +1,8 @@
 // What leads the lanes of a form, where they begin, and their ends.
 ghost use mathlib.Core.Path.{_≡_};
-ghost use Prim.Native.Nat.{ℕ, _<_};
-ghost use lib.ListN.{length, replicate};
-ghost use Rattle.tokens.specs.Desk.{deskIn, lanesIn, keyCount, crowdedIn, aliasCount, Tidy, laidEnds};
+ghost use Prim.Native.Nat.{_≤_, _<_};
+ghost use lib.ListN.{length};
+ghost use Rattle.tokens.specs.Desk.{deskIn, lanesIn, keyCount, crowdedIn, aliasCount, Tidy, Blank, laidEnds};
 ghost use Rattle.passes.specs.Forms.{placesOf, anyFar, textSize, isBare, leadEnd, leadBytes, onTo, begun, ledBytes};
 
 // The text column has its texts, led by their length, and their units.
@@ -56,9 +56,28 @@ fn on_to(at: usize, size: u64) -> usize
     at + size as usize
 }
 
+// The words of the lanes, how many they are with the two of the keys behind them.
+const LANES: usize = 52;
+
+// Words in which nothing is written and no key is known, whatever stood in them.
+pub fn clear(lanes: &mut [u64])
+    requires { ⌜ 52 ≤ length (now lanes) ⌝ }
+    ensures { λ _. ⌜ Blank (now (lanes .exit)) ⌝ }
+{
+    let mut i = 0;
+    while i < LANES {
+        lanes[i] = 0;
+        i += 1;
+    }
+    if lanes.len() <= numbering::aliases::COUNT {
+        return;
+    }
+    lanes[numbering::aliases::COUNT] = 0;
+}
+
 // The lanes of a form at their beginnings, what leads them written; the place in line.
 pub fn open(out: &mut [u8], lanes: &mut [u64], sizes: &[u64], form: u8) -> usize
-    requires { ⌜ (length (now sizes) ≡ 10) × (now lanes ≡ replicate {A = ℕ} 1333 0) ⌝ }
+    requires { ⌜ (length (now sizes) ≡ 10) × Blank (now lanes) ⌝ }
     ensures { λ r. ⌜ (deskIn form (now (lanes .exit)) r ≡ begun form (now (sizes .entry)))
         × (now (out .exit) ≡ ledBytes form (now (sizes .entry)) (now (out .entry)))
         × Tidy (now (lanes .exit)) × (keyCount (now (lanes .exit)) ≡ 0) × (aliasCount (now (lanes .exit)) ≡ 0) ⌝ }

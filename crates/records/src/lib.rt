@@ -11,7 +11,7 @@ ghost use Prim.Native.Nat.{_+_, _≤_};
 ghost use Rattle.numbers.specs.Number.{pick};
 ghost use Rattle.numbers.specs.Limits.{maxClock};
 ghost use Rattle.readings.specs.Sound.{linked};
-ghost use Rattle.tokens.specs.Desk.{Tidy, Aliased, Wrote, WroteKeys};
+ghost use Rattle.tokens.specs.Desk.{Tidy, Room, Aliased, Wrote, WroteKeys};
 ghost use Rattle.kept.specs.Plan.{restOf};
 ghost use Rattle.records.specs.Records.{infoByte, name, leftTokens, rightTokens, parentTokens, keyTokens};
 ghost use Rattle.records.specs.Records.{placeTokens, contentTokens, blockTokens};
@@ -24,7 +24,7 @@ fn bit(there: bool, n: u8) -> u8
 }
 
 // 128 for a left id, 64 for a right id, 32 for a key; the low bits are the content's number.
-fn info_byte(b: Block) -> u8
+pub fn info_byte(b: Block) -> u8
     ensures { λ r. ⌜ r ≡ infoByte b ⌝ }
 {
     let content = block::content_number(b.kind);
@@ -34,7 +34,7 @@ fn info_byte(b: Block) -> u8
     content + left + right + key
 }
 
-fn is_linked(b: Block) -> bool
+pub fn is_linked(b: Block) -> bool
     ensures { λ r. ⌜ r ≡ linked b ⌝ }
 {
     if b.has_left {
@@ -156,7 +156,7 @@ fn write_content(
     at: usize,
     b: Block,
 ) -> usize
-    requires { ⌜ Aliased (now update) (now lanes) ⌝ }
+    requires { ⌜ Aliased (now update) (now lanes) × Room form (contentTokens (now update) b) (now lanes) ⌝ }
     ensures { λ r. ⌜ WroteKeys (now (update .entry)) form (contentTokens (now (update .entry)) b)
         (now (out .entry)) (now (lanes .entry)) at (now (out .exit)) (now (lanes .exit)) r ⌝ }
 {
@@ -183,7 +183,7 @@ pub fn write_block(
     at: usize,
     b: Block,
 ) -> usize
-    requires { ⌜ Aliased (now update) (now lanes) ⌝ }
+    requires { ⌜ Aliased (now update) (now lanes) × Room form (blockTokens (now update) b) (now lanes) ⌝ }
     ensures { λ r. ⌜ WroteKeys (now (update .entry)) form (blockTokens (now (update .entry)) b)
         (now (out .entry)) (now (lanes .entry)) at (now (out .exit)) (now (lanes .exit)) r ⌝ }
 {
@@ -236,7 +236,8 @@ pub fn write_row(
     c: Cursor,
     b: Block,
 ) -> usize
-    requires { ⌜ Aliased (now update) (now lanes) ⌝ }
+    requires { ⌜ Aliased (now update) (now lanes)
+        × Room form (rowTokens (now update) (c .head) (restOf b (c .from .0) (c .skip .0)) b) (now lanes) ⌝ }
     ensures { λ r. ⌜ WroteKeys (now (update .entry)) form (rowTokens (now (update .entry)) (c .head) (restOf b (c .from .0) (c .skip .0)) b)
         (now (out .entry)) (now (lanes .entry)) at (now (out .exit)) (now (lanes .exit)) r ⌝ }
 {

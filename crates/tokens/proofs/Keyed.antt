@@ -4,16 +4,16 @@ use mathlib.Core.Path.{_≡_, refl, sym, ap, subst, _∙_}
 use mathlib.Core.Bool.{Bool, true, false}
 use mathlib.Core.List.{List, [], _++_}
 use native.Mathlib.Omega.{arith}
-use lib.ListN.{length, getD, replicate, getD-replicate}
+use lib.ListN.{length, getD}
 use borrow.Author.Tests.{eq-eqb}
 use Rattle.numbers.specs.Number.{pick}
 use Rattle.tokens.specs.Tokens.{Token}
 use Rattle.decoder.specs.States.{maxKeys}
-use Rattle.tokens.specs.KeysInner.{spelled, knownAfter}
+use Rattle.tokens.specs.KeysInner.{keyless, spelled, knownAfter}
 use Rattle.tokens.specs.Lanes.{Lane}
 use Rattle.tokens.specs.Desk.{putTokens, laidTokens, deskIn, keyCount, keyAt, knownFrom, knownIn, crowdedIn, aliasCount, aliasAt, aliasNumber, Tidy, Aliased, SameKeys, Wrote, WroteKeys}
 use Rattle.tokens.proofs.Wrote.{each-append, laid-each-append, wrote-none}
-use Rattle.tokens.proofs.Keys.{spelled-append, known-append, crowd-append, keyless, keyless-spelled, keyless-known, keyless-crowd}
+use Rattle.tokens.proofs.Keys.{spelled-append, known-append, crowd-append, keyless-spelled, keyless-known, keyless-crowd}
 
 -- ---- the keys known
 
@@ -64,13 +64,6 @@ known-none u w h = rw h
 pub crowd-none : (w : List ℕ) → getD w 51 0 ≡ 0 → crowdedIn w ≡ false
 unfolding crowdedIn
 crowd-none w h = rw h
-
-pub zeros-known : (u : List ℕ) → knownIn u (replicate {A = ℕ} 1333 0) ≡ []
-unfolding keyCount
-zeros-known u = known-none u (replicate {A = ℕ} 1333 0) (getD-replicate {A = ℕ} 1333 50 0 0 (omega arith))
-
-pub zeros-crowd : crowdedIn (replicate {A = ℕ} 1333 0) ≡ false
-zeros-crowd = crowd-none (replicate {A = ℕ} 1333 0) (getD-replicate {A = ℕ} 1333 51 0 0 (omega arith))
 
 pub aliased-none : (u w : List ℕ) → Tidy w → aliasCount w ≡ 0 → Aliased u w
 aliased-none u w t h = record { tidy = t; few = omega (arith, h); known = λ i l. absurd (omega (arith, h)); right = λ i l. absurd (omega (arith, h)) }

@@ -14,22 +14,13 @@ use Rattle.runs.specs.Runs.{coding, nearKey, spellable}
 use Rattle.tokens.specs.Tokens.{Token, field, text, var, buf, key, value, values, keys, texts, units, whole, taken, takenAll, columnIn}
 use Rattle.decoder.specs.States.{maxKeys}
 use Rattle.tokens.specs.Keys.{same, numberOf, isKnown, isFull, remembered, crowded, byNumber, numbered}
-use Rattle.tokens.specs.KeysInner.{keysAfter, spelled, knownAfter}
+use Rattle.tokens.specs.KeysInner.{isKey, keyless, keysAfter, spelled, knownAfter}
 use Rattle.tokens.proofs.Laying.{pick-same}
 use Rattle.tokens.proofs.Taking.{field-own, field-other, text-other, key-other}
 use Rattle.tokens.proofs.Passes.{no-bytes}
 use Rattle.tokens.proofs.Fitting.{legal, legalAll, sizeOf, sizeAll, taken-append, size-append, legal-append}
 
 -- ---- a key, and any other token
-
-unfoldable pub isKey : Token → Bool
-isKey (key b n) = true
-isKey (field j v) = false
-isKey (text b n) = false
-isKey (var v) = false
-isKey (buf b) = false
-isKey (value b) = false
-isKey (values b) = false
 
 module _ (P : Token → Type 0) (own : (b : List ℕ) (n : ℕ) → P (key b n)) (other : (t : Token) → isKey t ≡ false → P t) where
   pub by-key : (t : Token) → P t
@@ -163,10 +154,6 @@ module _ (form : ℕ) (ks : List (List ℕ)) (a c : List Token) where
       go false false = crowded-append ks a c
 
 -- ---- tokens without keys
-
-unfoldable pub keyless : List Token → Bool
-keyless [] = true
-keyless (t ∷ ts) = pick (isKey t) false (keyless ts)
 
 keyless-cons : (t : Token) (ts : List Token) → keyless (t ∷ ts) ≡ true → (isKey t ≡ false) × (keyless ts ≡ true)
 unfolding keyless

@@ -1,8 +1,8 @@
 -- The laws of tokens that are written: one put (Laying), a place in line (Places), what a lane takes of a token (Taking), parts of an update (Parts), how
 -- long a lane can be (Sizes), values onto their column (Values), passes over tokens (Passes), each as one put (Gathered), a lane from beginning to end
 -- (Written), and what makes it fit, token by token (Fitting). And of the lanes in words: stores to a lane's words (Words), a push (Pushes), the ends
--- (Ends), one token onto all lanes of a form (Deskwise), and writers one after the other (Wrote). And keys by number: their laws (Keys), and what is
--- written (Keyed). And an update of Yjs's in both forms (Example).
+-- (Ends), one token onto all lanes of a form (Deskwise), and writers one after the other (Wrote). And keys by number: their laws (Keys), what is
+-- written (Keyed), and words for them (Rooms). And what is measured and not written (Sized). And an update of Yjs's in both forms (Example).
 pub mod Laying
 pub mod Places
 pub mod Taking
@@ -20,4 +20,6 @@ pub mod Deskwise
 pub mod Wrote
 pub mod Keys
 pub mod Keyed
+pub mod Rooms
+pub mod Sized
 pub mod Example

@@ -166,14 +166,20 @@ module _ {w w₀ : List ℕ} {k v last key : ℕ} (s : Takes w w₀ k v last key
         let h = same-key out (laneIn w k) v takes-it (n ∙ key-it) in
         (way false (getD w (5 * k) 0) (getD w (5 * k + 3) 0 + 1) w₁ h (sym (add-zero (getD w (5 * k) 0))) refl b, unchanged h)
 
+    -- the lane then, whether it is written or measured
+    pub lane-ended : (at : ℕ) (w₁ : List ℕ) → getD w (5 * k + 3) 0 ≢ 0 → getD w (5 * k + 2) 0 ≢ key
+        → at ≡ getD w (5 * k) 0 + length (coding (columnIn k) .spell (getD w (5 * k + 2) 0) (getD w (5 * k + 3) 0 - 1))
+        → Alone k (notedLane w₀ k at last key 1) w₀ w₁ → Alone k (pushedOn (laneIn w k) v) w w₁
+    unfolding laneIn
+    lane-ended at w₁ n d p b = way true at 1 w₁ (other-key out (laneIn w k) v takes-it n (λ e. d (e ∙ sym key-it))) p refl b
+
     pub way-ended : (at : ℕ) (w₁ out₁ : List ℕ) → getD w (5 * k + 3) 0 ≢ 0 → getD w (5 * k + 2) 0 ≢ key
         → at ≡ getD w (5 * k) 0 + length (coding (columnIn k) .spell (getD w (5 * k + 2) 0) (getD w (5 * k + 3) 0 - 1))
         → out₁ ≡ lay out (getD w (5 * k) 0) (coding (columnIn k) .spell (getD w (5 * k + 2) 0) (getD w (5 * k + 3) 0 - 1))
         → Alone k (notedLane w₀ k at last key 1) w₀ w₁ → Pushes out w k v w₁ out₁
     unfolding laneIn
     way-ended at w₁ out₁ n d p q b =
-        let h = other-key out (laneIn w k) v takes-it n (λ e. d (e ∙ sym key-it)) in
-        (way true at 1 w₁ h p refl b, q ∙ bytes out (laneIn w k) v takes-it true h)
+        (lane-ended at w₁ n d p b, q ∙ bytes out (laneIn w k) v takes-it true (other-key out (laneIn w k) v takes-it n (λ e. d (e ∙ sym key-it))))
 
 -- ---- the lane's far
 

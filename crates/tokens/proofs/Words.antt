@@ -65,7 +65,7 @@ module _ (k : ℕ) (w : List ℕ) (t : Tidy w) (l : k < 10) where
   alone-own e w₁ o own s = record {
     own = own;
     others = λ j m n. lane-other k w w₁ o j n;
-    tidy = record { size = o .size ∙ t .size; sound = sound; keys = few-keys w₁ (keys-other k l w w₁ o) };
+    tidy = record { size = rw (o .size) (t .size); sound = sound; keys = few-keys w₁ (keys-other k l w w₁ o) };
     keys = keys-other k l w w₁ o;
   }
     where

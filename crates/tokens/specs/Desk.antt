@@ -1,6 +1,6 @@
 -- The lanes of a form side by side, a token at a time: form 1 has one lane, form 2 eleven, and each takes its own of every token. The states of the ten
--- lanes before the last are words, five a lane; behind them stand the keys known, two words a key, and their aliases, three words each. The last lane,
--- and form 1's only one, is all in line: its state is its place.
+-- lanes before the last are words, five a lane; behind them stand the keys known, two words a key, and their aliases, three words each, where there are
+-- keys to remember. The last lane, and form 1's only one, is all in line: its state is its place.
 use Prim.Native.Nat.{ℕ, zero, suc, _+_, _*_, _≤_, _<_}
 use mathlib.Core.Path.{_≡_}
 use mathlib.Core.Logic.{_≢_}
@@ -15,7 +15,7 @@ use Rattle.readings.specs.Sound.{bytesIn}
 use Rattle.tokens.specs.Tokens.{Token, columnIn, rest, whole}
 use Rattle.decoder.specs.States.{maxKeys}
 use Rattle.tokens.specs.Keys.{numberOf, crowded}
-use Rattle.tokens.specs.KeysInner.{spelled, knownAfter}
+use Rattle.tokens.specs.KeysInner.{keyless, spelled, knownAfter}
 use Rattle.tokens.specs.Lanes.{Lane, freshLane, put, laid, pushedOn, laidValue, closed, laidEnd}
 
 -- ---- a token onto every lane
@@ -94,9 +94,21 @@ aliasNumber w i = getD w (567 + 3 * i) 0
 
 -- what words have at all times
 pub record Tidy (w : List ℕ) : Type 0 where
-  pub size : length w ≡ 1333
+  pub size : 52 ≤ length w
   pub sound : (k : ℕ) → k < 10 → Sound (laneIn w k .run)
   pub keys : keyCount w ≤ maxKeys
+
+-- where there are keys to remember, there are words for them: form 1 remembers none
+pub record Room (form : ℕ) (ts : List Token) (w : List ℕ) : Type 0 where
+  pub words : pick (eqb form 1) true (keyless ts) ≡ false → 1333 ≤ length w
+
+-- words in which nothing is written yet, and no key is known
+pub record Blank (w : List ℕ) : Type 0 where
+  pub size : 52 ≤ length w
+  pub lanes : (i : ℕ) → i < 50 → getD w i 0 ≡ 0
+  pub keys : keyCount w ≡ 0
+  pub crowd : getD w 51 0 ≡ 0
+  pub aliases : aliasCount w ≡ 0
 
 -- what they have besides, where keys of u are written: an alias has the number of its key, and that is known
 pub record Aliased (u w : List ℕ) : Type 0 where
@@ -132,3 +144,11 @@ pub record Alone (k : ℕ) (e : Lane) (w w₁ : List ℕ) : Type 0 where
   pub others : (j : ℕ) → j < 10 → j ≢ k → laneIn w₁ j ≡ laneIn w j
   pub tidy : Tidy w₁
   pub keys : SameKeys w w₁
+
+-- ---- what measuring leaves: the words as if tokens were written where there is no room, wherever the place in line is
+
+abbrev pub Gauged : List Token → List ℕ → List ℕ → Type 0
+Gauged ts w w₁ = (at : ℕ) → (at₁ : ℕ) × Wrote 2 ts [] w at [] w₁ at₁
+
+abbrev pub Sized : List ℕ → List Token → List ℕ → List ℕ → Type 0
+Sized u ts w w₁ = (at : ℕ) → (at₁ : ℕ) × WroteKeys u 2 ts [] w at [] w₁ at₁

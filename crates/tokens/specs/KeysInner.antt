@@ -1,10 +1,26 @@
 -- Beside Keys: what inner functions say and proofs need. No promise comes to it.
 use Prim.Native.Nat.{ℕ}
+use mathlib.Core.Bool.{Bool, true, false}
 use mathlib.Core.List.{List, [], _∷_}
 use lib.Dec.{eqb}
 use Rattle.numbers.specs.Number.{pick}
 use Rattle.tokens.specs.Tokens.{Token, field, text, var, buf, key, value, values}
 use Rattle.tokens.specs.Keys.{isKnown, numbered, remembered}
+
+-- ---- tokens without keys
+
+unfoldable pub isKey : Token → Bool
+isKey (key b n) = true
+isKey (field j v) = false
+isKey (text b n) = false
+isKey (var v) = false
+isKey (buf b) = false
+isKey (value b) = false
+isKey (values b) = false
+
+unfoldable pub keyless : List Token → Bool
+keyless [] = true
+keyless (t ∷ ts) = pick (isKey t) false (keyless ts)
 
 -- ---- the keys known, in the order of their numbers
 

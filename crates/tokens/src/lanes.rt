@@ -233,6 +233,100 @@ pub fn put_text(out: &mut [u8], update: &[u8], lanes: &mut [u64], p: Part)
     lanes[25] = next as u64;
 }
 
+// ---- the same measured and not written: most rows are measured so before they are written
+
+pub fn size_number(lanes: &mut [u64], k: usize, v: u64)
+    requires { ⌜ Tidy (now lanes) × (k < 10) × (columnIn k ≡ Number) ⌝ }
+    ensures { λ _. ⌜ Alone k (pushedOn (laneIn (now (lanes .entry)) k) v) (now (lanes .entry)) (now (lanes .exit)) ⌝ }
+{
+    let base = 5 * k;
+    let at = lanes[base] as usize;
+    let key = lanes[base + 2];
+    let count = lanes[base + 3];
+    if !is_open(at, count) {
+        return;
+    }
+    if numbers::MAX_VALUE < v {
+        return;
+    }
+    if count == 0 {
+        note(lanes, k, at, v, v, 1);
+        return;
+    }
+    if key == v {
+        note(lanes, k, at, v, v, count + 1);
+        return;
+    }
+    let end = at + runs::number::run_size(key, count - 1);
+    note(lanes, k, end, v, v, 1);
+}
+
+pub fn size_difference(lanes: &mut [u64], k: usize, v: u64)
+    requires { ⌜ Tidy (now lanes) × (k < 10) × (columnIn k ≡ Difference) ⌝ }
+    ensures { λ _. ⌜ Alone k (pushedOn (laneIn (now (lanes .entry)) k) v) (now (lanes .entry)) (now (lanes .exit)) ⌝ }
+{
+    let base = 5 * k;
+    let at = lanes[base] as usize;
+    let last = lanes[base + 1];
+    let key = lanes[base + 2];
+    let count = lanes[base + 3];
+    if !is_open(at, count) {
+        return;
+    }
+    if numbers::MAX_CLOCK < v {
+        return;
+    }
+    let step = runs::difference::key_between(last, v);
+    note_far(lanes, k, step);
+    if count == 0 {
+        note(lanes, k, at, v, step, 1);
+        return;
+    }
+    if key == step {
+        note(lanes, k, at, v, step, count + 1);
+        return;
+    }
+    let end = at + runs::difference::run_size(key, count - 1);
+    note(lanes, k, end, v, step, 1);
+}
+
+pub fn size_byte(lanes: &mut [u64], k: usize, v: u8)
+    requires { ⌜ Tidy (now lanes) × (k < 10) × (columnIn k ≡ Byte) ⌝ }
+    ensures { λ _. ⌜ Alone k (pushedOn (laneIn (now (lanes .entry)) k) v) (now (lanes .entry)) (now (lanes .exit)) ⌝ }
+{
+    let base = 5 * k;
+    let at = lanes[base] as usize;
+    let key = lanes[base + 2];
+    let count = lanes[base + 3];
+    let value = wide(v);
+    if !is_open(at, count) {
+        return;
+    }
+    if count == 0 {
+        note(lanes, k, at, value, value, 1);
+        return;
+    }
+    if key == value {
+        note(lanes, k, at, value, value, count + 1);
+        return;
+    }
+    let end = at + runs::byte::run_size(key, count - 1);
+    note(lanes, k, end, value, value, 1);
+}
+
+// The bytes of a text.
+pub fn size_text(update: &[u8], lanes: &mut [u64], p: Part)
+    requires { ⌜ Tidy (now lanes) ⌝ }
+    ensures { λ _. ⌜ Alone 5 (forward (laneIn (now (lanes .entry)) 5) (bytesIn (now (update .entry)) p)) (now (lanes .entry)) (now (lanes .exit)) ⌝ }
+{
+    let at = lanes[25] as usize;
+    if parts::BRIM <= at {
+        return;
+    }
+    let end = at + parts::bytes_inside(update, p);
+    lanes[25] = end as u64;
+}
+
 // ---- the ends
 
 // The last run of a number column.

@@ -21,6 +21,24 @@ pub fn fits(end: usize, at: usize, n: usize) -> bool
     n <= end - at
 }
 
+// A number where there is room for it: most have one byte or two, and need no loop.
+fn write_number(out: &mut [u8], at: usize, v: u64) -> usize
+    requires { ⌜ at + length (unsigned v) ≤ length (now out) ⌝ }
+    ensures { λ r. ⌜ (r ≡ at + length (unsigned v)) × (now (out .exit) ≡ sets (now (out .entry)) at (unsigned v)) ⌝ }
+{
+    if v < 128 {
+        out[at] = v as u8;
+        return at + 1;
+    }
+    if v < 16384 {
+        let next = at + 1;
+        out[at] = (v % 128 + 128) as u8;
+        out[next] = (v / 128) as u8;
+        return at + 2;
+    }
+    numbers::write_unsigned(out, at, v)
+}
+
 // A number; measured only where there is not plenty of room, for none has more than ten bytes.
 pub fn number(out: &mut [u8], at: usize, v: u64) -> usize
     ensures { λ r. ⌜ (r ≡ ahead at (unsigned v)) × (now (out .exit) ≡ laidAt (now (out .entry)) at (unsigned v)) ⌝ }
@@ -29,7 +47,7 @@ pub fn number(out: &mut [u8], at: usize, v: u64) -> usize
         return at;
     }
     if fits(out.len(), at, 10) {
-        return numbers::write_unsigned(out, at, v);
+        return write_number(out, at, v);
     }
     let n = numbers::size_unsigned(v);
     if !fits(out.len(), at, n) {

@@ -25,7 +25,8 @@ use Rattle.parts.specs.Brim.{brim}
 use Rattle.tokens.specs.Tokens.{Token, field, text, var, buf, key, value, values, client, info, len, keys, taken, takenAll}
 use Rattle.tokens.specs.TokensInner.{typeNumber}
 use Rattle.tokens.specs.Keys.{isKnown, isFull, remembered, crowded, manyKeys}
-use Rattle.tokens.proofs.Keys.{isKey, by-key, not-key, keyless}
+use Rattle.tokens.specs.KeysInner.{isKey, keyless}
+use Rattle.tokens.proofs.Keys.{by-key, not-key}
 use Rattle.tokens.proofs.Fitting.{taken-append}
 use Rattle.kept.specs.declared.cursor.Ends.{Ends}
 use Rattle.kept.specs.Kept.{Piece, Section, remote, falls, piece, wholePiece, keepFrom, withPieces, keepEach, place, falling, clientOf, sectionsOf}

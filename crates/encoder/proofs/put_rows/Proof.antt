@@ -42,7 +42,7 @@ use Rattle.kept.specs.declared.cursor.Cursor.{Cursor}
 use Rattle.block.specs.Row.{noBlock}
 use Rattle.encoder.specs.Passes.{plannedTokens}
 use Rattle.kept.specs.Plan.{advanced, openedAt}
-use Rattle.tokens.specs.Desk.{Aliased, WroteKeys}
+use Rattle.tokens.specs.Desk.{Room, Aliased, WroteKeys}
 use Rattle.encoder.proofs.Sorts.{cursor, cursor-row}
 use Rattle.table.proofs.Sorts.{block}
 use Rattle.encoder.proofs.Cards.{Kept·cursor·open, Records·write-row, Kept·cursor·advance, kept·cursor·open!, records·write-row!, kept·cursor·advance! }
@@ -65,7 +65,7 @@ use Rattle.encoder.proofs.put_rows.Statement as stated
 use Rattle.encoder.proofs.put_rows.Code as code
 use Rattle.kept.specs.Plan.{nowhere}
 use Rattle.encoder.proofs.Cursors.{stopsAt, fewer}
-use Rattle.encoder.proofs.Rows.{Going, begins, turns, written}
+use Rattle.encoder.proofs.Rows.{Going, begins, holds, turns, written}
 
 abbrev fs : List (Form 5)
 fs = by-mut 0 tt byte ∷ by-mut 1 tt word ∷ by-ref 2 tt byte ∷ by-ref 3 tt block ∷ by-ref 4 tt word ∷ by-value word ∷ by-value byte ∷ by-value word ∷ []
@@ -155,7 +155,7 @@ module _ {M : Type 1} (𝓤 : URA M) (H : Heap 𝓤) (A : Atoms 𝓤) (W : Given
   Inv ls t = ‵ (refs (hs (t .out) (t .lanes))) ∷ locals (envOf (fn .locals) ls) (bare ∷ has (seat-val at-out) ∷ has (seat-val at-lanes) ∷ has (seat-val at-update) ∷ has (seat-val at-rows) ∷ has (seat-val at-plan) ∷ has (vint w64 sections₀) ∷ has (vint w8 form₀) ∷ has (vint w64 at₀) ∷ has (vint w64 (t .v9)) ∷ has (cursor .val (t .v10)) ∷ []) []
 
   module _ (𝓣 : Tables 𝓤 H) (known-kept·cursor·open : Triple 𝓤 (𝓣 .C #kept·cursor·open) (Kept·cursor·open 𝓤 H A mem run)) (known-table·fetch : Triple 𝓤 (𝓣 .C #table·fetch) (Table·fetch 𝓤 H A mem run)) (known-records·write-row : Triple 𝓤 (𝓣 .C #records·write-row) (Records·write-row 𝓤 H A mem run)) (known-kept·cursor·advance : Triple 𝓤 (𝓣 .C #kept·cursor·advance) (Kept·cursor·advance 𝓤 H A mem run)) where
-    walk : (Aliased update₀ lanes₀ × (5 * sections₀ ≤ length plan₀)) → ent 𝓤 (onEntry 𝓤 H A f.signature κs qs a at-entry) (WpFn 𝓤 H (𝓣 .C) (𝓣 .Λ) fn (vals (ps out₀ lanes₀)) Post)
+    walk : (Aliased update₀ lanes₀ × (5 * sections₀ ≤ length plan₀) × Room form₀ (plannedTokens update₀ rows₀ plan₀ sections₀) lanes₀) → ent 𝓤 (onEntry 𝓤 H A f.signature κs qs a at-entry) (WpFn 𝓤 H (𝓣 .C) (𝓣 .Λ) fn (vals (ps out₀ lanes₀)) Post)
     unfolding afterTurn
     walk req =
         qed W (raw (onEntry 𝓤 H A f.signature κs qs a at-entry) ∷ []) ∵ use1 W (‵ (refs (hs out₀ lanes₀))) (enters 𝓤 H A W (ps out₀ lanes₀)) $ enter ! (𝓣 .C) (𝓣 .Λ) fn (vals (ps out₀ lanes₀)) _ $
@@ -178,7 +178,7 @@ module _ {M : Type 1} (𝓤 : URA M) (H : Heap 𝓤) (A : Atoms 𝓤) (W : Given
         assigns ! (agg ! (and-then ! (load ! (from ! (stop !)) (look ! 7 refl)) (and-then ! (load ! (from ! (fld ! refl (stop !))) (look-in ! 33 (sub ! 1 refl (whole !)))) (no-more !)))) (from ! (stop !)) (init ! 5 refl (tt, (tt, (record { fits = are .0 .0 .1 .0 }, tt)))) $
         assigns ! (addr ! (from ! (fld ! refl (hop ! (look-in ! 31 (sub ! 0 refl (whole !))) (stop !))))) (from ! (stop !)) (init ! 3 refl (tt, tt)) $
         assigns ! (agg ! (and-then ! (load ! (from ! (stop !)) (look ! 3 refl)) (and-then ! (load ! (from ! (fld ! refl (stop !))) (look-in ! 31 (sub ! 1 refl (whole !)))) (no-more !)))) (from ! (stop !)) (init ! 1 refl (tt, (tt, (record { fits = are .1 .0 .0 .1 .0 }, tt)))) $
-        calls-knowing ! (fmOf 𝓤 H (W .laws) 𝓣) (0 ∷ 2 ∷ 1 ∷ []) (hs (t .out) (t .lanes)) (records·write-row! 𝓤 H A mem run (𝓣 .C) known-records·write-row at-out (t .out) at-update update₀ at-lanes (t .lanes) form₀ (are .1 .1 .1 .1 .1 .1 .0) (t .v9) (t .g9) (t .v10) (t .g10) (getD rows₀ ((t .v10) .row) noBlock) (g₃ .0) (t .known .wrote .aliased (req .0))) refl (λ P. and-then ! (load ! (from ! (stop !)) (look ! 5 refl)) (and-then ! (load ! (from ! (stop !)) (look ! 29 refl)) (and-then ! (load ! (from ! (stop !)) (look ! 1 refl)) (and-then ! (load ! (from ! (stop !)) (look ! 21 refl)) (and-then ! (load ! (from ! (stop !)) (look ! 17 refl)) (and-then ! (load ! (from ! (stop !)) (look ! 15 refl)) (and-then ! (load ! (from ! (stop !)) (look ! 13 refl)) (no-more !)))))))) (λ r₄ w₄ g₄ e₄.
+        calls-knowing ! (fmOf 𝓤 H (W .laws) 𝓣) (0 ∷ 2 ∷ 1 ∷ []) (hs (t .out) (t .lanes)) (records·write-row! 𝓤 H A mem run (𝓣 .C) known-records·write-row at-out (t .out) at-update update₀ at-lanes (t .lanes) form₀ (are .1 .1 .1 .1 .1 .1 .0) (t .v9) (t .g9) (t .v10) (t .g10) (getD rows₀ ((t .v10) .row) noBlock) (g₃ .0) (t .known .wrote .aliased (req .0), holds form₀ out₀ lanes₀ at₀ update₀ rows₀ plan₀ sections₀ rows-fit (req .1) (t .v10) (t .out) (t .lanes) (t .v9) (t .known) (under t y₂) (sz .1 .0) (req .2))) refl (λ P. and-then ! (load ! (from ! (stop !)) (look ! 5 refl)) (and-then ! (load ! (from ! (stop !)) (look ! 29 refl)) (and-then ! (load ! (from ! (stop !)) (look ! 1 refl)) (and-then ! (load ! (from ! (stop !)) (look ! 21 refl)) (and-then ! (load ! (from ! (stop !)) (look ! 17 refl)) (and-then ! (load ! (from ! (stop !)) (look ! 15 refl)) (and-then ! (load ! (from ! (stop !)) (look ! 13 refl)) (no-more !)))))))) (λ r₄ w₄ g₄ e₄.
         land ! (from ! (stop !)) (store ! 17 refl (g₄ .1 .0)) $
         calls-by-last ! (fmOf 𝓤 H (W .laws) 𝓣) (4 ∷ []) (hs (w₄ .0) (w₄ .1 .1 .0)) (kept·cursor·advance! 𝓤 H A mem run (𝓣 .C) known-kept·cursor·advance at-plan plan₀ sections₀ (are .1 .1 .1 .1 .1 .0) (t .v10) (t .g10)) refl (λ P. and-then ! (load ! (from ! (stop !)) (look ! 25 refl)) (and-then ! (load ! (from ! (stop !)) (look ! 23 refl)) (and-then ! (load ! (from ! (stop !)) (look ! 15 refl)) (no-more !)))) (λ g₅.
         land-last ! (from ! (stop !)) (store ! 15 refl (g₅ .1 .0)) $

@@ -1,6 +1,10 @@
 -- `write_type` meets its contract: a type number, and the node name of a type that has one.
 use mathlib.Core.Path.{sym, _∙_}
+use mathlib.Core.List.{[], _∷_}
 use Rattle.tokens.specs.Tokens.{types}
+use Rattle.tokens.specs.TokensInner.{typeNumber}
+use Rattle.tokens.proofs.Rooms.{room-same, room-later, room-is}
+use Rattle.marked.specs.Marked.{mark}
 use Rattle.tokens.proofs.Keyed.{aliased-same, wrote-keys, wrote-keys-then, wrote-keys-is}
 use Rattle.marked.proofs.Marked.{type-named, type-plain, one-field}
 use native.Mathlib.Omega.{arith}
@@ -14,7 +18,11 @@ write-key-requires c κs =
     let p15 = p8 .before .before .before .before .before .before .before in
     let a = p15 .args in
     let typed = p8 .write-type in
-    aliased-same (a .update .now) (a .lanes .now) (typed .last .1 .0) (typed .ensures .keys) (typed .ensures .tidy) (p15 .pre)
+    let b = a .b in (
+      aliased-same (a .update .now) (a .lanes .now) (typed .last .1 .0) (typed .ensures .keys) (typed .ensures .tidy) (p15 .pre .0),
+      room-same (typed .kept .1 .0) (room-later (typeNumber (b .«type_number») ∷ []) (mark (a .update .now) (b .mark) ∷ [])
+          (room-is (type-named (a .update .now) b (sym (c .before .before .before .is-named .ensures) ∙ c .before .before .if1 .taken)) (p15 .pre .1))),
+    )
 
 returns : tie.Need-returns
 returns c =

@@ -30,7 +30,7 @@ loop-holds c =
 
 known-requires : tie.Need-known-requires Inv-loop μ-loop
 unfolding keyCount
-known-requires c κs = let start = c .before .before .before .before .before in (start .pre, omega (arith, start .pre .keys))
+known-requires c κs = let start = c .before .before .before .before .before in (start .pre .0, start .pre .1, omega (arith, start .pre .0 .keys))
 
 -- whether the key at hand is it
 abbrev start-here : tie.After-is-same Inv-loop μ-loop → tie.Start Inv-loop μ-loop
@@ -45,7 +45,7 @@ here c =
 
 add-i : tie.Need-add-i Inv-loop μ-loop
 unfolding keyCount
-add-i c = omega (arith, c .before .before .before .before .before .before .before .before .pre .keys)
+add-i c = omega (arith, c .before .before .before .before .before .before .before .before .pre .0 .keys)
 
 returns : tie.Need-returns Inv-loop μ-loop
 returns c =

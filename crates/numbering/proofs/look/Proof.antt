@@ -13,7 +13,7 @@ number-requires : tie.Need-number-requires
 unfolding aliasCount
 number-requires c κs =
     let start = c .before .before .before .before .before .before .before .before .before .before in
-    (start .pre .tidy, omega (arith, c .before .if2 .taken, start .pre .few))
+    (start .pre .0 .tidy, start .pre .1, omega (arith, c .before .if2 .taken, start .pre .0 .few))
 
 returns-2 : tie.Need-returns-2
 unfolding aliasCount
@@ -23,7 +23,7 @@ returns-2 c =
     let a = start .args in
     let l = c .before .before .if2 .taken in
     let there = ap (λ (q : Part). numberOf (bytesIn (a .update .now) q) (knownIn (a .update .now) (a .lanes .now))) (p3 .find2 .ensures l) in
-    (c .number .ensures ∙ start .pre .right (p3 .find2 .result) l ∙ there, λ i m. refl, start .pre)
+    (c .number .ensures ∙ start .pre .0 .right (p3 .find2 .result) l ∙ there, λ i m. refl, start .pre .0)
 
 returns-3 : tie.Need-returns-3
 returns-3 c =
@@ -31,7 +31,7 @@ returns-3 c =
     let start = p4 .before .before .before .before .before .before .before .before .before .before .before in
     let found = p4 .find3 .ensures in
     let noted = c .before .before .note .ensures in
-    (found, noted .below, noted .aliased (start .args .update .now) (start .pre) found)
+    (found, noted .below, noted .aliased (start .args .update .now) (start .pre .0) found)
 
 pub look-spec : {M : Type 1} → statement M
 look-spec =

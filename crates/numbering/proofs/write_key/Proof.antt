@@ -12,6 +12,7 @@ use Rattle.tokens.specs.Desk.{keyCount, knownIn, Wrote}
 use Rattle.tokens.proofs.Taking.{key-line}
 use Rattle.tokens.proofs.Deskwise.{wrote-whole, wrote-field}
 use Rattle.tokens.proofs.Keyed.{wrote-keys-line}
+use Rattle.tokens.proofs.Rooms.{room-key}
 use Rattle.numbering.proofs.Noted.{known-below, wrote-below}
 use Rattle.numbering.proofs.Writes.{key-known, key-new}
 use borrow.Author.Needs.{needs}
@@ -27,8 +28,13 @@ returns c =
     let r = c .before .before .led-part in
     let one = c .before .before .before .before .if1 .taken in
     wrote-keys-line one
-    (wrote-whole (a .form) (a .at) (a .out .now) (a .lanes .now) (key b n) one (start .pre .tidy) (led b) (r .last .0) (r .result)
+    (wrote-whole (a .form) (a .at) (a .out .now) (a .lanes .now) (key b n) one (start .pre .0 .tidy) (led b) (r .last .0) (r .result)
     (key-line whole b n refl) (r .ensures .0) (r .ensures .1))
+
+look-requires : tie.Need-look-requires
+look-requires c κs =
+    let start = c .before .before .before .before .before .before in
+    (start .pre .0, room-key (c .before .before .if1 .left) (start .pre .1))
 
 push-difference-requires : tie.Need-push-difference-requires
 unfolding columnIn
@@ -57,7 +63,7 @@ its-number c =
     let a = start-pushed c .args in
     let l = looked c .look in
     l .ensures .0
-    ∙ ap (numberOf (bytesIn (a .update .now) (a .part))) (sym (known-below (a .update .now) (a .lanes .now) (l .last .1 .0) (l .ensures .1) (start-pushed c .pre .tidy)))
+    ∙ ap (numberOf (bytesIn (a .update .now) (a .part))) (sym (known-below (a .update .now) (a .lanes .now) (l .last .1 .0) (l .ensures .1) (start-pushed c .pre .0 .tidy)))
 
 returns-2 : tie.Need-returns-2
 returns-2 c =
@@ -66,7 +72,7 @@ returns-2 c =
     let u = a .update .now in
     let b = bytesIn u (a .part) in
     let l = looked p .look in
-    wrote-below u (a .lanes .now) (l .last .1 .0) (l .ensures .1) (start-pushed p .pre .tidy) (l .ensures .2)
+    wrote-below u (a .lanes .now) (l .last .1 .0) (l .ensures .1) (start-pushed p .pre .0 .tidy) (l .ensures .2)
     (key-known u (looked p .before .before .before .if1 .left) b (countedIn b .units .0) (its-number p) (pushed p) (rw (l .ensures .1 50 (omega arith)) (c .if2 .taken)))
 
 remember-requires : tie.Need-remember-requires
@@ -74,7 +80,8 @@ unfolding keyCount
 remember-requires c κs =
     let p = c .before .before .before .before .before .before in
     let w = pushed p in
-    (w .tidy, sym (w .keys 50 (omega arith) ∙ looked p .look .ensures .1 50 (omega arith)))
+    let wide = room-key (looked p .before .before .before .if1 .left) (start-pushed p .pre .1) in
+    (w .tidy, omega (arith, p .push-difference .kept .1 .0, looked p .look .kept .1 .0, wide), sym (w .keys 50 (omega arith) ∙ looked p .look .ensures .1 50 (omega arith)))
 
 returns-3 : tie.Need-returns-3
 returns-3 c =
@@ -86,7 +93,7 @@ returns-3 c =
     let u = a .update .now in
     let b = bytesIn u (a .part) in
     let l = looked p .look in
-    wrote-below u (a .lanes .now) (l .last .1 .0) (l .ensures .1) (start-pushed p .pre .tidy) (l .ensures .2)
+    wrote-below u (a .lanes .now) (l .last .1 .0) (l .ensures .1) (start-pushed p .pre .0 .tidy) (l .ensures .2)
     (key-new u (looked p .before .before .before .if1 .left) b (countedIn b .units .0) (its-number p) (pushed p)
     (rw (l .ensures .1 50 (omega arith)) (p10 .before .before .if2 .left)) (a .part) refl (p10 .remember .ensures)
     (rw (p7 .count-units .ensures) at (p4 .write-string .ensures)))
@@ -95,5 +102,5 @@ pub write-key-spec : {M : Type 1} → statement M
 write-key-spec =
     tie.close
     (tie.spec
-    (λ c κs. search needs) (λ c. search needs) returns (λ c. search needs) (λ c κs. search needs) push-difference-requires (λ c. search needs) (λ c. search needs)
+    (λ c κs. search needs) (λ c. search needs) returns (λ c. search needs) look-requires push-difference-requires (λ c. search needs) (λ c. search needs)
     returns-2 remember-requires (λ c κs. search needs) (λ c κs. search needs) (λ c. search needs) (λ c. search needs) returns-3)

@@ -1,11 +1,13 @@
 -- `write_block` meets its contract: a GC, a Skip, or an item.
 use mathlib.Core.Path.{sym, _∙_}
 use borrow.Author.Tests.{not-true, not-false}
-use Rattle.tokens.specs.Tokens.{infos, lens}
+use mathlib.Core.List.{[], _∷_, _++_}
+use Rattle.tokens.specs.Tokens.{info, infos, lens}
+use Rattle.tokens.proofs.Rooms.{room-same, room-later, room-is}
 use Rattle.tokens.proofs.Wrote.{wrote-then, wrote-var}
 use Rattle.tokens.proofs.Keyed.{aliased-same, wrote-keys, wrote-keys-then, wrote-keys-is, wrote-keys-none}
 use Rattle.marked.proofs.Marked.{one-field, field-field, field-var}
-use Rattle.records.specs.Records.{infoByte}
+use Rattle.records.specs.Records.{infoByte, placeTokens, contentTokens}
 use Rattle.records.proofs.Writes.{block-gc, block-skip, block-item, block-none}
 use Rattle.records.proofs.Keyless.{place-keyless}
 use borrow.Author.Needs.{needs}
@@ -42,7 +44,7 @@ returns-3 c =
     let p10 = p4 .before .before .before .before .before .before in
     let a = p10 .args in
     let h = sym (p1 .is-item .ensures) ∙ not-true (p1 .is-item .result) (c .if3 .taken) in
-    wrote-keys-is (block-none (a .update .now) (a .b) (p4 .if1 .left) (p2 .if2 .left) h) (wrote-keys-none (p10 .pre .tidy))
+    wrote-keys-is (block-none (a .update .now) (a .b) (p4 .if1 .left) (p2 .if2 .left) h) (wrote-keys-none (p10 .pre .0 .tidy))
 
 write-content-requires : tie.Need-write-content-requires
 write-content-requires c κs =
@@ -52,8 +54,17 @@ write-content-requires c κs =
     let u = p27 .args .update .now in
     let begun = p13 .write-info3 in
     let placed = p6 .write-place in
-    aliased-same u (begun .last .1 .0) (placed .last .1 .1 .0) (placed .ensures .keys) (placed .ensures .tidy)
-    (aliased-same u (p27 .args .lanes .now) (begun .last .1 .0) (begun .ensures .keys) (begun .ensures .tidy) (p27 .pre))
+    let b = p27 .args .b in
+    let p17 = p13 .before .before .before .before in
+    let p18 = p17 .before in
+    let p19 = p18 .before in
+    let p21 = p19 .before .before in
+    let item = sym (p18 .is-item .ensures) ∙ not-false (p18 .is-item .result) (p17 .if3 .left) in (
+      aliased-same u (begun .last .1 .0) (placed .last .1 .1 .0) (placed .ensures .keys) (placed .ensures .tidy)
+          (aliased-same u (p27 .args .lanes .now) (begun .last .1 .0) (begun .ensures .keys) (begun .ensures .tidy) (p27 .pre .0)),
+      room-same (placed .kept .1 .1 .0 ∙ begun .kept .1 .0) (room-later (placeTokens u b) (contentTokens u b)
+          (room-later (info (infoByte b) ∷ []) (placeTokens u b ++ contentTokens u b) (room-is (block-item u b (p21 .if1 .left) (p19 .if2 .left) item) (p27 .pre .1)))),
+    )
 
 returns-4 : tie.Need-returns-4
 returns-4 c =

@@ -16,7 +16,7 @@ abbrev μ-loop : tie.MeasureT-loop
 
 is-part-requires : tie.Need-is-part-requires Inv-loop μ-loop
 unfolding aliasCount
-is-part-requires c κs = let start = c .before .before .before .before in (start .pre .0, omega (arith, start .pre .1))
+is-part-requires c κs = let start = c .before .before .before .before in (start .pre .0, start .pre .1, omega (arith, start .pre .2))
 
 returns : tie.Need-returns Inv-loop μ-loop
 returns c =
@@ -26,7 +26,7 @@ returns c =
 
 add-i : tie.Need-add-i Inv-loop μ-loop
 unfolding aliasCount
-add-i c = omega (arith, c .before .before .before .before .before .before .pre .1)
+add-i c = omega (arith, c .before .before .before .before .before .before .pre .2)
 
 returns-2 : tie.Need-returns-2 Inv-loop μ-loop
 unfolding aliasCount

@@ -15,7 +15,7 @@ slice-write-lanes-2 c =
     let a = start .args in
     let w = a .lanes .now in
     let count = getD w 564 0 in
-    omega (arith, start .pre .0 .size, length-set w (565 + 3 * count) (a .part .place), c .before .if2 .left)
+    omega (arith, start .pre .1, length-set w (565 + 3 * count) (a .part .place), c .before .if2 .left)
 
 slice-write-lanes-3 : tie.Need-slice-write-lanes-3
 slice-write-lanes-3 c =
@@ -24,7 +24,12 @@ slice-write-lanes-3 c =
     let w = a .lanes .now in
     let count = getD w 564 0 in
     let w₁ = set w (565 + 3 * count) (a .part .place) in
-    omega (arith, start .pre .0 .size, length-set w (565 + 3 * count) (a .part .place), length-set w₁ (565 + 3 * count + 1) (a .part .bytes .0), c .before .if2 .left)
+    omega (arith, start .pre .1, length-set w (565 + 3 * count) (a .part .place), length-set w₁ (565 + 3 * count + 1) (a .part .bytes .0), c .before .if2 .left)
+
+slice-write-lanes-4 : tie.Need-slice-write-lanes-4
+slice-write-lanes-4 c =
+    let start = c .before .before .before .before .before in
+    simp length-set (omega (arith, start .pre .1))
 
 returns-3 : tie.Need-returns-3
 unfolding keyCount aliasCount
@@ -32,12 +37,12 @@ returns-3 c =
     let start = c .before .before .before .before .before in
     let a = start .args in
     let w = a .lanes .now in
-    notes w (start .pre .0) (a .part) (a .number) (getD w 564 0) refl (c .before .if2 .left) (c .before .before .if1 .left)
+    notes w (start .pre .0) (start .pre .1) (a .part) (a .number) (getD w 564 0) refl (c .before .if2 .left) (c .before .before .if1 .left)
 
 pub note-spec : {M : Type 1} → statement M
 note-spec =
     tie.close
     (tie.spec
     (λ c. search needs) (λ c. search needs) (λ c. search needs) (λ c. search needs) (λ c. search needs) (λ c. search needs) (λ c. search needs) (λ c. search needs)
-    (λ c. search needs) (λ c. search needs) slice-write-lanes-2 (λ c. search needs) (λ c. search needs) slice-write-lanes-3 (λ c. search needs) (λ c. search needs)
+    (λ c. search needs) (λ c. search needs) slice-write-lanes-2 (λ c. search needs) (λ c. search needs) slice-write-lanes-3 (λ c. search needs) slice-write-lanes-4
     (λ c. search needs) returns-3)

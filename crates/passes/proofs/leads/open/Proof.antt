@@ -9,7 +9,7 @@ use Rattle.passes.proofs.leads.open.Statement.{statement}
 use Rattle.passes.proofs.leads.open.Tie as tie
 
 abbrev Inv-loop : tie.InvT-loop
-Inv-loop out₀ lanes₀ sizes form at₀ k₀ out lanes at k = Opening out₀ sizes out lanes at k × (length out ≡ length out₀)
+Inv-loop out₀ lanes₀ sizes form at₀ k₀ out lanes at k = Opening out₀ sizes out lanes at k × (length out ≡ length out₀) × (length lanes ≡ length lanes₀)
 
 abbrev μ-loop : tie.MeasureT-loop
 μ-loop out₀ lanes₀ sizes form at₀ k₀ out lanes at k = 10 - k
@@ -18,7 +18,7 @@ returns : tie.Need-returns Inv-loop μ-loop
 returns c = let s = c .before .before .before .before in opened-line (s .args .out .now) (s .args .sizes .now) (c .if1 .taken) (s .pre .1)
 
 loop-holds : tie.Need-loop-holds Inv-loop μ-loop
-loop-holds c = let s = c .before .before .before .before in (opens (s .args .out .now) (s .args .sizes .now) (s .args .lanes .now) (s .pre .1), refl)
+loop-holds c = let s = c .before .before .before .before in (opens (s .args .out .now) (s .args .sizes .now) (s .args .lanes .now) (s .pre .1), refl, refl)
 
 put-lead-requires : tie.Need-put-lead-requires Inv-loop μ-loop
 put-lead-requires c κs = let p7 = c .before .before .before .before .before .before .before in (p7 .pre .0, omega arith)
@@ -34,12 +34,7 @@ loop-again c =
     let p4 = c .before .before .before .before in
     let p7 = p4 .before .before .before in
     let s = p7 .before .before .before .before .before in
-    (rw (c .on-to .ensures) (opens-on (s .args .out .now) (s .args .sizes .now) (p7 .loop .inv .0) (omega arith) (p4 .put-lead .ensures)), search needs)
-
-same-length-2 : tie.Need-same-length-2 Inv-loop μ-loop
-same-length-2 c =
-    let s = c .before .before .before .before .before .before in
-    omega (arith, c .before .loop .inv .0 .size, opens (s .args .out .now) (s .args .sizes .now) (s .args .lanes .now) (s .pre .1) .size)
+    (rw (c .on-to .ensures) (opens-on (s .args .out .now) (s .args .sizes .now) (p7 .loop .inv .0) (omega arith) (p4 .put-lead .ensures)), search needs, search needs)
 
 returns-2 : tie.Need-returns-2 Inv-loop μ-loop
 returns-2 c =
@@ -53,4 +48,4 @@ open-spec =
     tie.close
     (tie.spec
     Inv-loop μ-loop returns loop-holds put-lead-requires (λ c. search needs) (λ c. search needs) slice-write-lanes (λ c. search needs) shared-slice-read-on-to
-    (λ c κs. search needs) (λ c. search needs) (λ c. search needs) loop-again (λ c. search needs) same-length-2 returns-2)
+    (λ c κs. search needs) (λ c. search needs) (λ c. search needs) loop-again (λ c. search needs) (λ c. search needs) returns-2)

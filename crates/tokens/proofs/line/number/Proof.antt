@@ -24,15 +24,15 @@ plenty : (c : tie.Then2) → start-plenty c .args .at + length (unsigned (start-
 plenty c =
     let a = c .before .before .before .before .args in omega (arith, leb-true (a .at + 10) (length (a .out .now)) (sym (c .before .fits2 .ensures) ∙ c .if2 .taken), unsigned-le (a .v))
 
-write-unsigned-requires : tie.Need-write-unsigned-requires
-write-unsigned-requires c κs = plenty (c .before)
+write-number-requires : tie.Need-write-number-requires
+write-number-requires c κs = plenty (c .before)
 
 returns-2 : tie.Need-returns-2
 returns-2 c =
     let a = c .before .before .before .before .before .before .before .before .args in
     let b = unsigned (a .v) in
-    let w = c .before .before .write-unsigned .ensures in (
-      place-on (a .out .now) (a .at) b (c .before .before .write-unsigned .result) (c .before .before .before .before .before .before .if1 .left)
+    let w = c .before .before .write-number .ensures in (
+      place-on (a .out .now) (a .at) b (c .before .before .write-number .result) (c .before .before .before .before .before .before .if1 .left)
           (w .0),
       w .1 ∙ place-laid (a .out .now) (a .at) b (length b) (c .before .before .before .before .before .before .if1 .left) refl
           (le-leb (a .at + length b) (length (a .out .now)) (plenty (c .before .before .before .before))),
@@ -55,8 +55,8 @@ start-room c = c .before .before .before .before .before .before .before
 room : (c : tie.Else3) → leb (start-room c .args .at + c .before .before .size-unsigned .result) (length (start-room c .args .out .now)) ≡ true
 room c = let f = c .before .fits3 in sym (f .ensures) ∙ not-false (f .result) (c .if3 .left)
 
-write-unsigned-requires-2 : tie.Need-write-unsigned-requires-2
-write-unsigned-requires-2 c κs =
+write-unsigned-requires : tie.Need-write-unsigned-requires
+write-unsigned-requires c κs =
     let a = c .before .before .before .before .before .before .before .before .args in
     let n = c .before .before .before .size-unsigned in
     omega (arith, n .ensures .0, leb-true (a .at + n .result) (length (a .out .now)) (room (c .before)))
@@ -65,9 +65,9 @@ returns-4 : tie.Need-returns-4
 returns-4 c =
     let a = c .before .before .before .before .before .before .before .before .before .before .before .args in
     let n = c .before .before .before .before .before .before .size-unsigned in
-    let w = c .before .before .write-unsigned2 .ensures in
+    let w = c .before .before .write-unsigned .ensures in
     let low = c .before .before .before .before .before .before .before .before .before .if1 .left in (
-      place-on (a .out .now) (a .at) (unsigned (a .v)) (c .before .before .write-unsigned2 .result) low (w .0),
+      place-on (a .out .now) (a .at) (unsigned (a .v)) (c .before .before .write-unsigned .result) low (w .0),
       w .1 ∙ place-laid (a .out .now) (a .at) (unsigned (a .v)) (n .result) low (n .ensures .0) (room (c .before .before .before .before)),
     )
 
@@ -75,5 +75,5 @@ pub number-spec : {M : Type 1} → statement M
 number-spec =
     tie.close
     (tie.spec
-    returns (λ c κs. search needs) write-unsigned-requires (λ c. search needs) returns-2 (λ c κs. search needs) (λ c κs. search needs)
-    (λ c. search needs) returns-3 write-unsigned-requires-2 (λ c. search needs) returns-4)
+    returns (λ c κs. search needs) write-number-requires (λ c. search needs) returns-2 (λ c κs. search needs) (λ c κs. search needs)
+    (λ c. search needs) returns-3 write-unsigned-requires (λ c. search needs) returns-4)

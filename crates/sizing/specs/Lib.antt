@@ -1,0 +1,2 @@
+-- Which rows are measured and not written.
+pub mod Plain
