@@ -1,4 +1,4 @@
 -- Laws of an update's rows.
-pub mod Clients
-pub mod Scanning
-pub mod Gathers
+pub mod Owners
+pub mod Heads
+pub mod Walking
