@@ -2,3 +2,5 @@
 pub mod Owners
 pub mod Heads
 pub mod Walking
+pub mod Clients
+pub mod Sections
