@@ -31,7 +31,9 @@ use Rattle.summary.specs.Words.{row, wordsIn}
 use Rattle.summary.specs.WordsInner.{rowIn, rowsIn}
 use Rattle.summary.proofs.Laws.{rows-are, length-words, words-append}
 use Rattle.tally.specs.Tally.{Under, Descends, clientsIn, placeOf, insertedIn, rowsBy, kept}
+use Rattle.gathered.specs.declared.Head.{Head}
 use Rattle.gathered.specs.declared.Head.the-variants as head
+use Rattle.gathered.specs.declared.Tallied.{Tallied}
 use Rattle.gathered.specs.declared.Tallied.the-variants as tallied
 use Rattle.gathered.specs.declared.Scanned.the-variants as scanned
 use Rattle.gathered.specs.RowsOf.{ofClient, firstClock, lastEnd, rowOf, put, rowsOf}
@@ -196,6 +198,13 @@ module _ (c : ℕ) (ds bs : List Block) (own : All (λ (b : Block). b .client �
   unfolding rowOf
   own-row e = rw (of-append c ds bs, e, of-own c bs own) refl
 
+-- ---- a head that is read
+
+pub opens : (form : ℕ) (u w o : List ℕ) (seen room : ℕ) (w₁ o₁ : List ℕ) (x : Head) (k c t : ℕ) → Headed form u w o seen room w₁ o₁ x → x ≡ head.At k c t
+    → Opens form u w o seen room w₁ o₁ k c t
+unfolding Headed
+opens form u w o seen room w₁ o₁ x k c t h e = subst (Headed form u w o seen room w₁ o₁) e h
+
 -- ---- the walk: c is what was to come at first
 
 pub record Walked (form : ℕ) (u : List ℕ) (c : Run State Block (Unit {0})) (w rows order : List ℕ) (left room seen : ℕ) : Type 0 where
@@ -265,8 +274,8 @@ module _ (form : ℕ) (u : List ℕ) (c₀ : Run State Block (Unit {0})) (w rows
     at-head : {x : Run State Block (Unit {0})} → sectionsFrom form u (suc (left - 1)) (i .clients) room w ≡ x → sectionsFrom form u left (i .clients) room w ≡ x
     at-head e = ap (λ (n : ℕ). sectionsFrom form u n (i .clients) room w) one-more ∙ e
 
-    pub no-head : (w₁ o₁ : List ℕ) (x : _) (why : Refusal) → Headed form u w order seen room w₁ o₁ x → x ≡ head.Refused why → Scans c₀ rows order (scanned.Refused why)
-    unfolding Headed outcome ending
+    pub no-head : (w₁ o₁ : List ℕ) (x : Head) (why : Refusal) → Headed form u w order seen room w₁ o₁ x → x ≡ head.Refused why → Scans c₀ rows o₁ (scanned.Refused why)
+    unfolding Headed outcome ending Scans endOf
     no-head w₁ o₁ x why h e =
         refused-by why (i .ends ∙ ap outcome (at-head (subst (Headed form u w order seen room w₁ o₁) e h (left - 1) (i .clients) (i .same))))
 
@@ -291,12 +300,12 @@ module _ (form : ℕ) (u : List ℕ) (c₀ : Run State Block (Unit {0})) (w rows
       unfolding outcome
       outcome-here = i .ends ∙ ap outcome here ∙ ending-then then-come (λ s. course.got tt s) (λ why. course.not why) (blocksFrom form u k c t w₁)
 
-      pub no-blocks : (w₂ : List ℕ) (x : _) (why : Refusal) → Tallies (blocksFrom form u k c t w₁) w₂ x → x ≡ tallied.Refused why → Scans c₀ rows o₁ (scanned.Refused why)
+      pub no-blocks : (w₂ : List ℕ) (x : Tallied) (why : Refusal) → Tallies (blocksFrom form u k c t w₁) w₂ x → x ≡ tallied.Refused why → Scans c₀ rows o₁ (scanned.Refused why)
       unfolding Tallies Scans endOf
       no-blocks w₂ x why h e =
           refused-by why (outcome-here ∙ ends-not (λ s. outcome (then-come tt s)) (λ w. course.not w) (blocksFrom form u k c t w₁) why (subst (Tallies (blocksFrom form u k c t w₁) w₂) e h))
 
-      module _ (w₂ rows₁ : List ℕ) (x : _) (f e n : ℕ) (s₂ : Small w₂) (h : Tallies (blocksFrom form u k c t w₁) w₂ x) (is : x ≡ tallied.Blocks f e n)
+      module _ (w₂ rows₁ : List ℕ) (x : Tallied) (f e n : ℕ) (s₂ : Small w₂) (h : Tallies (blocksFrom form u k c t w₁) w₂ x) (is : x ≡ tallied.Blocks f e n)
         (put-in : rows₁ ≡ sets rows (4 * seen) (wordsIn (row c f e n ∷ []))) where
         abbrev bs : List Block
         bs = items (blocksFrom form u k c t w₁)
