@@ -1,13 +1,13 @@
 -- The clients of blocks, highest first, and the rows of blocks by them.
-use Prim.Native.Nat.{ℕ, zero, suc, _+_, _≤_, _<_}
-use mathlib.Core.Path.{_≡_, refl, sym, ap, ap₂, _∙_, subst}
+use Prim.Native.Nat.{ℕ, suc, _+_, _≤_, _<_}
+use mathlib.Core.Path.{_≡_, refl, sym, ap, ap₂, _∙_}
 use mathlib.Core.Bool.{Bool, true, false}
 use mathlib.Core.List.{List, [], _∷_, _++_, map}
 use native.Mathlib.Omega.{arith}
 use lib.Arith.{lt-of-le-ne}
 use lib.Dec.{ltb, eqb}
-use lib.ListN.{length, length-append, length-map}
-use borrow.Author.Tests.{ltb-true, ltb-false, eqb-true, eqb-false, eq-eqb, ne-eqb, lt-ltb, le-ltb}
+use lib.ListN.{length, length-map}
+use borrow.Author.Tests.{ltb-true, ltb-false, eqb-true, eqb-false, eq-eqb, ne-eqb, le-ltb}
 use Rattle.numbers.specs.Number.{pick}
 use Rattle.numbers.specs.Words.{among}
 use Rattle.block.specs.declared.Block.{Block}
@@ -16,9 +16,8 @@ use Rattle.readings.specs.Groups.{groups, join}
 use Rattle.readings.proofs.Columns.{clash}
 use Rattle.readings.proofs.Groups.{two}
 use Rattle.summary.specs.Rows.{Row}
-use Rattle.summary.specs.Words.{row}
 use Rattle.tally.specs.Tally.{Under, Descends, kept}
-use Rattle.gathered.specs.RowsOf.{ofClient, firstClock, lastEnd, rowOf, put, clientsAfter, rowsOf}
+use Rattle.gathered.specs.RowsOf.{ofClient, rowOf, put, clientsAfter, rowsOf}
 
 -- ---- clients stand highest first
 

@@ -1,7 +1,7 @@
 -- A section's head, with no machine: what is to come before it, by what was read of it. And where the sections begin.
 use Prim.Native.Nat.{ℕ, suc, _+_, _-_, _≤_}
 use native.Mathlib.Omega.{arith}
-use mathlib.Core.Path.{_≡_, refl, sym, ap, _∙_, subst}
+use mathlib.Core.Path.{_≡_, refl, ap, _∙_, subst}
 use mathlib.Core.Bool.{Bool, true, false}
 use mathlib.Core.List.{List, [], _∷_, _++_}
 use lib.Dec.{eqb}
@@ -17,7 +17,7 @@ use Rattle.grammar.specs.Grammar as grammar
 use Rattle.grammar.specs.Grammar.{Grammar, ask, stop, draw}
 use Rattle.grammar.specs.GrammarInner.{_>>=_}
 use Rattle.grammar.specs.Course as course
-use Rattle.grammar.specs.Course.{Run, stopped, run}
+use Rattle.grammar.specs.Course.{stopped, run}
 use Rattle.grammar.specs.Blocks.{blocks, sections}
 use Rattle.decoder.specs.Line.{line, numberOf, upTo}
 use Rattle.decoder.specs.States.{Numbers, State, withClient}
@@ -29,7 +29,6 @@ use Rattle.cells.specs.declared.Drawn.the-variants as drawn
 use Rattle.cells.specs.Cells.{atIn, placeIn, whyIn, stateIn, given, Small}
 use Rattle.readings.proofs.Columns.{ValueHeld, number-held}
 use Rattle.update.specs.declared.Begun.{Begun}
-use Rattle.update.specs.declared.Begun.the-variants as begun
 use Rattle.update.specs.Steps.{toCome, reads, begins, Counted, Starts}
 use Rattle.update.proofs.Laws.{in-line, within, asked, refused, uncounted, count}
 use Rattle.tally.specs.Tally.{clientsIn, insertedIn, Inserted}
@@ -44,6 +43,14 @@ begun-at form u w v (drawn.Number n) small e starts =
     let few = within maxClients u (atIn w) (stateIn w) v n e in
     (starts _ (count form u w v small n few (in-line form u maxClients w v (drawn.Number n) e)) .told [], few)
 begun-at form u w v drawn.Refused small e starts = starts _ (uncounted form u w v small (in-line form u maxClients w v drawn.Refused e)) .told []
+
+pub begins-at : (form : ℕ) (u w : List ℕ) (d : Drawn) → Begins form u w d → (n : ℕ) → d ≡ drawn.Number n → (blocksOf form u ≡ placed (sectionsFrom form u n [] maxBlocks w)) × (n ≤ maxClients)
+unfolding Begins
+begins-at form u w d h n e = subst (Begins form u w) e h
+
+pub begins-not : (form : ℕ) (u w : List ℕ) (d : Drawn) → Begins form u w d → d ≡ drawn.Refused → blocksOf form u ≡ stopped (whyIn w)
+unfolding Begins
+begins-not form u w d h e = subst (Begins form u w) e h
 
 -- ---- a client is a number that clients have
 

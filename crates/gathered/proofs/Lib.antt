@@ -4,3 +4,4 @@ pub mod Heads
 pub mod Walking
 pub mod Clients
 pub mod Sections
+pub mod Gathers

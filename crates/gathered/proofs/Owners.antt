@@ -1,14 +1,13 @@
 -- The blocks of a section are its client's, whatever reads them.
 use Prim.Native.Nat.{ℕ, zero, suc, _+_, _%_}
 use mathlib.Core.Path.{_≡_, refl}
-use mathlib.Core.List.{List, [], _∷_}
+use mathlib.Core.List.{_∷_}
 use lib.Dec.{ltb, eqb}
 use Rattle.numbers.specs.Number.{pick}
 use Rattle.numbers.specs.Limits.{maxClock}
 use Rattle.block.specs.declared.Block.{Block}
-use Rattle.block.specs.Rows.{plain, withType, withContent}
-use Rattle.block.specs.Row.{noPart}
-use Rattle.block.specs.Kinds.{TYPE, maxType, isNamed}
+use Rattle.block.specs.Rows.{plain}
+use Rattle.block.specs.Kinds.{maxType, isNamed}
 use Rattle.grammar.specs.Grammar as answers
 use Rattle.grammar.specs.Grammar.{Field, Answer, Number, Grammar, stop}
 use Rattle.grammar.specs.GrammarInner.{_>>=_}

@@ -4,18 +4,16 @@ use mathlib.Core.Path.{_≡_, refl, sym, ap, ap₂, _∙_, subst}
 use mathlib.Core.Bool.{Bool, true, false}
 use mathlib.Core.List.{List, [], _∷_, _++_, map, append-assoc, append-nil}
 use native.Mathlib.Omega.{arith}
-use native.Mathlib.Numerals.{add-one}
 use lib.Dec.{ltb, leb, eqb}
 use lib.ListN.{length, take, drop, getD, length-append, length-map}
 use lib.Seq.{sets, length-sets, drop-drop}
-use borrow.Author.Tests.{leb-true, leb-false, lt-ltb, le-ltb, eqb-true, eqb-false, eq-eqb, ne-eqb}
+use borrow.Author.Tests.{leb-true, leb-false, lt-ltb, le-ltb, eqb-false}
 use Rattle.numbers.specs.declared.Refusal.{Refusal}
 use Rattle.numbers.specs.Number.{pick}
 use Rattle.numbers.specs.Words.{among}
-use Rattle.numbers.specs.Limits.{maxClock, maxBlocks}
+use Rattle.numbers.specs.Limits.{maxBlocks}
 use Rattle.numbers.proofs.Output.{take-sets}
 use Rattle.block.specs.declared.Block.{Block}
-use Rattle.grammar.specs.GrammarInner.{_>>=_}
 use Rattle.grammar.specs.Course as course
 use Rattle.grammar.specs.Course.{Run, item, over, stopped, run, items, ending}
 use Rattle.grammar.specs.Blocks.{blocks, sections}
@@ -30,7 +28,7 @@ use Rattle.summary.specs.Rows.{Row}
 use Rattle.summary.specs.Words.{row, wordsIn}
 use Rattle.summary.specs.WordsInner.{rowIn, rowsIn}
 use Rattle.summary.proofs.Laws.{rows-are, length-words, words-append}
-use Rattle.tally.specs.Tally.{Under, Descends, clientsIn, placeOf, insertedIn, rowsBy, kept}
+use Rattle.tally.specs.Tally.{Descends, clientsIn, placeOf, insertedIn, rowsBy, kept}
 use Rattle.gathered.specs.declared.Head.{Head}
 use Rattle.gathered.specs.declared.Head.the-variants as head
 use Rattle.gathered.specs.declared.Tallied.{Tallied}
@@ -263,7 +261,7 @@ module _ (form : ℕ) (u : List ℕ) (c₀ : Run State Block (Unit {0})) (w rows
       rows-are (length (i .clients)) rows (map (rowOf (i .blocks)) (i .clients)) (length-map (i .clients) (rowOf (i .blocks))) (ap (λ (n : ℕ). take (4 * n) rows) (i .count) ∙ i .table) in (
         omega (arith, i .few),
         ap kept (rows-named (rowOf (i .blocks)) (i .clients) rows rows-are-in (take seen order) (i .names))
-        ∙ rows-by (i .blocks) (clientsIn (take seen order)) (i .falls) (λ x e. i .owned x (i .same x ∙ e)) ∙ ap rowsOf (sym all),
+            ∙ rows-by (i .blocks) (clientsIn (take seen order)) (i .falls) (λ x e. i .owned x (i .same x ∙ e)) ∙ ap rowsOf (sym all),
         ends-got (λ s. checked.Done (s .at)) checked.Refused c₀ (stateIn w) (i .ends ∙ ap outcome none),
       )
 
@@ -306,7 +304,7 @@ module _ (form : ℕ) (u : List ℕ) (c₀ : Run State Block (Unit {0})) (w rows
           refused-by why (outcome-here ∙ ends-not (λ s. outcome (then-come tt s)) (λ w. course.not w) (blocksFrom form u k c t w₁) why (subst (Tallies (blocksFrom form u k c t w₁) w₂) e h))
 
       module _ (w₂ rows₁ : List ℕ) (x : Tallied) (f e n : ℕ) (s₂ : Small w₂) (h : Tallies (blocksFrom form u k c t w₁) w₂ x) (is : x ≡ tallied.Blocks f e n)
-        (put-in : rows₁ ≡ sets rows (4 * seen) (wordsIn (row c f e n ∷ []))) where
+          (put-in : rows₁ ≡ sets rows (4 * seen) (wordsIn (row c f e n ∷ []))) where
         abbrev bs : List Block
         bs = items (blocksFrom form u k c t w₁)
 

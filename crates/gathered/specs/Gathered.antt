@@ -7,7 +7,7 @@ use lib.ListN.{length, take}
 use Rattle.numbers.specs.declared.Refusal.{Refusal}
 use Rattle.numbers.specs.Number.{none}
 use Rattle.numbers.specs.Words.{among}
-use Rattle.numbers.specs.Limits.{maxClock, maxValue, maxClients, maxBlocks}
+use Rattle.numbers.specs.Limits.{maxClock, maxClients, maxBlocks}
 use Rattle.block.specs.declared.Block.{Block}
 use Rattle.grammar.specs.GrammarInner.{_>>=_}
 use Rattle.grammar.specs.Course as course
@@ -18,7 +18,7 @@ use Rattle.decoder.specs.ColumnedInner.{fields}
 use Rattle.decoder.specs.Update.{placed, blocksOf}
 use Rattle.cells.specs.declared.Drawn.{Drawn}
 use Rattle.cells.specs.declared.Drawn.the-variants as drawn
-use Rattle.cells.specs.Cells.{stateIn, whyIn, Small}
+use Rattle.cells.specs.Cells.{stateIn, whyIn}
 use Rattle.deletes.specs.declared.Checked.{Checked}
 use Rattle.deletes.specs.declared.Checked.the-variants as checked
 use Rattle.summary.specs.Words.{wordsIn}
@@ -73,7 +73,8 @@ Same cs ds = (x : ℕ) → among x cs ≡ among x ds
 
 pub record Opens (form : ℕ) (u w o : List ℕ) (seen room : ℕ) (w₁ o₁ : List ℕ) (k c t : ℕ) : Type 0 where
   pub told : (n : ℕ) (cs : List ℕ) → Same cs (clientsIn (take seen o))
-      → sectionsFrom form u (suc n) cs room w ≡ run (fields form u) (blocks k c t >>= λ _. sections n (cs ++ (c ∷ [])) (room - k)) (stateIn w₁)
+      → sectionsFrom form u (suc n) cs room w
+      ≡ run (fields form u) (blocks k c t >>= λ _. sections n (cs ++ (c ∷ [])) (room - k)) (stateIn w₁)
   pub few : k ≤ room
   pub low : t ≤ maxClock
   pub new : among c (clientsIn (take seen o)) ≡ false
@@ -81,12 +82,14 @@ pub record Opens (form : ℕ) (u w o : List ℕ) (seen room : ℕ) (w₁ o₁ : 
 
 unfoldable pub Headed : ℕ → List ℕ → List ℕ → List ℕ → ℕ → ℕ → List ℕ → List ℕ → Head → Type 0
 Headed form u w o seen room w₁ o₁ (head.At k c t) = Opens form u w o seen room w₁ o₁ k c t
-Headed form u w o seen room w₁ o₁ (head.Refused why) = (n : ℕ) (cs : List ℕ) → Same cs (clientsIn (take seen o)) → sectionsFrom form u (suc n) cs room w ≡ stopped why
+Headed form u w o seen room w₁ o₁ (head.Refused why) =
+    (n : ℕ) (cs : List ℕ) → Same cs (clientsIn (take seen o)) → sectionsFrom form u (suc n) cs room w ≡ stopped why
 
 -- ---- its blocks, to the words w: the first's clock, the last's end, how many
 
 unfoldable pub Tallies : Run State Block (Unit {0}) → List ℕ → Tallied → Type 0
-Tallies c w (tallied.Blocks f e n) = (f ≡ firstClock (items c)) × (e ≡ lastEnd (items c)) × (n ≡ length (items c)) × (outcome c ≡ course.got tt (stateIn w))
+Tallies c w (tallied.Blocks f e n) =
+    (f ≡ firstClock (items c)) × (e ≡ lastEnd (items c)) × (n ≡ length (items c)) × (outcome c ≡ course.got tt (stateIn w))
 Tallies c w (tallied.Refused why) = outcome c ≡ course.not why
 
 -- ---- all sections, into rows w in the order of the words o

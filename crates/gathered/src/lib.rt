@@ -46,7 +46,14 @@ pub enum Head {
 }
 
 // As `update` reads it, but a client seen before is found in the order of clients, where this one is put.
-fn read_head(form: u8, update: &[u8], w: &mut [u64], order: &mut [u64], seen: usize, room: u64) -> Head
+fn read_head(
+    form: u8,
+    update: &[u8],
+    w: &mut [u64],
+    order: &mut [u64],
+    seen: usize,
+    room: u64,
+) -> Head
     requires { ⌜ Small (now w) × (seen < length (now order)) × (seen < 64) × Descends (clientsIn (take seen (now order))) ⌝ }
     ensures { λ h. ⌜ Small (now (w .exit)) × (length (now (order .exit)) ≡ length (now (order .entry)))
         × Headed form (now (update .entry)) (now (w .entry)) (now (order .entry)) seen room (now (w .exit)) (now (order .exit)) h ⌝ }
@@ -84,7 +91,7 @@ fn earliest(count: u64, first: u64, clock: u64) -> u64
     first
 }
 
-// So many blocks of a client, from a clock on: the steps of a section behind which there is none.
+// So many blocks of a client, from a clock on: the steps of `update` through a section behind which there is none, so no client need be remembered there.
 fn tally_blocks(
     form: u8,
     update: &[u8],
@@ -142,7 +149,14 @@ pub enum Scanned {
 }
 
 // Reads all blocks: a row a section, in the order of sections, and a word a section, in the order of clients.
-fn scan(form: u8, update: &[u8], w: &mut [u64], sections: u64, rows: &mut [u64], order: &mut [u64]) -> Scanned
+fn scan(
+    form: u8,
+    update: &[u8],
+    w: &mut [u64],
+    sections: u64,
+    rows: &mut [u64],
+    order: &mut [u64],
+) -> Scanned
     requires { ⌜ Small (now w) × (sections ≤ maxClients) × (length (now rows) ≡ 256) × (length (now order) ≡ 64)
         × Ends (items (sectionsFrom form (now update) sections [] maxBlocks (now w))) ⌝ }
     ensures { λ r. ⌜ Scans (sectionsFrom form (now (update .entry)) sections [] maxBlocks (now (w .entry))) (now (rows .exit)) (now (order .exit)) r ⌝ }

@@ -1,5 +1,5 @@
 -- `gathered::tally_blocks` meets its contract: each answer of a step is a law of the walk down the blocks.
-use mathlib.Core.Path.{_≡_, refl, sym, ap, _∙_}
+use mathlib.Core.Path.{refl, sym, _∙_}
 use mathlib.Core.List.{[], _∷_}
 use native.Mathlib.Omega.{arith}
 use Rattle.item.specs.Row.{rowIn}
