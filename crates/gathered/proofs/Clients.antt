@@ -1,66 +1,25 @@
--- The rows of blocks, and of one block more: that block is counted into its client's row.
-use Prim.Native.Nat.{ℕ, zero, suc, _+_, _-_, _*_, _≤_, _<_}
-use mathlib.Core.Path.{_≡_, refl, sym, ap, ap₂, _∙_, subst}
-use mathlib.Core.Logic.{_≢_}
+-- The clients of blocks, highest first, and the rows of blocks by them.
+use Prim.Native.Nat.{ℕ, suc, _+_, _≤_, _<_}
+use mathlib.Core.Path.{_≡_, refl, sym, ap, ap₂, _∙_}
 use mathlib.Core.Bool.{Bool, true, false}
 use mathlib.Core.List.{List, [], _∷_, _++_, map}
 use native.Mathlib.Omega.{arith}
 use lib.Arith.{lt-of-le-ne}
-use lib.Dec.{ltb, leb, eqb}
-use lib.ListN.{length, take, drop, length-append, length-map}
-use borrow.Author.Tests.{ltb-true, ltb-false, eqb-true, eqb-false, eq-eqb, ne-eqb, le-leb, lt-leb, lt-ltb, le-ltb}
+use lib.Dec.{ltb, eqb}
+use lib.ListN.{length, length-map}
+use borrow.Author.Tests.{ltb-true, ltb-false, eqb-true, eqb-false, eq-eqb, ne-eqb, le-ltb}
 use Rattle.numbers.specs.Number.{pick}
 use Rattle.numbers.specs.Words.{among}
 use Rattle.block.specs.declared.Block.{Block}
-use Rattle.readings.specs.Sound.{owner}
+use Rattle.readings.specs.Sound.{All, owner}
 use Rattle.readings.specs.Groups.{groups, join}
+use Rattle.readings.proofs.Columns.{clash}
 use Rattle.readings.proofs.Groups.{two}
 use Rattle.summary.specs.Rows.{Row}
-use Rattle.summary.specs.Words.{row}
-use Rattle.tally.specs.Tally.{Below, Falls, Few, placeOf, isFirst, joined, addedAt}
-use Rattle.gathered.specs.RowsOf.{ofClient, firstClock, lastEnd, rowOf, put, clientsAfter, rowsOf}
-
--- ---- one block more
-
-pub after-snoc : (cs : List ℕ) (bs : List Block) (b : Block) → clientsAfter cs (bs ++ (b ∷ [])) ≡ put (b .client) (clientsAfter cs bs)
-unfolding clientsAfter
-after-snoc cs [] b = refl
-after-snoc cs (x ∷ bs) b = after-snoc (put (x .client) cs) bs b
-
-pub after-append : (cs : List ℕ) (ds bs : List Block) → clientsAfter cs (ds ++ bs) ≡ clientsAfter (clientsAfter cs ds) bs
-unfolding clientsAfter
-after-append cs [] bs = refl
-after-append cs (d ∷ ds) bs = after-append (put (d .client) cs) ds bs
-
-of-same : (c : ℕ) (bs : List Block) (b : Block) → b .client ≡ c → ofClient c (bs ++ (b ∷ [])) ≡ ofClient c bs ++ (b ∷ [])
-unfolding ofClient
-of-same c [] b e = rw (eq-eqb (b .client) c e)
-of-same c (x ∷ bs) b e = go (eqb (x .client) c) (of-same c bs b e)
-  where
-    go : (t : Bool) → ofClient c (bs ++ (b ∷ [])) ≡ ofClient c bs ++ (b ∷ []) → pick t (x ∷ ofClient c (bs ++ (b ∷ []))) (ofClient c (bs ++ (b ∷ []))) ≡ pick t (x ∷ ofClient c bs) (ofClient c bs) ++ (b ∷ [])
-    go true rest = ap (λ (l : List Block). x ∷ l) rest
-    go false rest = rest
-
-of-other : (c : ℕ) (bs : List Block) (b : Block) → (b .client ≡ c → ⊥) → ofClient c (bs ++ (b ∷ [])) ≡ ofClient c bs
-unfolding ofClient
-of-other c [] b e = rw (ne-eqb (b .client) c e)
-of-other c (x ∷ bs) b e = ap (λ (l : List Block). pick (eqb (x .client) c) (x ∷ l) l) (of-other c bs b e)
-
-last-snoc : (bs : List Block) (b : Block) → lastEnd (bs ++ (b ∷ [])) ≡ b .clock + b .length .0
-unfolding lastEnd
-last-snoc [] b = refl
-last-snoc (x ∷ []) b = refl
-last-snoc (x ∷ (y ∷ bs)) b = last-snoc (y ∷ bs) b
+use Rattle.tally.specs.Tally.{Under, Descends, kept}
+use Rattle.gathered.specs.RowsOf.{ofClient, rowOf, put, clientsAfter, rowsOf}
 
 -- ---- clients stand highest first
-
-unfoldable pub Under : ℕ → List ℕ → Type 0
-Under c [] = Unit {0}
-Under c (d ∷ ds) = (d < c) × Under c ds
-
-unfoldable pub Descends : List ℕ → Type 0
-Descends [] = Unit {0}
-Descends (d ∷ ds) = Under d ds × Descends ds
 
 under-up : (c d : ℕ) (ds : List ℕ) → d ≤ c → Under d ds → Under c ds
 unfolding Under
@@ -82,7 +41,7 @@ unfolding Under put
 under-put e c [] h u = (h, tt)
 under-put e c (d ∷ ds) h u = by-order (Under e) c d ds (λ l. (h, u)) (λ s. u) (λ m. (u .0, under-put e c ds h (u .1)))
 
-descends-put : (c : ℕ) (ds : List ℕ) → Descends ds → Descends (put c ds)
+pub descends-put : (c : ℕ) (ds : List ℕ) → Descends ds → Descends (put c ds)
 unfolding Under Descends put
 descends-put c [] f = (tt, tt)
 descends-put c (d ∷ ds) f =
@@ -95,15 +54,15 @@ descends-after cs (b ∷ bs) f = descends-after (put (b .client) cs) bs (descend
 
 -- ---- which they are
 
-unfoldable some : List Block → Bool
+unfoldable pub some : List Block → Bool
 some [] = false
 some (b ∷ bs) = true
 
-unfoldable or : Bool → Bool → Bool
+unfoldable pub or : Bool → Bool → Bool
 or true y = true
 or false y = y
 
-among-put : (x c : ℕ) (ds : List ℕ) → among x (put c ds) ≡ or (eqb c x) (among x ds)
+pub among-put : (x c : ℕ) (ds : List ℕ) → among x (put c ds) ≡ or (eqb c x) (among x ds)
 unfolding among put or
 among-put x c [] = go (eqb c x)
   where
@@ -159,97 +118,159 @@ some-of x bs e = go (ofClient x bs) (sym (among-after x [] bs) ∙ e)
     go [] z = absurd (let y : _≡_ {A = ℕ} 0 1 = cc in omega arith)
     go (b ∷ l) z = omega arith
 
--- ---- a row with one block more
+-- ---- and so there is one list of them
 
-module _ (bs : List Block) (b : Block) where
-  abbrev end : ℕ
-  end = b .clock + b .length .0
+among-under : (c : ℕ) (ds : List ℕ) → Under c ds → among c ds ≡ false
+unfolding Under among
+among-under c [] u = refl
+among-under c (d ∷ ds) u = rw (ne-eqb d c (λ e. omega (arith, u .0, e))) (among-under c ds (u .1))
 
-  row-other : (d : ℕ) → (b .client ≡ d → ⊥) → rowOf (bs ++ (b ∷ [])) d ≡ rowOf bs d
-  unfolding rowOf
-  row-other d n = rw (of-other d bs b n)
+under-among : (c x : ℕ) (ds : List ℕ) → Under c ds → among x ds ≡ true → x < c
+unfolding Under among
+under-among c x [] u e = absurd (let z : _≡_ {A = ℕ} 0 1 = cc in omega arith)
+under-among c x (d ∷ ds) u e = go (eqb d x) refl e (under-among c x ds (u .1))
+  where
+    go : (t : Bool) → eqb d x ≡ t → pick t true (among x ds) ≡ true → (among x ds ≡ true → x < c) → x < c
+    go true l q rest = omega (arith, u .0, eqb-true d x l)
+    go false l q rest = rest q
 
-  row-new : (c : ℕ) → b .client ≡ c → ofClient c bs ≡ [] → rowOf (bs ++ (b ∷ [])) c ≡ row c (b .clock) end 1
-  unfolding rowOf firstClock lastEnd
-  row-new c e z = rw (of-same c bs b e, z)
+-- the first of a list is there, and what is there is no higher
+first-there : (d : ℕ) (ds : List ℕ) → among d (d ∷ ds) ≡ true
+unfolding among
+first-there d ds = rw (eq-eqb d d refl)
 
-  row-more : (c : ℕ) → b .client ≡ c → some (ofClient c bs) ≡ true
-      → rowOf (bs ++ (b ∷ [])) c ≡ row c (firstClock (ofClient c bs)) end (length (ofClient c bs) + 1)
-  unfolding rowOf firstClock some
-  row-more c e z =
-      rw (of-same c bs b e, last-snoc (ofClient c bs) b, length-append (ofClient c bs) (b ∷ []))
-      (ap (λ (k : ℕ). row c k end (length (ofClient c bs) + 1)) (first (ofClient c bs) z))
+no-higher : (x d : ℕ) (ds : List ℕ) → Under d ds → among x (d ∷ ds) ≡ true → x ≤ d
+unfolding among
+no-higher x d ds u e = go (eqb d x) refl e
+  where
+    go : (t : Bool) → eqb d x ≡ t → pick t true (among x ds) ≡ true → x ≤ d
+    go true l q = omega (arith, eqb-true d x l)
+    go false l q = omega (arith, under-among d x ds u q)
+
+rest-same : (x d e : ℕ) (ds es : List ℕ) → d ≡ e → Under d ds → Under e es → among x (d ∷ ds) ≡ among x (e ∷ es) → among x ds ≡ among x es
+unfolding among
+rest-same x d e ds es q u v h = go (eqb d x) refl
+  where
+    go : (t : Bool) → eqb d x ≡ t → among x ds ≡ among x es
+    go true l =
+        let is = eqb-true d x l in
+        ap (λ (n : ℕ). among n ds) (sym is) ∙ among-under d ds u ∙ sym (ap (λ (n : ℕ). among n es) (sym is ∙ q) ∙ among-under e es v)
+    go false l =
+        sym (ap (λ (t : Bool). pick t true (among x ds)) l) ∙ h ∙ ap (λ (n : ℕ). pick (eqb n x) true (among x es)) (sym q) ∙ ap (λ (t : Bool). pick t true (among x es)) l
+
+empty-none : (d : ℕ) (ds : List ℕ) → among d [] ≡ among d (d ∷ ds) → ⊥
+unfolding among
+empty-none d ds e =
+    let z : false ≡ true = e ∙ first-there d ds in
+    clash (sym z)
+
+pub one-order : (ds es : List ℕ) → Descends ds → Descends es → ((x : ℕ) → among x ds ≡ among x es) → ds ≡ es
+unfolding Descends
+one-order [] [] f g h = refl
+one-order [] (e ∷ es) f g h = absurd (empty-none e es (h e))
+one-order (d ∷ ds) [] f g h = absurd (empty-none d ds (sym (h d)))
+one-order (d ∷ ds) (e ∷ es) f g h =
+    let low : d ≤ e = no-higher d e es (g .0) (sym (h d) ∙ first-there d ds) in
+    let high : e ≤ d = no-higher e d ds (f .0) (h e ∙ first-there e es) in
+    let q : d ≡ e = omega (arith, low, high) in
+    ap₂ (λ (n : ℕ) (l : List ℕ). n ∷ l) q (one-order ds es (f .1) (g .1) (λ x. rest-same x d e ds es q (f .0) (g .0) (h x)))
+
+-- ---- blocks by their clients
+
+pub of-append : (c : ℕ) (ds bs : List Block) → ofClient c (ds ++ bs) ≡ ofClient c ds ++ ofClient c bs
+unfolding ofClient
+of-append c [] bs = refl
+of-append c (d ∷ ds) bs = go (eqb (d .client) c) (of-append c ds bs)
+  where
+    go : (t : Bool) → ofClient c (ds ++ bs) ≡ ofClient c ds ++ ofClient c bs → pick t (d ∷ ofClient c (ds ++ bs)) (ofClient c (ds ++ bs)) ≡ pick t (d ∷ ofClient c ds) (ofClient c ds) ++ ofClient c bs
+    go true e = ap (λ (l : List Block). d ∷ l) e
+    go false e = e
+
+pub of-own : (c : ℕ) (bs : List Block) → All (λ (b : Block). b .client ≡ c) bs → ofClient c bs ≡ bs
+unfolding ofClient
+of-own c [] h = refl
+of-own c (b ∷ bs) h = rw (eq-eqb (b .client) c (h .0)) (ap (λ (l : List Block). b ∷ l) (of-own c bs (h .1)))
+
+pub of-others : (c x : ℕ) (bs : List Block) → (c ≡ x → ⊥) → All (λ (b : Block). b .client ≡ c) bs → ofClient x bs ≡ []
+unfolding ofClient
+of-others c x [] n h = refl
+of-others c x (b ∷ bs) n h = rw (ne-eqb (b .client) x (λ e. n (sym (h .0) ∙ e))) (of-others c x bs n (h .1))
+
+-- ---- the rows of clients that have blocks
+
+module _ (bs : List Block) where
+  -- those of clients that have some
+  unfoldable having : List ℕ → List ℕ
+  having [] = []
+  having (d ∷ ds) = pick (eqb (length (ofClient d bs)) 0) (having ds) (d ∷ having ds)
+
+  kept-rows : (ds : List ℕ) → kept (map (rowOf bs) ds) ≡ map (rowOf bs) (having ds)
+  unfolding kept having rowOf
+  kept-rows [] = refl
+  kept-rows (d ∷ ds) = go (eqb (length (ofClient d bs)) 0) (kept-rows ds)
     where
-      first : (l : List Block) → some l ≡ true → firstClock (l ++ (b ∷ [])) ≡ firstClock l
-      first [] z = absurd (let y : _≡_ {A = ℕ} 0 1 = cc in omega arith)
-      first (x ∷ l) z = refl
+      go : (t : Bool) → kept (map (rowOf bs) ds) ≡ map (rowOf bs) (having ds) → pick t (kept (map (rowOf bs) ds)) (rowOf bs d ∷ kept (map (rowOf bs) ds)) ≡ map (rowOf bs) (pick t (having ds) (d ∷ having ds))
+      go true e = e
+      go false e = ap (λ (l : List Row). rowOf bs d ∷ l) e
 
-  rows-under : (ds : List ℕ) → Under (b .client) ds → map (rowOf (bs ++ (b ∷ []))) ds ≡ map (rowOf bs) ds
-  unfolding Under
-  rows-under [] u = refl
-  rows-under (d ∷ ds) u = ap₂ (λ (r : Row) (l : List Row). r ∷ l) (row-other d (λ e. omega (arith, u .0, e))) (rows-under ds (u .1))
+  under-having : (c : ℕ) (ds : List ℕ) → Under c ds → Under c (having ds)
+  unfolding Under having
+  under-having c [] u = tt
+  under-having c (d ∷ ds) u = go (eqb (length (ofClient d bs)) 0) (under-having c ds (u .1))
+    where
+      go : (t : Bool) → Under c (having ds) → Under c (pick t (having ds) (d ∷ having ds))
+      go true h = h
+      go false h = (u .0, h)
 
-  among-under : (ds : List ℕ) → Under (b .client) ds → among (b .client) ds ≡ false
-  unfolding Under among
-  among-under [] u = refl
-  among-under (d ∷ ds) u = rw (ne-eqb d (b .client) (λ e. omega (arith, u .0, e))) (among-under ds (u .1))
+  descends-having : (ds : List ℕ) → Descends ds → Descends (having ds)
+  unfolding Descends having
+  descends-having [] f = tt
+  descends-having (d ∷ ds) f = go (eqb (length (ofClient d bs)) 0) (descends-having ds (f .1))
+    where
+      go : (t : Bool) → Descends (having ds) → Descends (pick t (having ds) (d ∷ having ds))
+      go true h = h
+      go false h = (under-having d ds (f .0), h)
 
-  -- clients ds, among which b's is exactly if it has blocks
-  abbrev Counts : List ℕ → Type 0
-  Counts ds = map (rowOf (bs ++ (b ∷ []))) (put (b .client) ds) ≡ addedAt (placeOf (b .client) (map (rowOf bs) ds)) (b .client) (b .clock) end (map (rowOf bs) ds)
+  some-has : (x : ℕ) → some (ofClient x bs) ≡ pick (eqb (length (ofClient x bs)) 0) false true
+  unfolding some
+  some-has x = go (ofClient x bs)
+    where
+      go : (l : List Block) → some l ≡ pick (eqb (length l) 0) false true
+      go [] = refl
+      go (b ∷ l) = sym (ap (λ (t : Bool). pick t false true) (ne-eqb (suc (length l)) 0 (λ e. omega (arith, e))))
 
-  before-all : (d : ℕ) (ds : List ℕ) → d < b .client → Under (b .client) (d ∷ ds) → ofClient (b .client) bs ≡ []
-      → map (rowOf (bs ++ (b ∷ []))) (b .client ∷ (d ∷ ds)) ≡ addedAt (placeOf (b .client) (map (rowOf bs) (d ∷ ds))) (b .client) (b .clock) end (map (rowOf bs) (d ∷ ds))
-  unfolding placeOf addedAt joined rowOf
-  before-all d ds l u z =
-      rw (le-leb d (b .client) (omega arith), ne-eqb d (b .client) (λ e. omega (arith, e, l)))
-      (ap₂ (λ (r : Row) (rs : List Row). r ∷ rs) (row-new (b .client) refl z) (rows-under (d ∷ ds) u))
+  among-having : (x : ℕ) (ds : List ℕ) → among x (having ds) ≡ pick (eqb (length (ofClient x bs)) 0) false (among x ds)
+  unfolding among having
+  among-having x [] = go (eqb (length (ofClient x bs)) 0)
+    where
+      go : (t : Bool) → false ≡ pick t false false
+      go true = refl
+      go false = refl
+  among-having x (d ∷ ds) = go (eqb (length (ofClient d bs)) 0) refl (eqb d x) refl (among-having x ds)
+    where
+      here : (e : Bool) → eqb d x ≡ true → eqb (length (ofClient d bs)) 0 ≡ e → eqb (length (ofClient x bs)) 0 ≡ e
+      here e q l = ap (λ (n : ℕ). eqb (length (ofClient n bs)) 0) (sym (eqb-true d x q)) ∙ l
 
-  in-this : (d : ℕ) (ds : List ℕ) → d ≡ b .client → Under (b .client) ds → some (ofClient (b .client) bs) ≡ true
-      → map (rowOf (bs ++ (b ∷ []))) (d ∷ ds) ≡ addedAt (placeOf (b .client) (map (rowOf bs) (d ∷ ds))) (b .client) (b .clock) end (map (rowOf bs) (d ∷ ds))
-  unfolding placeOf addedAt joined rowOf
-  in-this d ds e u z =
-      rw (e, le-leb (b .client) (b .client) (omega arith), eq-eqb (b .client) (b .client) refl)
-      (ap₂ (λ (r : Row) (rs : List Row). r ∷ rs) (row-more (b .client) refl z) (rows-under ds u))
+      go : (t : Bool) → eqb (length (ofClient d bs)) 0 ≡ t → (y : Bool) → eqb d x ≡ y → among x (having ds) ≡ pick (eqb (length (ofClient x bs)) 0) false (among x ds)
+          → among x (pick t (having ds) (d ∷ having ds)) ≡ pick (eqb (length (ofClient x bs)) 0) false (pick y true (among x ds))
+      go true l true q rest = rest ∙ ap (λ (z : Bool). pick z false (among x ds)) (here true q l) ∙ sym (ap (λ (z : Bool). pick z false true) (here true q l))
+      go true l false q rest = rest
+      go false l true q rest = ap (λ (z : Bool). pick z true (among x (having ds))) q ∙ sym (ap (λ (z : Bool). pick z false true) (here false q l))
+      go false l false q rest = ap (λ (z : Bool). pick z true (among x (having ds))) q ∙ rest
 
-  behind-this : (d : ℕ) (ds : List ℕ) → b .client < d → Counts ds
-      → map (rowOf (bs ++ (b ∷ []))) (d ∷ put (b .client) ds) ≡ addedAt (placeOf (b .client) (map (rowOf bs) (d ∷ ds))) (b .client) (b .clock) end (map (rowOf bs) (d ∷ ds))
-  unfolding placeOf addedAt rowOf
-  behind-this d ds l h =
-      rw (lt-leb d (b .client) l) (ap₂ (λ (r : Row) (rs : List Row). r ∷ rs) (row-other d (λ e. omega (arith, e, l))) h)
+  -- clients in falling order, all that have blocks among them
+  pub rows-by : (ds : List ℕ) → Descends ds → ((x : ℕ) → among x ds ≡ false → ofClient x bs ≡ []) → kept (map (rowOf bs) ds) ≡ rowsOf bs
+  unfolding rowsOf or among Descends
+  rows-by ds f none = kept-rows ds ∙ ap (map (rowOf bs)) (one-order (having ds) (clientsAfter [] bs) (descends-having ds f) (descends-after [] bs tt) same)
+    where
+      by : (x : ℕ) (t : Bool) → among x ds ≡ t → pick (eqb (length (ofClient x bs)) 0) false t ≡ pick (eqb (length (ofClient x bs)) 0) false true
+      by x true e = refl
+      by x false e = ap (λ (l : List Block). pick (eqb (length l) 0) false false) (none x e) ∙ sym (ap (λ (l : List Block). pick (eqb (length l) 0) false true) (none x e))
 
-  counted : (ds : List ℕ) → Descends ds → (among (b .client) ds ≡ false → ofClient (b .client) bs ≡ []) → (among (b .client) ds ≡ true → some (ofClient (b .client) bs) ≡ true) → Counts ds
-  unfolding Descends Under placeOf addedAt joined among put
-  counted [] f out in' = ap (λ (r : Row). r ∷ []) (row-new (b .client) refl (out refl))
-  counted (d ∷ ds) f out in' =
-      by-order (λ (l : List ℕ). map (rowOf (bs ++ (b ∷ []))) l ≡ addedAt (placeOf (b .client) (map (rowOf bs) (d ∷ ds))) (b .client) (b .clock) end (map (rowOf bs) (d ∷ ds))) (b .client) d ds
-      (λ l. let u : Under (b .client) (d ∷ ds) = (l, under-up (b .client) d ds (omega arith) (f .0)) in before-all d ds l u (out (among-under (d ∷ ds) u)))
-      (λ s. in-this d ds s (subst (λ (n : ℕ). Under n ds) s (f .0)) (in' (rw (eq-eqb d (b .client) s))))
-      (λ m. let n = ne-eqb d (b .client) (λ e. omega (arith, e, m)) in
-      behind-this d ds m (counted ds (f .1) (λ z. out (rw n z)) (λ z. in' (rw n z))))
+      same : (x : ℕ) → among x (having ds) ≡ among x (clientsAfter [] bs)
+      same x = among-having x ds ∙ by x (among x ds) refl ∙ sym (some-has x) ∙ sym (among-after x [] bs)
 
-  pub rows-snoc : rowsOf (bs ++ (b ∷ [])) ≡ addedAt (placeOf (b .client) (rowsOf bs)) (b .client) (b .clock) end (rowsOf bs)
-  unfolding rowsOf Descends or among
-  rows-snoc =
-      let there : among (b .client) (clientsAfter [] bs) ≡ some (ofClient (b .client) bs) = among-after (b .client) [] bs in
-      ap (map (rowOf (bs ++ (b ∷ [])))) (after-snoc [] bs b)
-      ∙ counted (clientsAfter [] bs) (descends-after [] bs tt) (λ z. none-of (ofClient (b .client) bs) (sym there ∙ z)) (λ z. sym there ∙ z)
-
--- ---- what rows of blocks have
-
-below-map : (bs : List Block) (c : ℕ) (ds : List ℕ) → Under c ds → Below c (map (rowOf bs) ds)
-unfolding Under Below rowOf
-below-map bs c [] u = tt
-below-map bs c (d ∷ ds) u = (u .0, below-map bs c ds (u .1))
-
-falls-map : (bs : List Block) (ds : List ℕ) → Descends ds → Falls (map (rowOf bs) ds)
-unfolding Descends Falls rowOf
-falls-map bs [] f = tt
-falls-map bs (d ∷ ds) f = (below-map bs d ds (f .0), falls-map bs ds (f .1))
-
-pub rows-fall : (bs : List Block) → Falls (rowsOf bs)
-unfolding rowsOf Descends
-rows-fall bs = falls-map bs (clientsAfter [] bs) (descends-after [] bs tt)
+-- ---- how many there are
 
 pub of-few : (c : ℕ) (bs : List Block) → length (ofClient c bs) ≤ length bs
 unfolding ofClient
@@ -260,17 +281,6 @@ of-few c (b ∷ bs) = go (eqb (b .client) c) (of-few c bs)
     go true h = omega arith
     go false h = omega arith
 
-few-map : (bs : List Block) (ds : List ℕ) → length bs < 4294967296 → Few (map (rowOf bs) ds)
-unfolding Few rowOf
-few-map bs [] h = tt
-few-map bs (d ∷ ds) h = (omega (arith, of-few d bs, h), few-map bs ds h)
-
-pub rows-few : (bs : List Block) → length bs < 4294967296 → Few (rowsOf bs)
-unfolding rowsOf
-rows-few bs h = few-map bs (clientsAfter [] bs) h
-
--- ---- how many there are
-
 put-length : (c : ℕ) (ds : List ℕ) → (length ds ≤ length (put c ds)) × (length (put c ds) ≤ suc (length ds))
 unfolding put
 put-length c [] = (omega arith, omega arith)
@@ -278,18 +288,9 @@ put-length c (d ∷ ds) =
     by-order (λ (l : List ℕ). (length (d ∷ ds) ≤ length l) × (length l ≤ suc (length (d ∷ ds)))) c d ds (λ l. (omega arith, omega arith)) (λ s. (omega arith, omega arith))
     (λ m. let h = put-length c ds in (omega (arith, h .0), omega (arith, h .1)))
 
-after-length : (cs : List ℕ) (bs : List Block) → length cs ≤ length (clientsAfter cs bs)
-unfolding clientsAfter
-after-length cs [] = omega arith
-after-length cs (b ∷ bs) = omega (arith, after-length (put (b .client) cs) bs, put-length (b .client) cs .0)
-
 length-rows-of : (bs : List Block) → length (rowsOf bs) ≡ length (clientsAfter [] bs)
 unfolding rowsOf
 length-rows-of bs = length-map (clientsAfter [] bs) (rowOf bs)
-
--- more blocks have no fewer rows
-pub rows-grow : (ds bs : List Block) → length (rowsOf ds) ≤ length (rowsOf (ds ++ bs))
-rows-grow ds bs = omega (arith, length-rows-of ds, length-rows-of (ds ++ bs), ap length (after-append [] ds bs), after-length (clientsAfter [] ds) bs)
 
 -- a client twice is a client once
 put-twice : (c : ℕ) (ds : List ℕ) → put c (put c ds) ≡ put c ds
@@ -316,12 +317,3 @@ after-groups cs (b ∷ (d ∷ bs)) =
 -- so blocks have no more rows than groups
 pub rows-groups : (bs : List Block) → length (rowsOf bs) ≤ length (groups owner bs)
 rows-groups bs = omega (arith, length-rows-of bs, after-groups [] bs)
-
--- ---- a row of its own is one row more
-
-pub added-length : (p c k e : ℕ) (rs : List Row) → p ≤ length rs → isFirst c (drop p rs) ≡ false → length (addedAt p c k e rs) ≡ suc (length rs)
-unfolding addedAt isFirst joined
-added-length zero c k e [] h f = refl
-added-length zero c k e (r ∷ rs) h f = rw f
-added-length (suc p) c k e [] h f = absurd (omega (arith, h))
-added-length (suc p) c k e (r ∷ rs) h f = ap suc (added-length p c k e rs (omega arith) f)

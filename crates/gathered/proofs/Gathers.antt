@@ -6,8 +6,9 @@ use native.Mathlib.Omega.{arith}
 use lib.ListN.{length, take}
 use Rattle.numbers.specs.declared.Refusal.{Refusal}
 use Rattle.block.specs.declared.Block.{Block}
-use Rattle.grammar.specs.Course.{Course, item, over, stopped, items, ending}
-use Rattle.decoder.specs.Update.{blocksOf, deleteSet}
+use Rattle.grammar.specs.Course.{Course, Run, item, over, stopped, items, ending}
+use Rattle.decoder.specs.States.{State}
+use Rattle.decoder.specs.Update.{placed, blocksOf, deleteSet}
 use Rattle.readings.specs.Sound.{All}
 use Rattle.readings.specs.SoundInner.{Sound}
 use Rattle.readings.proofs.Sounds.{blocks-sound}
@@ -15,6 +16,7 @@ use Rattle.readings.proofs.Counts.{blocks-groups}
 use Rattle.deletes.specs.declared.Checked.{Checked}
 use Rattle.deletes.specs.declared.Checked.the-variants as checked
 use Rattle.summary.specs.Words.{wordsIn}
+use Rattle.tally.specs.Tally.{rowsBy, kept}
 use Rattle.gathered.specs.declared.Scanned.{Scanned}
 use Rattle.gathered.specs.declared.Scanned.the-variants as scanned
 use Rattle.gathered.specs.declared.Gathered.{Gathered}
@@ -49,6 +51,19 @@ module _ {E : Type 0} where
   ends-done (over a t) at f g e = ap f (let z : t ≡ at = cc in z)
   ends-done (stopped w) at f g e = absurd (let z : _≡_ {A = ℕ} 0 1 = cc in omega arith)
 
+-- and how it ends up to a state's place
+placed-ends : (c : Run State Block (Unit {0})) → ending (placed c) (λ at. checked.Done at) (λ w. checked.Refused w) ≡ endOf c
+unfolding placed ending endOf
+placed-ends (item b p c) = placed-ends c
+placed-ends (over a s) = refl
+placed-ends (stopped why) = refl
+
+placed-items : (c : Run State Block (Unit {0})) → items (placed c) ≡ items c
+unfolding placed items
+placed-items (item b p c) = ap (λ (l : List Block). b ∷ l) (placed-items c)
+placed-items (over a s) = refl
+placed-items (stopped why) = refl
+
 -- ---- the whole
 
 module _ (form : ℕ) (u : List ℕ) where
@@ -60,27 +75,36 @@ module _ (form : ℕ) (u : List ℕ) where
   unfolding toldOf ending
   not-begun w why g e h = tells-refused w why g (rw e) h
 
-  module _ (c : Course Block) (b : blocksOf form u ≡ c) (w : List ℕ) (x : Scanned) (s : Scans c w x) where
-    pub not-scanned : (why : Refusal) (g : Gathered) → x ≡ scanned.Refused why → g ≡ gathered.Refused why → Tells (toldOf form u) w g
-    unfolding toldOf Scans endOf
-    not-scanned why g e h =
-        let z = subst (Scans c w) e s in
-        tells-refused w why g (ends-refused (blocksOf form u) why _ _ (rw b z)) h
+  module _ (c : Run State Block (Unit {0})) (b : blocksOf form u ≡ placed c) where
+    pub can-be : Ends (items c)
+    can-be = subst Ends (ap items b ∙ placed-items c) (gatherable form u .ends)
 
-    module _ (n at : ℕ) (e : x ≡ scanned.Rows n at) where
-      told-after : toldOf form u ≡ ending (deleteSet form u at) (λ t. rows (rowsOf (items (blocksOf form u)))) (λ why. refused why)
-      unfolding toldOf Scans endOf
-      told-after = let z = subst (Scans c w) e s in ends-done (blocksOf form u) at _ _ (rw b (z .2))
+    module _ (r o : List ℕ) (x : Scanned) (s : Scans c r o x) where
+      pub not-scanned : (w : List ℕ) (why : Refusal) (g : Gathered) → x ≡ scanned.Refused why → g ≡ gathered.Refused why → Tells (toldOf form u) w g
+      unfolding toldOf Scans
+      not-scanned w why g e h =
+          let z = subst (Scans c r o) e s in
+          tells-refused w why g (ends-refused (blocksOf form u) why _ _ (rw b (placed-ends c ∙ z))) h
 
-      pub not-checked : (why : Refusal) (k : Checked) (g : Gathered) → k ≡ ending (deleteSet form u at) checked.Done checked.Refused → k ≡ checked.Refused why → g ≡ gathered.Refused why → Tells (toldOf form u) w g
-      not-checked why k g d r h = tells-refused w why g (told-after ∙ ends-refused (deleteSet form u at) why _ _ (sym d ∙ r)) h
+      module _ (n at : ℕ) (e : x ≡ scanned.Sections n at) where
+        pub few-sections : n ≤ 64
+        unfolding Scans
+        few-sections = let z = subst (Scans c r o) e s in z .0
 
-      pub gathers : (t : ℕ) (k : Checked) → k ≡ ending (deleteSet form u at) checked.Done checked.Refused → k ≡ checked.Done t → Tells (toldOf form u) w (gathered.Rows n)
-      unfolding Scans Tells
-      gathers t k d r =
-          let told : toldOf form u ≡ rows (rowsOf (items (blocksOf form u))) = told-after ∙ ends-done (deleteSet form u at) t _ _ (sym d ∙ r) in
-          let z = subst (Scans c w) e s in
-          let same : rowsOf (items c) ≡ rowsOf (items (blocksOf form u)) = ap (λ (y : Course Block). rowsOf (items y)) (sym b) in
-          let count : n ≡ length (rowsOf (items (blocksOf form u))) = z .0 ∙ ap length same in
-          subst (λ (y : Told). Tells y w (gathered.Rows n)) (sym told)
-          (ap gathered.Rows count, ap (λ (j : ℕ). take (4 * j) w) (sym count) ∙ z .1 ∙ ap wordsIn same, gatherable form u .few)
+        told-after : toldOf form u ≡ ending (deleteSet form u at) (λ t. rows (rowsOf (items (blocksOf form u)))) (λ why. refused why)
+        unfolding toldOf Scans
+        told-after = let z = subst (Scans c r o) e s in ends-done (blocksOf form u) at _ _ (rw b (placed-ends c ∙ z .2))
+
+        pub not-checked : (w : List ℕ) (why : Refusal) (k : Checked) (g : Gathered) → k ≡ ending (deleteSet form u at) checked.Done checked.Refused → k ≡ checked.Refused why → g ≡ gathered.Refused why → Tells (toldOf form u) w g
+        not-checked w why k g d q h = tells-refused w why g (told-after ∙ ends-refused (deleteSet form u at) why _ _ (sym d ∙ q)) h
+
+        pub gathers : (w : List ℕ) (m t : ℕ) (k : Checked) → m ≡ length (kept (rowsBy r (take n o))) → take (4 * m) w ≡ wordsIn (kept (rowsBy r (take n o)))
+            → k ≡ ending (deleteSet form u at) checked.Done checked.Refused → k ≡ checked.Done t → Tells (toldOf form u) w (gathered.Rows m)
+        unfolding Scans Tells
+        gathers w m t k count words d q =
+            let told : toldOf form u ≡ rows (rowsOf (items (blocksOf form u))) = told-after ∙ ends-done (deleteSet form u at) t _ _ (sym d ∙ q) in
+            let z = subst (Scans c r o) e s in
+            let same : kept (rowsBy r (take n o)) ≡ rowsOf (items (blocksOf form u)) = z .1 ∙ ap rowsOf (sym (ap items b ∙ placed-items c)) in
+            let many : m ≡ length (rowsOf (items (blocksOf form u))) = count ∙ ap length same in
+            subst (λ (y : Told). Tells y w (gathered.Rows m)) (sym told)
+            (ap gathered.Rows many, ap (λ (j : ℕ). take (4 * j) w) (sym many) ∙ words ∙ ap wordsIn same, gatherable form u .few)

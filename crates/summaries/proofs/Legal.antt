@@ -23,7 +23,8 @@ use Rattle.summary.specs.Rows.{Row}
 use Rattle.summary.specs.RowsInner.{AllFit}
 use Rattle.summary.specs.Summary.{inOrder, legal}
 use Rattle.gathered.specs.RowsOf.{ofClient, firstClock, lastEnd, rowOf, clientsAfter, rowsOf}
-use Rattle.gathered.proofs.Clients.{Under, Descends, descends-after, of-few, some-of}
+use Rattle.tally.specs.Tally.{Under, Descends}
+use Rattle.gathered.proofs.Clients.{descends-after, of-few, some-of}
 use Rattle.gathered.proofs.Gathers.{gatherable}
 
 -- ---- the blocks of one client
