@@ -14,16 +14,16 @@ pub fn key_between(p: u64, v: u64) -> u64
     v + 2147483648 - p
 }
 
-// The size of e: twice the difference, and one more where a count follows.
+// The size of e: twice the difference, and one more where a count follows. The key's half is multiplied in: the sign of a difference cannot be guessed, and
+// a test of it would be guessed.
 fn magnitude_of(k: u64, n: u64) -> u64
     requires { ⌜ k < 4294967296 ⌝ }
     ensures { λ r. ⌜ r ≡ magnitude k (odd n) ⌝ }
 {
     let one = odd_of(n);
-    if k < 2147483648 {
-        return 2 * (2147483648 - k) - one;
-    }
-    2 * (k - 2147483648) + one
+    let half = k / 2147483648;
+    let x = 2 * (k % 2147483648) + one;
+    half * x + (1 - half) * (4294967296 - x)
 }
 
 fn odd_of(n: u64) -> u64
