@@ -26,7 +26,7 @@ use Rattle.grammar.specs.Course.{Drawn, got, not}
 use Rattle.grammar.specs.Numbered.{Refuses}
 use Rattle.decoder.specs.Line.{line}
 use Rattle.decoder.specs.States.{maxKeys, Numbers, Differences, Bytes, State, withText}
-use Rattle.decoder.specs.Columned.{numberDrawn, fromNumbers, differenceDrawn, fromDifferences, byteDrawn, fromBytes, textDrawn, onto, numberIn, textIn, joining, numbered, keyIn, columned}
+use Rattle.decoder.specs.Columned.{numberDrawn, fromNumbers, differenceDrawn, fromDifferences, byteDrawn, fromBytes, textDrawn, onto, numberIn, textIn, joining, keyByNumber, keyIn, columned}
 use Rattle.decoder.specs.Opening.{withOpened, textOpened}
 use Rattle.pieces.proofs.Forgets.{chosen}
 use Rattle.agreement.proofs.NumberedColumns.{low3, NumberedNumber, number-numbered, NumberedDifference, difference-numbered, NumberedByte, byte-numbered, NumberedTexts, texts-numbered, NumberedString, string-numbered}
@@ -101,8 +101,8 @@ module _ (u : List ℕ) where
   joining-right (not why) h = h
 
   -- one key too many is 3
-  numbered-right : (d : Drawn State (ℕ × ℕ)) → Right d → Right (numbered u d)
-  unfolding numbered Refuses
+  numbered-right : (d : Drawn State (ℕ × ℕ)) → Right d → Right (keyByNumber u d)
+  unfolding keyByNumber Refuses
   numbered-right (got a s) h =
       chosen Right (ltb (a .0) (length (s .keys))) tt
       (chosen Right (ltb (length (s .keys)) maxKeys) (joining-right (textIn u s) (text-right s)) low3)

@@ -22,7 +22,7 @@ use Rattle.grammar.specs.Grammar.{Number, Field, Grammar}
 use Rattle.grammar.specs.Course.{Drawn, got, not, run}
 use Rattle.grammar.specs.Numbered.{Refuses, Owns}
 use Rattle.grammar.proofs.Numbered.{stops}
-use Rattle.decoder.specs.Line.{numberAt, varAt, bounded, upTo, byteAt, restored, deleteAt, numberOf, soMany, bytesAt, checked, wordOf, spanned, valuesAt, line}
+use Rattle.decoder.specs.Line.{numberAt, varAt, bounded, upTo, byteAt, restored, deleteAt, numberBy, soMany, bytesAt, checked, wordOf, spanned, valuesAt, line}
 use Rattle.pieces.proofs.Forgets.{chosen}
 use Rattle.agreement.specs.Numbered.{Low, Stops}
 use Rattle.agreement.proofs.NumberedColumns.{low1, low3, low6, NumberedRead, unsigned-numbered}
@@ -79,8 +79,8 @@ module _ (form : ℕ) (u : List ℕ) (at : ℕ) where
       go (read.Number n e) h = chosen Right (ltb (length u - e) n) low1 tt
       go (read.Refused why) h = h
 
-  number-right : (n : Number) → Right (numberOf form u n at)
-  unfolding numberOf
+  number-right : (n : Number) → Right (numberBy form u n at)
+  unfolding numberBy
   number-right grammar.byte = byte-right
   number-right (grammar.upTo most) = up-to-right most
   number-right grammar.any = var-right

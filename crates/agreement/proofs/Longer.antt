@@ -10,7 +10,7 @@ use lib.Seq.{drop-append-seam}
 use borrow.Author.Tests.{le-ltb}
 use Rattle.numbers.specs.declared.Read.the-variants.{Number}
 use Rattle.numbers.specs.declared.Signed.the-variants.{Value}
-use Rattle.numbers.specs.Number.{pick, Spelt, got, short, long, after, spelt, placed, readUnsigned, speltSigned, minusOf, withSign, readSigned}
+use Rattle.numbers.specs.Number.{pick, Spelt, got, short, long, lowPart, spelt, answerAt, readUnsigned, speltSigned, minusOf, withSign, readSigned}
 use Rattle.agreement.specs.Longer.{longer, longerBy}
 
 -- ---- what is spelt from i on ends after i
@@ -20,8 +20,8 @@ Beyond i (got x e) = i < e
 Beyond i short = Unit {0}
 Beyond i long = Unit {0}
 
-beyond-after : (w v i j : ℕ) (r : Spelt) → i ≤ j → Beyond j r → Beyond i (after w v r)
-unfolding after
+beyond-after : (w v i j : ℕ) (r : Spelt) → i ≤ j → Beyond j r → Beyond i (lowPart w v r)
+unfolding lowPart
 beyond-after w v i j (got x e) l h = omega arith
 beyond-after w v i j short l h = tt
 beyond-after w v i j long l h = tt
@@ -50,10 +50,10 @@ some i v bs r b h = let z : i < i + length bs = subst (Beyond i) h b in omega ar
 -- a first byte b counts f b where it is all, and g b before what is spelt
 module _ (w : ℕ) (f g : ℕ → ℕ) (same : (b : ℕ) → g (b + 128) + w * 0 ≡ f b) (k i b v : ℕ) where
   unfoldable led : ℕ → List ℕ → Spelt
-  led n t = pick (ltb n 128) (got (f n) (i + 1)) (after w (g n) (spelt k (i + 1) t))
+  led n t = pick (ltb n 128) (got (f n) (i + 1)) (lowPart w (g n) (spelt k (i + 1) t))
 
-  two : (n : ℕ) (q : List ℕ) → 0 < n → after w (g (b + 128)) (spelt n (i + 1) (0 ∷ q)) ≡ got (g (b + 128) + w * 0) (i + 1 + 1)
-  unfolding spelt after
+  two : (n : ℕ) (q : List ℕ) → 0 < n → lowPart w (g (b + 128)) (spelt n (i + 1) (0 ∷ q)) ≡ got (g (b + 128) + w * 0) (i + 1 + 1)
+  unfolding spelt lowPart
   two zero q l = absurd (omega arith)
   two (suc n) q l = refl
 
@@ -62,7 +62,7 @@ module _ (w : ℕ) (f g : ℕ → ℕ) (same : (b : ℕ) → g (b + 128) + w * 0
   unfolding led
   last-longer q l h = go (ltb b 128) refl h
     where
-      go : (x : Bool) → ltb b 128 ≡ x → pick x (got (f b) (i + 1)) (after w (g b) (spelt k (i + 1) q)) ≡ got v (i + 1) → led (b + 128) (0 ∷ q) ≡ got v (i + 1 + 1)
+      go : (x : Bool) → ltb b 128 ≡ x → pick x (got (f b) (i + 1)) (lowPart w (g b) (spelt k (i + 1) q)) ≡ got v (i + 1) → led (b + 128) (0 ∷ q) ≡ got v (i + 1 + 1)
       go true e h =
           let a : f b ≡ v = cc in
           rw (le-ltb (b + 128) 128 (omega arith)) (two k q l ∙ ap (λ (n : ℕ). got n (i + 1 + 1)) (same b ∙ a))
@@ -73,20 +73,20 @@ module _ (w : ℕ) (f g : ℕ → ℕ) (same : (b : ℕ) → g (b + 128) + w * 0
   -- it says more, before what is spelt longer
   more-longer : (e : ℕ) (t t′ : List ℕ) → i + 1 < e → ((y : ℕ) → spelt k (i + 1) t ≡ got y e → spelt k (i + 1) t′ ≡ got y (e + 1))
       → led b t ≡ got v e → led b t′ ≡ got v (e + 1)
-  unfolding led after
+  unfolding led lowPart
   more-longer e t t′ l more h = go (ltb b 128) h
     where
-      onto : (r : Spelt) → ((y : ℕ) → r ≡ got y e → spelt k (i + 1) t′ ≡ got y (e + 1)) → after w (g b) r ≡ got v e
-          → after w (g b) (spelt k (i + 1) t′) ≡ got v (e + 1)
+      onto : (r : Spelt) → ((y : ℕ) → r ≡ got y e → spelt k (i + 1) t′ ≡ got y (e + 1)) → lowPart w (g b) r ≡ got v e
+          → lowPart w (g b) (spelt k (i + 1) t′) ≡ got v (e + 1)
       onto (got y n) more h =
           let a : n ≡ e = cc in
           let c : g b + w * y ≡ v = cc in
-          ap (after w (g b)) (more y (ap (got y) a)) ∙ ap (λ (n : ℕ). got n (e + 1)) c
+          ap (lowPart w (g b)) (more y (ap (got y) a)) ∙ ap (λ (n : ℕ). got n (e + 1)) c
       onto short more h = absurd (let z : _≡_ {A = ℕ} 0 1 = cc in omega arith)
       onto long more h = absurd (let z : _≡_ {A = ℕ} 0 1 = cc in omega arith)
 
-      go : (x : Bool) → pick x (got (f b) (i + 1)) (after w (g b) (spelt k (i + 1) t)) ≡ got v e
-          → pick x (got (f b) (i + 1)) (after w (g b) (spelt k (i + 1) t′)) ≡ got v (e + 1)
+      go : (x : Bool) → pick x (got (f b) (i + 1)) (lowPart w (g b) (spelt k (i + 1) t)) ≡ got v e
+          → pick x (got (f b) (i + 1)) (lowPart w (g b) (spelt k (i + 1) t′)) ≡ got v (e + 1)
       go true h = absurd (let a : i + 1 ≡ e = cc in omega arith)
       go false h = onto (spelt k (i + 1) t) more h
 
@@ -151,8 +151,8 @@ module _ (i k v : ℕ) (q bs : List ℕ) (r : List ℕ → Spelt) (law : Lengthe
 
 -- ---- numbers read
 
-placed-got : (s : List ℕ) (at : ℕ) (x : Spelt) (v e : ℕ) → placed s at x ≡ Number v e → x ≡ got v e
-unfolding placed
+placed-got : (s : List ℕ) (at : ℕ) (x : Spelt) (v e : ℕ) → answerAt s at x ≡ Number v e → x ≡ got v e
+unfolding answerAt
 placed-got s at (got y f) v e h = cc
 placed-got s at short v e h = absurd (let z : _≡_ {A = ℕ} 0 1 = cc in omega arith)
 placed-got s at long v e h = absurd (let z : _≡_ {A = ℕ} 0 1 = cc in omega arith)
@@ -161,7 +161,7 @@ placed-got s at long v e h = absurd (let z : _≡_ {A = ℕ} 0 1 = cc in omega a
 module _ (j : ℕ) (a bs q : List ℕ) (v : ℕ) (l : length bs + j ≤ 9) where
   pub longer-by-unsigned : readUnsigned (a ++ (bs ++ q)) (length a) ≡ Number v (length a + length bs)
       → readUnsigned (a ++ (longerBy j bs ++ q)) (length a) ≡ Number v (length a + length bs + j)
-  unfolding readUnsigned placed
+  unfolding readUnsigned answerAt
   longer-by-unsigned h =
       let e : spelt 9 (length a) (bs ++ q) ≡ got v (length a + length bs)
       = placed-got (a ++ (bs ++ q)) (length a) _ v _ (rw (drop-append-seam a (bs ++ q)) at h) in
@@ -170,15 +170,15 @@ module _ (j : ℕ) (a bs q : List ℕ) (v : ℕ) (l : length bs + j ≤ 9) where
         longer-by (length a) 9 v q bs (spelt 9 (length a)) (spelt-longer q 9 (length a)) (some (length a) v bs _ (beyond 9 (length a) (bs ++ q)) e) e j l .same,
       )
 
-  with-value : (m n : Bool) (s : List ℕ) (at : ℕ) (x : Spelt) (e : ℕ) → withSign m (placed s at x) ≡ Value n v e → (m ≡ n) × (x ≡ got v e)
-  unfolding withSign placed
+  with-value : (m n : Bool) (s : List ℕ) (at : ℕ) (x : Spelt) (e : ℕ) → withSign m (answerAt s at x) ≡ Value n v e → (m ≡ n) × (x ≡ got v e)
+  unfolding withSign answerAt
   with-value m n s at (got y f) e h = (cc, cc)
   with-value m n s at short e h = absurd (let z : _≡_ {A = ℕ} 0 1 = cc in omega arith)
   with-value m n s at long e h = absurd (let z : _≡_ {A = ℕ} 0 1 = cc in omega arith)
 
   pub longer-by-signed : (m : Bool) → readSigned (a ++ (bs ++ q)) (length a) ≡ Value m v (length a + length bs)
       → readSigned (a ++ (longerBy j bs ++ q)) (length a) ≡ Value m v (length a + length bs + j)
-  unfolding readSigned withSign placed
+  unfolding readSigned withSign answerAt
   longer-by-signed m h =
       let e = with-value (minusOf (bs ++ q)) m (a ++ (bs ++ q)) (length a) (speltSigned (length a) (bs ++ q)) _ (rw (drop-append-seam a (bs ++ q)) at h) in
       rw (

@@ -4,7 +4,7 @@ use mathlib.Core.List.{List, [], _∷_, _++_}
 use lib.Dec.{eqb}
 use Rattle.text.specs.declared.Part.{Part}
 use Rattle.grammar.specs.GrammarInner.{_>>=_}
-use Rattle.grammar.specs.Course.{Drawn, got, not, Run, item, over, stopped, onDrawn, run}
+use Rattle.grammar.specs.Course.{Drawn, got, not, Run, thing, over, stopped, onDrawn, run}
 use Rattle.grammar.specs.Blocks.{allBlocks}
 use Rattle.grammar.specs.Deletes.{allRanges}
 use Rattle.grammar.specs.Numbered as numbered
@@ -14,7 +14,7 @@ use Rattle.decoder.specs.Line.{line}
 use Rattle.decoder.specs.States.{State}
 use Rattle.decoder.specs.Columned.{columned}
 use Rattle.decoder.specs.Opening.{cut, heads, standing, onHeads, openedOf}
-use Rattle.decoder.specs.Update.{placed, inColumns, blocksOf, deleteSet}
+use Rattle.decoder.specs.Update.{restPlaces, inColumns, blocksOf, deleteSet}
 use Rattle.pieces.proofs.Forgets.{chosen}
 use Rattle.agreement.specs.Numbered.{Low, Stops}
 use Rattle.agreement.proofs.Lines.{Right, line-numbered}
@@ -36,15 +36,15 @@ unfolding openedOf onHeads numbered.Stops Refuses
 opened-right u = go (run (line 2 u) heads 0) (line-numbered 2 u heads heads-own 0)
   where
     go : (c : Run ℕ (Unit {0}) (List Part)) → Stops c → Right (onHeads u c)
-    go (item e p c) h = go c h
+    go (thing e p c) h = go c h
     go (over ps at) h = columns.opened-right u (standing ps at)
     go (stopped why) h = h
 
 -- ---- blocks and ranges
 
-placed-stops : {E A : Type 0} (c : Run State E A) → Stops c → Stops (placed c)
-unfolding placed numbered.Stops
-placed-stops (item e p c) h = placed-stops c h
+placed-stops : {E A : Type 0} (c : Run State E A) → Stops c → Stops (restPlaces c)
+unfolding restPlaces numbered.Stops
+placed-stops (thing e p c) h = placed-stops c h
 placed-stops (over a s) h = tt
 placed-stops (stopped why) h = h
 

@@ -10,7 +10,7 @@ use Rattle.numbers.specs.declared.Read.{Read}
 use Rattle.numbers.specs.declared.Read.the-variants.{Number, Refused}
 use Rattle.numbers.specs.declared.Signed.{Signed}
 use Rattle.numbers.specs.declared.Signed.the-variants.{Value, Wrong}
-use Rattle.numbers.specs.Number.{Spelt, got, short, long, placed, readUnsigned, withSign, readSigned}
+use Rattle.numbers.specs.Number.{Spelt, got, short, long, answerAt, readUnsigned, withSign, readSigned}
 use Rattle.numbers.specs.Limits.{maxValue, maxClock, maxCount}
 use Rattle.text.specs.declared.State as text-state
 use Rattle.text.specs.declared.Taken.{Taken}
@@ -64,8 +64,8 @@ abbrev NumberedSigned : Signed → Type 0
 NumberedSigned (Value m v e) = Unit {0}
 NumberedSigned (Wrong why) = Low (why .number)
 
-placed-numbered : (s : List ℕ) (at : ℕ) (x : Spelt) → NumberedRead (placed s at x)
-unfolding placed
+placed-numbered : (s : List ℕ) (at : ℕ) (x : Spelt) → NumberedRead (answerAt s at x)
+unfolding answerAt
 placed-numbered s at (got v e) = tt
 placed-numbered s at short = low1
 placed-numbered s at long = low2
@@ -189,17 +189,17 @@ take-numbered st w k (b ∷ t) =
     chosen NumberedTaken (eqb w 0) tt
     (chosen NumberedTaken (ltb w (gain (next st b))) low7 (take-numbered (next st b) (w - gain (next st b)) (k + 1) t))
 
-ending-numbered : (at end : ℕ) (rest : number-place.Place) (r : Taken) → NumberedTaken r → NumberedString (strings.ending at end rest r)
-unfolding strings.ending
+ending-numbered : (at end : ℕ) (rest : number-place.Place) (r : Taken) → NumberedTaken r → NumberedString (strings.textEnding at end rest r)
+unfolding strings.textEnding
 ending-numbered at end rest (units.Took b) h = tt
 ending-numbered at end rest (units.Refused why) h = h
 
-taken-numbered : (s : List ℕ) (at end u : ℕ) (rest : number-place.Place) → NumberedString (strings.taken s at end u rest)
-unfolding strings.taken takeUnits
+taken-numbered : (s : List ℕ) (at end u : ℕ) (rest : number-place.Place) → NumberedString (strings.unitsTaken s at end u rest)
+unfolding strings.unitsTaken takeUnits
 taken-numbered s at end u rest = ending-numbered at end rest _ (take-numbered start u 0 (slice at end s))
 
-string-drawn : (s : List ℕ) (at end : ℕ) (r : number-answer.Answer) → NumberedNumber r → NumberedString (strings.drawn s at end r)
-unfolding strings.drawn
+string-drawn : (s : List ℕ) (at end : ℕ) (r : number-answer.Answer) → NumberedNumber r → NumberedString (strings.unitsDrawn s at end r)
+unfolding strings.unitsDrawn
 string-drawn s at end (number.Next u rest) h = taken-numbered s at end u rest
 string-drawn s at end (number.Bad why) h = h
 

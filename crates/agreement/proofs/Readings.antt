@@ -8,7 +8,7 @@ use lib.ListN.{length}
 use Rattle.numbers.specs.Number.{pick, none, nowhere}
 use Rattle.numbers.specs.Limits.{maxUpdate}
 use Rattle.block.specs.declared.Block.{Block}
-use Rattle.grammar.specs.Course.{item, over, stopped, Course, fit, items, ending}
+use Rattle.grammar.specs.Course.{thing, over, stopped, Course, fit, things, ending}
 use Rattle.grammar.specs.Whole.{Ends}
 use Rattle.grammar.specs.Numbered as grammar
 use Rattle.decoder.specs.Update.{blocksOf, deleteSet}
@@ -31,7 +31,7 @@ record Followed {A : Type 0} (c : Course A) (f : ℕ → Reading) : Type 0 where
 module _ {A : Type 0} where
   followed : (c : Course A) (f : ℕ → Reading) → Stops c → ending c f (λ why. refused why) .refusal .number ≡ 0 → Followed c f
   unfolding ending Ends grammar.Stops
-  followed (item a p c) f h e = let r = followed c f h e in record { end = r .end; ends = r .ends; done = r .done }
+  followed (thing a p c) f h e = let r = followed c f h e in record { end = r .end; ends = r .ends; done = r .done }
   followed (over a s) f h e = record { end = s; ends = refl; done = e }
   followed (stopped why) f h e = absurd (omega (arith, h .0, e))
 
@@ -53,12 +53,12 @@ module _ (form : ℕ) (u : List ℕ) (b r : ℕ) where
   done h =
       let on = read-on form u b r (not-early form u b r h) in
       let e : withBlocks form u r c .refusal .number ≡ 0 = ap (λ (x : Reading). x .refusal .number) (sym on) ∙ h in
-      let first = followed c (λ s. withRanges (items c) (fit r (deleteSet form u s))) (fit-stops b (blocksOf form u) (blocks-numbered u form)) e in
+      let first = followed c (λ s. withRanges (things c) (fit r (deleteSet form u s))) (fit-stops b (blocksOf form u) (blocks-numbered u form)) e in
       let second = followed (fit r (deleteSet form u (first .end))) _ (fit-stops r (deleteSet form u (first .end)) (deletes-numbered form u (first .end))) (first .done) in
       record { middle = first .end; last = second .end; blocks = first .ends; ranges = second .ends }
 
   -- what the reading is then
-  whole-at : (at : ℕ) → early form u ≡ 0 → Ends c at → reading form u b r ≡ withRanges (items c) (fit r (deleteSet form u at))
+  whole-at : (at : ℕ) → early form u ≡ 0 → Ends c at → reading form u b r ≡ withRanges (things c) (fit r (deleteSet form u at))
   unfolding withBlocks
   whole-at at e h = read-on form u b r e ∙ ending-at c _ _ at h
 

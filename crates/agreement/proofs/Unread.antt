@@ -8,7 +8,7 @@ use Rattle.ranges.specs.Ranges.{Range}
 use Rattle.grammar.specs.Course.{Course, fit}
 use Rattle.grammar.specs.Whole.{Ends}
 use Rattle.decoder.specs.Update.{blocksOf, deleteSet}
-use Rattle.content.specs.Content.{nth, stored, contentOf}
+use Rattle.content.specs.Content.{nth, stored, contentAt}
 use Rattle.places.proofs.Appended.{blocks-stay, ranges-stay}
 use Rattle.agreement.proofs.Courses.{same-to-end, fit-ends, ending-at}
 
@@ -32,11 +32,11 @@ unread-rows form u w n m at end b d =
 
 -- and a block's stored part is the same
 module _ (form : ℕ) (n : ℕ) where
-  content-at : (u : List ℕ) (s t : ℕ) → Ends (blocksOf form u) s → Ends (deleteSet form u s) t → contentOf form u n ≡ stored (nth n (blocksOf form u))
-  unfolding contentOf
+  content-at : (u : List ℕ) (s t : ℕ) → Ends (blocksOf form u) s → Ends (deleteSet form u s) t → contentAt form u n ≡ stored (nth n (blocksOf form u))
+  unfolding contentAt
   content-at u s t b d = ending-at (blocksOf form u) _ _ s b ∙ ending-at (deleteSet form u s) _ _ t d
 
-  pub unread-content : (u w : List ℕ) (s t : ℕ) → Ends (blocksOf form u) s → Ends (deleteSet form u s) t → contentOf form (u ++ w) n ≡ contentOf form u n
+  pub unread-content : (u w : List ℕ) (s t : ℕ) → Ends (blocksOf form u) s → Ends (deleteSet form u s) t → contentAt form (u ++ w) n ≡ contentAt form u n
   unread-content u w s t b d =
       let same = unread form u w s t b d in
       content-at (u ++ w) s t (subst (λ (c : Course Block). Ends c s) (sym (same .0)) b) (subst (λ (c : Course Range). Ends c t) (sym (same .1)) d)

@@ -2,11 +2,11 @@
 use Prim.Native.Nat.{ℕ, zero, suc}
 use mathlib.Core.Path.{_≡_, refl}
 use mathlib.Core.List.{List, [], _∷_}
-use Rattle.numbers.specs.Number.{after, spelt, placed, readUnsigned, speltSigned, minusOf, withSign, readSigned}
+use Rattle.numbers.specs.Number.{lowPart, spelt, answerAt, readUnsigned, speltSigned, minusOf, withSign, readSigned}
 use Rattle.text.specs.Utf8.{lead, next, after as afterText, settled, wellFormed}
 use Rattle.anys.specs.declared.Skipped.{Skipped}
 use Rattle.anys.specs.declared.Skipped.the-variants.{At}
-use Rattle.anys.specs.Any.{refused, thenAt, counted, ending, signedAt, bytesFrom, bytesAt, textFrom, textAt, tagged, headAt, onHead, each, entry, any, anys}
+use Rattle.anys.specs.Any.{refused, thenAt, onCount, onSigned, signedAt, skipBytes, skipLed, textFrom, textAt, tagged, headAt, onHead, each, entry, any, anys}
 
 -- bytes, how many values are to be passed over from their start, and what that comes to; an unknown tag is blamed at 100
 pub record Case : Type 0 where
@@ -49,5 +49,5 @@ Right [] = Unit {0}
 Right (x ∷ xs) = (anys (x .bytes) 100 (x .count) 0 ≡ x .comes) × Right xs
 
 pub worked : Right table
-unfolding Right anys any each entry onHead headAt tagged textAt textFrom bytesAt bytesFrom signedAt ending counted thenAt readUnsigned readSigned placed spelt after speltSigned minusOf withSign wellFormed settled afterText next lead
+unfolding Right anys any each entry onHead headAt tagged textAt textFrom skipLed skipBytes signedAt onSigned onCount thenAt readUnsigned readSigned answerAt spelt lowPart speltSigned minusOf withSign wellFormed settled afterText next lead
 worked = (refl, (refl, (refl, (refl, (refl, (refl, (refl, (refl, (refl, (refl, (refl, (refl, (refl, (refl, (refl, (refl, (refl, (refl, tt))))))))))))))))))

@@ -18,7 +18,7 @@ use Rattle.anys.specs.declared.Head.{Head}
 use Rattle.anys.specs.declared.Head.the-variants.{Alone, Holds}
 use Rattle.anys.specs.declared.Next.{Next}
 use Rattle.anys.specs.declared.Next.the-variants as next
-use Rattle.anys.specs.Any.{refused, thenAt, counted, textAt, headAt, onHead, each, entry, any, deepest, anys}
+use Rattle.anys.specs.Any.{refused, thenAt, onCount, textAt, headAt, onHead, each, entry, any, deepest, anys}
 use Rattle.anys.specs.Steps.{keyAt, opening, openAt, passing, valueIn, behind, entryAt, through}
 use Rattle.anys.proofs.Places.{read-ends, Refuses, Ends, lower, then-ends, counted-ends, text-ends, Heads, heads, too-deep}
 
@@ -239,13 +239,13 @@ module _ (u : List ℕ) (blame : ℕ) where
   none-below at f (Alone (Refused why)) = refl
   none-below at f (Holds keyed) = refl
 
-  opened-by : (keyed : Bool) (f : Bool → ℕ → ℕ → Skipped) (r : Read) → counted r (λ k e. f keyed k e) ≡ through (opening keyed r) f
-  unfolding counted opening through
+  opened-by : (keyed : Bool) (f : Bool → ℕ → ℕ → Skipped) (r : Read) → onCount r (λ k e. f keyed k e) ≡ through (opening keyed r) f
+  unfolding onCount opening through
   opened-by keyed f (read.Number n e) = refl
   opened-by keyed f (read.Refused why) = refl
 
   some-below : (at : ℕ) (f : Bool → ℕ → ℕ → Skipped) (x : Head)
-      → onHead x (λ keyed. counted (readUnsigned u (at + 1)) (λ k e. f keyed k e)) ≡ through (valueIn x (openAt u at true)) f
+      → onHead x (λ keyed. onCount (readUnsigned u (at + 1)) (λ k e. f keyed k e)) ≡ through (valueIn x (openAt u at true)) f
   unfolding onHead valueIn openAt through passing
   some-below at f (Alone (At e)) = refl
   some-below at f (Alone (Refused why)) = refl

@@ -13,14 +13,14 @@ use borrow.Author.Tests.{ltb-false, leb-false, le-ltb, lt-leb}
 use Rattle.numbers.specs.declared.Refusal.{Refusal}
 use Rattle.numbers.specs.declared.Read.{Read}
 use Rattle.numbers.specs.declared.Read.the-variants as read
-use Rattle.numbers.specs.Number.{pick, Spelt, got, short, long, after, spelt, speltSigned, placed, withSign, minusOf, readUnsigned, readSigned}
+use Rattle.numbers.specs.Number.{pick, Spelt, got, short, long, lowPart, spelt, speltSigned, answerAt, withSign, minusOf, readUnsigned, readSigned}
 use Rattle.numbers.proofs.Laws.{below-or}
 use Rattle.text.specs.Utf8.{wellFormed}
 use Rattle.anys.specs.declared.Skipped.{Skipped}
 use Rattle.anys.specs.declared.Skipped.the-variants.{At, Refused}
 use Rattle.anys.specs.declared.Head.{Head}
 use Rattle.anys.specs.declared.Head.the-variants.{Alone}
-use Rattle.anys.specs.Any.{refused, thenAt, counted, ending, signedAt, bytesFrom, bytesAt, textFrom, textAt, tagged, headAt, onHead, each, entry, any, deepest, anys}
+use Rattle.anys.specs.Any.{refused, thenAt, onCount, onSigned, signedAt, skipBytes, skipLed, textFrom, textAt, tagged, headAt, onHead, each, entry, any, deepest, anys}
 use Rattle.anys.proofs.Places.{read-ends, bytes-span, Ends, text-ends}
 use Rattle.anys.proofs.Laws.{entry-ends, any-ends}
 
@@ -41,11 +41,11 @@ spells-pick : (w : List ℕ) (b : Bool) (x y z : Spelt) → Spells w x x → Spe
 spells-pick w true x y z p q = p
 spells-pick w false x y z p q = q
 
-after-spells : (w : List ℕ) (one low : ℕ) (x y : Spelt) → Spells w x y → Spells w (after one low x) (after one low y)
-unfolding after
-after-spells w one low (got x e) y h = ap (after one low) h
-after-spells w one low short y h = λ z. ap (after one low) (h z)
-after-spells w one low long y h = ap (after one low) h
+after-spells : (w : List ℕ) (one low : ℕ) (x y : Spelt) → Spells w x y → Spells w (lowPart one low x) (lowPart one low y)
+unfolding lowPart
+after-spells w one low (got x e) y h = ap (lowPart one low) h
+after-spells w one low short y h = λ z. ap (lowPart one low) (h z)
+after-spells w one low long y h = ap (lowPart one low) h
 
 spelt-spells : (w : List ℕ) (k i : ℕ) (t : List ℕ) → Spells w (spelt k i t) (spelt k i (t ++ w))
 unfolding spelt
@@ -98,23 +98,23 @@ module _ (u v w : List ℕ) (n : ℕ) (Q : Refusal → Type 0) (tail : drop n v 
   StaysRead (read.Number m e) r = r ≡ read.Number m e
   StaysRead (read.Refused why) r = Q why → r ≡ read.Refused why
 
-  placed-stays : (at : ℕ) (x y : Spelt) → Spells w x y → StaysRead (placed u at x) (placed v at y)
-  unfolding placed
-  placed-stays at (got x e) y h = ap (placed v at) h
+  placed-stays : (at : ℕ) (x y : Spelt) → Spells w x y → StaysRead (answerAt u at x) (answerAt v at y)
+  unfolding answerAt
+  placed-stays at (got x e) y h = ap (answerAt v at) h
   placed-stays at short y h =
-      λ q. ap (placed v at) (h (end q)) ∙ ap (λ (k : ℕ). read.Refused (record { number = 1; place = k })) (same-length (end q))
-  placed-stays at long y h = λ q. ap (placed v at) h
+      λ q. ap (answerAt v at) (h (end q)) ∙ ap (λ (k : ℕ). read.Refused (record { number = 1; place = k })) (same-length (end q))
+  placed-stays at long y h = λ q. ap (answerAt v at) h
 
   read-stays : (at : ℕ) → n ≤ at → StaysRead (readUnsigned u at) (readUnsigned v at)
   unfolding readUnsigned
   read-stays at l = placed-stays at _ _ (spelt-here (spelt 9) (λ x. spelt-spells x 9) at l)
 
   signed-stays : (at : ℕ) → n ≤ at → Stays Q (signedAt u at) (signedAt v at)
-  unfolding signedAt readSigned ending withSign
+  unfolding signedAt readSigned onSigned withSign
   signed-stays at l =
-      go (placed u at (speltSigned at (drop at u))) (placed v at (speltSigned at (drop at v))) (placed-stays at _ _ (spelt-here speltSigned signed-spells at l))
+      go (answerAt u at (speltSigned at (drop at u))) (answerAt v at (speltSigned at (drop at v))) (placed-stays at _ _ (spelt-here speltSigned signed-spells at l))
     where
-      go : (x y : Read) → StaysRead x y → Stays Q (ending (withSign (minusOf (drop at u)) x)) (ending (withSign (minusOf (drop at v)) y))
+      go : (x y : Read) → StaysRead x y → Stays Q (onSigned (withSign (minusOf (drop at u)) x)) (onSigned (withSign (minusOf (drop at v)) y))
       go (read.Number m e) y h = rw h refl
       go (read.Refused why) y h = λ q. rw (h q) refl
 
@@ -126,20 +126,20 @@ module _ (u v w : List ℕ) (n : ℕ) (Q : Refusal → Type 0) (tail : drop n v 
   then-stays (Refused why) t f g h k = λ q. ap (λ (z : Skipped). thenAt z g) (h q)
 
   counted-stays : (at : ℕ) (f g : ℕ → ℕ → Skipped) → n ≤ at → ((m e : ℕ) → at < e → e ≤ length u → Stays Q (f m e) (g m e))
-      → Stays Q (counted (readUnsigned u at) f) (counted (readUnsigned v at) g)
-  unfolding counted
+      → Stays Q (onCount (readUnsigned u at) f) (onCount (readUnsigned v at) g)
+  unfolding onCount
   counted-stays at f g l k = go (readUnsigned u at) refl (readUnsigned v at) (read-stays at l)
     where
-      go : (x : Read) → readUnsigned u at ≡ x → (y : Read) → StaysRead x y → Stays Q (counted x f) (counted y g)
+      go : (x : Read) → readUnsigned u at ≡ x → (y : Read) → StaysRead x y → Stays Q (onCount x f) (onCount y g)
       go (read.Number m e) p y h =
           let b = read-ends u at m e p in
-          subst (λ (z : Read). Stays Q (f m e) (counted z g)) (sym h) (k m e (b .0) (b .1))
-      go (read.Refused why) p y h = λ q. ap (λ (z : Read). counted z g) (h q)
+          subst (λ (z : Read). Stays Q (f m e) (onCount z g)) (sym h) (k m e (b .0) (b .1))
+      go (read.Refused why) p y h = λ q. ap (λ (z : Read). onCount z g) (h q)
 
   -- ---- bytes and texts
 
-  bytes-stay : (m at : ℕ) → Stays Q (bytesFrom u m at) (bytesFrom v m at)
-  unfolding bytesFrom
+  bytes-stay : (m at : ℕ) → Stays Q (skipBytes u m at) (skipBytes v m at)
+  unfolding skipBytes
   bytes-stay m at = go (ltb (length u - at) m) refl
     where
       go : (b : Bool) → ltb (length u - at) m ≡ b → Stays Q (pick b (refused 1 (length u)) (At (at + m))) (pick (ltb (length v - at) m) (refused 1 (length v)) (At (at + m)))
@@ -158,7 +158,7 @@ module _ (u v w : List ℕ) (n : ℕ) (Q : Refusal → Type 0) (tail : drop n v 
   text-from-stays : (m at : ℕ) → n ≤ at → at ≤ length u → Stays Q (textFrom u m at) (textFrom v m at)
   unfolding textFrom
   text-from-stays m at l h =
-      then-stays (bytesFrom u m at) (bytesFrom v m at) _ _ (bytes-stay m at)
+      then-stays (skipBytes u m at) (skipBytes v m at) _ _ (bytes-stay m at)
       (λ e p.
       let b = bytes-span u m at e h p in
       rw (slice-same at e l (b .0) (b .1)) (checked e (wellFormed (slice at e u))))
@@ -171,9 +171,9 @@ module _ (u v w : List ℕ) (n : ℕ) (Q : Refusal → Type 0) (tail : drop n v 
   unfolding textAt
   text-stays at l = counted-stays at (textFrom u) (textFrom v) l (λ m e b h. text-from-stays m e (omega arith) h)
 
-  buf-stays : (at : ℕ) → n ≤ at → Stays Q (bytesAt u at) (bytesAt v at)
-  unfolding bytesAt
-  buf-stays at l = counted-stays at (bytesFrom u) (bytesFrom v) l (λ m e b h. bytes-stay m e)
+  buf-stays : (at : ℕ) → n ≤ at → Stays Q (skipLed u at) (skipLed v at)
+  unfolding skipLed
+  buf-stays at l = counted-stays at (skipBytes u) (skipBytes v) l (λ m e b h. bytes-stay m e)
 
   -- ---- values
 

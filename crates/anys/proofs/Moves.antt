@@ -10,12 +10,12 @@ use lib.Seq.{slice, ext-getD, getD-take, getD-drop, length-take-le, length-slice
 use borrow.Author.Tests.{le-ltb, lt-leb}
 use Rattle.numbers.specs.declared.Read.{Read}
 use Rattle.numbers.specs.declared.Read.the-variants as read
-use Rattle.numbers.specs.Number.{pick, Spelt, got, short, long, after, spelt, speltSigned, placed, withSign, minusOf, readUnsigned, readSigned}
+use Rattle.numbers.specs.Number.{pick, Spelt, got, short, long, lowPart, spelt, speltSigned, answerAt, withSign, minusOf, readUnsigned, readSigned}
 use Rattle.text.specs.Utf8.{wellFormed}
 use Rattle.anys.specs.declared.Skipped.{Skipped}
 use Rattle.anys.specs.declared.Skipped.the-variants.{At, Refused}
 use Rattle.anys.specs.declared.Head.{Head}
-use Rattle.anys.specs.Any.{refused, thenAt, counted, ending, signedAt, bytesFrom, bytesAt, textFrom, textAt, tagged, headAt, onHead, each, entry, any, deepest, anys}
+use Rattle.anys.specs.Any.{refused, thenAt, onCount, onSigned, signedAt, skipBytes, skipLed, textFrom, textAt, tagged, headAt, onHead, each, entry, any, deepest, anys}
 use Rattle.anys.proofs.Places.{read-ends, Ends, lower, counted-ends, bytes-end, text-from-ends, text-ends, buf-ends, signed-ends}
 use Rattle.anys.proofs.Laws.{each-ends, entry-ends, any-ends, anys-none, anys-ends, anys-bytes}
 
@@ -72,9 +72,9 @@ Front F i t short = Unit {0}
 Front F i t long = Unit {0}
 
 -- a first byte, and then those of a number that was spelt
-module _ (F : ℕ → List ℕ → Spelt) (k w low one b : ℕ) (is : (j : ℕ) (s : List ℕ) → F j (b ∷ s) ≡ pick (ltb b 128) (got one (j + 1)) (after w low (spelt k (j + 1) s))) where
-  front-more : (i : ℕ) (t : List ℕ) → ltb b 128 ≡ false → (r : Spelt) → Front (spelt k) (i + 1) t r → Front F i (b ∷ t) (after w low r)
-  unfolding Front after
+module _ (F : ℕ → List ℕ → Spelt) (k w low one b : ℕ) (is : (j : ℕ) (s : List ℕ) → F j (b ∷ s) ≡ pick (ltb b 128) (got one (j + 1)) (lowPart w low (spelt k (j + 1) s))) where
+  front-more : (i : ℕ) (t : List ℕ) → ltb b 128 ≡ false → (r : Spelt) → Front (spelt k) (i + 1) t r → Front F i (b ∷ t) (lowPart w low r)
+  unfolding Front lowPart
   front-more i t l (got x e) p = record {
     bytes = b ∷ p .bytes;
     others = p .others;
@@ -85,7 +85,7 @@ module _ (F : ℕ → List ℕ → Spelt) (k w low one b : ℕ) (is : (j : ℕ) 
   front-more i t l short p = tt
   front-more i t l long p = tt
 
-  front-first : (i : ℕ) (t : List ℕ) → Front (spelt k) (i + 1) t (spelt k (i + 1) t) → (c : Bool) → ltb b 128 ≡ c → Front F i (b ∷ t) (pick c (got one (i + 1)) (after w low (spelt k (i + 1) t)))
+  front-first : (i : ℕ) (t : List ℕ) → Front (spelt k) (i + 1) t (spelt k (i + 1) t) → (c : Bool) → ltb b 128 ≡ c → Front F i (b ∷ t) (pick c (got one (i + 1)) (lowPart w low (spelt k (i + 1) t)))
   unfolding Front
   front-first i t p true l = record { bytes = b ∷ []; others = t; stands = refl; ends = refl; again = λ j s. is j s ∙ rw l refl }
   front-first i t p false l = front-more i t l (spelt k (i + 1) t) p
@@ -112,10 +112,10 @@ module _ (F : ℕ → List ℕ → Spelt) (u v : List ℕ) (at bt n x e : ℕ) (
 
 module _ (u v : List ℕ) (blame blame' : ℕ) where
   unsigned-again : (at bt n x : ℕ) → readUnsigned u at ≡ read.Number x (at + n) → Alike u at v bt n → readUnsigned v bt ≡ read.Number x (bt + n)
-  unfolding readUnsigned placed Front
+  unfolding readUnsigned answerAt Front
   unsigned-again at bt n x h a = go (spelt 9 at (drop at u)) (fronts 9 at (drop at u)) h
     where
-      go : (r : Spelt) → Front (spelt 9) at (drop at u) r → placed u at r ≡ read.Number x (at + n) → placed v bt (spelt 9 bt (drop bt v)) ≡ read.Number x (bt + n)
+      go : (r : Spelt) → Front (spelt 9) at (drop at u) r → answerAt u at r ≡ read.Number x (at + n) → answerAt v bt (spelt 9 bt (drop bt v)) ≡ read.Number x (bt + n)
       go (got y e) p q =
           let e' : e ≡ at + n = cc in
           let y' : y ≡ x = cc in
@@ -130,19 +130,19 @@ module _ (u v : List ℕ) (blame blame' : ℕ) where
   Moves at bt s t = (n : ℕ) → s ≡ At (at + n) → Alike u at v bt n → t ≡ At (bt + n)
 
   signed-moves : (at bt : ℕ) → Moves at bt (signedAt u at) (signedAt v bt)
-  unfolding signedAt readSigned withSign ending placed Front
+  unfolding signedAt readSigned withSign onSigned answerAt Front
   signed-moves at bt n h a = go (speltSigned at (drop at u)) (fronts-signed at (drop at u)) h
     where
-      go : (r : Spelt) → Front speltSigned at (drop at u) r → ending (withSign (minusOf (drop at u)) (placed u at r)) ≡ At (at + n)
-          → ending (withSign (minusOf (drop bt v)) (placed v bt (speltSigned bt (drop bt v)))) ≡ At (bt + n)
+      go : (r : Spelt) → Front speltSigned at (drop at u) r → onSigned (withSign (minusOf (drop at u)) (answerAt u at r)) ≡ At (at + n)
+          → onSigned (withSign (minusOf (drop bt v)) (answerAt v bt (speltSigned bt (drop bt v)))) ≡ At (bt + n)
       go (got y e) p q =
           let e' : e ≡ at + n = cc in
           rw (spelt-again speltSigned u v at bt n y e p e' a)
       go short p q = absurd (let z : _≡_ {A = ℕ} 0 1 = cc in omega arith)
       go long p q = absurd (let z : _≡_ {A = ℕ} 0 1 = cc in omega arith)
 
-  bytes-moves : (m at bt : ℕ) → Moves at bt (bytesFrom u m at) (bytesFrom v m bt)
-  unfolding bytesFrom
+  bytes-moves : (m at bt : ℕ) → Moves at bt (skipBytes u m at) (skipBytes v m bt)
+  unfolding skipBytes
   bytes-moves m at bt n h a = go (ltb (length u - at) m) h
     where
       go : (b : Bool) → pick b (refused 1 (length u)) (At (at + m)) ≡ At (at + n) → pick (ltb (length v - bt) m) (refused 1 (length v)) (At (bt + m)) ≡ At (bt + n)
@@ -152,7 +152,7 @@ module _ (u v : List ℕ) (blame blame' : ℕ) where
           rw (le-ltb (length v - bt) m (omega (arith, a .there))) (ap At (omega arith))
 
   text-from-moves : (m at bt : ℕ) → Moves at bt (textFrom u m at) (textFrom v m bt)
-  unfolding textFrom bytesFrom thenAt
+  unfolding textFrom skipBytes thenAt
   text-from-moves m at bt n h a = go (ltb (length u - at) m) h
     where
       checked : (b : Bool) → wellFormed (slice at (at + m) u) ≡ b → pick b (At (at + m)) (refused 6 at) ≡ At (at + n)
@@ -191,11 +191,11 @@ module _ (u v : List ℕ) (blame blame' : ℕ) where
   then-moves at bt (Refused why) t f g h m ends moves n p x = absurd (let z : _≡_ {A = ℕ} 0 1 = cc in omega arith)
 
   counted-moves : (at bt : ℕ) (f g : ℕ → ℕ → Skipped) → ((m e : ℕ) → e ≤ length u → Ends u blame e (f m e))
-      → ((m e d : ℕ) → e ≤ length u → Moves e d (f m e) (g m d)) → Moves at bt (counted (readUnsigned u at) f) (counted (readUnsigned v bt) g)
-  unfolding counted Ends
+      → ((m e d : ℕ) → e ≤ length u → Moves e d (f m e) (g m d)) → Moves at bt (onCount (readUnsigned u at) f) (onCount (readUnsigned v bt) g)
+  unfolding onCount Ends
   counted-moves at bt f g ends moves n p x = go (readUnsigned u at) refl p
     where
-      go : (r : Read) → readUnsigned u at ≡ r → counted r f ≡ At (at + n) → counted (readUnsigned v bt) g ≡ At (bt + n)
+      go : (r : Read) → readUnsigned u at ≡ r → onCount r f ≡ At (at + n) → onCount (readUnsigned v bt) g ≡ At (bt + n)
       go (read.Number m e) q p =
           let b = read-ends u at m e q in
           let a : at + (e - at) ≡ e = omega (arith, b .0) in
@@ -210,9 +210,9 @@ module _ (u v : List ℕ) (blame blame' : ℕ) where
   unfolding textAt
   text-moves at bt = counted-moves at bt (textFrom u) (textFrom v) (λ m e h. text-from-ends u blame m e h) (λ m e d h. text-from-moves m e d)
 
-  buf-moves : (at bt : ℕ) → Moves at bt (bytesAt u at) (bytesAt v bt)
-  unfolding bytesAt
-  buf-moves at bt = counted-moves at bt (bytesFrom u) (bytesFrom v) (λ m e h. bytes-end u blame m e h) (λ m e d h. bytes-moves m e d)
+  buf-moves : (at bt : ℕ) → Moves at bt (skipLed u at) (skipLed v bt)
+  unfolding skipLed
+  buf-moves at bt = counted-moves at bt (skipBytes u) (skipBytes v) (λ m e h. bytes-end u blame m e h) (λ m e d h. bytes-moves m e d)
 
   -- ---- values
 
@@ -232,8 +232,8 @@ module _ (u v : List ℕ) (blame blame' : ℕ) where
     tag-moves : (tag : ℕ) → at < length u → Moves at bt (onHead (tagged u blame tag (at + 1)) f) (onHead (tagged v blame' tag (bt + 1)) g)
     unfolding tagged onHead
     tag-moves tag h =
-        let bytes : (k : ℕ) → Moves at bt (bytesFrom u k (at + 1)) (bytesFrom v k (bt + 1)) =
-        λ k. later 1 at bt (bytesFrom u k (at + 1)) (bytesFrom v k (bt + 1)) (bytes-end u blame k (at + 1) (omega arith)) (bytes-moves k (at + 1) (bt + 1)) in
+        let bytes : (k : ℕ) → Moves at bt (skipBytes u k (at + 1)) (skipBytes v k (bt + 1)) =
+        λ k. later 1 at bt (skipBytes u k (at + 1)) (skipBytes v k (bt + 1)) (bytes-end u blame k (at + 1) (omega arith)) (bytes-moves k (at + 1) (bt + 1)) in
         pick-moves (eqb tag 127) _ _ _ _ (place-moves 1 at bt)
         (pick-moves (eqb tag 126) _ _ _ _ (place-moves 1 at bt)
         (pick-moves (eqb tag 125) _ _ _ _ (later 1 at bt (signedAt u (at + 1)) (signedAt v (bt + 1)) (lower u blame (at + 1) (suc (at + 1)) (signedAt u (at + 1)) (omega arith) (signed-ends u blame (at + 1))) (signed-moves (at + 1) (bt + 1)))
@@ -245,7 +245,7 @@ module _ (u v : List ℕ) (blame blame' : ℕ) where
         (pick-moves (eqb tag 119) _ _ _ _ (later 1 at bt (textAt u (at + 1)) (textAt v (bt + 1)) (lower u blame (at + 1) (suc (at + 1)) (textAt u (at + 1)) (omega arith) (text-ends u blame (at + 1))) (text-moves (at + 1) (bt + 1)))
         (pick-moves (eqb tag 118) _ _ _ _ (m true)
         (pick-moves (eqb tag 117) _ _ _ _ (m false)
-        (pick-moves (eqb tag 116) _ _ _ _ (later 1 at bt (bytesAt u (at + 1)) (bytesAt v (bt + 1)) (lower u blame (at + 1) (suc (at + 1)) (bytesAt u (at + 1)) (omega arith) (buf-ends u blame (at + 1))) (buf-moves (at + 1) (bt + 1)))
+        (pick-moves (eqb tag 116) _ _ _ _ (later 1 at bt (skipLed u (at + 1)) (skipLed v (bt + 1)) (lower u blame (at + 1) (suc (at + 1)) (skipLed u (at + 1)) (omega arith) (buf-ends u blame (at + 1))) (buf-moves (at + 1) (bt + 1)))
         (refused-moves 5 blame at bt (refused 5 blame')))))))))))))
 
     head-moves : Ends u blame (suc at) (onHead (headAt u blame at) f) → Moves at bt (onHead (headAt u blame at) f) (onHead (headAt v blame' bt) g)
@@ -276,7 +276,7 @@ module _ (u v : List ℕ) (blame blame' : ℕ) where
 
   -- the entries of a value whose count is at e
   unfoldable inside : ℕ → Bool → List ℕ → ℕ → ℕ → Skipped
-  inside n keyed w b e = counted (readUnsigned w e) (λ k i. each k (entry keyed w (any n w b)) i)
+  inside n keyed w b e = onCount (readUnsigned w e) (λ k i. each k (entry keyed w (any n w b)) i)
 
   inside-ends : (n : ℕ) (keyed : Bool) (at : ℕ) → Ends u blame at (inside n keyed u blame at)
   unfolding inside

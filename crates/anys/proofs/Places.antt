@@ -12,7 +12,7 @@ use borrow.Author.Tests.{ltb-false, leb-false}
 use Rattle.numbers.specs.declared.Refusal.{Refusal}
 use Rattle.numbers.specs.declared.Read.{Read}
 use Rattle.numbers.specs.declared.Read.the-variants as read
-use Rattle.numbers.specs.Number.{pick, Spelt, got, short, long, spelt, speltSigned, placed, withSign, minusOf, readUnsigned, readSigned}
+use Rattle.numbers.specs.Number.{pick, Spelt, got, short, long, spelt, speltSigned, answerAt, withSign, minusOf, readUnsigned, readSigned}
 use Rattle.numbers.proofs.Laws.{at-end, below-or}
 use Rattle.numbers.proofs.Inside as inside
 use Rattle.text.specs.Utf8.{wellFormed, after, settled}
@@ -20,7 +20,7 @@ use Rattle.anys.specs.declared.Skipped.{Skipped}
 use Rattle.anys.specs.declared.Skipped.the-variants.{At, Refused}
 use Rattle.anys.specs.declared.Head.{Head}
 use Rattle.anys.specs.declared.Head.the-variants.{Alone, Holds}
-use Rattle.anys.specs.Any.{refused, thenAt, counted, ending, signedAt, bytesFrom, bytesAt, textFrom, textAt, tagged, headAt}
+use Rattle.anys.specs.Any.{refused, thenAt, onCount, onSigned, signedAt, skipBytes, skipLed, textFrom, textAt, tagged, headAt}
 
 -- a refusal is 1, 2, 3, 5 or 6: 1 blames the end of the bytes, 5 the place that was given for it, and any other a byte
 pub record Refuses (u : List ℕ) (blame : ℕ) (why : Refusal) : Type 0 where
@@ -60,28 +60,28 @@ module _ (u : List ℕ) (blame : ℕ) where
   Reads at (read.Number n e) = (at < e) × (e ≤ length u)
   Reads at (read.Refused why) = Refuses u blame why
 
-  placed-reads : (at : ℕ) → at < length u → (r : Spelt) → inside.Reads u at (placed u at r) → Reads at (placed u at r)
-  unfolding placed
+  placed-reads : (at : ℕ) → at < length u → (r : Spelt) → inside.Reads u at (answerAt u at r) → Reads at (answerAt u at r)
+  unfolding answerAt
   placed-reads at b (got x e) h = h
   placed-reads at b short h = early
   placed-reads at b long h = at-byte 2 at (omega arith) (omega arith) (λ e. omega arith) b
 
   pub unsigned-reads : (at : ℕ) → Reads at (readUnsigned u at)
-  unfolding readUnsigned placed
+  unfolding readUnsigned answerAt
   unsigned-reads at = ⊎-elim
       (λ b. placed-reads at b (spelt 9 at (drop at u)) (inside.unsigned-inside u at (omega arith)))
       (λ e. rw (at-end u 9 at (omega arith) e) early)
       (below-or at (length u))
 
-  placed-signed : (at : ℕ) → at < length u → (m : Bool) (r : Spelt) → inside.ReadsSigned u at (withSign m (placed u at r))
-      → Ends u blame (suc at) (ending (withSign m (placed u at r)))
-  unfolding placed withSign ending Ends
+  placed-signed : (at : ℕ) → at < length u → (m : Bool) (r : Spelt) → inside.ReadsSigned u at (withSign m (answerAt u at r))
+      → Ends u blame (suc at) (onSigned (withSign m (answerAt u at r)))
+  unfolding answerAt withSign onSigned Ends
   placed-signed at b m (got x e) h = h
   placed-signed at b m short h = early
   placed-signed at b m long h = at-byte 2 at (omega arith) (omega arith) (λ e. omega arith) b
 
   pub signed-ends : (at : ℕ) → Ends u blame (suc at) (signedAt u at)
-  unfolding signedAt readSigned speltSigned placed withSign ending Ends
+  unfolding signedAt readSigned speltSigned answerAt withSign onSigned Ends
   signed-ends at = ⊎-elim
       (λ b. placed-signed at b (minusOf (drop at u)) (speltSigned at (drop at u)) (inside.signed-inside u at (omega arith)))
       (λ e. rw (drop-of-length-le u e) early)
@@ -101,29 +101,29 @@ module _ (u : List ℕ) (blame : ℕ) where
   then-ends low low' (Refused why) f p h = p
 
   pub counted-ends : (low at : ℕ) (f : ℕ → ℕ → Skipped) → ((n e : ℕ) → at < e → e ≤ length u → Ends u blame low (f n e))
-      → Ends u blame low (counted (readUnsigned u at) f)
-  unfolding counted Ends
+      → Ends u blame low (onCount (readUnsigned u at) f)
+  unfolding onCount Ends
   counted-ends low at f h = go (readUnsigned u at) (unsigned-reads at)
     where
-      go : (r : Read) → Reads at r → Ends u blame low (counted r f)
+      go : (r : Read) → Reads at r → Ends u blame low (onCount r f)
       go (read.Number n e) b = h n e (b .0) (b .1)
       go (read.Refused why) b = b
 
-  pub bytes-end : (n at : ℕ) → at ≤ length u → Ends u blame at (bytesFrom u n at)
-  unfolding bytesFrom Ends
+  pub bytes-end : (n at : ℕ) → at ≤ length u → Ends u blame at (skipBytes u n at)
+  unfolding skipBytes Ends
   bytes-end n at h = go (ltb (length u - at) n) refl
     where
       go : (b : Bool) → ltb (length u - at) n ≡ b → Ends u blame at (pick b (refused 1 (length u)) (At (at + n)))
       go true q = early
       go false q = (omega arith, omega (arith, ltb-false (length u - at) n q))
 
-  pub buf-ends : (at : ℕ) → Ends u blame (suc at) (bytesAt u at)
-  unfolding bytesAt
-  buf-ends at = counted-ends (suc at) at (bytesFrom u) (λ n e l h. lower (suc at) e (bytesFrom u n e) l (bytes-end n e h))
+  pub buf-ends : (at : ℕ) → Ends u blame (suc at) (skipLed u at)
+  unfolding skipLed
+  buf-ends at = counted-ends (suc at) at (skipBytes u) (λ n e l h. lower (suc at) e (skipBytes u n e) l (bytes-end n e h))
 
   pub text-from-ends : (n at : ℕ) → at ≤ length u → Ends u blame at (textFrom u n at)
   unfolding textFrom Ends
-  text-from-ends n at h = then-ends at at (bytesFrom u n at) _ (bytes-end n at h) (λ e l k. go (wellFormed (slice at e u)) refl l k)
+  text-from-ends n at h = then-ends at at (skipBytes u n at) _ (bytes-end n at h) (λ e l k. go (wellFormed (slice at e u)) refl l k)
     where
       go : (b : Bool) {e : ℕ} → wellFormed (slice at e u) ≡ b → at ≤ e → e ≤ length u → Ends u blame at (pick b (At e) (refused 6 at))
       go true q l k = (l, k)
@@ -147,8 +147,8 @@ module _ (u : List ℕ) (blame : ℕ) where
   unfolding tagged Heads Ends
   tag-heads at tag h =
       let here : Ends u blame (suc at) (At (at + 1)) = (omega arith, omega arith) in
-      let bytes : (n : ℕ) → Ends u blame (suc at) (bytesFrom u n (at + 1)) =
-      λ n. lower (suc at) (at + 1) (bytesFrom u n (at + 1)) (omega arith) (bytes-end n (at + 1) (omega arith)) in
+      let bytes : (n : ℕ) → Ends u blame (suc at) (skipBytes u n (at + 1)) =
+      λ n. lower (suc at) (at + 1) (skipBytes u n (at + 1)) (omega arith) (bytes-end n (at + 1) (omega arith)) in
       heads-pick at (eqb tag 127) _ _ here
       (heads-pick at (eqb tag 126) _ _ here
       (heads-pick at (eqb tag 125) _ _ (lower (suc at) (suc (at + 1)) (signedAt u (at + 1)) (omega arith) (signed-ends (at + 1)))
@@ -160,7 +160,7 @@ module _ (u : List ℕ) (blame : ℕ) where
       (heads-pick at (eqb tag 119) _ _ (lower (suc at) (suc (at + 1)) (textAt u (at + 1)) (omega arith) (text-ends (at + 1)))
       (heads-pick at (eqb tag 118) _ _ h
       (heads-pick at (eqb tag 117) _ _ h
-      (heads-pick at (eqb tag 116) _ _ (lower (suc at) (suc (at + 1)) (bytesAt u (at + 1)) (omega arith) (buf-ends (at + 1))) unknown)))))))))))
+      (heads-pick at (eqb tag 116) _ _ (lower (suc at) (suc (at + 1)) (skipLed u (at + 1)) (omega arith) (buf-ends (at + 1))) unknown)))))))))))
 
   pub heads : (at : ℕ) → Heads at (headAt u blame at)
   unfolding headAt Heads Ends
@@ -182,6 +182,6 @@ module _ (u : List ℕ) where
   pub read-ends : (at n e : ℕ) → readUnsigned u at ≡ read.Number n e → (at < e) × (e ≤ length u)
   read-ends at n e p = subst (Reads u 0 at) p (unsigned-reads u 0 at)
 
-  pub bytes-span : (n at e : ℕ) → at ≤ length u → bytesFrom u n at ≡ At e → (at ≤ e) × (e ≤ length u)
+  pub bytes-span : (n at e : ℕ) → at ≤ length u → skipBytes u n at ≡ At e → (at ≤ e) × (e ≤ length u)
   unfolding Ends
   bytes-span n at e h p = subst (Ends u 0 at) p (bytes-end u 0 n at h)

@@ -25,29 +25,29 @@ unfoldable pub thenAt : Skipped → (ℕ → Skipped) → Skipped
 thenAt (At e) f = f e
 thenAt (Refused why) f = Refused why
 
-unfoldable pub counted : Read → (ℕ → ℕ → Skipped) → Skipped
-counted (read.Number n e) f = f n e
-counted (read.Refused why) f = Refused why
+unfoldable pub onCount : Read → (ℕ → ℕ → Skipped) → Skipped
+onCount (read.Number n e) f = f n e
+onCount (read.Refused why) f = Refused why
 
-unfoldable pub ending : Signed → Skipped
-ending (signed.Value minus x e) = At e
-ending (signed.Wrong why) = Refused why
+unfoldable pub onSigned : Signed → Skipped
+onSigned (signed.Value minus x e) = At e
+onSigned (signed.Wrong why) = Refused why
 
 -- a signed number; so many bytes; a length and so many bytes; and they are UTF-8, or 6 at the first of them
 unfoldable pub signedAt : List ℕ → ℕ → Skipped
-signedAt u at = ending (readSigned u at)
+signedAt u at = onSigned (readSigned u at)
 
-unfoldable pub bytesFrom : List ℕ → ℕ → ℕ → Skipped
-bytesFrom u n at = pick (ltb (length u - at) n) (refused 1 (length u)) (At (at + n))
+unfoldable pub skipBytes : List ℕ → ℕ → ℕ → Skipped
+skipBytes u n at = pick (ltb (length u - at) n) (refused 1 (length u)) (At (at + n))
 
-unfoldable pub bytesAt : List ℕ → ℕ → Skipped
-bytesAt u at = counted (readUnsigned u at) (bytesFrom u)
+unfoldable pub skipLed : List ℕ → ℕ → Skipped
+skipLed u at = onCount (readUnsigned u at) (skipBytes u)
 
 unfoldable pub textFrom : List ℕ → ℕ → ℕ → Skipped
-textFrom u n at = thenAt (bytesFrom u n at) (λ end. pick (wellFormed (slice at end u)) (At end) (refused 6 at))
+textFrom u n at = thenAt (skipBytes u n at) (λ end. pick (wellFormed (slice at end u)) (At end) (refused 6 at))
 
 unfoldable pub textAt : List ℕ → ℕ → Skipped
-textAt u at = counted (readUnsigned u at) (textFrom u)
+textAt u at = onCount (readUnsigned u at) (textFrom u)
 
 -- a value by its tag, with e after it: it stands alone, or holds others, with keys (an object) or without (an array)
 unfoldable pub tagged : List ℕ → ℕ → ℕ → ℕ → Head
@@ -55,15 +55,15 @@ tagged u blame tag e =
     pick (eqb tag 127) (Alone (At e))  -- undefined
     (pick (eqb tag 126) (Alone (At e))  -- null
     (pick (eqb tag 125) (Alone (signedAt u e))  -- integer
-    (pick (eqb tag 124) (Alone (bytesFrom u 4 e))  -- float32
-    (pick (eqb tag 123) (Alone (bytesFrom u 8 e))  -- float64
-    (pick (eqb tag 122) (Alone (bytesFrom u 8 e))  -- bigint
+    (pick (eqb tag 124) (Alone (skipBytes u 4 e))  -- float32
+    (pick (eqb tag 123) (Alone (skipBytes u 8 e))  -- float64
+    (pick (eqb tag 122) (Alone (skipBytes u 8 e))  -- bigint
     (pick (eqb tag 121) (Alone (At e))  -- false
     (pick (eqb tag 120) (Alone (At e))  -- true
     (pick (eqb tag 119) (Alone (textAt u e))  -- string
     (pick (eqb tag 118) (Holds true)  -- object
     (pick (eqb tag 117) (Holds false)  -- array
-    (pick (eqb tag 116) (Alone (bytesAt u e))  -- byte array
+    (pick (eqb tag 116) (Alone (skipLed u e))  -- byte array
     (Alone (refused 5 blame)))))))))))))
 
 unfoldable pub headAt : List ℕ → ℕ → ℕ → Head
@@ -87,7 +87,7 @@ entry false u value at = value at
 unfoldable pub any : ℕ → List ℕ → ℕ → ℕ → Skipped
 any zero u blame at = onHead (headAt u blame at) (λ keyed. refused 3 at)
 any (suc n) u blame at =
-    onHead (headAt u blame at) (λ keyed. counted (readUnsigned u (at + 1)) (λ k e. each k (entry keyed u (any n u blame)) e))
+    onHead (headAt u blame at) (λ keyed. onCount (readUnsigned u (at + 1)) (λ k e. each k (entry keyed u (any n u blame)) e))
 
 -- so many objects and arrays may be open at once
 abbrev pub deepest : ℕ

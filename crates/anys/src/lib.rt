@@ -6,7 +6,7 @@ use numbers::Signed;
 ghost use mathlib.Core.Path.{_≡_};
 ghost use Prim.Native.Nat.{_≤_, _<_};
 ghost use lib.ListN.{length};
-ghost use Rattle.anys.specs.Any.{bytesFrom, bytesAt, textAt, signedAt, headAt, anys};
+ghost use Rattle.anys.specs.Any.{skipBytes, skipLed, textAt, signedAt, headAt, anys};
 ghost use Rattle.anys.specs.Steps.{whySkipped, keyAt, openAt, entryAt};
 
 // How many objects and arrays may be open at once.
@@ -50,7 +50,7 @@ fn why_skipped(s: Skipped) -> Refusal
 // So many bytes.
 fn skip_bytes(update: &[u8], at: usize, n: u64) -> Skipped
     requires { ⌜ at ≤ length (now update) ⌝ }
-    ensures { λ r. ⌜ r ≡ bytesFrom (now (update .entry)) n at ⌝ }
+    ensures { λ r. ⌜ r ≡ skipBytes (now (update .entry)) n at ⌝ }
 {
     let left = (update.len() - at) as u64;
     if left < n {
@@ -66,7 +66,7 @@ fn skip_bytes(update: &[u8], at: usize, n: u64) -> Skipped
 
 // A length and so many bytes.
 fn skip_buf(update: &[u8], at: usize) -> Skipped
-    ensures { λ r. ⌜ r ≡ bytesAt (now (update .entry)) at ⌝ }
+    ensures { λ r. ⌜ r ≡ skipLed (now (update .entry)) at ⌝ }
 {
     let r = numbers::read_unsigned(update, at);
     let Read::Number(n, e) = r else {

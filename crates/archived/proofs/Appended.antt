@@ -15,13 +15,13 @@ use Rattle.numbers.proofs.Laws.{below-or}
 use Rattle.block.specs.declared.Block.{Block}
 use Rattle.ranges.specs.Ranges.{Range}
 use Rattle.grammar.specs.GrammarInner.{_>>=_}
-use Rattle.grammar.specs.Course.{Run, item, over, stopped, Course, fit, ending, onDrawn, run}
+use Rattle.grammar.specs.Course.{Run, thing, over, stopped, Course, fit, ending, onDrawn, run}
 use Rattle.grammar.specs.Whole.{Ends}
-use Rattle.decoder.specs.Line.{byteAt, numberOf, line}
+use Rattle.decoder.specs.Line.{byteAt, numberBy, line}
 use Rattle.decoder.specs.States.{State}
 use Rattle.decoder.specs.Opening.{heads, onHeads, openedOf}
-use Rattle.decoder.specs.Update.{placed, inColumns, blocksOf, deleteSet}
-use Rattle.leftover.specs.Leftover.{Stretch, stretch, columnsAt, columnsLeft, setEnd, left, lower, lowest, lowestLeft}
+use Rattle.decoder.specs.Update.{restPlaces, inColumns, blocksOf, deleteSet}
+use Rattle.leftover.specs.Leftover.{Stretch, stretch, columnsAt, columnsLeft, setEnd, unreadOf, lower, lowest, lowestLeft}
 use Rattle.leftover.specs.LeftoverInner.{Among}
 use Rattle.leftover.proofs.Lowest.{at-most, lowest-among}
 use Rattle.places.specs.Appended.{Stays}
@@ -39,28 +39,28 @@ use Rattle.archived.proofs.Inside.{set-inside}
 
 stays-same : {S E A : Type 0} (x y : Run S E A) (s : S) → Stays x y → Ends x s → y ≡ x
 unfolding Stays Ends
-stays-same (item e p c) y s h q = h .1 ∙ ap (item e p) (stays-same c (h .0) s (h .2) q)
+stays-same (thing e p c) y s h q = h .1 ∙ ap (thing e p) (stays-same c (h .0) s (h .2) q)
 stays-same (over a t) y s h q = h
 stays-same (stopped why) y s h q = absurd q
 
 fit-ends : {S E A : Type 0} (n : ℕ) (c : Run S E A) (s : S) → Ends (fit n c) s → Ends c s
 unfolding fit Ends
-fit-ends zero (item e p c) s h = absurd h
-fit-ends (suc n) (item e p c) s h = fit-ends n c s h
+fit-ends zero (thing e p c) s h = absurd h
+fit-ends (suc n) (thing e p c) s h = fit-ends n c s h
 fit-ends zero (over a t) s h = h
 fit-ends (suc n) (over a t) s h = h
 fit-ends zero (stopped why) s h = absurd h
 fit-ends (suc n) (stopped why) s h = absurd h
 
-placed-ends : {E A : Type 0} (c : Run State E A) (at : ℕ) → Ends (placed c) at → (s : State) × Ends c s
-unfolding placed Ends
-placed-ends (item e p c) at h = placed-ends c at h
+placed-ends : {E A : Type 0} (c : Run State E A) (at : ℕ) → Ends (restPlaces c) at → (s : State) × Ends c s
+unfolding restPlaces Ends
+placed-ends (thing e p c) at h = placed-ends c at h
 placed-ends (over a t) at h = (t, refl)
 placed-ends (stopped why) at h = absurd h
 
 ends-at : {S E A X : Type 0} (c : Run S E A) (f : S → X) (g : Refusal → X) (s : S) → Ends c s → ending c f g ≡ f s
 unfolding ending Ends
-ends-at (item e p c) f g s h = ends-at c f g s h
+ends-at (thing e p c) f g s h = ends-at c f g s h
 ends-at (over a t) f g s h = ap f h
 ends-at (stopped why) f g s h = absurd h
 
@@ -96,9 +96,9 @@ module _ (form : ℕ) (u w : List ℕ) (b r : ℕ) (whole : Whole form u b r) wh
           ap (λ (c : Run State Block (Unit {0})). ending c columnsAt (λ why. [])) (stays-same (inColumns u) (inColumns (u ++ w)) (s .0) (states-stay u w) (s .1))
 
   -- every byte was read: what is left begins where it ended
-  module _ (some : 0 < length w) (every : (p : ℕ) → p < length u → Among p (left form u) → ⊥) where
+  module _ (some : 0 < length w) (every : (p : ℕ) → p < length u → Among p (unreadOf form u) → ⊥) where
     ends-whole : whole .last ≡ length u
-    unfolding left Among
+    unfolding unreadOf Among
     ends-whole =
         ⊎-elim
         (λ l. absurd (every (whole .last) l (inl (omega (arith, end-here), l))))
@@ -106,7 +106,7 @@ module _ (form : ℕ) (u w : List ℕ) (b r : ℕ) (whole : Whole form u b r) wh
         (below-or (whole .last) (length u))
 
     none-lower : lowest (length u) (columnsLeft form u) ≡ length u
-    unfolding left Among
+    unfolding unreadOf Among
     none-lower =
         ⊎-elim (λ e. e)
         (λ a. ⊎-elim (λ l. absurd (every (lowest (length u) (columnsLeft form u)) l (inr a))) (λ g. omega (arith, g, at-most (length u) (columnsLeft form u)))
@@ -118,7 +118,7 @@ module _ (form : ℕ) (u w : List ℕ) (b r : ℕ) (whole : Whole form u b r) wh
     lower-here = rw (lt-ltb (length u) (length (u ++ w)) (omega (arith, some, length-append u w)))
 
     lowest-there : lowestLeft form (u ++ w) ≡ length u
-    unfolding lowestLeft left lowest
+    unfolding lowestLeft unreadOf lowest
     lowest-there =
         ap (λ (k : ℕ). lowest (lower (length (u ++ w)) (stretch k (length (u ++ w)))) (columnsLeft form (u ++ w))) (end-there ∙ ends-whole)
         ∙ ap (λ (xs : List Stretch). lowest (lower (length (u ++ w)) (stretch (length u) (length (u ++ w)))) xs) columns-there
@@ -127,8 +127,8 @@ module _ (form : ℕ) (u w : List ℕ) (b r : ℕ) (whole : Whole form u b r) wh
 
 -- ---- the flag stands at the first byte
 
-no-bytes : (at : ℕ) → Ends (placed (inColumns [])) at → ⊥
-unfolding placed inColumns openedOf onHeads heads run _>>=_ onDrawn line numberOf byteAt Ends
+no-bytes : (at : ℕ) → Ends (restPlaces (inColumns [])) at → ⊥
+unfolding restPlaces inColumns openedOf onHeads heads run _>>=_ onDrawn line numberBy byteAt Ends
 no-bytes at h = h
 
 flag-there : (form : ℕ) (u w : List ℕ) (at : ℕ) → Ends (blocksOf form u) at → flagged form u ≡ false → flagged form (u ++ w) ≡ false

@@ -10,7 +10,7 @@ use borrow.Author.Tests.{eqb-false}
 use Rattle.numbers.specs.Number.{pick}
 use Rattle.numbers.specs.declared.Refusal.{Refusal}
 use Rattle.numbers.specs.Limits.{maxUpdate}
-use Rattle.leftover.specs.Leftover.{left, lowestLeft}
+use Rattle.leftover.specs.Leftover.{unreadOf, lowestLeft}
 use Rattle.leftover.proofs.Lowest.{spent-lowest}
 use Rattle.updates.specs.Promises.{Reading, reading}
 use Rattle.diffs.specs.Promises.{diffOf}
@@ -37,7 +37,7 @@ module _ (form : ℕ) (u v : List ℕ) (to m n room : ℕ) where
   unfolding lowestLeft
   reads-strictly z small =
       accepts to d m n (unflagged z) (ap (λ (r : Refusal). r .number) (reread-there form u v to m n room z small .refusal))
-      (omega (arith, spent-lowest (length d) (left to d) (reread-whole form u v to m n room z small)))
+      (omega (arith, spent-lowest (length d) (unreadOf to d) (reread-whole form u v to m n room z small)))
 
   -- so strict reading finds in it what the diff keeps
   pub archived : diffOf form u v to m n room .refusal .number ≡ 0 → length (diffOf form u v to m n room .bytes) ≤ maxUpdate

@@ -23,9 +23,9 @@ use Rattle.grammar.specs.Grammar as grammar
 use Rattle.grammar.specs.Grammar.{Number, Field, Grammar, ask, emit, stop, done}
 use Rattle.grammar.specs.GrammarInner.{_>>=_}
 use Rattle.grammar.specs.Course.{Drawn, got, not, Run, onDrawn, run}
-use Rattle.grammar.specs.Deletes.{clients, allRanges}
+use Rattle.grammar.specs.Deletes.{deletedClients, allRanges}
 use Rattle.grammar.specs.Whole.{Ends}
-use Rattle.decoder.specs.Line.{numberAt, varAt, bounded, upTo, byteAt, restored, deleteAt, numberOf, soMany, bytesAt, checked, wordOf, spanned, valuesAt, line}
+use Rattle.decoder.specs.Line.{numberAt, varAt, bounded, upTo, byteAt, restored, deleteAt, numberBy, soMany, bytesAt, checked, wordOf, spanned, valuesAt, line}
 use Rattle.decoder.specs.Update.{deleteSet}
 use Rattle.pieces.proofs.Forgets.{chosen}
 use Rattle.places.proofs.BlamedReads.{Reads, unsigned-reads}
@@ -70,8 +70,8 @@ module _ (u : List ℕ) where
     unfolding deleteAt
     delete-in form by = chosen (λ (x : Drawn ℕ (ℕ × ℕ)). In x) (eqb form 1) (up-to-in maxClock) (restored-in by (varAt u at) var-in)
 
-    number-in : (form : ℕ) (n : Number) → In (numberOf form u n at)
-    unfolding numberOf
+    number-in : (form : ℕ) (n : Number) → In (numberBy form u n at)
+    unfolding numberBy
     number-in form grammar.byte = byte-in
     number-in form (grammar.upTo most) = up-to-in most
     number-in form grammar.any = var-in
@@ -150,4 +150,4 @@ module _ (u : List ℕ) where
   unfolding deleteSet allRanges _>>=_ run line
   set-inside form at s h =
       let count : Number = grammar.upTo maxClients in
-      drawn-in s (numberOf form u count at) _ (number-in at form count) (λ a t l h. run-in form (clients (a .0)) t s l h) h
+      drawn-in s (numberBy form u count at) _ (number-in at form count) (λ a t l h. run-in form (deletedClients (a .0)) t s l h) h

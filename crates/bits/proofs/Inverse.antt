@@ -11,13 +11,13 @@ use lib.Seq.{drop-at}
 use lib.Pow.{pow-pos, high, areBytes}
 use borrow.Author.Tests.{ltb-true}
 use Rattle.numbers.specs.Number.{pick}
-use Rattle.bits.specs.Bits.{inBits, number, ofBytes, bytes, packed}
+use Rattle.bits.specs.Bits.{inBits, valueOf, ofBytes, bytes, packed}
 use Rattle.bits.proofs.Laws.{number-lt, length-in-bits, in-bits-number, length-of-bytes, length-bytes}
 
 -- ---- numbers
 
 -- a number of so many bits, written and read, whatever follows
-pub number-back : (k x : ℕ) (t : List Bool) → x < 2 ^ k → number k (inBits k x ++ t) ≡ x
+pub number-back : (k x : ℕ) (t : List Bool) → x < 2 ^ k → valueOf k (inBits k x ++ t) ≡ x
 number-back k x t h = in-bits-number k x t ∙ mod-eq-of-lt h
 
 -- what stands above k bits is not written
@@ -30,16 +30,16 @@ in-bits-above (suc k) a x =
     ap (λ (n : ℕ). eqb (n / 2 ^ k % 2) 1 ∷ inBits k n) e ∙ ap₂ (λ (n : ℕ) (l : List Bool). eqb n 1 ∷ l) bit (in-bits-above k (a * 2) x)
 
 -- bits, read as a number and written again
-pub bits-back : (k : ℕ) (b : List Bool) → k ≤ length b → inBits k (number k b) ≡ take k b
-unfolding number inBits
+pub bits-back : (k : ℕ) (b : List Bool) → k ≤ length b → inBits k (valueOf k b) ≡ take k b
+unfolding valueOf inBits
 bits-back zero b h = refl
 bits-back (suc k) [] h = absurd (omega (arith, h))
 bits-back (suc k) (true ∷ b) h =
-    let e : 2 ^ k + number k b ≡ 1 * 2 ^ k + number k b = omega arith in
+    let e : 2 ^ k + valueOf k b ≡ 1 * 2 ^ k + valueOf k b = omega arith in
     ap (λ (n : ℕ). eqb (n / 2 ^ k % 2) 1 ∷ inBits k n) e
-    ∙ ap₂ (λ (n : ℕ) (l : List Bool). eqb (n % 2) 1 ∷ l) (high 1 k (number-lt k b)) (in-bits-above k 1 (number k b) ∙ bits-back k b (omega arith))
+    ∙ ap₂ (λ (n : ℕ) (l : List Bool). eqb (n % 2) 1 ∷ l) (high 1 k (number-lt k b)) (in-bits-above k 1 (valueOf k b) ∙ bits-back k b (omega arith))
 bits-back (suc k) (false ∷ b) h =
-    ap (λ (n : ℕ). eqb (n / 2 ^ k % 2) 1 ∷ inBits k n) (zero-add (number k b))
+    ap (λ (n : ℕ). eqb (n / 2 ^ k % 2) 1 ∷ inBits k n) (zero-add (valueOf k b))
     ∙ ap₂ (λ (n : ℕ) (l : List Bool). eqb (n % 2) 1 ∷ l) (div-eq-of-lt (number-lt k b)) (bits-back k b (omega arith))
 
 -- ---- zeros behind bits
@@ -54,14 +54,14 @@ drop-zeros zero m b = ap (λ (n : ℕ). b ++ replicate n false) (let e : m ≡ m
 drop-zeros (suc k) m [] = drop-replicate (suc k) m ∙ ap (λ (n : ℕ). replicate (m - n) false) (let e : suc k ≡ suc k - 0 = omega arith in e)
 drop-zeros (suc k) m (x ∷ b) = drop-zeros k m b ∙ ap (λ (n : ℕ). drop k b ++ replicate (m - n) false) (let e : k - length b ≡ suc k - suc (length b) = omega arith in e)
 
-number-replicate : (k m : ℕ) → number k (replicate m false) ≡ 0
-unfolding number
+number-replicate : (k m : ℕ) → valueOf k (replicate m false) ≡ 0
+unfolding valueOf
 number-replicate zero m = refl
 number-replicate (suc k) zero = refl
-number-replicate (suc k) (suc m) = zero-add (number k (replicate m false)) ∙ number-replicate k m
+number-replicate (suc k) (suc m) = zero-add (valueOf k (replicate m false)) ∙ number-replicate k m
 
-pub number-zeros : (k m : ℕ) (b : List Bool) → number k (b ++ replicate m false) ≡ number k b
-unfolding number
+pub number-zeros : (k m : ℕ) (b : List Bool) → valueOf k (b ++ replicate m false) ≡ valueOf k b
+unfolding valueOf
 number-zeros zero m b = refl
 number-zeros (suc k) m [] = number-replicate (suc k) m
 number-zeros (suc k) m (x ∷ b) = ap (λ (n : ℕ). pick x (2 ^ k) 0 + n) (number-zeros k m b)
@@ -72,8 +72,8 @@ bytes-zeros zero m b = refl
 bytes-zeros (suc n) m b = ap₂ (λ (x : ℕ) (l : List ℕ). x ∷ l) (number-zeros 8 m b) (ap (bytes n) (drop-zeros 8 m b) ∙ bytes-zeros n (m - (8 - length b)) (drop 8 b))
 
 -- bits that spell 0 are zeros
-pub zeros-are : (b : List Bool) → number (length b) b ≡ 0 → b ≡ replicate (length b) false
-unfolding number
+pub zeros-are : (b : List Bool) → valueOf (length b) b ≡ 0 → b ≡ replicate (length b) false
+unfolding valueOf
 zeros-are [] e = refl
 zeros-are (true ∷ b) e = absurd (omega (arith, e, pow-pos (length b)))
 zeros-are (false ∷ b) e = ap (λ (l : List Bool). false ∷ l) (zeros-are b (omega (arith, e)))

@@ -12,31 +12,31 @@ use lib.Seq.{drop-append-seam, drop-append-le, drop-append-add, drop-drop, drop-
 use lib.Pow.{pow-pos, pow-add, mod-pow-add}
 use borrow.Author.Tests.{eq-eqb, ne-eqb}
 use Rattle.numbers.specs.Number.{pick}
-use Rattle.bits.specs.Bits.{inBits, number, ofBytes, bytes, packed}
+use Rattle.bits.specs.Bits.{inBits, valueOf, ofBytes, bytes, packed}
 
 -- ---- the number of bits
 
-pub number-none : (k : ℕ) → number k [] ≡ 0
-unfolding number
+pub number-none : (k : ℕ) → valueOf k [] ≡ 0
+unfolding valueOf
 number-none zero = refl
 number-none (suc k) = refl
 
-pub number-lt : (k : ℕ) (b : List Bool) → number k b < 2 ^ k
-unfolding number
+pub number-lt : (k : ℕ) (b : List Bool) → valueOf k b < 2 ^ k
+unfolding valueOf
 number-lt zero b = pow-pos 0
 number-lt (suc k) [] = pow-pos (suc k)
 number-lt (suc k) (true ∷ b) = omega (arith, number-lt k b, pow-suc 2 k)
 number-lt (suc k) (false ∷ b) = omega (arith, number-lt k b, pow-suc 2 k)
 
-pub number-add : (j k : ℕ) (b : List Bool) → number (j + k) b ≡ number j b * 2 ^ k + number k (drop j b)
-unfolding number
+pub number-add : (j k : ℕ) (b : List Bool) → valueOf (j + k) b ≡ valueOf j b * 2 ^ k + valueOf k (drop j b)
+unfolding valueOf
 number-add zero k b = rw zero-add (omega arith)
 number-add (suc j) k [] = rw (suc-add, number-none k) (omega arith)
-number-add (suc j) k (true ∷ b) = rw suc-add (omega (arith, number-add j k b, pow-add 2 j k, add-mul (2 ^ j) (number j b) (2 ^ k)))
-number-add (suc j) k (false ∷ b) = rw suc-add (omega (arith, number-add j k b, add-mul 0 (number j b) (2 ^ k)))
+number-add (suc j) k (true ∷ b) = rw suc-add (omega (arith, number-add j k b, pow-add 2 j k, add-mul (2 ^ j) (valueOf j b) (2 ^ k)))
+number-add (suc j) k (false ∷ b) = rw suc-add (omega (arith, number-add j k b, add-mul 0 (valueOf j b) (2 ^ k)))
 
-pub number-front : (k : ℕ) (b c : List Bool) → k ≤ length b → number k (b ++ c) ≡ number k b
-unfolding number
+pub number-front : (k : ℕ) (b c : List Bool) → k ≤ length b → valueOf k (b ++ c) ≡ valueOf k b
+unfolding valueOf
 number-front zero b c h = refl
 number-front (suc k) [] c h = absurd (omega (arith, h))
 number-front (suc k) (x ∷ b) c h = ap (λ (n : ℕ). pick x (2 ^ k) 0 + n) (number-front k b c (omega arith))
@@ -52,8 +52,8 @@ digit zero n h = omega arith
 digit (suc zero) n h = omega arith
 digit (suc (suc d)) n h = absurd (omega arith)
 
-pub in-bits-number : (k x : ℕ) (t : List Bool) → number k (inBits k x ++ t) ≡ x % 2 ^ k
-unfolding number inBits
+pub in-bits-number : (k x : ℕ) (t : List Bool) → valueOf k (inBits k x ++ t) ≡ x % 2 ^ k
+unfolding valueOf inBits
 in-bits-number zero x t = omega arith
 in-bits-number (suc k) x t =
     let e : x % 2 ^ suc k ≡ (x / 2 ^ k % 2) * 2 ^ k + x % 2 ^ k = ap (λ (n : ℕ). x % 2 ^ n) (sym (one-add k)) ∙ mod-pow-add x 1 k in
@@ -75,7 +75,7 @@ of-bytes-drop (suc n) (b ∷ s) =
     rw e (drop-append-add (inBits 8 b) (ofBytes s) (8 * n) ∙ of-bytes-drop n s)
 
 -- a byte, and m bits behind it
-pub number-byte : (m b : ℕ) (t : List Bool) → b < 256 → number (8 + m) (inBits 8 b ++ t) ≡ b * 2 ^ m + number m t
+pub number-byte : (m b : ℕ) (t : List Bool) → b < 256 → valueOf (8 + m) (inBits 8 b ++ t) ≡ b * 2 ^ m + valueOf m t
 number-byte m b t h =
     number-add 8 m (inBits 8 b ++ t)
     ∙ rw (in-bits-number 8 b t, mod-eq-of-lt {n = b} {m = 2 ^ 8} h, drop-eight)
@@ -102,15 +102,15 @@ unfolding bytes
 bytes-front zero b c h = refl
 bytes-front (suc q) b c h =
     rw (number-front 8 b c (omega arith), drop-append-le 8 b c (omega arith))
-    (ap (λ (l : List ℕ). number 8 b ∷ l) (bytes-front q (drop 8 b) c (simp length-drop (omega arith))))
+    (ap (λ (l : List ℕ). valueOf 8 b ∷ l) (bytes-front q (drop 8 b) c (simp length-drop (omega arith))))
 
 pub bytes-take : (q n : ℕ) (b : List Bool) → q ≤ n → take q (bytes n b) ≡ bytes q b
 unfolding bytes
 bytes-take zero n b h = refl
 bytes-take (suc q) zero b h = absurd (omega (arith, h))
-bytes-take (suc q) (suc n) b h = ap (λ (l : List ℕ). number 8 b ∷ l) (bytes-take q n (drop 8 b) (omega arith))
+bytes-take (suc q) (suc n) b h = ap (λ (l : List ℕ). valueOf 8 b ∷ l) (bytes-take q n (drop 8 b) (omega arith))
 
-pub bytes-at : (q n : ℕ) (b : List Bool) → q < n → getD (bytes n b) q 0 ≡ number 8 (drop (8 * q) b)
+pub bytes-at : (q n : ℕ) (b : List Bool) → q < n → getD (bytes n b) q 0 ≡ valueOf 8 (drop (8 * q) b)
 unfolding bytes
 bytes-at q zero b h = absurd (omega (arith, h))
 bytes-at zero (suc n) b h = refl

@@ -11,7 +11,7 @@ use lib.Seq.{sets, drop-at, length-take-le, take-all}
 use lib.Arith.{digits-lt}
 use lib.Pow.{pow-pos, pow-add, mod-pow-add, high, low, shr-lt, shr-shr}
 use Rattle.numbers.proofs.Output.{sets-append}
-use Rattle.bits.specs.Bits.{inBits, number, bytes}
+use Rattle.bits.specs.Bits.{inBits, valueOf, bytes}
 use Rattle.bits.specs.Places.{top, highest, Starts, Adds}
 use Rattle.bits.proofs.Laws.{number-lt, number-add, number-front, length-in-bits, in-bits-number, length-bytes, bytes-add, bytes-front}
 use Rattle.bits.proofs.Inverse.{bits-back}
@@ -26,8 +26,8 @@ in-bits-add (suc j) k x =
     let e : x / 2 ^ (j + k) ≡ x / 2 ^ k / 2 ^ j = ap (λ (n : ℕ). x / 2 ^ n) (add-comm j k) ∙ sym (shr-shr x k j) in
     rw (suc-add, e, in-bits-add j k x)
 
-number-lowest : (r a : ℕ) → number r (inBits r a) ≡ a % 2 ^ r
-number-lowest r a = ap (number r) (sym (append-nil (inBits r a))) ∙ in-bits-number r a []
+number-lowest : (r a : ℕ) → valueOf r (inBits r a) ≡ a % 2 ^ r
+number-lowest r a = ap (valueOf r) (sym (append-nil (inBits r a))) ∙ in-bits-number r a []
 
 pub lowest-bits : (k x : ℕ) → inBits k (x % 2 ^ k) ≡ inBits k x
 lowest-bits k x =
@@ -92,15 +92,15 @@ module _ (r : ℕ) (r8 : r < 8) (x : List Bool) (lx : length x ≡ r) (a : ℕ) 
       ap (λ (l : List Bool). x ++ (l ++ t)) (ap (λ (j : ℕ). inBits j a) all ∙ in-bits-add (64 - r) r a)
       ∙ ap (λ (l : List Bool). x ++ l) (append-assoc (inBits (64 - r) (a / 2 ^ r)) (inBits r a) t)
 
-  pub passes : number 64 y ≡ number r x * 2 ^ (64 - r) + a / 2 ^ r
+  pub passes : valueOf 64 y ≡ valueOf r x * 2 ^ (64 - r) + a / 2 ^ r
   passes =
       let all : 64 ≡ r + (64 - r) = omega arith in
       let part : (64 - r) + r ≡ 64 = omega arith in
       let few : a / 2 ^ r < 2 ^ (64 - r) = shr-lt (64 - r) r (subst (λ (j : ℕ). a < 2 ^ j) (sym part) a64) in
       let z = inBits (64 - r) (a / 2 ^ r) ++ (inBits r a ++ t) in
-      ap (number 64) parts ∙ ap (λ (j : ℕ). number j (x ++ z)) all ∙ number-add r (64 - r) (x ++ z)
-      ∙ ap₂ (λ (i : ℕ) (l : List Bool). i * 2 ^ (64 - r) + number (64 - r) l) (number-front r x z (omega (arith, lx))) (drop-at x z r lx)
-      ∙ ap (λ (j : ℕ). number r x * 2 ^ (64 - r) + j) (in-bits-number (64 - r) (a / 2 ^ r) (inBits r a ++ t) ∙ mod-eq-of-lt few)
+      ap (valueOf 64) parts ∙ ap (λ (j : ℕ). valueOf j (x ++ z)) all ∙ number-add r (64 - r) (x ++ z)
+      ∙ ap₂ (λ (i : ℕ) (l : List Bool). i * 2 ^ (64 - r) + valueOf (64 - r) l) (number-front r x z (omega (arith, lx))) (drop-at x z r lx)
+      ∙ ap (λ (j : ℕ). valueOf r x * 2 ^ (64 - r) + j) (in-bits-number (64 - r) (a / 2 ^ r) (inBits r a ++ t) ∙ mod-eq-of-lt few)
 
   pub passed : drop 64 y ≡ inBits r a ++ t
   passed =
@@ -112,11 +112,11 @@ module _ (r : ℕ) (r8 : r < 8) (x : List Bool) (lx : length x ≡ r) (a : ℕ) 
   long = omega (arith, length-append x (inBits 64 a ++ t), length-append (inBits 64 a) t, length-in-bits 64 a)
 
 -- the bytes of 64 bits
-pub eight : (y : List Bool) → 64 ≤ length y → top 8 (number 64 y) ≡ bytes 8 y
+pub eight : (y : List Bool) → 64 ≤ length y → top 8 (valueOf 64 y) ≡ bytes 8 y
 eight y h =
     let f = take 64 y in
     let lf : length f ≡ 64 = length-take-le 64 y h in
-    ap (top 8) (ap (number 64) (sym (take-append-drop 64 y)) ∙ number-front 64 f (drop 64 y) (omega (arith, lf)))
+    ap (top 8) (ap (valueOf 64) (sym (take-append-drop 64 y)) ∙ number-front 64 f (drop 64 y) (omega (arith, lf)))
     ∙ top-bytes 8 f (omega (arith, lf)) ∙ sym (bytes-front 8 f (drop 64 y) (omega (arith, lf))) ∙ ap (bytes 8) (take-append-drop 64 y)
 
 -- ---- two words and three bits
@@ -145,7 +145,7 @@ module _ (s : List ℕ) (o a b c : ℕ) (a64 : a < 2 ^ 64) (b64 : b < 2 ^ 64) (r
   second : top 8 y ≡ bytes 8 (inBits (o % 8) a ++ (inBits 64 b ++ inBits 3 c))
   second =
       let f = inBits (o % 8) a in
-      let word : y ≡ number 64 (f ++ (inBits 64 b ++ inBits 3 c)) =
+      let word : y ≡ valueOf 64 (f ++ (inBits 64 b ++ inBits 3 c)) =
       ey ∙ ap (λ (j : ℕ). j * 2 ^ (64 - o % 8) + b / 2 ^ (o % 8)) (sym (number-lowest (o % 8) a)) ∙ sym (passes (o % 8) r8 f (length-in-bits (o % 8) a) b b64 (inBits 3 c)) in
       ap (top 8) word ∙ eight (f ++ (inBits 64 b ++ inBits 3 c)) (long (o % 8) r8 f (length-in-bits (o % 8) a) b b64 (inBits 3 c))
 
@@ -154,7 +154,7 @@ module _ (s : List ℕ) (o a b c : ℕ) (a64 : a < 2 ^ 64) (b64 : b < 2 ^ 64) (r
       let r = o % 8 in
       let f = inBits r b in
       let p : 64 - r ≡ 3 + (64 - (r + 3)) = omega (arith, r8) in
-      let word : z ≡ number 64 (f ++ inBits 3 c) =
+      let word : z ≡ valueOf 64 (f ++ inBits 3 c) =
       ez ∙ ap₂ (λ (i j : ℕ). i + j) (ap₂ (λ (i j : ℕ). i * 2 ^ j) (sym (number-lowest r b)) p) (tail-is r 3 r8 (omega arith) c)
       ∙ word-is r 3 r8 (omega arith) c f (length-in-bits r b) in
       ap (top m) word ∙ top-bytes m (f ++ inBits 3 c) (omega (arith, r8, length-append f (inBits 3 c), length-in-bits r b, length-in-bits 3 c))
@@ -166,7 +166,7 @@ module _ (s : List ℕ) (o a b c : ℕ) (a64 : a < 2 ^ 64) (b64 : b < 2 ^ 64) (r
       let lf : length f ≡ r = length-drop (8 * (o / 8)) bs ∙ omega (arith, e) in
       let t = inBits 64 b ++ inBits 3 c in
       let all = f ++ (inBits 64 a ++ t) in
-      let word : x ≡ number 64 all = ex ∙ ap (λ (j : ℕ). j * 2 ^ (64 - r) + a / 2 ^ r) (highest-is s o bs e h) ∙ sym (passes r r8 f lf a a64 t) in
+      let word : x ≡ valueOf 64 all = ex ∙ ap (λ (j : ℕ). j * 2 ^ (64 - r) + a / 2 ^ r) (highest-is s o bs e h) ∙ sym (passes r r8 f lf a a64 t) in
       let first : top 8 x ≡ bytes 8 all = ap (top 8) word ∙ eight all (long r r8 f lf a a64 t) in
       let count : (r + 131 + 7) / 8 ≡ 8 + (8 + m) = omega arith in
       let behind : bytes (8 + m) (drop 64 all) ≡ bytes 8 (inBits r a ++ t) ++ bytes m (inBits r b ++ inBits 3 c) =

@@ -12,21 +12,21 @@ use lib.Arith.{digits-lt}
 use lib.Pow.{pow-pos, pow-mono, pow-add, mod-pow-add, high, low, shl-lt, shl-exact}
 use borrow.Author.Tests.{eq-eqb, ne-eqb}
 use Rattle.numbers.proofs.Output.{take-sets}
-use Rattle.bits.specs.Bits.{inBits, number, ofBytes, bytes, packed}
+use Rattle.bits.specs.Bits.{inBits, valueOf, ofBytes, bytes, packed}
 use Rattle.bits.specs.Places.{top, highest, Starts, Adds}
 use Rattle.bits.proofs.Laws.{number-none, number-lt, number-add, number-front, length-in-bits, in-bits-number, of-bytes-drop, number-byte, length-bytes, bytes-add, bytes-front, bytes-take, bytes-at}
 
 -- ---- bytes as one number
 
 -- a byte more
-pub one-more : (s : List ℕ) (i j w b m n : ℕ) → i < length s → b ≡ getD s i 0 → b < 256 → j ≡ i + 1 → w * 2 ^ (8 + m) + number (8 + m) (ofBytes (drop i s)) ≡ n
-    → (w * 256 + b) * 2 ^ m + number m (ofBytes (drop j s)) ≡ n
+pub one-more : (s : List ℕ) (i j w b m n : ℕ) → i < length s → b ≡ getD s i 0 → b < 256 → j ≡ i + 1 → w * 2 ^ (8 + m) + valueOf (8 + m) (ofBytes (drop i s)) ≡ n
+    → (w * 256 + b) * 2 ^ m + valueOf m (ofBytes (drop j s)) ≡ n
 unfolding ofBytes
 one-more s i j w b m n h eb lb ej e =
     let f = rw (drop-cons s i 0 h, ← eb, number-byte m b (ofBytes (drop (suc i) s)) lb, pow-add 2 8 m) at e in
     rw (ej, add-one) (omega (arith, f, add-mul (w * 256) b (2 ^ m), mul-assoc w 256 (2 ^ m)))
 
-pub of-none : (m : ℕ) → number m (ofBytes []) ≡ 0
+pub of-none : (m : ℕ) → valueOf m (ofBytes []) ≡ 0
 unfolding ofBytes
 of-none m = number-none m
 
@@ -36,21 +36,21 @@ at-most w m = omega (arith, mul-le-mul-left w (pow-pos m))
 -- ---- k bits from bit r on
 
 module _ (x : List Bool) (r k : ℕ) (h : r + k ≤ 64) where
-  pub taken : number 64 x * 2 ^ r % 2 ^ 64 / 2 ^ (64 - k) ≡ number k (drop r x)
+  pub taken : valueOf 64 x * 2 ^ r % 2 ^ 64 / 2 ^ (64 - k) ≡ valueOf k (drop r x)
   taken =
       let p = 64 - (r + k) in
-      let n = number (k + p) (drop r x) in
-      let a = number r x in
-      let whole : number 64 x ≡ a * 2 ^ (k + p) + n = ap (λ (j : ℕ). number j x) (let e : 64 ≡ r + (k + p) = omega arith in e) ∙ number-add r (k + p) x in
+      let n = valueOf (k + p) (drop r x) in
+      let a = valueOf r x in
+      let whole : valueOf 64 x ≡ a * 2 ^ (k + p) + n = ap (λ (j : ℕ). valueOf j x) (let e : 64 ≡ r + (k + p) = omega arith in e) ∙ number-add r (k + p) x in
       let all : (k + p) + r ≡ 64 = omega arith in
-      let shifted : number 64 x * 2 ^ r ≡ a * 2 ^ 64 + n * 2 ^ r =
+      let shifted : valueOf 64 x * 2 ^ r ≡ a * 2 ^ 64 + n * 2 ^ r =
       ap (λ (j : ℕ). j * 2 ^ r) whole ∙ add-mul (a * 2 ^ (k + p)) n (2 ^ r)
       ∙ ap (λ (j : ℕ). j + n * 2 ^ r) (mul-assoc a (2 ^ (k + p)) (2 ^ r) ∙ ap (λ (j : ℕ). a * j) (sym (pow-add 2 (k + p) r) ∙ ap (λ (j : ℕ). 2 ^ j) all)) in
       let small : n * 2 ^ r < 2 ^ 64 = subst (λ (j : ℕ). n * 2 ^ r < 2 ^ j) all (shl-lt (k + p) r (number-lt (k + p) (drop r x))) in
       let back : 64 - k ≡ p + r = omega arith in
       ap₂ (λ (i j : ℕ). i / j) (ap (λ (j : ℕ). j % 2 ^ 64) shifted ∙ low a 64 small) (ap (λ (j : ℕ). 2 ^ j) back ∙ pow-add 2 p r)
       ∙ mul-div-mul-right n (2 ^ p) (pow-pos r)
-      ∙ ap (λ (j : ℕ). j / 2 ^ p) (number-add k p (drop r x)) ∙ high (number k (drop r x)) p (number-lt p (drop k (drop r x)))
+      ∙ ap (λ (j : ℕ). j / 2 ^ p) (number-add k p (drop r x)) ∙ high (valueOf k (drop r x)) p (number-lt p (drop k (drop r x)))
 
 -- from bit o on: r bits behind byte q
 pub taken-from : (s : List ℕ) (o : ℕ) → drop (o % 8) (ofBytes (drop (o / 8) s)) ≡ drop o (ofBytes s)
@@ -68,17 +68,17 @@ unfolding top
 top-none zero w h = refl
 top-none (suc n) w h = absurd (omega (arith, h))
 
-pub top-bytes : (n : ℕ) (b : List Bool) → length b ≤ 64 → top n (number 64 b) ≡ bytes n b
+pub top-bytes : (n : ℕ) (b : List Bool) → length b ≤ 64 → top n (valueOf 64 b) ≡ bytes n b
 unfolding top bytes
 top-bytes zero b h = refl
 top-bytes (suc n) b h =
     let low₅₆ = number-lt 56 (drop 8 b) in
-    let whole : number 64 b ≡ number 8 b * 2 ^ 56 + number 56 (drop 8 b) = number-add 8 56 b in
-    let rest : number 64 (drop 8 b) ≡ number 56 (drop 8 b) * 2 ^ 8 =
-    number-add 56 8 (drop 8 b) ∙ ap (λ (j : ℕ). number 56 (drop 8 b) * 2 ^ 8 + j) (ap (number 8) (drop-of-length-le (drop 8 b) {i = 56} (simp length-drop (omega arith))) ∙ number-none 8) ∙ add-zero (number 56 (drop 8 b) * 2 ^ 8) in
-    let shifted : number 64 b * 2 ^ 8 ≡ number 8 b * 2 ^ 64 + number 64 (drop 8 b) = omega (arith, whole, rest) in
-    let first : number 64 b / 2 ^ 56 ≡ number 8 b = ap (λ (j : ℕ). j / 2 ^ 56) whole ∙ high (number 8 b) 56 low₅₆ in
-    let next : number 64 b * 2 ^ 8 % 2 ^ 64 ≡ number 64 (drop 8 b) = ap (λ (j : ℕ). j % 2 ^ 64) shifted ∙ low (number 8 b) 64 (number-lt 64 (drop 8 b)) in
+    let whole : valueOf 64 b ≡ valueOf 8 b * 2 ^ 56 + valueOf 56 (drop 8 b) = number-add 8 56 b in
+    let rest : valueOf 64 (drop 8 b) ≡ valueOf 56 (drop 8 b) * 2 ^ 8 =
+    number-add 56 8 (drop 8 b) ∙ ap (λ (j : ℕ). valueOf 56 (drop 8 b) * 2 ^ 8 + j) (ap (valueOf 8) (drop-of-length-le (drop 8 b) {i = 56} (simp length-drop (omega arith))) ∙ number-none 8) ∙ add-zero (valueOf 56 (drop 8 b) * 2 ^ 8) in
+    let shifted : valueOf 64 b * 2 ^ 8 ≡ valueOf 8 b * 2 ^ 64 + valueOf 64 (drop 8 b) = omega (arith, whole, rest) in
+    let first : valueOf 64 b / 2 ^ 56 ≡ valueOf 8 b = ap (λ (j : ℕ). j / 2 ^ 56) whole ∙ high (valueOf 8 b) 56 low₅₆ in
+    let next : valueOf 64 b * 2 ^ 8 % 2 ^ 64 ≡ valueOf 64 (drop 8 b) = ap (λ (j : ℕ). j % 2 ^ 64) shifted ∙ low (valueOf 8 b) 64 (number-lt 64 (drop 8 b)) in
     rw (first, next, top-bytes n (drop 8 b) (simp length-drop (omega arith)))
 
 -- ---- v in k bits behind r bits: the word
@@ -103,16 +103,16 @@ module _ (r k : ℕ) (r8 : r < 8) (k57 : k ≤ 57) where
       ap (λ (j : ℕ). j * 2 ^ (8 - r) % 2 ^ 64) first ∙ shl-exact (r + 56) (8 - r) 64 small (omega arith)
       ∙ mul-assoc a (2 ^ 56) (2 ^ (8 - r)) ∙ ap (λ (j : ℕ). a * j) (sym (pow-add 2 56 (8 - r)) ∙ ap (λ (j : ℕ). 2 ^ j) all)
 
-  pub word-is : (v : ℕ) (x : List Bool) → length x ≡ r → number r x * 2 ^ (k + (64 - (r + k))) + v % 2 ^ k * 2 ^ (64 - (r + k)) ≡ number 64 (x ++ inBits k v)
+  pub word-is : (v : ℕ) (x : List Bool) → length x ≡ r → valueOf r x * 2 ^ (k + (64 - (r + k))) + v % 2 ^ k * 2 ^ (64 - (r + k)) ≡ valueOf 64 (x ++ inBits k v)
   word-is v x e =
       let p = 64 - (r + k) in
       let all : 64 ≡ r + (k + p) = omega arith in
       let c = inBits k v in
-      let ck : number k c ≡ v % 2 ^ k = ap (number k) (sym (append-nil c)) ∙ in-bits-number k v [] in
-      let none : number p (drop k c) ≡ 0 = ap (number p) (drop-of-length-le c {i = k} (omega (arith, length-in-bits k v))) ∙ number-none p in
-      sym (ap (λ (j : ℕ). number j (x ++ c)) all ∙ number-add r (k + p) (x ++ c)
-      ∙ ap₂ (λ (i : ℕ) (l : List Bool). i * 2 ^ (k + p) + number (k + p) l) (number-front r x c (omega (arith, e))) (drop-at x c r e)
-      ∙ ap (λ (j : ℕ). number r x * 2 ^ (k + p) + j) (number-add k p c ∙ ap₂ (λ (i j : ℕ). i * 2 ^ p + j) ck none ∙ add-zero (v % 2 ^ k * 2 ^ p)))
+      let ck : valueOf k c ≡ v % 2 ^ k = ap (valueOf k) (sym (append-nil c)) ∙ in-bits-number k v [] in
+      let none : valueOf p (drop k c) ≡ 0 = ap (valueOf p) (drop-of-length-le c {i = k} (omega (arith, length-in-bits k v))) ∙ number-none p in
+      sym (ap (λ (j : ℕ). valueOf j (x ++ c)) all ∙ number-add r (k + p) (x ++ c)
+      ∙ ap₂ (λ (i : ℕ) (l : List Bool). i * 2 ^ (k + p) + valueOf (k + p) l) (number-front r x c (omega (arith, e))) (drop-at x c r e)
+      ∙ ap (λ (j : ℕ). valueOf r x * 2 ^ (k + p) + j) (number-add k p c ∙ ap₂ (λ (i j : ℕ). i * 2 ^ p + j) ck none ∙ add-zero (v % 2 ^ k * 2 ^ p)))
 
   -- and it is a word
   pub word-lt : (a v : ℕ) → a < 2 ^ r → a * 2 ^ (k + (64 - (r + k))) + v % 2 ^ k * 2 ^ (64 - (r + k)) < 2 ^ 64
@@ -137,20 +137,20 @@ module _ (s : List ℕ) (o : ℕ) (b : List Bool) (e : length b ≡ o) (h : Star
   rest-length : length (drop (8 * (o / 8)) b) ≡ o % 8
   rest-length = length-drop (8 * (o / 8)) b ∙ omega (arith, e)
 
-  pub highest-is : highest s (o / 8) (o % 8) ≡ number (o % 8) (drop (8 * (o / 8)) b)
-  unfolding highest number
+  pub highest-is : highest s (o / 8) (o % 8) ≡ valueOf (o % 8) (drop (8 * (o / 8)) b)
+  unfolding highest valueOf
   highest-is = go (o % 8) refl
     where
-      go : (r : ℕ) → o % 8 ≡ r → highest s (o / 8) r ≡ number r (drop (8 * (o / 8)) b)
+      go : (r : ℕ) → o % 8 ≡ r → highest s (o / 8) r ≡ valueOf r (drop (8 * (o / 8)) b)
       go zero z = refl
       go (suc r) z =
           let x = drop (8 * (o / 8)) b in
           let l : o / 8 < (o + 7) / 8 = omega arith in
-          let byte : getD s (o / 8) 0 ≡ number 8 x = sym (getD-take ((o + 7) / 8) s (o / 8) 0 l) ∙ ap (λ (t : List ℕ). getD t (o / 8) 0) front ∙ bytes-at (o / 8) ((o + 7) / 8) b l in
+          let byte : getD s (o / 8) 0 ≡ valueOf 8 x = sym (getD-take ((o + 7) / 8) s (o / 8) 0 l) ∙ ap (λ (t : List ℕ). getD t (o / 8) 0) front ∙ bytes-at (o / 8) ((o + 7) / 8) b l in
           let eight : 8 ≡ suc r + (8 - suc r) = omega (arith, z, mod-lt o {m = 8} (omega arith)) in
-          let none : number (8 - suc r) (drop (suc r) x) ≡ 0 = ap (number (8 - suc r)) (drop-of-length-le x {i = suc r} (omega (arith, rest-length, z))) ∙ number-none (8 - suc r) in
-          let whole : number 8 x ≡ number (suc r) x * 2 ^ (8 - suc r) = ap (λ (j : ℕ). number j x) eight ∙ number-add (suc r) (8 - suc r) x ∙ ap (λ (j : ℕ). number (suc r) x * 2 ^ (8 - suc r) + j) none ∙ add-zero (number (suc r) x * 2 ^ (8 - suc r)) in
-          rw (ne-eqb (suc r) 0 (λ n. omega (arith, n))) (ap (λ (j : ℕ). j / 2 ^ (8 - suc r)) (byte ∙ whole) ∙ mul-div-cancel (number (suc r) x) (pow-pos (8 - suc r)))
+          let none : valueOf (8 - suc r) (drop (suc r) x) ≡ 0 = ap (valueOf (8 - suc r)) (drop-of-length-le x {i = suc r} (omega (arith, rest-length, z))) ∙ number-none (8 - suc r) in
+          let whole : valueOf 8 x ≡ valueOf (suc r) x * 2 ^ (8 - suc r) = ap (λ (j : ℕ). valueOf j x) eight ∙ number-add (suc r) (8 - suc r) x ∙ ap (λ (j : ℕ). valueOf (suc r) x * 2 ^ (8 - suc r) + j) none ∙ add-zero (valueOf (suc r) x * 2 ^ (8 - suc r)) in
+          rw (ne-eqb (suc r) 0 (λ n. omega (arith, n))) (ap (λ (j : ℕ). j / 2 ^ (8 - suc r)) (byte ∙ whole) ∙ mul-div-cancel (valueOf (suc r) x) (pow-pos (8 - suc r)))
 
 -- the bytes of the bits begun and of those put behind them, stored
 module _ (s : List ℕ) (o n : ℕ) (c : List Bool) (lc : length c ≡ n) (room : o + n ≤ 8 * length s) where
@@ -188,7 +188,7 @@ module _ (s : List ℕ) (o k v : ℕ) (k57 : k ≤ 57) (room : o + k ≤ 8 * len
           let c = inBits k v in
           let lx : length x ≡ r = length-drop (8 * q) b ∙ omega (arith, e) in
           let lc : length (x ++ c) ≡ r + k = length-append x c ∙ omega (arith, lx, length-in-bits k v) in
-          let word : w ≡ number 64 (x ++ c) = we ∙ ap (λ (j : ℕ). j * 2 ^ (k + (64 - (r + k))) + v % 2 ^ k * 2 ^ (64 - (r + k))) (highest-is s o b e h) ∙ word-is r k (mod-lt o {m = 8} (omega arith)) k57 v x lx in
+          let word : w ≡ valueOf 64 (x ++ c) = we ∙ ap (λ (j : ℕ). j * 2 ^ (k + (64 - (r + k))) + v % 2 ^ k * 2 ^ (64 - (r + k))) (highest-is s o b e h) ∙ word-is r k (mod-lt o {m = 8} (omega arith)) k57 v x lx in
           ap (top m) word ∙ top-bytes m (x ++ c) (omega (arith, lc, mod-lt o {m = 8} (omega arith)))
 
 -- ---- bits behind bits

@@ -12,10 +12,10 @@ inBits zero x = []
 inBits (suc k) x = eqb (x / 2 ^ k % 2) 1 ∷ inBits k x
 
 -- the number that the first k bits spell; where there are no more, zeros
-unfoldable pub number : ℕ → List Bool → ℕ
-number zero bits = 0
-number (suc k) [] = 0
-number (suc k) (b ∷ bits) = pick b (2 ^ k) 0 + number k bits
+unfoldable pub valueOf : ℕ → List Bool → ℕ
+valueOf zero bits = 0
+valueOf (suc k) [] = 0
+valueOf (suc k) (b ∷ bits) = pick b (2 ^ k) 0 + valueOf k bits
 
 -- the bits of bytes
 unfoldable pub ofBytes : List ℕ → List Bool
@@ -25,7 +25,7 @@ ofBytes (b ∷ s) = inBits 8 b ++ ofBytes s
 -- n bytes of bits; where there are no more, zeros
 unfoldable pub bytes : ℕ → List Bool → List ℕ
 bytes zero bits = []
-bytes (suc n) bits = number 8 bits ∷ bytes n (drop 8 bits)
+bytes (suc n) bits = valueOf 8 bits ∷ bytes n (drop 8 bits)
 
 -- as few bytes as hold these bits: zeros fill the last one
 unfoldable pub packed : List Bool → List ℕ

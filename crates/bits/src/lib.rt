@@ -4,7 +4,7 @@ ghost use mathlib.Core.List.{_++_};
 ghost use Prim.Native.Nat.{_+_, _-_, _*_, _/_, _%_, _^_, _≤_, _<_};
 ghost use lib.ListN.{length, drop};
 ghost use lib.Seq.{sets};
-ghost use Rattle.bits.specs.Bits.{inBits, number, ofBytes};
+ghost use Rattle.bits.specs.Bits.{inBits, valueOf, ofBytes};
 ghost use Rattle.bits.specs.Places.{top, highest, Adds};
 
 fn wide(x: u8) -> u64
@@ -18,7 +18,7 @@ fn wide(x: u8) -> u64
 // Fewer than eight bytes, from `at` to the end, as the highest of eight; zeros behind them.
 fn last_window(s: &[u8], at: usize) -> u64
     requires { ⌜ (at < length (now s)) × (length (now s) < at + 8) ⌝ }
-    ensures { λ r. ⌜ r ≡ number 64 (ofBytes (drop at (now (s .entry)))) ⌝ }
+    ensures { λ r. ⌜ r ≡ valueOf 64 (ofBytes (drop at (now (s .entry)))) ⌝ }
 {
     let mut w: u64 = 0;
     let mut i = at;
@@ -31,10 +31,10 @@ fn last_window(s: &[u8], at: usize) -> u64
     w << left
 }
 
-// Eight bytes from `at` on as one number, the first of them highest; zeros where there are no more.
+// Eight bytes from `at` on as one valueOf, the first of them highest; zeros where there are no more.
 fn window(s: &[u8], at: usize) -> u64
     requires { ⌜ at < length (now s) ⌝ }
-    ensures { λ r. ⌜ r ≡ number 64 (ofBytes (drop at (now (s .entry)))) ⌝ }
+    ensures { λ r. ⌜ r ≡ valueOf 64 (ofBytes (drop at (now (s .entry)))) ⌝ }
 {
     if s.len() - at < 8 {
         return last_window(s, at);
@@ -49,10 +49,10 @@ fn window(s: &[u8], at: usize) -> u64
     g * 256 + wide(s[at + 7])
 }
 
-// The number that k bits spell from bit o on.
+// The valueOf that k bits spell from bit o on.
 pub fn get(s: &[u8], o: usize, k: usize) -> u64
     requires { ⌜ (1 ≤ k) × (k ≤ 57) × (o + k ≤ 8 * length (now s)) ⌝ }
-    ensures { λ r. ⌜ r ≡ number k (drop o (ofBytes (now (s .entry)))) ⌝ }
+    ensures { λ r. ⌜ r ≡ valueOf k (drop o (ofBytes (now (s .entry)))) ⌝ }
 {
     let at = o / 8;
     let w = window(s, at);

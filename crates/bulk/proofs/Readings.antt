@@ -30,7 +30,7 @@ use Rattle.string.specs.declared.Answer as string-answer
 use Rattle.string.specs.declared.Answer.the-variants as string
 use Rattle.string.specs.String as strings
 use Rattle.string.specs.StringInner as strings-inner
-use Rattle.bulk.specs.Bulk.{Draw, drew, stop, Bulk, andThen, draws, told, numberDraw, differenceDraw, byteDraw, textDraw, numbersIn, differencesIn, bytesIn, textsIn}
+use Rattle.bulk.specs.Bulk.{Draw, drew, stop, Bulk, andThen, draws, told, numberDraw, differenceDraw, byteDraw, textDraw, drawNumbers, drawDifferences, drawBytes, drawTexts}
 
 -- ---- the columns of numbers
 
@@ -54,7 +54,7 @@ module _ {P : Type 0} (each : P → reading.Draw P) (next : P → Draw ℕ P) (a
   read-alike (suc k) c =
       ap (λ (x : reading.Draw P). reading.andThen x (λ d. reading.reads each k d)) (alike c) ∙ turn k c (next c) (read-alike k)
 
-pub numbers-read : (k : ℕ) (s : List ℕ) (c : number-place.Place) → reading.readNumbers k s c ≡ readingOf (numbersIn k s c)
+pub numbers-read : (k : ℕ) (s : List ℕ) (c : number-place.Place) → reading.readNumbers k s c ≡ readingOf (drawNumbers k s c)
 unfolding reading.numberDraw numberDraw
 numbers-read k s c = read-alike _ (λ d. numberDraw (nextNumber s d)) (λ d. go (nextNumber s d)) k c
   where
@@ -62,7 +62,7 @@ numbers-read k s c = read-alike _ (λ d. numberDraw (nextNumber s d)) (λ d. go 
     go (number.Next v d) = refl
     go (number.Bad why) = refl
 
-pub differences-read : (k : ℕ) (s : List ℕ) (c : difference-place.Place) → reading.readDifferences k s c ≡ readingOf (differencesIn k s c)
+pub differences-read : (k : ℕ) (s : List ℕ) (c : difference-place.Place) → reading.readDifferences k s c ≡ readingOf (drawDifferences k s c)
 unfolding reading.differenceDraw differenceDraw
 differences-read k s c = read-alike _ (λ d. differenceDraw (nextDifference s d)) (λ d. go (nextDifference s d)) k c
   where
@@ -70,7 +70,7 @@ differences-read k s c = read-alike _ (λ d. differenceDraw (nextDifference s d)
     go (difference.Next v d) = refl
     go (difference.Bad why) = refl
 
-pub bytes-read : (k : ℕ) (s : List ℕ) (c : byte-place.Place) → reading.readBytes k s c ≡ readingOf (bytesIn k s c)
+pub bytes-read : (k : ℕ) (s : List ℕ) (c : byte-place.Place) → reading.readBytes k s c ≡ readingOf (drawBytes k s c)
 unfolding reading.byteDraw byteDraw
 bytes-read k s c = read-alike _ (λ d. byteDraw (nextByte s d)) (λ d. go (nextByte s d)) k c
   where
@@ -87,13 +87,13 @@ abbrev textsOf : List ℕ → Bulk Part string-place.Place → strings-inner.Tex
 textsOf s b = record { texts = map (textOf s) (b .values); refusal = b .refusal }
 
 text-turn : (k : ℕ) (s : List ℕ) (c : string-place.Place) (r : string-answer.Answer)
-    → ((d : string-place.Place) → strings-inner.readTexts k s d ≡ textsOf s (textsIn k s d))
-    → strings-inner.andThen s r (λ d. strings-inner.readTexts k s d) ≡ textsOf s (andThen c (textDraw r) (λ d. textsIn k s d))
+    → ((d : string-place.Place) → strings-inner.readTexts k s d ≡ textsOf s (drawTexts k s d))
+    → strings-inner.andThen s r (λ d. strings-inner.readTexts k s d) ≡ textsOf s (andThen c (textDraw r) (λ d. drawTexts k s d))
 unfolding strings-inner.andThen andThen textDraw
 text-turn k s c (string.Next p d) on = ap (λ (t : strings-inner.Texts). record { texts = textOf s p ∷ (t .texts); refusal = t .refusal }) (on d)
 text-turn k s c (string.Bad why) on = refl
 
-pub texts-read : (k : ℕ) (s : List ℕ) (c : string-place.Place) → strings-inner.readTexts k s c ≡ textsOf s (textsIn k s c)
+pub texts-read : (k : ℕ) (s : List ℕ) (c : string-place.Place) → strings-inner.readTexts k s c ≡ textsOf s (drawTexts k s c)
 unfolding strings-inner.readTexts draws
 texts-read zero s c = refl
 texts-read (suc k) s c = text-turn k s c (strings.nextText s c) (texts-read k s)

@@ -13,14 +13,14 @@ use Rattle.numbers.specs.declared.Read.{Read}
 use Rattle.numbers.specs.declared.Read.the-variants as read
 use Rattle.numbers.specs.declared.Signed.{Signed}
 use Rattle.numbers.specs.declared.Signed.the-variants as signed
-use Rattle.numbers.specs.Number.{pick, placed, readUnsigned, readSigned}
+use Rattle.numbers.specs.Number.{pick, answerAt, readUnsigned, readSigned}
 use Rattle.numbers.specs.Limits.{maxValue, maxCount}
 use Rattle.numbers.proofs.Laws.{at-last}
 use Rattle.columns.specs.declared.number.Place.{Place}
 use Rattle.columns.specs.declared.number.Answer.{Answer}
 use Rattle.columns.specs.declared.number.Answer.the-variants.{Next, Bad}
 use Rattle.columns.specs.Number.{placeAt, refuse, drawn, counted, begun, nextNumber}
-use Rattle.bulk.specs.Bulk.{Draw, drew, numberDraw, draws, numbersIn}
+use Rattle.bulk.specs.Bulk.{Draw, drew, numberDraw, draws, drawNumbers}
 use Rattle.bulk.proofs.Drawing.{before, ReadTo, one-more, read-many}
 
 -- ---- the value v from `at` on, in what was e
@@ -104,13 +104,13 @@ module _ (s : List ℕ) (at from x : ℕ) (l : x ≤ maxValue) where
   draw-on n h = rw (run-on n h)
 
   pub run-draws : (m k n : ℕ) → m ≤ n
-      → numbersIn (m + k) s (placeAt at from x n) ≡ before (replicate m x) (numbersIn k s (placeAt at from x (n - m)))
+      → drawNumbers (m + k) s (placeAt at from x n) ≡ before (replicate m x) (drawNumbers k s (placeAt at from x (n - m)))
   run-draws zero k n h = rw (zero-add, sub-zero)
   run-draws (suc m) k n h =
-      ap (λ (j : ℕ). numbersIn j s (placeAt at from x n)) (suc-add m k)
+      ap (λ (j : ℕ). drawNumbers j s (placeAt at from x n)) (suc-add m k)
       ∙ one-more (λ d. numberDraw (nextNumber s d)) (m + k) (placeAt at from x n) (placeAt at from x (n - 1)) x (draw-on n (omega arith))
       ∙ ap (before (x ∷ [])) (run-draws m k (n - 1) (omega arith))
-      ∙ ap (λ (j : ℕ). before (replicate (suc m) x) (numbersIn k s (placeAt at from x j))) less
+      ∙ ap (λ (j : ℕ). before (replicate (suc m) x) (drawNumbers k s (placeAt at from x j))) less
     where
       less : n - 1 - m ≡ n - suc m
       less = omega arith
@@ -131,14 +131,14 @@ module _ (s : List ℕ) (n : ℕ) (c₀ : Place) (out : List ℕ) (i : ℕ) (c :
   unfolding numberDraw
   first = rw e
 
-  run-drawn : numbersIn (n - i) s c ≡ before (replicate m v) (numbersIn (n - (i + m)) s (left d m))
+  run-drawn : drawNumbers (n - i) s c ≡ before (replicate m v) (drawNumbers (n - (i + m)) s (left d m))
   run-drawn =
       let k = n - (i + m) in
       let w = drew-fair s c v d e in
-      ap (λ (j : ℕ). numbersIn j s c) count ∙ one-more (λ x. numberDraw (nextNumber s x)) (m - 1 + k) c d v first
+      ap (λ (j : ℕ). drawNumbers j s c) count ∙ one-more (λ x. numberDraw (nextNumber s x)) (m - 1 + k) c d v first
       ∙ ap (before (v ∷ [])) (run-draws s (d .at) (d .from) (d .last) (omega (arith, w .0, w .1)) (m - 1) k (d .count) (omega arith))
-      ∙ ap (λ (x : ℕ). before (v ∷ []) (before (replicate (m - 1) x) (numbersIn k s (left d m)))) (w .0)
-      ∙ ap (λ (j : ℕ). before (replicate j v) (numbersIn k s (left d m))) whole
+      ∙ ap (λ (x : ℕ). before (v ∷ []) (before (replicate (m - 1) x) (drawNumbers k s (left d m)))) (w .0)
+      ∙ ap (λ (j : ℕ). before (replicate j v) (drawNumbers k s (left d m))) whole
     where
       count : n - i ≡ suc (m - 1 + (n - (i + m)))
       count = omega arith
@@ -152,7 +152,7 @@ module _ (s : List ℕ) (n : ℕ) (c₀ : Place) (out : List ℕ) (i : ℕ) (c :
       subst (λ (j : ℕ). ReadTo (λ x. numberDraw (nextNumber s x)) itself n n c₀ out′ (i + m) (i + j) (left d m)) (length-replicate m v)
       (read-many h (replicate m v) (left d m) out′ (i + m) (ap (λ (w : List ℕ). w ++ replicate m v) (h .said) ∙ sym put) size room
       (omega (arith, length-replicate m v))
-      (run-drawn ∙ ap (λ (j : ℕ). before (replicate m v) (numbersIn (n - (i + j)) s (left d m))) (sym (length-replicate m v))))
+      (run-drawn ∙ ap (λ (j : ℕ). before (replicate m v) (drawNumbers (n - (i + j)) s (left d m))) (sym (length-replicate m v))))
 
 -- ---- a run whose count has one byte, or that has none
 
@@ -162,7 +162,7 @@ short-most false k h = omega arith
 
 pub short-run : (s : List ℕ) (from : ℕ) (t : Bool) (x e : ℕ) → e < length s → pick t 1 0 * getD s e 0 < 128
     → begun s from (signed.Value t x e) ≡ drawn (placeAt (e + pick t 1 0) from x (1 + pick t 1 0 + pick t 1 0 * getD s e 0))
-unfolding begun counted readUnsigned placed
+unfolding begun counted readUnsigned answerAt
 short-run s from true x e l h =
     let b : getD s e 0 < 128 = omega arith in
     rw (at-last s 9 e (lit< tt) (omega arith) b, le-ltb maxCount (getD s e 0) (omega arith)) (ap (λ (n : ℕ). drawn (placeAt (e + 1) from x n)) (omega arith))

@@ -66,17 +66,17 @@ unfoldable pub textDraw : string-answer.Answer → Draw Part string-place.Place
 textDraw (string.Next p c) = drew p c
 textDraw (string.Bad why) = stop why
 
-abbrev pub numbersIn : ℕ → List ℕ → number-place.Place → Bulk ℕ number-place.Place
-numbersIn k s c = draws (λ d. numberDraw (nextNumber s d)) k c
+abbrev pub drawNumbers : ℕ → List ℕ → number-place.Place → Bulk ℕ number-place.Place
+drawNumbers k s c = draws (λ d. numberDraw (nextNumber s d)) k c
 
-abbrev pub differencesIn : ℕ → List ℕ → difference-place.Place → Bulk ℕ difference-place.Place
-differencesIn k s c = draws (λ d. differenceDraw (nextDifference s d)) k c
+abbrev pub drawDifferences : ℕ → List ℕ → difference-place.Place → Bulk ℕ difference-place.Place
+drawDifferences k s c = draws (λ d. differenceDraw (nextDifference s d)) k c
 
-abbrev pub bytesIn : ℕ → List ℕ → byte-place.Place → Bulk ℕ byte-place.Place
-bytesIn k s c = draws (λ d. byteDraw (nextByte s d)) k c
+abbrev pub drawBytes : ℕ → List ℕ → byte-place.Place → Bulk ℕ byte-place.Place
+drawBytes k s c = draws (λ d. byteDraw (nextByte s d)) k c
 
-abbrev pub textsIn : ℕ → List ℕ → string-place.Place → Bulk Part string-place.Place
-textsIn k s c = draws (λ d. textDraw (nextText s d)) k c
+abbrev pub drawTexts : ℕ → List ℕ → string-place.Place → Bulk Part string-place.Place
+drawTexts k s c = draws (λ d. textDraw (nextText s d)) k c
 
 -- texts as words: the place and the length of each
 unfoldable pub partWords : List Part → List ℕ

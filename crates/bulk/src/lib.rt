@@ -1,5 +1,5 @@
 // Columns in bulk: as many values as what is lent has room for, or up to the first draw that is refused; zeros behind them. The answer says how many
-// and the place after them, and a refusal only where the very first draw is refused: then the place is as it was, and what was lent is all zero.
+// and the place lowPart them, and a refusal only where the very first draw is refused: then the place is as it was, and what was lent is all zero.
 // A draw is written here a second time, beside `columns` and `string`, with one caller each: so it becomes part of its loop (docs/DECISIONS.md).
 use columns::byte;
 use columns::difference;
@@ -17,15 +17,15 @@ ghost use mathlib.Core.List.{_++_};
 ghost use Prim.Native.Nat.{_+_, _-_, _≤_, _<_};
 ghost use lib.Dec.{eqb};
 ghost use lib.ListN.{length, take, drop, replicate};
-ghost use Rattle.numbers.specs.Number.{after, spelt, placed, readSigned, pick, none};
+ghost use Rattle.numbers.specs.Number.{lowPart, spelt, answerAt, readSigned, pick, none};
 ghost use Rattle.columns.specs.Number as numbers;
 ghost use Rattle.columns.specs.Difference as differences;
 ghost use Rattle.columns.specs.Byte as bytes;
-ghost use Rattle.string.specs.String.{taken, nextText};
+ghost use Rattle.string.specs.String.{unitsTaken, nextText};
 ghost use Rattle.bulk.specs.BulkInner.{TookPlain};
 ghost use Rattle.bulk.specs.Promises.{ReadNumbers, ReadDifferences, ReadBytes, ReadTexts};
 
-// The refusal that is told after i values.
+// The refusal that is told lowPart i values.
 fn told(i: usize, why: Refusal) -> Refusal
     ensures { λ r. ⌜ r ≡ pick (eqb i 0) why none ⌝ }
 {
@@ -75,7 +75,7 @@ fn draw_number(c: number::Place) -> number::Answer
 // The rest of a signed number that began at `first`, its low six bits being `value`: as `numbers` has it, part of the loop.
 fn number_rest(s: &[u8], first: usize, at: usize, value: u64) -> Read
     requires { ⌜ value < 64 ⌝ }
-    ensures { λ r. ⌜ r ≡ placed (now (s .entry)) first (after 64 value (spelt 8 at (drop at (now (s .entry))))) ⌝ }
+    ensures { λ r. ⌜ r ≡ answerAt (now (s .entry)) first (lowPart 64 value (spelt 8 at (drop at (now (s .entry))))) ⌝ }
 {
     let mut i = at;
     let mut left: usize = 8;
@@ -255,7 +255,7 @@ fn spread(out: &mut [u64], at: usize, n: usize, v: u64)
     fill(out, at, n, v);
 }
 
-// The place after m more of the run.
+// The place lowPart m more of the run.
 fn less_drawn(d: number::Place, m: usize) -> number::Place
     requires { ⌜ m ≤ d .count ⌝ }
     ensures { λ r. ⌜ r ≡ numbers.placeAt (d .at) (d .from) (d .last) (d .count - m) ⌝ }
@@ -602,9 +602,9 @@ fn is_plain(column: &[u8], at: usize, end: usize, u: u64) -> bool
     text::plain_to(column, at, stop) == stop
 }
 
-// The text of u units, and the place after it. Plain text is looked at here: what has many callers is handed its answer through memory.
+// The text of u units, and the place lowPart it. Plain text is looked at here: what has many callers is handed its answer through memory.
 fn take(column: &[u8], at: usize, end: usize, u: u64, units: number::Place) -> string::Answer
-    ensures { λ r. ⌜ r ≡ taken (now (column .entry)) at end u units ⌝ }
+    ensures { λ r. ⌜ r ≡ unitsTaken (now (column .entry)) at end u units ⌝ }
 {
     if is_plain(column, at, end, u) {
         let n = u as usize;

@@ -10,7 +10,7 @@ use lib.ListN.{length, getD}
 use borrow.Author.Tests.{leb-true, eqb-true}
 use Rattle.numbers.specs.declared.Refusal.{Refusal}
 use Rattle.numbers.specs.Number.{pick, none}
-use Rattle.runs.specs.Runs.{Coding, over, opened, column, within, overFits, storable, spellable, why}
+use Rattle.runs.specs.Runs.{Coding, runsOn, runsAfter, column, within, overFits, storable, spellable, why}
 use Rattle.columns.specs.Reading.{Draw, drew, stop, Reading, andThen, reads}
 
 -- the value v comes after p with the key k, both within the column's limit
@@ -85,19 +85,19 @@ module _ {c : Coding} {P : Type 0} {next : List ℕ → P → Draw P} (r : Reade
     ends : Bool
     rest : List ℕ
     follows : Follows ends rest
-    bytes : over c p k n vs ≡ spelled c ends k (n + more) ++ rest
+    bytes : runsOn c p k n vs ≡ spelled c ends k (n + more) ++ rest
     fits : stored c ends (n + more) ≡ true
     gives : (done : List ℕ) (from : ℕ)
         → Gives (next (done ++ rest)) (End (done ++ rest) (getD (p ∷ vs) (length vs) 0)) (r .place ends (length done) from p k more) vs
 
   -- a run begins
   first : (pre vs : List ℕ) (from p l v : ℕ) → Step c p v (c .keyOf p v) → c .near (c .keyOf p v) ≡ true → Ahead v (c .keyOf p v) 0 vs
-      → Gives (next (pre ++ over c v (c .keyOf p v) 0 vs)) (End (pre ++ over c v (c .keyOf p v) 0 vs) (getD (v ∷ vs) (length vs) 0))
+      → Gives (next (pre ++ runsOn c v (c .keyOf p v) 0 vs)) (End (pre ++ runsOn c v (c .keyOf p v) 0 vs) (getD (v ∷ vs) (length vs) 0))
       (r .place false (length pre) from p l 0) (v ∷ vs)
   first pre vs from p l v st near a =
       let k : ℕ = c .keyOf p v in
       let b : List ℕ = spelled c (a .ends) k (a .more) in
-      let bytes : over c v k 0 vs ≡ b ++ a .rest = rw zero-add at (a .bytes) in
+      let bytes : runsOn c v k 0 vs ≡ b ++ a .rest = rw zero-add at (a .bytes) in
       rw bytes (
         r .place (a .ends) (length (pre ++ b)) (length pre) v k (a .more),
         r .begins pre (a .rest) (a .ends) from p l v k (a .more) (a .follows) st near (rw zero-add at (a .fits)),
@@ -108,7 +108,7 @@ module _ {c : Coding} {P : Type 0} {next : List ℕ → P → Draw P} (r : Reade
   All vs = (b p k n : ℕ) → Step c b p k → within (c .most) vs ≡ true → overFits c p k n vs ≡ true → spellable c p vs ≡ true → Ahead p k n vs
 
   ahead : (vs : List ℕ) → All vs
-  unfolding over within overFits spellable
+  unfolding runsOn within overFits spellable
   ahead [] b p k n st w f s = record {
     more = 0;
     ends = true;
@@ -151,7 +151,7 @@ module _ {c : Coding} {P : Type 0} {next : List ℕ → P → Draw P} (r : Reade
           record {
             more = 0;
             ends = false;
-            rest = over c v (c .keyOf p v) 0 vs;
+            rest = runsOn c v (c .keyOf p v) 0 vs;
             follows = others;
             bytes = rw (e, add-zero);
             fits = rw add-zero (f′ .0);
@@ -161,7 +161,7 @@ module _ {c : Coding} {P : Type 0} {next : List ℕ → P → Draw P} (r : Reade
   -- a column with a value
   pub some : (pre vs : List ℕ) (from l v : ℕ) → why c (v ∷ vs) ≡ 0
       → Gives (next (pre ++ column c (v ∷ vs))) (End (pre ++ column c (v ∷ vs)) (getD (v ∷ vs) (length vs) 0)) (r .place false (length pre) from 0 l 0) (v ∷ vs)
-  unfolding column opened within storable spellable
+  unfolding column runsAfter within storable spellable
   some pre vs from l v h =
       let y = why-says c (v ∷ vs) h in
       let w = both (leb v (c .most)) (within (c .most) vs) (y .0) in
@@ -173,7 +173,7 @@ module _ {c : Coding} {P : Type 0} {next : List ℕ → P → Draw P} (r : Reade
   -- the values are drawn, and what holds of a place where the bytes end holds then
   pub gives-back : (End : List ℕ → P → Type 0) → ((s : List ℕ) (e : Bool) (from p k : ℕ) → End s (r .place e (length s) from p k 0))
       → (vs : List ℕ) → why c vs ≡ 0 → Gives (next (pre ++ column c vs)) (End (pre ++ column c vs)) (r .place false (length pre) from 0 l 0) vs
-  unfolding column opened
+  unfolding column runsAfter
   gives-back End end [] h = rw append-nil (end pre false from 0 l)
   gives-back End end (v ∷ vs) h = some r (λ s x d. End s d) (λ s from b p k st. end s true from p k) pre vs from l v h
 
@@ -189,7 +189,7 @@ module _ {c : Coding} {P : Type 0} {next : List ℕ → P → Draw P} (r : Reade
   -- a column of no values gives none
   pub reads-none : (m : ℕ) → next pre (r .place false (length pre) from 0 l 0) ≡ stop (atEnd pre)
       → reads (next (pre ++ column c [])) (suc m) (r .place false (length pre) from 0 l 0) ≡ record { values = []; refusal = atEnd (pre ++ column c []) }
-  unfolding reads andThen column opened
+  unfolding reads andThen column runsAfter
   reads-none m h = rw (append-nil, h)
 
   -- where the reader refuses at the end, nothing is left after the values

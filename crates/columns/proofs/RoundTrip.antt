@@ -11,7 +11,7 @@ use lib.Seq.{drop-length, getD-append-seam}
 use borrow.Author.Tests.{lt-ltb, le-ltb, le-leb, lt-leb, leb-true, ltb-true, eq-eqb, ne-eqb}
 use Rattle.numbers.specs.declared.Read.the-variants.{Number}
 use Rattle.numbers.specs.declared.Signed.the-variants.{Wrong}
-use Rattle.numbers.specs.Number.{pick, none, unsigned, signed, readUnsigned, readSigned, speltSigned, minusOf, withSign, placed}
+use Rattle.numbers.specs.Number.{pick, none, unsigned, signed, readUnsigned, readSigned, speltSigned, minusOf, withSign, answerAt}
 use Rattle.numbers.specs.Limits.{maxValue, maxClock, maxCount}
 use Rattle.numbers.proofs.Laws.{below-or, unsigned-pos}
 use Rattle.numbers.proofs.RoundTrip.{read-unsigned-back, read-signed-back}
@@ -43,7 +43,7 @@ count-back p s q x h =
 
 -- no signed number is left at the end
 signed-end : (s : List ℕ) → readSigned s (length s) ≡ Wrong (record { number = 1; place = length s })
-unfolding readSigned speltSigned minusOf withSign placed
+unfolding readSigned speltSigned minusOf withSign answerAt
 signed-end s = rw (drop-length s)
 
 alike : {A : Type 0} (e : Bool) (a : A) → pick e a a ≡ a

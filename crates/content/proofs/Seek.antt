@@ -8,7 +8,7 @@ use lib.ListN.{length}
 use Rattle.numbers.specs.declared.Refusal.{Refusal}
 use Rattle.block.specs.declared.Block.{Block}
 use Rattle.block.specs.Row.{noBlock}
-use Rattle.grammar.specs.Course.{Course, item, over, stopped, ending}
+use Rattle.grammar.specs.Course.{Course, thing, over, stopped, ending}
 use Rattle.cells.specs.Cells.{Small}
 use Rattle.item.specs.Row.{rowIn, Narrow}
 use Rattle.update.specs.declared.Spot.{Spot}
@@ -23,22 +23,22 @@ use Rattle.content.specs.ContentInner.{scannedOf}
 
 -- what a scan gives from here
 unfoldable pub seek : Bool → ℕ → Block → Course Block → Scanned
-seek true ahead row (item b p c) = seek true ahead row c
-seek false zero row (item b p c) = seek true zero b c
-seek false (suc n) row (item b p c) = seek false n row c
+seek true ahead row (thing b p c) = seek true ahead row c
+seek false zero row (thing b p c) = seek true zero b c
+seek false (suc n) row (thing b p c) = seek false n row c
 seek found ahead row (over a s) = scanned.Row row s
 seek found ahead row (stopped why) = scanned.Refused why
 
 found-ends : (ahead : ℕ) (row : Block) (c : Course Block) → seek true ahead row c ≡ ending c (λ s. scanned.Row row s) (λ why. scanned.Refused why)
 unfolding seek ending
-found-ends ahead row (item b p c) = found-ends ahead row c
+found-ends ahead row (thing b p c) = found-ends ahead row c
 found-ends ahead row (over a s) = refl
 found-ends ahead row (stopped why) = refl
 
 pub seeks : (n : ℕ) (c : Course Block) → seek false n noBlock c ≡ scannedOf n c
 unfolding seek scannedOf ending nth
-seeks zero (item b p c) = found-ends zero b c
-seeks (suc n) (item b p c) = seeks n c
+seeks zero (thing b p c) = found-ends zero b c
+seeks (suc n) (thing b p c) = seeks n c
 seeks zero (over a s) = refl
 seeks zero (stopped why) = refl
 seeks (suc n) (over a s) = refl
@@ -54,18 +54,18 @@ pub record Sought (form : ℕ) (u : List ℕ) (n : ℕ) (c : Course Block) (w r 
   pub memory : length m ≡ 64
   pub fields : length r ≡ 24
 
-seek-item : (found : Bool) (ahead : ℕ) (row b : Block) (p : ℕ) (c : Course Block) → found ≡ true → seek found ahead row (item b p c) ≡ seek found ahead row c
+seek-item : (found : Bool) (ahead : ℕ) (row b : Block) (p : ℕ) (c : Course Block) → found ≡ true → seek found ahead row (thing b p c) ≡ seek found ahead row c
 unfolding seek
 seek-item true ahead row b p c e = refl
 seek-item false ahead row b p c e = absurd (let z : _≡_ {A = ℕ} 0 1 = cc in omega arith)
 
-seek-this : (found : Bool) (ahead : ℕ) (row b : Block) (p : ℕ) (c : Course Block) → found ≡ false → ahead ≡ 0 → seek found ahead row (item b p c) ≡ seek true ahead b c
+seek-this : (found : Bool) (ahead : ℕ) (row b : Block) (p : ℕ) (c : Course Block) → found ≡ false → ahead ≡ 0 → seek found ahead row (thing b p c) ≡ seek true ahead b c
 unfolding seek
 seek-this true ahead row b p c f z = absurd (let z : _≡_ {A = ℕ} 0 1 = cc in omega arith)
 seek-this false zero row b p c f z = refl
 seek-this false (suc n) row b p c f z = absurd (omega (arith, z))
 
-seek-later : (found : Bool) (ahead : ℕ) (row b : Block) (p : ℕ) (c : Course Block) → found ≡ false → (ahead ≡ 0 → ⊥) → seek found ahead row (item b p c) ≡ seek found (ahead - 1) row c
+seek-later : (found : Bool) (ahead : ℕ) (row b : Block) (p : ℕ) (c : Course Block) → found ≡ false → (ahead ≡ 0 → ⊥) → seek found ahead row (thing b p c) ≡ seek found (ahead - 1) row c
 unfolding seek
 seek-later true ahead row b p c f z = absurd (let z : _≡_ {A = ℕ} 0 1 = cc in omega arith)
 seek-later false zero row b p c f z = absurd (z refl)
@@ -78,7 +78,7 @@ module _ (form : ℕ) (u : List ℕ) (n : ℕ) (c : Course Block) (w r m : List 
   to-now t found₁ ahead₁ row₁ fine h = record { same = inv .same ∙ h; fine = fine; small = st .small; memory = st .memory ∙ inv .memory; fields = st .row ∙ inv .fields }
 
   module _ (p : ℕ) (t : Spot) (e : x ≡ step.Block p t) where
-    block-here : (comes form u m w s ≡ item (rowIn r₁) p (comes form u m₁ w₁ t)) × Fine m₁ t × Narrow r₁ × (left t < left s)
+    block-here : (comes form u m w s ≡ thing (rowIn r₁) p (comes form u m₁ w₁ t)) × Fine m₁ t × Narrow r₁ × (left t < left s)
     block-here = on-block form u m w r s m₁ w₁ r₁ x st p t e
 
     pub narrow : Narrow r₁
@@ -87,7 +87,7 @@ module _ (form : ℕ) (u : List ℕ) (n : ℕ) (c : Course Block) (w r m : List 
     pub block-less : left t < left s
     block-less = block-here .3
 
-    before : {y : Scanned} → seek found ahead row (item (rowIn r₁) p (comes form u m₁ w₁ t)) ≡ y → seek found ahead row (comes form u m w s) ≡ y
+    before : {y : Scanned} → seek found ahead row (thing (rowIn r₁) p (comes form u m₁ w₁ t)) ≡ y → seek found ahead row (comes form u m w s) ≡ y
     before h = ap (seek found ahead row) (block-here .0) ∙ h
 
     pub take-this : found ≡ false → ahead ≡ 0 → Sought form u n c w₁ r₁ m₁ t ahead true (rowIn r₁)
@@ -129,7 +129,7 @@ module _ (form : ℕ) (u : List ℕ) (n : ℕ) (c : Course Block) (w r m : List 
 
 row-ends : (c : Course Block) (x b : Block) (s : ℕ) {X : Type 0} (f : ℕ → X) (g : Refusal → X) → ending c (λ t. scanned.Row x t) (λ why. scanned.Refused why) ≡ scanned.Row b s → (ending c f g ≡ f s) × (x ≡ b)
 unfolding ending
-row-ends (item a p c) x b s f g e = row-ends c x b s f g e
+row-ends (thing a p c) x b s f g e = row-ends c x b s f g e
 row-ends (over a t) x b s f g e = (ap f (ap place-of e), ap row-of e)
   where
     place-of : Scanned → ℕ
@@ -147,7 +147,7 @@ scanned-row n c b s f g e = row-ends c (nth n c) b s f g e
 
 refused-ends : (c : Course Block) (x : Block) (why : Refusal) {X : Type 0} (f : ℕ → X) (g : Refusal → X) → ending c (λ t. scanned.Row x t) (λ w. scanned.Refused w) ≡ scanned.Refused why → ending c f g ≡ g why
 unfolding ending
-refused-ends (item a p c) x why f g e = refused-ends c x why f g e
+refused-ends (thing a p c) x why f g e = refused-ends c x why f g e
 refused-ends (over a t) x why f g e = absurd (let z : _≡_ {A = ℕ} 0 1 = cc in omega arith)
 refused-ends (stopped w) x why f g e = ap g (ap why-of e)
   where

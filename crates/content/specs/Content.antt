@@ -6,15 +6,15 @@ use Rattle.numbers.specs.Number.{pick}
 use Rattle.block.specs.declared.Block.{Block}
 use Rattle.block.specs.Row.{noBlock}
 use Rattle.block.specs.Kinds.{isBinary, isText}
-use Rattle.grammar.specs.Course.{Course, item, over, stopped, ending}
+use Rattle.grammar.specs.Course.{Course, thing, over, stopped, ending}
 use Rattle.decoder.specs.Update.{blocksOf, deleteSet}
 use Rattle.content.specs.declared.Found.{Found}
 use Rattle.content.specs.declared.Found.the-variants.{Part, Refused}
 
 -- block n, from 0; the row that has none where there are not so many
 unfoldable pub nth : ℕ → Course Block → Block
-nth zero (item b p c) = b
-nth (suc n) (item b p c) = nth n c
+nth zero (thing b p c) = b
+nth (suc n) (thing b p c) = nth n c
 nth n (over a s) = noBlock
 nth n (stopped why) = noBlock
 
@@ -25,8 +25,8 @@ isGiven kind = isBinary kind || isText kind
 unfoldable pub stored : Block → Found
 stored b = pick (isGiven (b .kind)) (Part (b .part)) (Refused (record { number = 11; place = 0 }))
 
-unfoldable pub contentOf : ℕ → List ℕ → ℕ → Found
-contentOf form u n =
+unfoldable pub contentAt : ℕ → List ℕ → ℕ → Found
+contentAt form u n =
     ending (blocksOf form u)
     (λ at. ending (deleteSet form u at) (λ e. stored (nth n (blocksOf form u))) (λ why. Refused why))
     (λ why. Refused why)

@@ -10,7 +10,7 @@ ghost use mathlib.Core.Path.{_≡_};
 ghost use lib.ListN.{replicate};
 ghost use Rattle.cells.specs.Cells.{Small};
 ghost use Rattle.update.specs.Steps.{comes, Fine};
-ghost use Rattle.content.specs.Content.{isGiven, stored, contentOf};
+ghost use Rattle.content.specs.Content.{isGiven, stored, contentAt};
 ghost use Rattle.content.specs.ContentInner.{scannedOf, whyBegun, whyScanned, whyChecked};
 
 // The row of the block sought, or the row that has none; and the place after all blocks.
@@ -87,7 +87,7 @@ fn stored_part(b: Block) -> Found
 
 // Block n's stored part, once the update has been read to its end.
 pub fn find(form: u8, update: &[u8], n: usize) -> Found
-    ensures { λ r. ⌜ r ≡ contentOf form (now (update .entry)) n ⌝ }
+    ensures { λ r. ⌜ r ≡ contentAt form (now (update .entry)) n ⌝ }
 {
     let mut words = [0u64; 580];
     let b = update::begin(form, update, &mut words);

@@ -11,7 +11,7 @@ use Rattle.numbers.specs.Limits.{maxUpdate}
 use Rattle.text.specs.declared.Part.{Part}
 use Rattle.content.specs.declared.Found.{Found}
 use Rattle.content.specs.declared.Found.the-variants as found
-use Rattle.content.specs.Content.{contentOf}
+use Rattle.content.specs.Content.{contentAt}
 use Rattle.contents.specs.declared.Where.{Where}
 
 -- a refusal: the empty part
@@ -27,7 +27,7 @@ unfoldable pub whereOf : ℕ → List ℕ → ℕ → Where
 whereOf form u n =
     pick (ltb form 1) (refusedWhere (nowhere 12))
     (pick (ltb 2 form) (refusedWhere (nowhere 12))
-    (pick (ltb maxUpdate (length u)) (refusedWhere (nowhere 3)) (whereFound (contentOf form u n))))
+    (pick (ltb maxUpdate (length u)) (refusedWhere (nowhere 3)) (whereFound (contentAt form u n))))
 
 -- what `look` answers for block n of the update u; so does C's `wairokabi_content`
 abbrev pub Looks : ℕ → List ℕ → ℕ → Where → Type 0

@@ -15,7 +15,7 @@ use Rattle.readings.specs.SoundInner.{Ordered, Chain, Adjoins}
 use Rattle.readings.specs.Groups.{groups}
 use Rattle.readings.specs.GroupsInner.{joined, Single}
 use Rattle.readings.proofs.Groups.{groups-joined, groups-single, ordered-chains}
-use Rattle.kept.specs.Kept.{Piece, piece, Section, remote, falls, wholePiece, keepFrom, withPieces, keepEach, place, falling, clientOf, sectionsOf}
+use Rattle.kept.specs.Kept.{Piece, piece, Section, remote, falls, wholePiece, keepFrom, withPieces, keepEach, putSection, falling, clientOf, sectionsOf}
 use Rattle.kept.proofs.SectionsKept.{not-fallen}
 use Rattle.covered.specs.Covered.{Covers, Covered, Holds, Held, HeldIn, Both}
 
@@ -150,22 +150,22 @@ module _ (v : List Entry) where
 
 -- ---- highest client first
 
-place-to : (s : Section) (ts : List Section) (c k : ℕ) → HeldIn (place s ts) c k → HeldIn (s ∷ ts) c k
-unfolding place
+place-to : (s : Section) (ts : List Section) (c k : ℕ) → HeldIn (putSection s ts) c k → HeldIn (s ∷ ts) c k
+unfolding putSection
 place-to s [] c k h = h
 place-to s (t ∷ ts) c k h = go (place-to s ts c k) (ltb (s .client) (t .client)) h
   where
-    go : (HeldIn (place s ts) c k → HeldIn (s ∷ ts) c k) → (x : Bool) → HeldIn (pick x (t ∷ place s ts) (s ∷ (t ∷ ts))) c k → HeldIn (s ∷ (t ∷ ts)) c k
+    go : (HeldIn (putSection s ts) c k → HeldIn (s ∷ ts) c k) → (x : Bool) → HeldIn (pick x (t ∷ putSection s ts) (s ∷ (t ∷ ts))) c k → HeldIn (s ∷ (t ∷ ts)) c k
     go on false h = h
     go on true (inl i) = inr (inl i)
     go on true (inr i) = elim (on i) [ inl x ↦ inl x | inr x ↦ inr (inr x) ]
 
-place-from : (s : Section) (ts : List Section) (c k : ℕ) → HeldIn (s ∷ ts) c k → HeldIn (place s ts) c k
-unfolding place
+place-from : (s : Section) (ts : List Section) (c k : ℕ) → HeldIn (s ∷ ts) c k → HeldIn (putSection s ts) c k
+unfolding putSection
 place-from s [] c k h = h
 place-from s (t ∷ ts) c k h = go (place-from s ts c k) (ltb (s .client) (t .client)) h
   where
-    go : (HeldIn (s ∷ ts) c k → HeldIn (place s ts) c k) → (x : Bool) → HeldIn (s ∷ (t ∷ ts)) c k → HeldIn (pick x (t ∷ place s ts) (s ∷ (t ∷ ts))) c k
+    go : (HeldIn (s ∷ ts) c k → HeldIn (putSection s ts) c k) → (x : Bool) → HeldIn (s ∷ (t ∷ ts)) c k → HeldIn (pick x (t ∷ putSection s ts) (s ∷ (t ∷ ts))) c k
     go on false h = h
     go on true (inl i) = inr (on (inl i))
     go on true (inr (inl i)) = inl i

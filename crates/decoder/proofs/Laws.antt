@@ -9,26 +9,26 @@ use borrow.Author.Tests.{ne-eqb}
 use Rattle.numbers.specs.Number.{pick}
 use Rattle.grammar.specs.Grammar as grammar
 use Rattle.grammar.specs.Grammar.{Field, Answer, Grammar, ask, emit, stop, done}
-use Rattle.grammar.specs.Course.{Drawn, got, not, Run, item, over, stopped, onDrawn, run}
+use Rattle.grammar.specs.Course.{Drawn, got, not, Run, thing, over, stopped, onDrawn, run}
 use Rattle.grammar.proofs.Runs.{run-same}
-use Rattle.decoder.specs.Line.{upTo, bytesAt, line, numberOf}
+use Rattle.decoder.specs.Line.{upTo, bytesAt, line, numberBy}
 use Rattle.decoder.specs.States.{State, movedTo}
 use Rattle.decoder.specs.Columned.{onto, numberIn, columned}
 use Rattle.decoder.specs.ColumnedInner.{fields}
-use Rattle.decoder.specs.Update.{placed}
+use Rattle.decoder.specs.Update.{restPlaces}
 
 -- ---- form 1
 
 module _ {E A : Type 0} (u : List ℕ) where
-  pub placed-line : (x : Grammar E A) (s : State) → placed (run (fields 1 u) x s) ≡ run (line 1 u) x (s .at)
-  unfolding run placed fields onDrawn onto
+  pub placed-line : (x : Grammar E A) (s : State) → restPlaces (run (fields 1 u) x s) ≡ run (line 1 u) x (s .at)
+  unfolding run restPlaces fields onDrawn onto
   placed-line (ask f k) s = go (line 1 u f (s .at)) (λ a t. placed-line (k a) t)
     where
-      go : (d : Drawn ℕ (Answer f)) → ((a : Answer f) (t : State) → placed (run (fields 1 u) (k a) t) ≡ run (line 1 u) (k a) (t .at))
-          → placed (onDrawn (onto s d) (λ a t. run (fields 1 u) (k a) t)) ≡ onDrawn d (λ a e. run (line 1 u) (k a) e)
+      go : (d : Drawn ℕ (Answer f)) → ((a : Answer f) (t : State) → restPlaces (run (fields 1 u) (k a) t) ≡ run (line 1 u) (k a) (t .at))
+          → restPlaces (onDrawn (onto s d) (λ a t. run (fields 1 u) (k a) t)) ≡ onDrawn d (λ a e. run (line 1 u) (k a) e)
       go (got a e) more = more a (movedTo s e)
       go (not why) more = refl
-  placed-line (emit e p x) s = ap (item e p) (placed-line x s)
+  placed-line (emit e p x) s = ap (thing e p) (placed-line x s)
   placed-line (stop n p) s = refl
   placed-line (done a) s = refl
 
@@ -44,7 +44,7 @@ run-columned form u h x s = run-same (fields form u) (columned u) (fields-column
 -- ---- what stands in line in both forms
 
 pub fields-up-to : (form : ℕ) (u : List ℕ) (most : ℕ) (s : State) → fields form u (grammar.number (grammar.upTo most)) s ≡ onto s (upTo most u (s .at))
-unfolding fields columned numberIn line numberOf
+unfolding fields columned numberIn line numberBy
 fields-up-to form u most s = same (eqb form 1)
   where
     same : (b : Bool) → pick b (onto s (upTo most u (s .at))) (onto s (upTo most u (s .at))) ≡ onto s (upTo most u (s .at))

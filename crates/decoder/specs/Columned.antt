@@ -88,14 +88,14 @@ joining (got a s) = got (a .0) (withKeys (s .keys ++ (a .0 ∷ [])) s)
 joining (not why) = not why
 
 -- a key by its number: one that was read is that key; any other takes the next text, which joins the keys read, and no more than so many may
-unfoldable pub numbered : List ℕ → Drawn State (ℕ × ℕ) → Drawn State Part
-numbered u (got a s) =
+unfoldable pub keyByNumber : List ℕ → Drawn State (ℕ × ℕ) → Drawn State Part
+keyByNumber u (got a s) =
     pick (ltb (a .0) (length (s .keys))) (got (getD (s .keys) (a .0) noPart) s)
     (pick (ltb (length (s .keys)) maxKeys) (joining (textIn u s)) (not (record { number = 3; place = a .1 })))
-numbered u (not why) = not why
+keyByNumber u (not why) = not why
 
 unfoldable pub keyIn : List ℕ → State → Drawn State Part
-keyIn u s = numbered u (fromDifferences u (s .key) (λ c. withKey c s))
+keyIn u s = keyByNumber u (fromDifferences u (s .key) (λ c. withKey c s))
 
 unfoldable pub columned : List ℕ → Reader State
 columned u (grammar.number n) s = numberIn u n s

@@ -44,19 +44,19 @@ restored by (not why) = not why
 unfoldable pub deleteAt : ℕ → ℕ → List ℕ → ℕ → Drawn ℕ (ℕ × ℕ)
 deleteAt form by u at = pick (eqb form 1) (upTo maxClock u at) (restored by (varAt u at))
 
-unfoldable pub numberOf : ℕ → List ℕ → Number → ℕ → Drawn ℕ (ℕ × ℕ)
-numberOf form u grammar.byte at = byteAt u at
-numberOf form u (grammar.upTo most) at = upTo most u at
-numberOf form u grammar.any at = varAt u at
-numberOf form u grammar.client at = upTo maxValue u at
-numberOf form u grammar.leftClock at = upTo maxClock u at
-numberOf form u grammar.rightClock at = upTo maxClock u at
-numberOf form u grammar.info at = byteAt u at
-numberOf form u grammar.parentInfo at = upTo maxClock u at
-numberOf form u grammar.len at = upTo maxClock u at
-numberOf form u (grammar.deleteClock end) at = deleteAt form end u at
-numberOf form u grammar.deleteLen at = deleteAt form 1 u at
-numberOf form u grammar.typeNumber at = varAt u at
+unfoldable pub numberBy : ℕ → List ℕ → Number → ℕ → Drawn ℕ (ℕ × ℕ)
+numberBy form u grammar.byte at = byteAt u at
+numberBy form u (grammar.upTo most) at = upTo most u at
+numberBy form u grammar.any at = varAt u at
+numberBy form u grammar.client at = upTo maxValue u at
+numberBy form u grammar.leftClock at = upTo maxClock u at
+numberBy form u grammar.rightClock at = upTo maxClock u at
+numberBy form u grammar.info at = byteAt u at
+numberBy form u grammar.parentInfo at = upTo maxClock u at
+numberBy form u grammar.len at = upTo maxClock u at
+numberBy form u (grammar.deleteClock end) at = deleteAt form end u at
+numberBy form u grammar.deleteLen at = deleteAt form 1 u at
+numberBy form u grammar.typeNumber at = varAt u at
 
 -- a length, and so many bytes
 unfoldable pub soMany : List ℕ → Read → Drawn ℕ Part
@@ -89,7 +89,7 @@ valuesAt u blame n at = spanned at (anys u blame n at)
 
 -- a mark's value is JSON text in form 1, which is not looked into, and one any-value in form 2
 unfoldable pub line : ℕ → List ℕ → Reader ℕ
-line form u (grammar.number n) at = numberOf form u n at
+line form u (grammar.number n) at = numberBy form u n at
 line form u grammar.text at = checked u (bytesAt u at)
 line form u grammar.bytes at = bytesAt u at
 line form u grammar.key at = wordOf (checked u (bytesAt u at))

@@ -12,7 +12,7 @@ use Rattle.string.specs.declared.Opened as string-opened
 use Rattle.string.specs.declared.Opened.the-variants as opened
 use Rattle.grammar.specs.Grammar.{byte, number, bytes as some-bytes, Grammar, done, draw}
 use Rattle.grammar.specs.GrammarInner.{_>>=_}
-use Rattle.grammar.specs.Course.{Drawn, got, not, Run, item, over, stopped, run}
+use Rattle.grammar.specs.Course.{Drawn, got, not, Run, thing, over, stopped, run}
 use Rattle.decoder.specs.Line.{line}
 use Rattle.decoder.specs.States.{Numbers, Differences, Bytes, Texts, State, state, withText}
 
@@ -59,7 +59,7 @@ unfoldable pub textOpened : List ℕ → State → Drawn State (Unit {0})
 textOpened u s = withOpened s (strings.openText (take (s .text .to) u) (s .text .place .units .at))
 
 unfoldable pub onHeads : List ℕ → Run ℕ (Unit {0}) (List Part) → Drawn State (Unit {0})
-onHeads u (item e p c) = onHeads u c
+onHeads u (thing e p c) = onHeads u c
 onHeads u (over ps at) = textOpened u (standing ps at)
 onHeads u (stopped why) = not why
 

@@ -6,7 +6,7 @@ use mathlib.Core.Logic.{⊎-elim}
 use native.Mathlib.Omega.{arith}
 use lib.ListN.{length, take, drop, length-append, take-append-drop}
 use Rattle.numbers.specs.declared.Refusal.{Refusal}
-use Rattle.grammar.specs.Course.{Course, item, over, stopped, fit, items, ending}
+use Rattle.grammar.specs.Course.{Course, thing, over, stopped, fit, things, ending}
 use Rattle.ranges.specs.Ranges.{Range}
 use Rattle.ranges.specs.Table.{flat}
 use Rattle.ranges.specs.TableInner.{row, put, rowsFrom, Fine, AllFine}
@@ -53,7 +53,7 @@ pub record Held (e : List ℕ) (c : Course Range) (w : List ℕ) (d : Course Ran
   pub size : length w ≡ length e
   pub below : n ≤ length e / 3
   pub fine : AllFine w n
-  pub all : items (fit (length e / 3) c) ≡ rowsFrom w 0 n ++ items (fit (length e / 3 - n) d)
+  pub all : things (fit (length e / 3) c) ≡ rowsFrom w 0 n ++ things (fit (length e / 3 - n) d)
   pub ends : (m : ℕ) → ending (fit (length e / 3) c) (collected.Rows m) collected.Refused ≡ ending (fit (length e / 3 - n) d) (collected.Rows m) collected.Refused
 
 pub held-begin : (e : List ℕ) (c : Course Range) → Held e c e c 0
@@ -66,25 +66,25 @@ module _ (e : List ℕ) (c : Course Range) (w : List ℕ) (d : Course Range) (n 
   pub held-on : (d′ : Course Range) → d ≡ d′ → Held e c w d′ n
   held-on d′ q = subst (λ (x : Course Range). Held e c w x n) q h
 
-  pub held-more : (r : Range) (p : ℕ) (d′ : Course Range) → d ≡ item r p d′ → Fine r → n < length e / 3 → Held e c (put w n r) d′ (n + 1)
-  unfolding fit items ending
+  pub held-more : (r : Range) (p : ℕ) (d′ : Course Range) → d ≡ thing r p d′ → Fine r → n < length e / 3 → Held e c (put w n r) d′ (n + 1)
+  unfolding fit things ending
   held-more r p d′ q f l =
       let m : length e / 3 - n ≡ suc (length e / 3 - (n + 1)) = omega arith in
       let room : 3 * n + 3 ≤ length w = omega (arith, h .size) in
-      let some : fit (length e / 3 - n) d ≡ item r p (fit (length e / 3 - (n + 1)) d′) = rw (q, m) refl in
+      let some : fit (length e / 3 - n) d ≡ thing r p (fit (length e / 3 - (n + 1)) d′) = rw (q, m) refl in
       record {
         size = length-put w n r ∙ h .size;
         below = omega arith;
         fine = fine-stored w n r room (h .fine) f;
-        all = h .all ∙ rw (some, rows-stored w n r room) (sym (append-assoc (rowsFrom w 0 n) (r ∷ []) (items (fit (length e / 3 - (n + 1)) d′))));
+        all = h .all ∙ rw (some, rows-stored w n r room) (sym (append-assoc (rowsFrom w 0 n) (r ∷ []) (things (fit (length e / 3 - (n + 1)) d′))));
         ends = λ m. h .ends m ∙ rw some refl;
       }
 
   -- nothing follows: these are the rows
-  held-over : (r : Collected) (x : Course Range) → fit (length e / 3 - n) d ≡ x → items x ≡ [] → r ≡ ending x (collected.Rows n) collected.Refused → Kept e w (fit (length e / 3) c) r
+  held-over : (r : Collected) (x : Course Range) → fit (length e / 3 - n) d ≡ x → things x ≡ [] → r ≡ ending x (collected.Rows n) collected.Refused → Kept e w (fit (length e / 3) c) r
   held-over r x f none told =
-      let all : items (fit (length e / 3) c) ≡ rowsFrom w 0 n = h .all ∙ rw (f, none) (append-nil (rowsFrom w 0 n)) in
-      let count : length (items (fit (length e / 3) c)) ≡ n = ap length all ∙ length-rows w 0 n in
+      let all : things (fit (length e / 3) c) ≡ rowsFrom w 0 n = h .all ∙ rw (f, none) (append-nil (rowsFrom w 0 n)) in
+      let count : length (things (fit (length e / 3) c)) ≡ n = ap length all ∙ length-rows w 0 n in
       record {
         size = h .size;
         fits = omega (arith, count, h .size, h .below);
@@ -94,16 +94,16 @@ module _ (e : List ℕ) (c : Course Range) (w : List ℕ) (d : Course Range) (n 
       }
 
   pub held-done : (t : ℕ) → d ≡ over tt t → Kept e w (fit (length e / 3) c) (collected.Rows n t)
-  unfolding items ending
+  unfolding things ending
   held-done t q = held-over (collected.Rows n t) (over tt t) (rw q (fit-over (length e / 3 - n) t)) refl refl
 
   held-stopped : (why : Refusal) → fit (length e / 3 - n) d ≡ stopped why → Kept e w (fit (length e / 3) c) (collected.Refused why)
-  unfolding items ending
+  unfolding things ending
   held-stopped why q = held-over (collected.Refused why) (stopped why) q refl refl
 
   pub held-refused : (why : Refusal) → d ≡ stopped why → Kept e w (fit (length e / 3) c) (collected.Refused why)
   held-refused why q = held-stopped why (rw q (fit-stopped (length e / 3 - n) why))
 
-  pub held-full : (r : Range) (p : ℕ) (d′ : Course Range) → d ≡ item r p d′ → length e / 3 ≤ n → Kept e w (fit (length e / 3) c) (collected.Refused (record { number = 8; place = p }))
+  pub held-full : (r : Range) (p : ℕ) (d′ : Course Range) → d ≡ thing r p d′ → length e / 3 ≤ n → Kept e w (fit (length e / 3) c) (collected.Refused (record { number = 8; place = p }))
   unfolding fit
   held-full r p d′ q l = let z : length e / 3 - n ≡ 0 = omega arith in held-stopped (record { number = 8; place = p }) (rw (q, z) refl)

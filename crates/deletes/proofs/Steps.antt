@@ -17,8 +17,8 @@ use Rattle.ranges.specs.Ranges.{Range}
 use Rattle.grammar.specs.Grammar.{Grammar}
 use Rattle.grammar.specs.GrammarInner.{_>>=_}
 use Rattle.grammar.specs.Course.{Drawn, got, not, Reader, stopped, onDrawn, run}
-use Rattle.grammar.specs.Deletes.{ranges, clients, allRanges}
-use Rattle.decoder.specs.Line.{numberAt, varAt, bounded, upTo, restored, deleteAt, numberOf, line}
+use Rattle.grammar.specs.Deletes.{ranges, deletedClients, allRanges}
+use Rattle.decoder.specs.Line.{numberAt, varAt, bounded, upTo, restored, deleteAt, numberBy, line}
 use Rattle.decoder.specs.Update.{deleteSet}
 use Rattle.deletes.specs.declared.Spot.{Spot}
 use Rattle.deletes.specs.declared.Move.the-variants as move
@@ -84,11 +84,11 @@ module _ (at : ℕ) (r : Read) (d : Drawn ℕ (ℕ × ℕ)) (h : d ≡ numberAt 
 
 module _ (form : ℕ) (u : List ℕ) (at : ℕ) where
   pub set-begins : (n e : ℕ) → upTo maxClients u at ≡ got (n, at) e → deleteSet form u at ≡ comes form u (firstOf n e)
-  unfolding deleteSet allRanges comes toCome ranges _>>=_ run onDrawn line numberOf
+  unfolding deleteSet allRanges comes toCome ranges _>>=_ run onDrawn line numberBy
   set-begins n e h = rw h refl
 
   pub set-not : (why : Refusal) → upTo maxClients u at ≡ not why → deleteSet form u at ≡ stopped why
-  unfolding deleteSet allRanges _>>=_ run onDrawn line numberOf
+  unfolding deleteSet allRanges _>>=_ run onDrawn line numberBy
   set-not why h = rw h refl
 
 -- ---- one range
@@ -100,58 +100,58 @@ module _ (r : Reader ℕ) (x y : Grammar Range (Unit {0})) (g : Unit {0} → Gra
   chosen b false e = ap (λ (b : Bool). run r (pick b x y >>= g) s) e
 
 module _ (form : ℕ) (u : List ℕ) (p : Spot) (m : 0 < p .ranges) where
-  one-more : comes form u p ≡ run (line form u) (ranges (suc (p .ranges - 1)) (p .client) (p .end) >>= λ _. clients (p .clients)) (p .at)
+  one-more : comes form u p ≡ run (line form u) (ranges (suc (p .ranges - 1)) (p .client) (p .end) >>= λ _. deletedClients (p .clients)) (p .at)
   unfolding comes toCome
-  one-more = let e : p .ranges ≡ suc (p .ranges - 1) = omega arith in ap (λ (k : ℕ). run (line form u) (ranges k (p .client) (p .end) >>= λ _. clients (p .clients)) (p .at)) e
+  one-more = let e : p .ranges ≡ suc (p .ranges - 1) = omega arith in ap (λ (k : ℕ). run (line form u) (ranges k (p .client) (p .end) >>= λ _. deletedClients (p .clients)) (p .at)) e
 
   pub range-no-clock : (why : Refusal) → deleteAt form (p .end) u (p .at) ≡ not why → Follows form u p (move.Refused why)
-  unfolding ranges _>>=_ run onDrawn line numberOf after Keeps
+  unfolding ranges _>>=_ run onDrawn line numberBy after Keeps
   range-no-clock why h = (one-more ∙ rw h refl, tt)
 
   module _ (clock t : ℕ) (h : deleteAt form (p .end) u (p .at) ≡ got (clock, p .at) t) where
     pub range-no-len : (why : Refusal) → deleteAt form 1 u t ≡ not why → Follows form u p (move.Refused why)
-    unfolding ranges _>>=_ run onDrawn line numberOf after Keeps
+    unfolding ranges _>>=_ run onDrawn line numberBy after Keeps
     range-no-len why k = (one-more ∙ rw (h, k) refl, tt)
 
     module _ (len e : ℕ) (k : deleteAt form 1 u t ≡ got (len, t) e) where
       pub range-over : maxClock < clock + len → Follows form u p (move.Refused (record { number = 3; place = p .at }))
-      unfolding ranges _>>=_ run onDrawn line numberOf after Keeps
+      unfolding ranges _>>=_ run onDrawn line numberBy after Keeps
       range-over l = (one-more ∙ rw (h, k) (chosen _ _ _ _ e _ true (lt-ltb _ _ l)), tt)
 
       abbrev past : Spot
       past = record { at = e; clients = p .clients; ranges = p .ranges - 1; client = p .client; end = clock + len }
 
       pub range-empty : clock + len ≤ maxClock → len ≡ 0 → Follows form u p (move.On past)
-      unfolding ranges _>>=_ run onDrawn line numberOf after comes toCome Keeps left
+      unfolding ranges _>>=_ run onDrawn line numberBy after comes toCome Keeps left
       range-empty l z = (one-more ∙ rw (h, k) (chosen _ _ _ _ e _ false (le-ltb _ _ l) ∙ chosen _ _ _ _ e _ true (eq-eqb _ 0 z)), (omega arith, λ b. b))
 
       pub range-some : clock + len ≤ maxClock → len ≢ 0 → Follows form u p (move.Range (p .client) clock len (p .at) past)
-      unfolding ranges _>>=_ run onDrawn line numberOf after comes toCome Keeps left
+      unfolding ranges _>>=_ run onDrawn line numberBy after comes toCome Keeps left
       range-some l z = (one-more ∙ rw (h, k) (chosen _ _ _ _ e _ false (le-ltb _ _ l) ∙ chosen _ _ _ _ e _ false (ne-eqb _ 0 z)), (omega arith, λ b. (record { some = omega arith; end = l; client = b }, b)))
 
 -- ---- a client's head
 
 module _ (form : ℕ) (u : List ℕ) (p : Spot) (m : 0 < p .clients) (z : p .ranges ≡ 0) where
-  one-client : comes form u p ≡ run (line form u) (clients (suc (p .clients - 1))) (p .at)
+  one-client : comes form u p ≡ run (line form u) (deletedClients (suc (p .clients - 1))) (p .at)
   unfolding comes toCome ranges _>>=_
-  one-client = let e : p .clients ≡ suc (p .clients - 1) = omega arith in rw z (ap (λ (n : ℕ). run (line form u) (clients n) (p .at)) e)
+  one-client = let e : p .clients ≡ suc (p .clients - 1) = omega arith in rw z (ap (λ (n : ℕ). run (line form u) (deletedClients n) (p .at)) e)
 
   pub head-no-client : (why : Refusal) → upTo maxValue u (p .at) ≡ not why → Follows form u p (move.Refused why)
-  unfolding clients _>>=_ run onDrawn line numberOf after Keeps
+  unfolding deletedClients _>>=_ run onDrawn line numberBy after Keeps
   head-no-client why h = (one-client ∙ rw h refl, tt)
 
   module _ (client t : ℕ) (h : upTo maxValue u (p .at) ≡ got (client, p .at) t) where
     pub head-no-count : (why : Refusal) → varAt u t ≡ not why → Follows form u p (move.Refused why)
-    unfolding clients _>>=_ run onDrawn line numberOf after Keeps
+    unfolding deletedClients _>>=_ run onDrawn line numberBy after Keeps
     head-no-count why k = (one-client ∙ rw (h, k) refl, tt)
 
     pub head-on : (count e : ℕ) → varAt u t ≡ got (count, t) e → client ≤ maxValue → count < 18446744073709551616
         → Follows form u p (move.On (record { at = e; clients = p .clients - 1; ranges = count; client = client; end = 0 }))
-    unfolding clients _>>=_ run onDrawn line numberOf after comes toCome Keeps left
+    unfolding deletedClients _>>=_ run onDrawn line numberBy after comes toCome Keeps left
     head-on count e k l c = (one-client ∙ rw (h, k) refl, (omega arith, λ _. l))
 
 -- ---- nothing is left
 
 pub no-more : (form : ℕ) (u : List ℕ) (p : Spot) → p .ranges ≡ 0 → p .clients ≡ 0 → Follows form u p (move.Done (p .at))
-unfolding comes toCome ranges clients _>>=_ run after Keeps
+unfolding comes toCome ranges deletedClients _>>=_ run after Keeps
 no-more form u p z y = (rw (z, y) refl, tt)

@@ -13,8 +13,8 @@ use Rattle.ranges.specs.Table.{range}
 use Rattle.ranges.specs.TableInner.{rowsFrom, Fine, AllFine}
 use Rattle.grammar.specs.Grammar.{Grammar}
 use Rattle.grammar.specs.GrammarInner.{_>>=_}
-use Rattle.grammar.specs.Course.{Course, item, over, stopped, run, items, ending}
-use Rattle.grammar.specs.Deletes.{ranges, clients}
+use Rattle.grammar.specs.Course.{Course, thing, over, stopped, run, things, ending}
+use Rattle.grammar.specs.Deletes.{ranges, deletedClients}
 use Rattle.decoder.specs.Line.{line}
 use Rattle.deletes.specs.declared.Spot.{Spot}
 use Rattle.deletes.specs.declared.Move.{Move}
@@ -32,13 +32,13 @@ firstOf n at = record { at = at; clients = n; ranges = 0; client = 0; end = 0 }
 
 -- the ranges left of this client, and the clients left
 unfoldable pub toCome : Spot → Grammar Range (Unit {0})
-toCome p = ranges (p .ranges) (p .client) (p .end) >>= λ _. clients (p .clients)
+toCome p = ranges (p .ranges) (p .client) (p .end) >>= λ _. deletedClients (p .clients)
 
 unfoldable pub comes : ℕ → List ℕ → Spot → Course Range
 comes form u p = run (line form u) (toCome p) (p .at)
 
 unfoldable pub after : ℕ → List ℕ → Move → Course Range
-after form u (move.Range client clock len p t) = item (range client clock len) p (comes form u t)
+after form u (move.Range client clock len p t) = thing (range client clock len) p (comes form u t)
 after form u (move.On t) = comes form u t
 after form u (move.Done at) = over tt at
 after form u (move.Refused why) = stopped why
@@ -60,7 +60,7 @@ Follows form u p r = (comes form u p ≡ after form u r) × Keeps p r
 -- the rows of the words w that were e: what the course c has, with its ending
 pub record Kept (e w : List ℕ) (c : Course Range) (r : Collected) : Type 0 where
   pub size : length w ≡ length e
-  pub fits : 3 * length (items c) ≤ length w
-  pub rows : rowsFrom w 0 (length (items c)) ≡ items c
-  pub fine : AllFine w (length (items c))
-  pub told : r ≡ ending c (λ t. collected.Rows (length (items c)) t) collected.Refused
+  pub fits : 3 * length (things c) ≤ length w
+  pub rows : rowsFrom w 0 (length (things c)) ≡ things c
+  pub fine : AllFine w (length (things c))
+  pub told : r ≡ ending c (λ t. collected.Rows (length (things c)) t) collected.Refused

@@ -8,14 +8,14 @@ use lib.Dec.{ltb, eqb}
 use lib.ListN.{length}
 use borrow.Author.Tests.{eqb-true, eqb-false, eq-eqb, ltb-false, le-ltb}
 use Rattle.numbers.specs.Number.{pick, none, nowhere}
-use Rattle.grammar.specs.Course.{items, ending}
+use Rattle.grammar.specs.Course.{things, ending}
 use Rattle.vector.specs.Vector.{Entry, vectorOf}
 use Rattle.kept.proofs.Vectors.{whyVector, by-number}
 use Rattle.sorting.specs.Rules.{Rule}
 use Rattle.sorting.specs.Named.{ruleOf}
 use Rattle.updates.specs.Promises.{Reading, reading}
 use Rattle.sort_answers.specs.Answers.{isRule, Sort, refusedWith, Room, whyNot}
-use Rattle.sorts.specs.Promises.{quickly, whole, whySort, fitting, against, afterReading, sortBy, sortOf}
+use Rattle.sorts.specs.Promises.{quickly, sortedAll, whySort, fitting, against, afterReading, sortBy, sortOf}
 use Rattle.demands.specs.Allowed.{Doable, SortDone}
 
 -- ---- words enough
@@ -41,7 +41,7 @@ enough m o c r p a b d e = rw (le-ltb (m .order) o a, le-ltb (m .counts) c b, le
 
 module _ (R : Rule ℕ) (m : Room) (v : List ℕ) (r : Reading) where
   abbrev s : Sort
-  s = whole quickly R (items (vectorOf v)) r
+  s = sortedAll quickly R (things (vectorOf v)) r
 
   fitting-zero : fitting m s .refusal .number ≡ 0 → whySort m s ≡ 0
   unfolding fitting
@@ -86,13 +86,13 @@ module _ (R : Rule ℕ) (m : Room) (v : List ℕ) (r : Reading) where
 
   zero-after : r .refusal .number ≡ 0 → ending (vectorOf v) (λ _. true) (λ _. false) ≡ true → whySort m s ≡ 0
       → afterReading quickly R m (vectorOf v) r .refusal .number ≡ 0
-  unfolding afterReading fitting whole
+  unfolding afterReading fitting sortedAll
   zero-after read ends why = rw (eq-eqb (r .refusal .number) 0 read, against-is, vector-read ends, eq-eqb (whySort m s) 0 why)
 
 -- ---- by the rule that is named
 
 pub sort-done : SortDone
-unfolding sortBy whySort whole
+unfolding sortBy whySort sortedAll
 sort-done rule form u v blockRows rangeRows m = (forth, back)
   where
     r : Reading

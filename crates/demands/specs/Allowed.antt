@@ -9,7 +9,7 @@ use lib.ListN.{length, getD}
 use Rattle.block.specs.declared.Id.{Id}
 use Rattle.block.specs.declared.Block.{Block}
 use Rattle.block.specs.Row.{noBlock}
-use Rattle.grammar.specs.Course.{items, ending}
+use Rattle.grammar.specs.Course.{things, ending}
 use Rattle.vector.specs.Vector.{vectorOf}
 use Rattle.readings.specs.Sound.{All}
 use Rattle.updates.specs.Promises.{reading}
@@ -61,10 +61,10 @@ pub record Doable (rule form : ℕ) (u v : List ℕ) (blockRows rangeRows : ℕ)
   pub known : isRule rule ≡ true
   pub read : reading form u blockRows rangeRows .refusal .number ≡ 0
   pub vector : ending (vectorOf v) (λ _. true) (λ _. false) ≡ true
-  pub order : length (orderOf (ruleOf rule) (reading form u blockRows rangeRows .blocks) (items (vectorOf v))) ≤ m .order
-  pub counts : length (countsOf (ruleOf rule) (reading form u blockRows rangeRows .blocks) (items (vectorOf v))) ≤ m .counts
-  pub reaches : length (reachesOf (ruleOf rule) (reading form u blockRows rangeRows .blocks) (items (vectorOf v))) ≤ m .reaches
-  pub pending : length (pendingOf (ruleOf rule) (reading form u blockRows rangeRows .blocks) (items (vectorOf v))) ≤ m .pending
+  pub order : length (orderOf (ruleOf rule) (reading form u blockRows rangeRows .blocks) (things (vectorOf v))) ≤ m .order
+  pub counts : length (countsOf (ruleOf rule) (reading form u blockRows rangeRows .blocks) (things (vectorOf v))) ≤ m .counts
+  pub reaches : length (reachesOf (ruleOf rule) (reading form u blockRows rangeRows .blocks) (things (vectorOf v))) ≤ m .reaches
+  pub pending : length (pendingOf (ruleOf rule) (reading form u blockRows rangeRows .blocks) (things (vectorOf v))) ≤ m .pending
 
 abbrev pub SortDone : Type 0
 SortDone =

@@ -21,7 +21,7 @@ use Prim.Native.Nat.{_/_}
 use Rattle.diffs.specs.Promises.{answered, diffOf, refusedWith}
 use Rattle.numbers.specs.Output.{padded}
 use Rattle.ranges.specs.TableInner.{rowsFrom}
-use Rattle.updates.specs.Promises.{known, reading, refused, rowsOf, wordsOf}
+use Rattle.updates.specs.Promises.{known, reading, refused, tableOf, rangeWords}
 use Rattle.vector.specs.Vector.{vectorOf}
 use Rattle.writing.specs.Writing.{readAnswer, readOut}
 use Rattle.diffs.proofs.Sorts.{diff}
@@ -89,7 +89,7 @@ module _ {M : Type 1} (𝓤 : URA M) (H : Heap 𝓤) (A : Atoms 𝓤) (mem : Mem
       said = λ ns r ws. since 𝓤 (λ e. (refl, (e, tt)));
     }
 
-    pub diffs·refuse! : Triple 𝓤 (C #diffs·refuse) Diffs·refuse → (at-rows : Seat) (rows₀ : List Block) (at-ranges : Seat) (ranges₀ : List ℕ) (at-out : Seat) (out₀ : List ℕ) (why₀ : Refusal) (g-why : Has refusal why₀) → Card 𝓤 H A C #diffs·refuse (mut block at-rows rows₀ (rowsOf (length rows₀) (refused why₀)) ∷ mut word at-ranges ranges₀ (wordsOf (length ranges₀) (refused why₀)) ∷ mut byte at-out out₀ (padded (length out₀) []) ∷ val refusal why₀ g-why ∷ []) diff (answered (refusedWith why₀))
+    pub diffs·refuse! : Triple 𝓤 (C #diffs·refuse) Diffs·refuse → (at-rows : Seat) (rows₀ : List Block) (at-ranges : Seat) (ranges₀ : List ℕ) (at-out : Seat) (out₀ : List ℕ) (why₀ : Refusal) (g-why : Has refusal why₀) → Card 𝓤 H A C #diffs·refuse (mut block at-rows rows₀ (tableOf (length rows₀) (refused why₀)) ∷ mut word at-ranges ranges₀ (rangeWords (length ranges₀) (refused why₀)) ∷ mut byte at-out out₀ (padded (length out₀) []) ∷ val refusal why₀ g-why ∷ []) diff (answered (refusedWith why₀))
     diffs·refuse! known at-rows rows₀ at-ranges ranges₀ at-out out₀ why₀ g-why = record {
       contract = Diffs·refuse;
       known = known;
@@ -131,7 +131,7 @@ module _ {M : Type 1} (𝓤 : URA M) (H : Heap 𝓤) (A : Atoms 𝓤) (mem : Mem
       said = λ ns r ws. since 𝓤 (λ e. (e .0, (e .1, tt)));
     }
 
-    pub diffs·encode-diff-vector! : Triple 𝓤 (C #diffs·encode-diff) Diffs·encode-diff → (form₀ : ℕ) (g-form : Has byte form₀) (at-update : Seat) (update₀ : List ℕ) (at-vector : Seat) (vector₀ : List ℕ) (to₀ : ℕ) (g-to : Has byte to₀) (at-rows : Seat) (rows₀ : List Block) (at-ranges : Seat) (ranges₀ : List ℕ) (at-out : Seat) (out₀ : List ℕ) → Card 𝓤 H A C #diffs·encode-diff (val byte form₀ g-form ∷ pass byte at-update update₀ ∷ read byte at-vector vector₀ ∷ val byte to₀ g-to ∷ mut block at-rows rows₀ (rowsOf (length rows₀) ((diffOf form₀ update₀ vector₀ to₀ (length rows₀) (length ranges₀ / 3) (length out₀)) .reading)) ∷ mut word at-ranges ranges₀ (wordsOf (length ranges₀) ((diffOf form₀ update₀ vector₀ to₀ (length rows₀) (length ranges₀ / 3) (length out₀)) .reading)) ∷ mut byte at-out out₀ (padded (length out₀) ((diffOf form₀ update₀ vector₀ to₀ (length rows₀) (length ranges₀ / 3) (length out₀)) .bytes)) ∷ []) diff (answered (diffOf form₀ update₀ vector₀ to₀ (length rows₀) (length ranges₀ / 3) (length out₀)))
+    pub diffs·encode-diff-vector! : Triple 𝓤 (C #diffs·encode-diff) Diffs·encode-diff → (form₀ : ℕ) (g-form : Has byte form₀) (at-update : Seat) (update₀ : List ℕ) (at-vector : Seat) (vector₀ : List ℕ) (to₀ : ℕ) (g-to : Has byte to₀) (at-rows : Seat) (rows₀ : List Block) (at-ranges : Seat) (ranges₀ : List ℕ) (at-out : Seat) (out₀ : List ℕ) → Card 𝓤 H A C #diffs·encode-diff (val byte form₀ g-form ∷ pass byte at-update update₀ ∷ read byte at-vector vector₀ ∷ val byte to₀ g-to ∷ mut block at-rows rows₀ (tableOf (length rows₀) ((diffOf form₀ update₀ vector₀ to₀ (length rows₀) (length ranges₀ / 3) (length out₀)) .reading)) ∷ mut word at-ranges ranges₀ (rangeWords (length ranges₀) ((diffOf form₀ update₀ vector₀ to₀ (length rows₀) (length ranges₀ / 3) (length out₀)) .reading)) ∷ mut byte at-out out₀ (padded (length out₀) ((diffOf form₀ update₀ vector₀ to₀ (length rows₀) (length ranges₀ / 3) (length out₀)) .bytes)) ∷ []) diff (answered (diffOf form₀ update₀ vector₀ to₀ (length rows₀) (length ranges₀ / 3) (length out₀)))
     diffs·encode-diff-vector! known form₀ g-form at-update update₀ at-vector vector₀ to₀ g-to at-rows rows₀ at-ranges ranges₀ at-out out₀ = record {
       contract = Diffs·encode-diff;
       known = known;

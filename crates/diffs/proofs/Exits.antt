@@ -15,12 +15,12 @@ use Rattle.numbers.specs.Output.{padded, verdict, written, put}
 use Rattle.numbers.specs.OutputInner.{refusal, done}
 use Rattle.numbers.proofs.Output.{refused-answer, refused-bytes, done-answer, done-bytes}
 use Rattle.block.specs.declared.Block.{Block}
-use Rattle.grammar.specs.Course.{items}
+use Rattle.grammar.specs.Course.{things}
 use Rattle.ranges.specs.TableInner.{rowsFrom}
 use Rattle.vector.specs.Vector.{Entry, vectorOf}
 use Rattle.passes.proofs.Wholes.{IsForm}
 use Rattle.kept.proofs.Vectors.{whyVector, by-number}
-use Rattle.updates.specs.Promises.{Reading, refused, known, reading, rowsOf, wordsOf}
+use Rattle.updates.specs.Promises.{Reading, refused, known, reading, tableOf, rangeWords}
 use Rattle.updates.proofs.Read.{Good, reading-good, short, rows-length, words-length, rows-back, words-back, length-padded}
 use Rattle.writing.specs.Diff.{diffWhy, diffBytes}
 use Rattle.writing.specs.Writing.{keptAnswer, keptOut, readAnswer, readOut}
@@ -28,7 +28,7 @@ use Rattle.writing.proofs.Meaning.{answer-is, out-is}
 use Rattle.writing.proofs.SmallLegal.{legal-diff}
 use Rattle.writing.proofs.SmallSize.{few-diff}
 use Rattle.diffs.specs.declared.Diff.{Diff}
-use Rattle.diffs.specs.Promises.{Diffed, refusedWith, whyNot, kept, against, afterReading, diffOf, answered, Diffs}
+use Rattle.diffs.specs.Promises.{Diffed, refusedWith, whyNot, diffed, against, afterReading, diffOf, answered, Diffs}
 use Rattle.diffs.proofs.Read.{reading-few}
 
 form-of : (to : ℕ) → known to ≡ true → IsForm to
@@ -83,10 +83,10 @@ module _ (form : ℕ) (u v : List ℕ) (to : ℕ) (rows₀ : List Block) (ranges
   R = reading form u M (N / 3)
 
   abbrev W : Written
-  W = readAnswer u (vectorOf v) form to (rowsOf M R) (length (R .blocks)) (rowsFrom (wordsOf N R) 0 (length (R .ranges))) room
+  W = readAnswer u (vectorOf v) form to (tableOf M R) (length (R .blocks)) (rowsFrom (rangeWords N R) 0 (length (R .ranges))) room
 
   abbrev O : List ℕ
-  O = readOut u (vectorOf v) form to (rowsOf M R) (length (R .blocks)) (rowsFrom (wordsOf N R) 0 (length (R .ranges))) out₀
+  O = readOut u (vectorOf v) form to (tableOf M R) (length (R .blocks)) (rowsFrom (rangeWords N R) 0 (length (R .ranges))) out₀
 
   abbrev d : Diffed
   d = diffOf form u v to M (N / 3) room
@@ -96,16 +96,16 @@ module _ (form : ℕ) (u v : List ℕ) (to : ℕ) (rows₀ : List Block) (ranges
 
   -- a refusal leaves nothing
   by-refusal : (why : Refusal) (m k l : ℕ) → d ≡ refusedWith why → m ≡ M → k ≡ N → l ≡ room
-      → Right (answered (refusedWith why)) (rowsOf m (refused why)) (wordsOf k (refused why)) (padded l [])
+      → Right (answered (refusedWith why)) (tableOf m (refused why)) (rangeWords k (refused why)) (padded l [])
   by-refusal why m k l e p q r = (
     ap answered (sym e),
-    ap (λ (x : ℕ). rowsOf x (refused why)) p ∙ ap (λ (x : Diffed). rowsOf M (x .reading)) (sym e),
-    ap (λ (x : ℕ). wordsOf x (refused why)) q ∙ ap (λ (x : Diffed). wordsOf N (x .reading)) (sym e),
+    ap (λ (x : ℕ). tableOf x (refused why)) p ∙ ap (λ (x : Diffed). tableOf M (x .reading)) (sym e),
+    ap (λ (x : ℕ). rangeWords x (refused why)) q ∙ ap (λ (x : Diffed). rangeWords N (x .reading)) (sym e),
     ap (λ (x : ℕ). padded x []) r ∙ ap (λ (x : Diffed). padded room (x .bytes)) (sym e),
   )
 
   pub exit-unknown : known to ≡ false
-      → Right (answered (refusedWith (nowhere 12))) (rowsOf M (refused (nowhere 12))) (wordsOf N (refused (nowhere 12))) (padded room [])
+      → Right (answered (refusedWith (nowhere 12))) (tableOf M (refused (nowhere 12))) (rangeWords N (refused (nowhere 12))) (padded room [])
   unfolding diffOf
   exit-unknown k =
       by-refusal (nowhere 12) M N room
@@ -116,11 +116,11 @@ module _ (form : ℕ) (u v : List ℕ) (to : ℕ) (rows₀ : List Block) (ranges
   read-first k = ap (λ (x : Bool). pick x (afterReading u (vectorOf v) form to room R) (refusedWith (nowhere 12))) k
 
   pub exit-unread : known to ≡ true → (R .refusal .number ≡ 0 → ⊥)
-      → Right (answered (refusedWith (R .refusal))) (rowsOf (length (rowsOf M R)) (refused (R .refusal)))
-      (wordsOf (length (wordsOf N R)) (refused (R .refusal))) (padded room [])
+      → Right (answered (refusedWith (R .refusal))) (tableOf (length (tableOf M R)) (refused (R .refusal)))
+      (rangeWords (length (rangeWords N R)) (refused (R .refusal))) (padded room [])
   unfolding afterReading
   exit-unread k z =
-      by-refusal (R .refusal) (length (rowsOf M R)) (length (wordsOf N R)) room
+      by-refusal (R .refusal) (length (tableOf M R)) (length (rangeWords N R)) room
       (read-first k ∙ ap (λ (x : Bool). pick x (against u (vectorOf v) form to room R) (refusedWith (R .refusal))) (ne-eqb (R .refusal .number) 0 z))
       (rows-length form u M N) (words-length form u M N) refl
 
@@ -128,7 +128,7 @@ module _ (form : ℕ) (u v : List ℕ) (to : ℕ) (rows₀ : List Block) (ranges
 
   module _ (k : known to ≡ true) (z : R .refusal .number ≡ 0) where
     abbrev es : List Entry
-    es = items (vectorOf v)
+    es = things (vectorOf v)
 
     abbrev why : ℕ
     why = diffWhy form to u es (R .blocks) (R .ranges)
@@ -139,19 +139,19 @@ module _ (form : ℕ) (u v : List ℕ) (to : ℕ) (rows₀ : List Block) (ranges
     abbrev good : Good u M (N / 3) R
     good = reading-good form u M (N / 3)
 
-    fits : length (R .blocks) ≤ length (rowsOf M R)
+    fits : length (R .blocks) ≤ length (tableOf M R)
     fits = omega (arith, good .fits, rows-length form u M N)
 
-    kept-answer : keptAnswer u es form to (rowsOf M R) (length (R .blocks)) (R .ranges) room ≡ written why room bytes
+    kept-answer : keptAnswer u es form to (tableOf M R) (length (R .blocks)) (R .ranges) room ≡ written why room bytes
     kept-answer =
-        answer-is u es (R .blocks) (rowsOf M R) (R .ranges) form to (form-of to k) (rows-back form u M N) fits (good .ordered) (good .sound) (good .count)
+        answer-is u es (R .blocks) (tableOf M R) (R .ranges) form to (form-of to k) (rows-back form u M N) fits (good .ordered) (good .sound) (good .count)
         (good .clients) (short form u M (N / 3) z)
         (λ _. legal-diff to u es (R .blocks) (R .ranges) (short form u M (N / 3) z) (good .sound) (good .ordered))
         (λ _. few-diff to u es (R .blocks) (R .ranges) (short form u M (N / 3) z) (good .count) (good .clients) (reading-few form u M (N / 3))) room
 
-    kept-out : keptOut u es form to (rowsOf M R) (length (R .blocks)) (R .ranges) out₀ ≡ put why room bytes
+    kept-out : keptOut u es form to (tableOf M R) (length (R .blocks)) (R .ranges) out₀ ≡ put why room bytes
     kept-out =
-        out-is u es (R .blocks) (rowsOf M R) (R .ranges) form to (form-of to k) (rows-back form u M N) fits (good .ordered) (good .sound) (good .count)
+        out-is u es (R .blocks) (tableOf M R) (R .ranges) form to (form-of to k) (rows-back form u M N) fits (good .ordered) (good .sound) (good .count)
         (good .clients) (short form u M (N / 3) z)
         (λ _. legal-diff to u es (R .blocks) (R .ranges) (short form u M (N / 3) z) (good .sound) (good .ordered))
         (λ _. few-diff to u es (R .blocks) (R .ranges) (short form u M (N / 3) z) (good .count) (good .clients) (reading-few form u M (N / 3))) out₀
@@ -191,7 +191,7 @@ module _ (form : ℕ) (u v : List ℕ) (to : ℕ) (rows₀ : List Block) (ranges
     refusedBy n = refusedWith (nowhere n)
 
     diff-at : d ≡ pick (eqb all 0) whole (refusedBy all)
-    unfolding afterReading against kept whyNot
+    unfolding afterReading against diffed whyNot
     diff-at =
         read-first k ∙ ap (λ (x : Bool). pick x (against u (vectorOf v) form to room R) (refusedWith (R .refusal))) (eq-eqb (R .refusal .number) 0 z)
         ∙ by-number v (pick (eqb last 0) whole (refusedBy last)) refusedBy ∙ go (eqb w 0) refl
@@ -223,10 +223,10 @@ module _ (form : ℕ) (u v : List ℕ) (to : ℕ) (rows₀ : List Block) (ranges
         go false e = omega arith
 
     pub exit-refused : (W .number ≡ 0 → ⊥)
-        → Right (answered (refusedBy (W .number))) (rowsOf (length (rowsOf M R)) (refused (nowhere (W .number))))
-        (wordsOf (length (wordsOf N R)) (refused (nowhere (W .number)))) (padded (length O) [])
+        → Right (answered (refusedBy (W .number))) (tableOf (length (tableOf M R)) (refused (nowhere (W .number))))
+        (rangeWords (length (rangeWords N R)) (refused (nowhere (W .number)))) (padded (length O) [])
     exit-refused h =
-        by-refusal (nowhere (W .number)) (length (rowsOf M R)) (length (wordsOf N R)) (length O) (diff-at ∙ named)
+        by-refusal (nowhere (W .number)) (length (tableOf M R)) (length (rangeWords N R)) (length O) (diff-at ∙ named)
         (rows-length form u M N) (words-length form u M N) out-size
       where
         some : all ≡ 0 → ⊥
@@ -236,13 +236,13 @@ module _ (form : ℕ) (u v : List ℕ) (to : ℕ) (rows₀ : List Block) (ranges
         named = ap (λ (x : Bool). pick x whole (refusedBy all)) (ne-eqb all 0 some) ∙ ap refusedBy (sym number-at)
 
     pub exit-done : W .number ≡ 0
-        → Right (record { refusal = none; bytes = W .bytes; blocks = length (R .blocks); ranges = length (R .ranges) }) (rowsOf M R) (wordsOf N R) O
+        → Right (record { refusal = none; bytes = W .bytes; blocks = length (R .blocks); ranges = length (R .ranges) }) (tableOf M R) (rangeWords N R) O
     unfolding answered
     exit-done h = (
       ap (λ (x : ℕ). record { refusal = none; bytes = x; blocks = length (R .blocks); ranges = length (R .ranges) }) size
           ∙ ap answered (sym done-is),
-      ap (λ (x : Diffed). rowsOf M (x .reading)) (sym done-is),
-      ap (λ (x : Diffed). wordsOf N (x .reading)) (sym done-is),
+      ap (λ (x : Diffed). tableOf M (x .reading)) (sym done-is),
+      ap (λ (x : Diffed). rangeWords N (x .reading)) (sym done-is),
       out-at ∙ ap (λ (x : Bool). padded room (pick x bytes [])) zero-is ∙ ap (λ (x : Diffed). padded room (x .bytes)) (sym done-is),
     )
       where

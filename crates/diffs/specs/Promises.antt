@@ -8,9 +8,9 @@ use Rattle.numbers.specs.declared.Refusal.{Refusal}
 use Rattle.numbers.specs.Number.{pick, none, nowhere}
 use Rattle.numbers.specs.Output.{verdict, padded}
 use Rattle.block.specs.declared.Block.{Block}
-use Rattle.grammar.specs.Course.{Course, items, ending}
+use Rattle.grammar.specs.Course.{Course, things, ending}
 use Rattle.vector.specs.Vector.{Entry, vectorOf}
-use Rattle.updates.specs.Promises.{Reading, refused, known, reading, rowsOf, wordsOf}
+use Rattle.updates.specs.Promises.{Reading, refused, known, reading, tableOf, rangeWords}
 use Rattle.writing.specs.Diff.{diffWhy, diffBytes}
 use Rattle.diffs.specs.declared.Diff.{Diff}
 
@@ -28,13 +28,13 @@ refusedWith why = record { refusal = why; bytes = []; reading = refused why }
 unfoldable pub whyNot : List ℕ → List Entry → ℕ → ℕ → ℕ → Reading → ℕ
 whyNot u v form to room r = verdict (diffWhy form to u v (r .blocks) (r .ranges)) room (diffBytes to u v (r .blocks) (r .ranges))
 
-unfoldable pub kept : List ℕ → List Entry → ℕ → ℕ → ℕ → Reading → Diffed
-kept u v form to room r =
+unfoldable pub diffed : List ℕ → List Entry → ℕ → ℕ → ℕ → Reading → Diffed
+diffed u v form to room r =
     pick (eqb (whyNot u v form to room r) 0) (record { refusal = none; bytes = diffBytes to u v (r .blocks) (r .ranges); reading = r }) (refusedWith (nowhere (whyNot u v form to room r)))
 
 -- the vector is read after the update, and its refusal blames no byte
 unfoldable pub against : List ℕ → Course Entry → ℕ → ℕ → ℕ → Reading → Diffed
-against u c form to room r = ending c (λ s. kept u (items c) form to room r) (λ why. refusedWith (nowhere (why .number)))
+against u c form to room r = ending c (λ s. diffed u (things c) form to room r) (λ why. refusedWith (nowhere (why .number)))
 
 unfoldable pub afterReading : List ℕ → Course Entry → ℕ → ℕ → ℕ → Reading → Diffed
 afterReading u c form to room r = pick (eqb (r .refusal .number) 0) (against u c form to room r) (refusedWith (r .refusal))
@@ -50,7 +50,7 @@ answered d = record { refusal = d .refusal; bytes = length (d .bytes); blocks = 
 -- what d leaves: the answer r, with these rows, words and bytes at entry and at exit
 abbrev pub Leaves : Diffed → List Block → List ℕ → List ℕ → Diff → List Block → List ℕ → List ℕ → Type 0
 Leaves d rows ranges out r rows₁ ranges₁ out₁ =
-    (r ≡ answered d) × (rows₁ ≡ rowsOf (length rows) (d .reading)) × (ranges₁ ≡ wordsOf (length ranges) (d .reading)) × (out₁ ≡ padded (length out) (d .bytes))
+    (r ≡ answered d) × (rows₁ ≡ tableOf (length rows) (d .reading)) × (ranges₁ ≡ rangeWords (length ranges) (d .reading)) × (out₁ ≡ padded (length out) (d .bytes))
 
 abbrev pub Diffs : ℕ → List ℕ → List ℕ → ℕ → List Block → List ℕ → List ℕ → Diff → List Block → List ℕ → List ℕ → Type 0
 Diffs form u v to rows ranges out = Leaves (diffOf form u v to (length rows) (length ranges / 3) (length out)) rows ranges out

@@ -6,7 +6,7 @@ ghost use mathlib.Core.Path.{_≡_};
 ghost use mathlib.Core.List.{[]};
 ghost use lib.ListN.{length};
 ghost use Rattle.numbers.specs.Output.{padded};
-ghost use Rattle.updates.specs.Promises.{known, refused, rowsOf, wordsOf};
+ghost use Rattle.updates.specs.Promises.{known, refused, tableOf, rangeWords};
 ghost use Rattle.diffs.specs.Promises.{refusedWith, answered, Diffs, emptyVector};
 
 // How many bytes were written, and how many blocks and delete ranges were read.
@@ -41,8 +41,8 @@ fn none(why: Refusal) -> Diff
 
 // A refusal, and zeros in all that was lent.
 fn refuse(rows: &mut [Block], ranges: &mut [u64], out: &mut [u8], why: Refusal) -> Diff
-    ensures { λ r. ⌜ (r ≡ answered (refusedWith why)) × (now (rows .exit) ≡ rowsOf (length (now (rows .entry))) (refused why))
-        × (now (ranges .exit) ≡ wordsOf (length (now (ranges .entry))) (refused why)) × (now (out .exit) ≡ padded (length (now (out .entry))) []) ⌝ }
+    ensures { λ r. ⌜ (r ≡ answered (refusedWith why)) × (now (rows .exit) ≡ tableOf (length (now (rows .entry))) (refused why))
+        × (now (ranges .exit) ≡ rangeWords (length (now (ranges .entry))) (refused why)) × (now (out .exit) ≡ padded (length (now (out .entry))) []) ⌝ }
 {
     table::clear(rows, 0);
     numbers::words::clear(ranges, 0);

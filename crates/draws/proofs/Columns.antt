@@ -13,7 +13,7 @@ use Rattle.text.specs.Utf8.{unitsOf}
 use Rattle.string.proofs.Steps.{GivesNumbers, GivesDifferences, GivesBytes, GivesTexts}
 use Rattle.grammar.specs.Grammar as grammar
 use Rattle.grammar.specs.Course.{got}
-use Rattle.decoder.specs.Line.{numberOf, line}
+use Rattle.decoder.specs.Line.{numberBy, line}
 use Rattle.decoder.specs.States.{State, movedTo, withClient, withLeft, withRight, withInfo, withText, withParent, withTypes, withLen}
 use Rattle.decoder.specs.Columned.{numberDrawn, differenceDrawn, byteDrawn, textDrawn, onto, numberIn, textIn, columned}
 use Rattle.leftover.specs.Leftover.{columnsAt}
@@ -164,7 +164,7 @@ text-drawn u s ks b n ts e h =
 
 pub var-drawn : (u : List ℕ) (s : State) (ks : List (List ℕ)) (v : ℕ) (ts : List Token) → v < 2 ^ 63 → Holds u s ks (var v ∷ ts)
     → (p : ℕ) × (m : State) × (columned u (grammar.number grammar.any) s ≡ got (v, p) m) × Holds u m ks ts
-unfolding taken takenAll textsOf columned numberIn line numberOf onto
+unfolding taken takenAll textsOf columned numberIn line numberBy onto
 var-drawn u s ks v ts l h = (
   s .at,
   movedTo s (s .at + length (unsigned v)),

@@ -13,7 +13,7 @@ use Rattle.block.specs.Row.{noPart}
 use Rattle.grammar.specs.Grammar as grammar
 use Rattle.grammar.specs.Course.{got}
 use Rattle.decoder.specs.States.{maxKeys, Differences, State, withKey, withKeys}
-use Rattle.decoder.specs.Columned.{differenceDrawn, joining, numbered as byKey, keyIn, columned}
+use Rattle.decoder.specs.Columned.{differenceDrawn, joining, keyByNumber as byKey, keyIn, columned}
 use Rattle.readings.specs.Sound.{bytesIn}
 use Rattle.readings.proofs.Columns.{clash}
 use Rattle.tokens.specs.Tokens.{Token, field, text, var, buf, key, value, values, taken, takenAll, keys}

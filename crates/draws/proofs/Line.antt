@@ -8,9 +8,9 @@ use lib.ListN.{length}
 use Rattle.numbers.specs.Number.{unsigned}
 use Rattle.text.specs.Utf8.{wellFormed, unitsOf}
 use Rattle.grammar.specs.Grammar as grammar
-use Rattle.grammar.specs.Course.{got, Run, item, over, stopped, run, ending}
+use Rattle.grammar.specs.Course.{got, Run, thing, over, stopped, run, ending}
 use Rattle.grammar.specs.Blocks.{allBlocks}
-use Rattle.decoder.specs.Line.{upTo, numberOf, checked, wordOf, line}
+use Rattle.decoder.specs.Line.{upTo, numberBy, checked, wordOf, line}
 use Rattle.decoder.specs.Update.{blocksOf}
 use Rattle.leftover.specs.Leftover.{Stretch, columnsLeft}
 use Rattle.leftover.specs.LeftoverInner.{Spent}
@@ -32,7 +32,7 @@ module _ (u : List ℕ) (at : ℕ) (q : List ℕ) where
   numbered m v l h w = rw (var-here u at v q w (omega arith)) (bounded-in m v at (at + length (unsigned v)) h)
 
   field-here : (k v : ℕ) → isField k ≡ true → Drawn v k
-  unfolding line numberOf laneField most inlined
+  unfolding line numberBy laneField most inlined
   field-here k v h = by-field (Drawn v)
       (λ l w. numbered 9007199254740991 v (omega arith) l w)
       (λ l w. numbered 2147483647 v (omega arith) l w)
@@ -67,7 +67,7 @@ module _ (u : List ℕ) (l : length u < 2 ^ 62) where
   few at b q h = omega (arith, past-length u (behind at b) b q (led-bytes u at b q h))
 
   line-from : (ts : List Token) → AllLegal 1 ts → (at : ℕ) → From u at (takenAll whole ts) → (t : ℕ) × Draws (line 1 u) u at ts t × From u t []
-  unfolding AllLegal Legal LegalValue Draws takenAll taken line numberOf
+  unfolding AllLegal Legal LegalValue Draws takenAll taken line numberBy
   line-from [] a at h = (at, refl, h)
   line-from (field k v ∷ ts) a at h =
       let q : List ℕ = takenAll whole ts in
@@ -108,13 +108,13 @@ module _ (u : List ℕ) (l : length u < 2 ^ 62) where
       (r .0, (partOf at b, m, values-here u at b q h, values-bytes u at b q h, r .1), r .2)
 
 lined : (form : ℕ) (u : List ℕ) → Lined form u (line form u) (λ at. at)
-unfolding line numberOf upTo
+unfolding line numberBy upTo
 lined form u = record { bounds = λ n at. refl; any = λ v p at m e. e }
 
 -- form 1 has no columns
 ending-none : {S E A : Type 0} (c : Run S E A) → _≡_ {A = List Stretch} (ending c (λ s. []) (λ why. [])) []
 unfolding ending
-ending-none (item e p c) = ending-none c
+ending-none (thing e p c) = ending-none c
 ending-none (over a s) = refl
 ending-none (stopped why) = refl
 

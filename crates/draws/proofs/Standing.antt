@@ -7,7 +7,7 @@ use lib.ListN.{length, take, drop, getD, length-append, length-drop, List·getD-
 use lib.Seq.{slice, length-take-le, drop-append-seam, take-append-seam, drop-drop, take-add, drop-at, drop-cons, getD-drop}
 use borrow.Author.Tests.{le-ltb, lt-leb}
 use Rattle.numbers.specs.declared.Read.the-variants as read
-use Rattle.numbers.specs.Number.{unsigned, placed, readUnsigned}
+use Rattle.numbers.specs.Number.{unsigned, answerAt, readUnsigned}
 use Rattle.numbers.proofs.Laws.{spell-fuel, spelt-spell}
 use Rattle.text.specs.declared.Part.{Part}
 use Rattle.anys.specs.declared.Skipped.the-variants.{At}
@@ -46,7 +46,7 @@ module _ (u : List ℕ) (at : ℕ) (a q : List ℕ) (h : From u at (a ++ q)) whe
 
 module _ (u : List ℕ) (at x : ℕ) (q : List ℕ) (h : From u at (unsigned x ++ q)) (l : x < 2 ^ 63) where
   pub read-here : readUnsigned u at ≡ read.Number x (at + length (unsigned x))
-  unfolding readUnsigned placed unsigned
+  unfolding readUnsigned answerAt unsigned
   read-here = rw (h .here, spell-fuel 9 8 x (omega arith) l, spelt-spell 8 at x q l)
 
   pub var-here : varAt u at ≡ got (x, at) (at + length (unsigned x))

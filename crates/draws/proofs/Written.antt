@@ -15,11 +15,11 @@ use Rattle.string.proofs.TextTrip.{joined, unitsEach}
 use Rattle.grammar.specs.Grammar as grammar
 use Rattle.grammar.specs.GrammarInner.{_>>=_}
 use Rattle.grammar.specs.Course.{Drawn, got, not, onDrawn, run}
-use Rattle.decoder.specs.Line.{upTo, bounded, varAt, numberOf, line}
+use Rattle.decoder.specs.Line.{upTo, bounded, varAt, numberBy, line}
 use Rattle.decoder.specs.States.{State, movedTo, withText}
 use Rattle.decoder.specs.Columned.{onto, numberIn, columned}
 use Rattle.decoder.specs.Opening.{heads, standing, withOpened, textOpened, onHeads, openedOf}
-use Rattle.decoder.specs.Update.{placed, inColumns, blocksOf}
+use Rattle.decoder.specs.Update.{restPlaces, inColumns, blocksOf}
 use Rattle.leftover.specs.Leftover.{columnsAt, columnsLeft}
 use Rattle.tokens.specs.Tokens.{Token, takenAll, inLine, columnIn, lane, keys, clients, lefts, rights, infos, parents, types, lens, rest}
 use Rattle.tokens.specs.Keys.{crowded, numbered}
@@ -68,7 +68,7 @@ module _ (ts : List Token) (t : Texted ts) (w : Whys ts) (u : List ℕ) (l : len
       (standing (partsIn u (takenAll rest ts) (columns ts) 1 x) (endIn u (takenAll rest ts) (columns ts) 1 x))
 
   opens : From u 0 (0 ∷ ledAll (columns ts) (takenAll rest ts)) → openedOf u ≡ got tt openedState
-  unfolding openedOf heads onHeads textOpened withOpened run _>>=_ onDrawn line numberOf Cuts partsIn endIn
+  unfolding openedOf heads onHeads textOpened withOpened run _>>=_ onDrawn line numberBy Cuts partsIn endIn
   opens h = rw (byte-here u 0 0 (ledAll (columns ts) (takenAll rest ts)) h, cuts u (takenAll rest ts) (columns ts) 1 x [], texts-opened .opens)
 
   holds : Holds u openedState [] ts
@@ -121,7 +121,7 @@ inPlace (got a s) = got a (s .at)
 inPlace (not why) = not why
 
 lined : (u : List ℕ) → Lined 2 u (columned u) (λ s. s .at)
-unfolding columned numberIn line numberOf upTo bounded onto inPlace
+unfolding columned numberIn line numberBy upTo bounded onto inPlace
 lined u = record { bounds = λ n s. bound n s (varAt u (s .at)); any = λ v p s m e. sym (stands s (varAt u (s .at))) ∙ ap inPlace e }
   where
     bound : (n : ℕ) (s : State) (d : Drawn ℕ (ℕ × ℕ)) → onto s (bounded n d) ≡ bounded n (onto s d)
@@ -138,7 +138,7 @@ lined u = record { bounds = λ n s. bound n s (varAt u (s .at)); any = λ v p s 
 
 -- a number in line leaves the columns as they are
 columns-stay : (u : List ℕ) (v p : ℕ) (s m : State) → columned u (grammar.number grammar.any) s ≡ got (v, p) m → columnsAt m ≡ columnsAt s
-unfolding columned numberIn line numberOf onto columnsAt
+unfolding columned numberIn line numberBy onto columnsAt
 columns-stay u v p s m e = go (varAt u (s .at)) e
   where
     state : Drawn State (ℕ × ℕ) → State
@@ -151,7 +151,7 @@ columns-stay u v p s m e = go (varAt u (s .at)) e
 
 pub columns-draw : (ts : List Token) → AllLegal 2 ts → near 2 ts ≡ true → crowded [] ts ≡ false → length ts ≤ maxCount
     → length (form2 (numbered [] ts)) < 2 ^ 62 → DrawnAgain 2 (form2 (numbered [] ts)) ts
-unfolding blocksOf inColumns onDrawn placed columnsLeft takenAll
+unfolding blocksOf inColumns onDrawn restPlaces columnsLeft takenAll
 columns-draw ts a n c few l =
     let u : List ℕ = form2 (numbered [] ts) in
     let o = columns-open (numbered [] ts) (texted [] ts a) (whys ts a few n) l in
@@ -164,7 +164,7 @@ columns-draw ts a n c few l =
       first = o .0;
       last = r .0;
       drawn = r .1;
-      leave = placed;
+      leave = restPlaces;
       leaves = λ b p c. refl;
       leaves-over = λ s. refl;
       blocks = rw (o .1);

@@ -20,14 +20,14 @@ use Rattle.decoder.specs.States.{State}
 use Rattle.decoder.specs.Columned.{columned}
 use Rattle.decoder.specs.ColumnedInner.{fields}
 use Rattle.decoder.specs.Opening.{openedOf}
-use Rattle.decoder.specs.Update.{placed, inColumns, blocksOf}
+use Rattle.decoder.specs.Update.{restPlaces, inColumns, blocksOf}
 use Rattle.decoder.proofs.Laws.{run-columned}
 use Rattle.cells.specs.Cells.{stateIn}
 use Rattle.content.specs.Content.{nth}
 use Rattle.roles.specs.declared.Role.{Role}
 use Rattle.roles.specs.declared.Role.the-variants as role
 use Rattle.roles.specs.declared.Plan.{Plan}
-use Rattle.roles.specs.Roles.{start, goTo, sectioned, announced, onward, headed, informed, infoRole, behind, after, settled, codeOf, isEnded, blockRole, sectionRole}
+use Rattle.roles.specs.Roles.{start, goTo, sectioned, announced, onward, headed, informed, infoRole, planAfter, after, movedOn, codeOf, isEnded, blockRole, sectionRole}
 use Rattle.roles.specs.RolesInner.{isOver}
 use Rattle.origins.specs.declared.Line.{Line}
 use Rattle.origins.specs.Origins.{plainLine, lineAt, linesInLine, numberLine, linesIn}
@@ -197,22 +197,22 @@ module _ (form : ℕ) (u : List ℕ) where
       go false = record { line = numberLine u code n (a .0) (s .at) _ t; lines = refl; field = refl; value = refl }
 
   own-clocked : (r : Role) (q : Plan) (b : Block) (h : Sheet) (ls : List Line) (v p : ℕ) (w : ℕ) (part : Part) → Own r → codeOf r ≢ 0 → Clocked q b h
-      → Tells-clock (behind r q v p .role) (behind r q v p) (rowed (codeOf r) w part b) (noted (codeOf r) ls h)
+      → Tells-clock (planAfter r q v p .role) (planAfter r q v p) (rowed (codeOf r) w part b) (noted (codeOf r) ls h)
   unfolding isEnded goTo
-  own-clocked r q b h ls v p w part o n0 x = clock-own (behind r q v p .role) (behind r q v p) _ _ (goes .own) (
-    subst (λ (y : Sheet). Three (behind r q v p) y) (sym (noted-own (codeOf r) ls h (own-code r o n0))) (three-own (three-same q (behind r q v p) h (goes .first) (x .0))),
+  own-clocked r q b h ls v p w part o n0 x = clock-own (planAfter r q v p .role) (planAfter r q v p) _ _ (goes .own) (
+    subst (λ (y : Sheet). Three (planAfter r q v p) y) (sym (noted-own (codeOf r) ls h (own-code r o n0))) (three-own (three-same q (planAfter r q v p) h (goes .first) (x .0))),
     own-clock r o w part b ∙ x .1 ∙ sym (goes .clock),
   )
     where
-      goes : Goes (most (fieldOf r q)) r q (behind r q v p)
+      goes : Goes (most (fieldOf r q)) r q (planAfter r q v p)
       goes = own-goes r q v p o (ne-eqb (codeOf r) 0 n0)
 
-      three-own : Three (behind r q v p) h → Three (behind r q v p) (record { head = h .head; own = h .own ++ ls })
+      three-own : Three (planAfter r q v p) h → Three (planAfter r q v p) (record { head = h .head; own = h .own ++ ls })
       three-own y = record { count = y .count; client = y .client; first = y .first; lines = y .lines; named = y .named; is = y .is }
 
   draw-clock : (r : Role) (q : Plan) (b : Block) (h : Sheet) (a : Answer (fieldOf r q)) (s t : State) → codeOf r ≢ 0 → codeOf r ≢ 28 → Tells-clock r q b h
-      → Tells-clock (behind r q (heard (fieldOf r q) a .0) (heard (fieldOf r q) a .1) .role) (behind r q (heard (fieldOf r q) a .0) (heard (fieldOf r q) a .1)) (rowed (codeOf r) (heard (fieldOf r q) a .0) (partOf (fieldOf r q) a) (pick (eqb (codeOf r) 6) (rowed 5 (q .clock) noPart b) b)) (noted (codeOf r) (linesOf form u (codeOf r) (fieldOf r q) a s t) h)
-  unfolding Tells-clock behind codeOf Own sectioned announced goTo headed onward informed noted rowed headRow idRow contentRow nameRow fieldOf heard partOf
+      → Tells-clock (planAfter r q (heard (fieldOf r q) a .0) (heard (fieldOf r q) a .1) .role) (planAfter r q (heard (fieldOf r q) a .0) (heard (fieldOf r q) a .1)) (rowed (codeOf r) (heard (fieldOf r q) a .0) (partOf (fieldOf r q) a) (pick (eqb (codeOf r) 6) (rowed 5 (q .clock) noPart b) b)) (noted (codeOf r) (linesOf form u (codeOf r) (fieldOf r q) a s t) h)
+  unfolding Tells-clock planAfter codeOf Own sectioned announced goTo headed onward informed noted rowed headRow idRow contentRow nameRow fieldOf heard partOf
   draw-clock role.Sections q b h a s t n0 n28 x = section-clock (a .0) _ _ _
   draw-clock role.Blocks q b h a s t n0 n28 x = let l = single 2 (grammar.upTo (q .room)) a s t in record { count = l .line; lines = l .lines }
   draw-clock role.Client q b h a s t n0 n28 x =
@@ -261,10 +261,10 @@ onward-clock : (q : Plan) (b : Block) (h : Sheet) → Three q h → Tells-clock 
 unfolding onward
 onward-clock q b h x = block-clock (q .blocks) (q .sections) _ b h (three-same q _ h refl x)
 
-settled-clock : (q : Plan) (b : Block) (h : Sheet) → Tells-clock (q .role) q b h → Tells-clock (settled q .role) (settled q) b h
+settled-clock : (q : Plan) (b : Block) (h : Sheet) → Tells-clock (q .role) q b h → Tells-clock (movedOn q .role) (movedOn q) b h
 settled-clock q b h x = go (isEnded q) refl
   where
-    go : (y : Bool) → isEnded q ≡ y → Tells-clock (settled q .role) (settled q) b h
+    go : (y : Bool) → isEnded q ≡ y → Tells-clock (movedOn q .role) (movedOn q) b h
     go true e = subst (λ (p : Plan). Tells-clock (p .role) p b h) (sym (settled-ended q e)) (onward-clock q b h (ended-clock q b h e x .0))
     go false e = subst (λ (p : Plan). Tells-clock (p .role) p b h) (sym (settled-here q e)) x
 
@@ -299,7 +299,7 @@ module _ (form : ℕ) (u : List ℕ) where
           → ((a : Answer f) (p : Plan) (c : Block) (i : Sheet) (t : State) → Fits Final p c (k a) → Tells-clock (p .role) p c i → Says (found (linesOf form u) p i n (watch (fields form u) (k a) t)) (nthIn n (run (fields form u) (k a) t)))
           → Says (found (linesOf form u) q h n (onSeen f s d (λ a t. watch (fields form u) (k a) t))) (nthIn n (onDrawn d (λ a t. run (fields form u) (k a) t)))
       go (got a t) e more = more a _ _ _ t (fit .3 a (meets form u f s a t e))
-          (behind-clock form u (settled q) b h f (fit .2) a s t (eqb-false (codeOf (settled q .role)) 0 (settled-goes q)) (eqb-false (codeOf (settled q .role)) 28 (fit .1)) (settled-clock q b h x))
+          (behind-clock form u (movedOn q) b h f (fit .2) a s t (eqb-false (codeOf (movedOn q .role)) 0 (settled-goes q)) (eqb-false (codeOf (movedOn q .role)) 28 (fit .1)) (settled-clock q b h x))
       go (not why) e more = λ no. absurd (no refl)
   clocks (emit e p y) q b h zero s fit x = λ _. said q b e h (fit .3) (fit .4) (ended-clock q b h (fit .0) x)
   clocks (emit e p y) q b h (suc n) s fit x = subst (λ (ls : List Line). Says ls (nthIn n (run (fields form u) y s))) (sym (found-onward (linesOf form u) (fields form u) q b h n y s (fit .0) (fit .5)))
@@ -307,15 +307,15 @@ module _ (form : ℕ) (u : List ℕ) where
   clocks (stop c p) q b h n s fit x = λ no. absurd (no refl)
   clocks (done a) q b h n s fit x = λ no. absurd (no refl)
 
-followed-clock : (form : ℕ) (u : List ℕ) (n : ℕ) (s : State) → Says (followed form u n s) (nth n (placed (run (fields form u) allBlocks s)))
+followed-clock : (form : ℕ) (u : List ℕ) (n : ℕ) (s : State) → Says (followed form u n s) (nth n (restPlaces (run (fields form u) allBlocks s)))
 unfolding followed Tells-clock
 followed-clock form u n s = subst (λ (b : Block). Says (followed form u n s) b) (nth-placed n (run (fields form u) allBlocks s)) (clocks form u allBlocks start noBlock blank n s (all-fit noBlock) tt)
 
-opened-clock : (form : ℕ) (u : List ℕ) (n : ℕ) → form ≢ 1 → (d : Drawn State (Unit {0})) → Says (onOpened u n d) (nth n (placed (onDrawn d (λ _ s. run (columned u) allBlocks s))))
+opened-clock : (form : ℕ) (u : List ℕ) (n : ℕ) → form ≢ 1 → (d : Drawn State (Unit {0})) → Says (onOpened u n d) (nth n (restPlaces (onDrawn d (λ _ s. run (columned u) allBlocks s))))
 unfolding onOpened onDrawn followed
 opened-clock form u n other (got a s) =
-    subst (λ (ls : List Line). Says ls (nth n (placed (run (columned u) allBlocks s)))) (column-found form u other allBlocks start blank n s)
-    (subst (λ (c : Run State Block (Unit {0})). Says (followed form u n s) (nth n (placed c))) (run-columned form u other allBlocks s) (followed-clock form u n s))
+    subst (λ (ls : List Line). Says ls (nth n (restPlaces (run (columned u) allBlocks s)))) (column-found form u other allBlocks start blank n s)
+    (subst (λ (c : Run State Block (Unit {0})). Says (followed form u n s) (nth n (restPlaces c))) (run-columned form u other allBlocks s) (followed-clock form u n s))
 opened-clock form u n other (not why) = λ no. absurd (no refl)
 
 columned-clock : (form : ℕ) (u : List ℕ) (n : ℕ) → form ≢ 1 → Says (explanation form u n) (nth n (blocksOf form u))

@@ -11,13 +11,13 @@ use Rattle.block.specs.declared.Block.{Block}
 use Rattle.block.specs.Row.{noBlock, noPart}
 use Rattle.block.specs.Rows.{plain}
 use Rattle.grammar.specs.Grammar.{Field, Answer, Grammar, ask, emit, stop, done}
-use Rattle.grammar.specs.Course.{Drawn, got, not, Run, item, over, stopped, onDrawn, run}
+use Rattle.grammar.specs.Course.{Drawn, got, not, Run, thing, over, stopped, onDrawn, run}
 use Rattle.decoder.specs.States.{State}
 use Rattle.decoder.specs.ColumnedInner.{fields}
 use Rattle.roles.specs.declared.Role.{Role}
 use Rattle.roles.specs.declared.Role.the-variants as role
 use Rattle.roles.specs.declared.Plan.{Plan}
-use Rattle.roles.specs.Roles.{goTo, sectioned, announced, onward, headed, informed, infoRole, behind, after, settled, codeOf, isEnded, blockRole, sectionRole}
+use Rattle.roles.specs.Roles.{goTo, sectioned, announced, onward, headed, informed, infoRole, planAfter, after, movedOn, codeOf, isEnded, blockRole, sectionRole}
 use Rattle.roles.specs.RolesInner.{isOver}
 use Rattle.origins.specs.declared.Line.{Line}
 use Rattle.telling.specs.Telling.{heard}
@@ -117,12 +117,12 @@ block-row k n q b h e = go (eqb k 0)
 module _ (form : ℕ) (u : List ℕ) where
   -- of a block's own
   own-row : (r : Role) (q : Plan) (b : Block) (h : Sheet) (a : Answer (fieldOf r q)) (s t : State) → fields form u (fieldOf r q) s ≡ got a t → Own r → codeOf r ≢ 0 → codeOf r ≢ 28 → Row-told q b h
-      → (v p : ℕ) → Tells-row (behind r q v p .role) (behind r q v p) (rowed (codeOf r) (heard (fieldOf r q) a .0) (partOf (fieldOf r q) a) b) (noted (codeOf r) (linesOf form u (codeOf r) (fieldOf r q) a s t) h)
+      → (v p : ℕ) → Tells-row (planAfter r q v p .role) (planAfter r q v p) (rowed (codeOf r) (heard (fieldOf r q) a .0) (partOf (fieldOf r q) a) b) (noted (codeOf r) (linesOf form u (codeOf r) (fieldOf r q) a s t) h)
   unfolding isEnded goTo rowBy
-  own-row r q b h a s t e o n0 n28 x v p = row-own (behind r q v p .role) (behind r q v p) _ _ (goes .own)
-      (subst (λ (y : Sheet). Row-told (behind r q v p) b₁ y) (sym (noted-own (codeOf r) ls h (own-code r o n0))) (record {
+  own-row r q b h a s t e o n0 n28 x v p = row-own (planAfter r q v p .role) (planAfter r q v p) _ _ (goes .own)
+      (subst (λ (y : Sheet). Row-told (planAfter r q v p) b₁ y) (sym (noted-own (codeOf r) ls h (own-code r o n0))) (record {
         client = x .client ∙ sym (own-client r o (heard (fieldOf r q) a .0) (partOf (fieldOf r q) a) b);
-        row = ap (λ (l : Line). rowBy (l ∷ (h .own ++ ls)) (rowBy (h .head) noBlock)) (sym (clock-same q (behind r q v p) (goes .first) (goes .clock)))
+        row = ap (λ (l : Line). rowBy (l ∷ (h .own ++ ls)) (rowBy (h .head) noBlock)) (sym (clock-same q (planAfter r q v p) (goes .first) (goes .clock)))
             ∙ row-append (clockLine q ∷ h .own) ls (rowBy (h .head) noBlock) ∙ ap (rowBy ls) (x .row) ∙ lines-row form u r q a s t b e n0 n28;
       }))
     where
@@ -132,13 +132,13 @@ module _ (form : ℕ) (u : List ℕ) where
       b₁ : Block
       b₁ = rowed (codeOf r) (heard (fieldOf r q) a .0) (partOf (fieldOf r q) a) b
 
-      goes : Goes (most (fieldOf r q)) r q (behind r q v p)
+      goes : Goes (most (fieldOf r q)) r q (planAfter r q v p)
       goes = own-goes r q v p o (ne-eqb (codeOf r) 0 n0)
 
   -- by the role; b is the row behind what an info byte begins
   draw-row : (r : Role) (q : Plan) (b : Block) (h : Sheet) (a : Answer (fieldOf r q)) (s t : State) → fields form u (fieldOf r q) s ≡ got a t → codeOf r ≢ 0 → codeOf r ≢ 28 → Tells-row r q b h
-      → (v p : ℕ) → Tells-row (behind r q v p .role) (behind r q v p) (rowed (codeOf r) (heard (fieldOf r q) a .0) (partOf (fieldOf r q) a) (pick (eqb (codeOf r) 6) (rowed 5 (q .clock) noPart b) b)) (noted (codeOf r) (linesOf form u (codeOf r) (fieldOf r q) a s t) h)
-  unfolding Tells-row behind codeOf Own sectioned announced goTo headed onward informed noted rowed headRow idRow contentRow nameRow rowBy clockLine fieldOf heard partOf
+      → (v p : ℕ) → Tells-row (planAfter r q v p .role) (planAfter r q v p) (rowed (codeOf r) (heard (fieldOf r q) a .0) (partOf (fieldOf r q) a) (pick (eqb (codeOf r) 6) (rowed 5 (q .clock) noPart b) b)) (noted (codeOf r) (linesOf form u (codeOf r) (fieldOf r q) a s t) h)
+  unfolding Tells-row planAfter codeOf Own sectioned announced goTo headed onward informed noted rowed headRow idRow contentRow nameRow rowBy clockLine fieldOf heard partOf
   draw-row role.Sections q b h a s t e n0 n28 x v p = section-row v _ _ _
   draw-row role.Blocks q b h a s t e n0 n28 x v p = tt
   draw-row role.Client q b h a s t e n0 n28 x v p =
@@ -189,17 +189,17 @@ onward-row : (q : Plan) (b : Block) (h : Sheet) → Row-told q b h → Tells-row
 unfolding onward
 onward-row q b h x = block-row (q .blocks) (q .sections) _ b h (x .client)
 
-settled-row : (q : Plan) (b : Block) (h : Sheet) → Tells-row (q .role) q b h → Tells-row (settled q .role) (settled q) b h
+settled-row : (q : Plan) (b : Block) (h : Sheet) → Tells-row (q .role) q b h → Tells-row (movedOn q .role) (movedOn q) b h
 settled-row q b h x = go (isEnded q) refl
   where
-    go : (y : Bool) → isEnded q ≡ y → Tells-row (settled q .role) (settled q) b h
+    go : (y : Bool) → isEnded q ≡ y → Tells-row (movedOn q .role) (movedOn q) b h
     go true e = subst (λ (p : Plan). Tells-row (p .role) p b h) (sym (settled-ended q e)) (onward-row q b h (ended-row q b h e x))
     go false e = subst (λ (p : Plan). Tells-row (p .role) p b h) (sym (settled-here q e)) x
 
-pub settled-goes : (q : Plan) → isEnded (settled q) ≡ false
+pub settled-goes : (q : Plan) → isEnded (movedOn q) ≡ false
 settled-goes q = go (isEnded q) refl
   where
-    go : (y : Bool) → isEnded q ≡ y → isEnded (settled q) ≡ false
+    go : (y : Bool) → isEnded q ≡ y → isEnded (movedOn q) ≡ false
     go true e = ap isEnded (settled-ended q e) ∙ onward-goes q
     go false e = ap isEnded (settled-here q e) ∙ e
 
@@ -207,8 +207,8 @@ settled-goes q = go (isEnded q) refl
 
 -- kept block n of a run, from 0; the row that has none where there are not so many
 unfoldable pub nthIn : {S : Type 0} → ℕ → Run S Block (Unit {0}) → Block
-nthIn zero (item b p c) = b
-nthIn (suc n) (item b p c) = nthIn n c
+nthIn zero (thing b p c) = b
+nthIn (suc n) (thing b p c) = nthIn n c
 nthIn n (over a s) = noBlock
 nthIn n (stopped why) = noBlock
 
@@ -222,7 +222,7 @@ module _ (form : ℕ) (u : List ℕ) where
           → ((a : Answer f) (p : Plan) (c : Block) (i : Sheet) (t : State) → Fits Final p c (k a) → Tells-row (p .role) p c i → rowOf (found (linesOf form u) p i n (watch (fields form u) (k a) t)) ≡ nthIn n (run (fields form u) (k a) t))
           → rowOf (found (linesOf form u) q h n (onSeen f s d (λ a t. watch (fields form u) (k a) t))) ≡ nthIn n (onDrawn d (λ a t. run (fields form u) (k a) t))
       go (got a t) e more = more a _ _ _ t (fit .3 a (meets form u f s a t e))
-          (behind-row form u (settled q) b h f (fit .2) a s t e (eqb-false (codeOf (settled q .role)) 0 (settled-goes q)) (eqb-false (codeOf (settled q .role)) 28 (fit .1)) (settled-row q b h x))
+          (behind-row form u (movedOn q) b h f (fit .2) a s t e (eqb-false (codeOf (movedOn q .role)) 0 (settled-goes q)) (eqb-false (codeOf (movedOn q .role)) 28 (fit .1)) (settled-row q b h x))
       go (not why) e more = refl
   rows (emit e p y) q b h zero s fit x = row-append (h .head) (clockLine q ∷ h .own) noBlock ∙ ended-row q b h (fit .0) x .row ∙ sym (fit .4)
   rows (emit e p y) q b h (suc n) s fit x =

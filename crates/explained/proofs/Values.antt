@@ -9,12 +9,12 @@ use borrow.Author.Tests.{eqb-true, eqb-false, ne-eqb}
 use Rattle.block.specs.declared.Block.{Block}
 use Rattle.block.specs.Row.{noBlock}
 use Rattle.grammar.specs.Blocks.{allBlocks}
-use Rattle.grammar.specs.Course.{Drawn, got, not, Run, item, over, stopped, onDrawn, run}
+use Rattle.grammar.specs.Course.{Drawn, got, not, Run, thing, over, stopped, onDrawn, run}
 use Rattle.decoder.specs.States.{State}
 use Rattle.decoder.specs.Columned.{columned}
 use Rattle.decoder.specs.ColumnedInner.{fields}
 use Rattle.decoder.specs.Opening.{openedOf}
-use Rattle.decoder.specs.Update.{placed, inColumns, blocksOf}
+use Rattle.decoder.specs.Update.{restPlaces, inColumns, blocksOf}
 use Rattle.decoder.proofs.Laws.{run-columned}
 use Rattle.cells.specs.Cells.{atIn, stateIn}
 use Rattle.content.specs.Content.{nth}
@@ -27,24 +27,24 @@ use Rattle.explainer.proofs.Forms.{column-found, first-byte, line-explains}
 use Rattle.explained.specs.Told.{Values-are-fields}
 use Rattle.explained.proofs.Telling.{Tells-row, nthIn, rows}
 
-pub nth-placed : (n : ℕ) (c : Run State Block (Unit {0})) → nthIn n c ≡ nth n (placed c)
-unfolding nthIn nth placed
-nth-placed zero (item b p c) = refl
-nth-placed (suc n) (item b p c) = nth-placed n c
+pub nth-placed : (n : ℕ) (c : Run State Block (Unit {0})) → nthIn n c ≡ nth n (restPlaces c)
+unfolding nthIn nth restPlaces
+nth-placed zero (thing b p c) = refl
+nth-placed (suc n) (thing b p c) = nth-placed n c
 nth-placed zero (over a s) = refl
 nth-placed (suc n) (over a s) = refl
 nth-placed zero (stopped why) = refl
 nth-placed (suc n) (stopped why) = refl
 
 -- from a state on
-followed-row : (form : ℕ) (u : List ℕ) (n : ℕ) (s : State) → rowOf (followed form u n s) ≡ nth n (placed (run (fields form u) allBlocks s))
+followed-row : (form : ℕ) (u : List ℕ) (n : ℕ) (s : State) → rowOf (followed form u n s) ≡ nth n (restPlaces (run (fields form u) allBlocks s))
 unfolding followed Tells-row
 followed-row form u n s = rows form u allBlocks start noBlock blank n s (all-fit noBlock) tt ∙ nth-placed n (run (fields form u) allBlocks s)
 
-opened-row : (form : ℕ) (u : List ℕ) (n : ℕ) → form ≢ 1 → (d : Drawn State (Unit {0})) → rowOf (onOpened u n d) ≡ nth n (placed (onDrawn d (λ _ s. run (columned u) allBlocks s)))
-unfolding onOpened onDrawn followed rowBy placed nth
+opened-row : (form : ℕ) (u : List ℕ) (n : ℕ) → form ≢ 1 → (d : Drawn State (Unit {0})) → rowOf (onOpened u n d) ≡ nth n (restPlaces (onDrawn d (λ _ s. run (columned u) allBlocks s)))
+unfolding onOpened onDrawn followed rowBy restPlaces nth
 opened-row form u n other (got a s) =
-    sym (ap rowOf (column-found form u other allBlocks start blank n s)) ∙ followed-row form u n s ∙ ap (λ (c : Run State Block (Unit {0})). nth n (placed c)) (run-columned form u other allBlocks s)
+    sym (ap rowOf (column-found form u other allBlocks start blank n s)) ∙ followed-row form u n s ∙ ap (λ (c : Run State Block (Unit {0})). nth n (restPlaces c)) (run-columned form u other allBlocks s)
 opened-row form u zero other (not why) = refl
 opened-row form u (suc n) other (not why) = refl
 

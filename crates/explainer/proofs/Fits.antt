@@ -15,7 +15,7 @@ use Rattle.grammar.specs.Grammar.{Number, Field, Answer, Grammar, ask, emit, st
 use Rattle.grammar.specs.GrammarInner.{_>>=_}
 use Rattle.roles.specs.declared.Role.the-variants as role
 use Rattle.roles.specs.declared.Plan.{Plan}
-use Rattle.roles.specs.Roles.{codeOf, after, onward, settled, isEnded, blockRole, sectionRole}
+use Rattle.roles.specs.Roles.{codeOf, after, onward, movedOn, isEnded, blockRole, sectionRole}
 use Rattle.roles.specs.RolesInner.{isOver, isKept}
 use Rattle.telling.specs.Telling.{heard}
 use Rattle.telling.specs.TellingInner.{fieldAt}
@@ -67,8 +67,8 @@ Passed q = isEnded q ≡ true → (isKept q ≡ false) × (q .clock + q .length 
 module _ {A : Type 0} (P : Plan → Block → A → Type 0) where
   unfoldable pub Fits : Plan → Block → Grammar Block A → Type 0
   Fits q r (ask f k) =
-      Passed q × (isOver (settled q) ≡ false) × (fieldAt (settled q) ≡ f)
-      × ((a : Answer f) → Meets f a → Fits (after (settled q) (heard f a .0) (heard f a .1)) (told (settled q) f a r) (k a))
+      Passed q × (isOver (movedOn q) ≡ false) × (fieldAt (movedOn q) ≡ f)
+      × ((a : Answer f) → Meets f a → Fits (after (movedOn q) (heard f a .0) (heard f a .1)) (told (movedOn q) f a r) (k a))
   Fits q r (emit e p x) =
       (isEnded q ≡ true) × (isKept q ≡ true) × (q .clock + q .length ≤ maxClock) × (q .first ≤ q .clock) × (e ≡ r) × Fits (onward q) r x
   Fits q r (stop n p) = Unit {0}
@@ -106,12 +106,12 @@ onward-goes q = go (eqb (q .blocks) 0) (eqb (q .sections) 0)
     go true false = refl
     go false s = refl
 
-pub settled-here : (q : Plan) → isEnded q ≡ false → settled q ≡ q
-unfolding settled
+pub settled-here : (q : Plan) → isEnded q ≡ false → movedOn q ≡ q
+unfolding movedOn
 settled-here q e = rw e refl
 
-pub settled-ended : (q : Plan) → isEnded q ≡ true → settled q ≡ onward q
-unfolding settled
+pub settled-ended : (q : Plan) → isEnded q ≡ true → movedOn q ≡ onward q
+unfolding movedOn
 settled-ended q e = rw e refl
 
 pub never : {X : Type 0} → false ≡ true → X
@@ -123,14 +123,14 @@ pub fits-onward : {A : Type 0} (P : Plan → Block → A → Type 0) (q : Plan) 
 unfolding Fits
 fits-onward P q r f k e h = ((λ x. absurd (not-both (sym x ∙ onward-goes q))), ap isOver from ∙ h .1, ap (λ (x : Plan). fieldAt x) from ∙ h .2, λ a m. subst (λ (x : Plan). Fits P (after x (heard f a .0) (heard f a .1)) (told x f a r) (k a)) (sym from) (h .3 a m))
   where
-    from : settled (onward q) ≡ settled q
+    from : movedOn (onward q) ≡ movedOn q
     from = settled-here (onward q) (onward-goes q) ∙ sym (settled-ended q e)
 
 -- a field that fits the plan that another is settled to fits that other
 pub fits-settled : {A : Type 0} (P : Plan → Block → A → Type 0) (p q : Plan) (r : Block) (f : Field) (k : Answer f → Grammar Block A)
-    → Passed q → settled q ≡ p → isEnded p ≡ false → Fits P p r (ask f k) → Fits P q r (ask f k)
+    → Passed q → movedOn q ≡ p → isEnded p ≡ false → Fits P p r (ask f k) → Fits P q r (ask f k)
 unfolding Fits
 fits-settled P p q r f k passed s e h = (passed, ap isOver from ∙ h .1, ap (λ (x : Plan). fieldAt x) from ∙ h .2, λ a m. subst (λ (x : Plan). Fits P (after x (heard f a .0) (heard f a .1)) (told x f a r) (k a)) (sym from) (h .3 a m))
   where
-    from : settled q ≡ settled p
+    from : movedOn q ≡ movedOn p
     from = s ∙ sym (settled-here p e)

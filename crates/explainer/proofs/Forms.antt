@@ -8,20 +8,20 @@ use borrow.Author.Tests.{ne-eqb}
 use Rattle.block.specs.declared.Block.{Block}
 use Rattle.grammar.specs.Grammar.{Field, Answer, Grammar, ask, emit, stop, done}
 use Rattle.grammar.specs.Blocks.{allBlocks}
-use Rattle.grammar.specs.Course.{Drawn, got, not, Run, item, over, stopped, onDrawn, ending, run}
+use Rattle.grammar.specs.Course.{Drawn, got, not, Run, thing, over, stopped, onDrawn, ending, run}
 use Rattle.decoder.specs.Line.{line}
 use Rattle.decoder.specs.States.{State, movedTo}
 use Rattle.decoder.specs.Columned.{onto, columned}
 use Rattle.decoder.specs.ColumnedInner.{fields}
 use Rattle.decoder.specs.Opening.{openedOf}
-use Rattle.decoder.specs.Update.{placed, inColumns, blocksOf}
+use Rattle.decoder.specs.Update.{restPlaces, inColumns, blocksOf}
 use Rattle.decoder.proofs.Laws.{placed-line, fields-columned, run-columned}
 use Rattle.cells.specs.declared.Drawn as cells-drawn
 use Rattle.cells.specs.declared.Drawn.the-variants as drawn
 use Rattle.cells.specs.Cells.{atIn, stateIn}
 use Rattle.opening.specs.Opening.{openedIn}
 use Rattle.roles.specs.declared.Plan.{Plan}
-use Rattle.roles.specs.Roles.{start, codeOf, after, settled}
+use Rattle.roles.specs.Roles.{start, codeOf, after, movedOn}
 use Rattle.origins.specs.declared.Line.{Line}
 use Rattle.origins.specs.Origins.{linesInLine, linesIn}
 use Rattle.origins.specs.Sheets.{linesFrom}
@@ -67,7 +67,7 @@ module _ (form : ℕ) (u : List ℕ) (other : form ≢ 1) where
           → found (linesOf form u) q h n (onSeen f s d (λ a t. watch (fields form u) (k a) t)) ≡ found (linesIn u) q h n (onSeen f s d₁ (λ a t. watch (columned u) (k a) t))
       go (got a t) d₁ e more =
           more a _ _ t
-          ∙ ap (λ (ls : List Line). found (linesIn u) (after (settled q) (heard f a .0) (heard f a .1)) (noted (codeOf (settled q .role)) ls h) n (watch (columned u) (k a) t)) (lines-columned (codeOf (settled q .role)) f a s t)
+          ∙ ap (λ (ls : List Line). found (linesIn u) (after (movedOn q) (heard f a .0) (heard f a .1)) (noted (codeOf (movedOn q .role)) ls h) n (watch (columned u) (k a) t)) (lines-columned (codeOf (movedOn q .role)) f a s t)
           ∙ ap from-columns e
       go (not why) d₁ e more = ap from-columns e
   column-found (emit e p x) q h zero s = refl
@@ -77,9 +77,9 @@ module _ (form : ℕ) (u : List ℕ) (other : form ≢ 1) where
 
 -- ---- whole
 
-whole-placed : {E A : Type 0} (c : Run State E A) → isWhole (placed c) ≡ isWhole c
-unfolding isWhole ending placed
-whole-placed (item e p c) = whole-placed c
+whole-placed : {E A : Type 0} (c : Run State E A) → isWhole (restPlaces c) ≡ isWhole c
+unfolding isWhole ending restPlaces
+whole-placed (thing e p c) = whole-placed c
 whole-placed (over a s) = refl
 whole-placed (stopped why) = refl
 
@@ -87,7 +87,7 @@ whole-placed (stopped why) = refl
 
 -- form 1, from words whose place is its first byte
 module _ (form : ℕ) (u w : List ℕ) (one : form ≡ 1) (at : atIn w ≡ 0) where
-  pub first-byte : blocksOf form u ≡ placed (run (fields form u) allBlocks (stateIn w))
+  pub first-byte : blocksOf form u ≡ restPlaces (run (fields form u) allBlocks (stateIn w))
   unfolding blocksOf stateIn
   first-byte = rw (one) (sym (placed-line u allBlocks (stateIn w) ∙ ap (λ (x : ℕ). run (line 1 u) allBlocks x) at))
 
@@ -109,9 +109,9 @@ module _ (form : ℕ) (u w : List ℕ) (other : form ≢ 1) where
     unfolding inColumns onDrawn openedIn
     behind-columns = rw (← opened) (sym (run-columned form u other allBlocks (stateIn w)))
 
-    all-columned : blocksOf form u ≡ placed (run (fields form u) allBlocks (stateIn w))
+    all-columned : blocksOf form u ≡ restPlaces (run (fields form u) allBlocks (stateIn w))
     unfolding blocksOf
-    all-columned = rw (ne-eqb form 1 other) (ap placed behind-columns)
+    all-columned = rw (ne-eqb form 1 other) (ap restPlaces behind-columns)
 
     pub column-reads : Readable form u → Reads form u (stateIn w)
     column-reads r = sym (whole-placed (run (fields form u) allBlocks (stateIn w))) ∙ sym (ap isWhole all-columned) ∙ r

@@ -11,7 +11,7 @@ use Rattle.grammar.specs.Grammar.{Field}
 use Rattle.roles.specs.declared.Role.{Role}
 use Rattle.roles.specs.declared.Role.the-variants as role
 use Rattle.roles.specs.declared.Plan.{Plan}
-use Rattle.roles.specs.Roles.{goTo, informed, lengthened, infoRole, contentRole, toRight, toParent, toNode, behind, codeOf, isEnded}
+use Rattle.roles.specs.Roles.{goTo, informed, lengthened, infoRole, contentRole, toRight, toParent, toNode, planAfter, codeOf, isEnded}
 use Rattle.telling.specs.TellingInner.{fieldOf}
 use Rattle.explainer.proofs.Fits.{not-both}
 
@@ -176,8 +176,8 @@ to-key r q h = go (ltb (q .info) 32)
     go false = to-role 1 r role.Key q (omega (arith, h)) tt
 
 -- behind a draw of a block's own
-pub own-goes : (r : Role) (q : Plan) (v p : ℕ) → Own r → isEnded (goTo r q) ≡ false → Goes (most (fieldOf r q)) r q (behind r q v p)
-unfolding Own OwnOrOver weight most fieldOf behind isEnded codeOf goTo toRight toParent toNode
+pub own-goes : (r : Role) (q : Plan) (v p : ℕ) → Own r → isEnded (goTo r q) ≡ false → Goes (most (fieldOf r q)) r q (planAfter r q v p)
+unfolding Own OwnOrOver weight most fieldOf planAfter isEnded codeOf goTo toRight toParent toNode
 own-goes role.Sections q v p o e = absurd o
 own-goes role.Blocks q v p o e = absurd o
 own-goes role.Client q v p o e = absurd o

@@ -11,7 +11,7 @@ use Rattle.numbers.specs.Number.{pick}
 use Rattle.roles.specs.declared.Role.{Role}
 use Rattle.roles.specs.declared.Role.the-variants as role
 use Rattle.roles.specs.declared.Plan.{Plan}
-use Rattle.roles.specs.Roles.{goTo, sectioned, announced, onward, headed, informed, infoRole, behind, codeOf, isEnded, blockRole, sectionRole}
+use Rattle.roles.specs.Roles.{goTo, sectioned, announced, onward, headed, informed, infoRole, planAfter, codeOf, isEnded, blockRole, sectionRole}
 use Rattle.origins.specs.declared.Line.{Line}
 use Rattle.origins.specs.Sheets.{lineIn, linesFrom, Above}
 use Rattle.telling.specs.TellingInner.{fieldOf}
@@ -205,7 +205,7 @@ module _ (r : Role) (q : Plan) (h : Sheet) (own : ℕ) (sh sh₁ sh₂ : List �
     behind-own : Above own sh sh₂
     behind-own = beyond own here (λ x. omega (arith, x, high))
 
-    goes : Goes (most (fieldOf r q)) r q (behind r q v p)
+    goes : Goes (most (fieldOf r q)) r q (planAfter r q v p)
     unfolding isEnded goTo
     goes = own-goes r q v p o (ne-eqb (codeOf r) 0 ne)
 
@@ -215,11 +215,11 @@ module _ (r : Role) (q : Plan) (h : Sheet) (own : ℕ) (sh sh₁ sh₂ : List �
         ∙ ap (λ (x : List Line). linesFrom sh₂ 4 (own - 4) ++ x) (told-at (4 + (own - 4)) k (here ∙ (let z : own ≡ 4 + (own - 4) = omega (arith, held .from) in z)) refl)
         ∙ lines-join sh₂ 4 (own - 4) k ∙ ap (λ (x : ℕ). linesFrom sh₂ 4 x) (let z : own - 4 + k ≡ i + k - 4 = omega (arith, held .from, there ∙ here) in z)
 
-    own-turn : Holds (behind r q v p .role) (behind r q v p) (noted (codeOf r) ls h) sh₂ (i + k)
-    own-turn = holds-own (behind r q v p .role) (behind r q v p) _ sh₂ (i + k) (goes .own)
-        (subst (λ (x : Sheet). Held (behind r q v p .role) (behind r q v p) x sh₂ (i + k)) (sym (noted-own (codeOf r) ls h high)) (record {
+    own-turn : Holds (planAfter r q v p .role) (planAfter r q v p) (noted (codeOf r) ls h) sh₂ (i + k)
+    own-turn = holds-own (planAfter r q v p .role) (planAfter r q v p) _ sh₂ (i + k) (goes .own)
+        (subst (λ (x : Sheet). Held (planAfter r q v p .role) (planAfter r q v p) x sh₂ (i + k)) (sym (noted-own (codeOf r) ls h high)) (record {
           head = held .head ∙ sym (lines-stay own sh sh₂ behind-own 0 3 (omega (arith, held .from)));
-          clock = behind-own .same 3 (omega (arith, held .from)) ∙ held .clock ∙ clock-same q (behind r q v p) (goes .first) (goes .clock);
+          clock = behind-own .same 3 (omega (arith, held .from)) ∙ held .clock ∙ clock-same q (planAfter r q v p) (goes .first) (goes .clock);
           lines = own-lines;
           from = omega (arith, there ∙ here, held .from);
           room = omega (arith, there ∙ here, held .room, goes .less, few);
@@ -229,8 +229,8 @@ module _ (r : Role) (q : Plan) (h : Sheet) (own : ℕ) (sh sh₁ sh₂ : List �
 module _ (q : Plan) (h : Sheet) (own : ℕ) (sh sh₁ sh₂ : List ℕ) (i k : ℕ) (ls : List Line) (placed : Placed q own sh sh₁ i) (above : Above i sh₁ sh₂)
     (lines : linesFrom sh₂ i k ≡ ls) (some : 1 ≤ k) (v p : ℕ) where
   pub draw-holds : (r : Role) → q .role ≡ r → codeOf r ≢ 0 → codeOf r ≢ 28 → Holds r q h sh own → k ≤ most (fieldOf r q)
-      → Holds (behind r q v p .role) (behind r q v p) (noted (codeOf r) ls h) sh₂ (i + k)
-  unfolding Holds behind goTo announced noted codeOf Own most fieldOf sectioned headed onward informed lineFor weight clockLine
+      → Holds (planAfter r q v p .role) (planAfter r q v p) (noted (codeOf r) ls h) sh₂ (i + k)
+  unfolding Holds planAfter goTo announced noted codeOf Own most fieldOf sectioned headed onward informed lineFor weight clockLine
   draw-holds role.Sections e n0 n28 x few = section-holds v _ _ sh₂ (i + k) refl
   draw-holds role.Blocks e n0 n28 x few = told-at role.Blocks q h own sh sh₁ sh₂ i k ls e placed above lines some 0 1 refl (omega (arith, some, few))
   draw-holds role.Client e n0 n28 x few =

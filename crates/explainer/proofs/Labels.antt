@@ -20,7 +20,7 @@ use Rattle.grammar.specs.Blocks as blocks
 use Rattle.roles.specs.declared.Role.{Role}
 use Rattle.roles.specs.declared.Role.the-variants as role
 use Rattle.roles.specs.declared.Plan.{Plan}
-use Rattle.roles.specs.Roles.{start, goTo, sectioned, announced, onward, headed, informed, lengthened, infoRole, contentRole, toRight, toParent, toNode, behind, after, codeOf, settled, isEnded, blockRole, sectionRole}
+use Rattle.roles.specs.Roles.{start, goTo, sectioned, announced, onward, headed, informed, lengthened, infoRole, contentRole, toRight, toParent, toNode, planAfter, after, codeOf, movedOn, isEnded, blockRole, sectionRole}
 use Rattle.roles.specs.RolesInner.{isOver, isKept, isBare}
 use Rattle.telling.specs.Telling.{heard}
 use Rattle.telling.specs.TellingInner.{fieldOf}
@@ -61,7 +61,7 @@ module _ (s k m first c i p client : ℕ) where
 
   module _ (item : isBare i ≡ false) where
     content-fits : (b : Block) → b .client ≡ client → Fits Ends here b (blocks.content i p b)
-    unfolding Fits planAt contentRole blocks.content blocks.contentOf blocks.deleted blocks.binary blocks.string blocks.format blocks.type blocks.node blocks.anyList _>>=_ settled isEnded isOver codeOf after behind fieldOf heard partOf begun told rowed headRow idRow contentRow nameRow goTo lengthened toNode Meets Within isItem
+    unfolding Fits planAt contentRole blocks.content blocks.contentOf blocks.deleted blocks.binary blocks.string blocks.format blocks.type blocks.node blocks.anyList _>>=_ movedOn isEnded isOver codeOf after planAfter fieldOf heard partOf begun told rowed headRow idRow contentRow nameRow goTo lengthened toNode Meets Within isItem
     content-fits b o = go (eqb (i % 32) 1) (eqb (i % 32) 3) (eqb (i % 32) 4) (eqb (i % 32) 6) (eqb (i % 32) 7) (eqb (i % 32) 8)
       where
         type-row : ℕ → Block
@@ -87,7 +87,7 @@ module _ (s k m first c i p client : ℕ) where
   -- what stands before the content: then is what follows it
   module _ (P : Plan → Block → Block → Type 0) (then : (b : Block) → b .client ≡ client → P here b b) where
     key-fits : (b : Block) → b .client ≡ client → Fits P (pick (ltb i 32) here (at role.Key 0)) b (blocks.key i b)
-    unfolding Fits planAt blocks.key _>>=_ settled isEnded isOver codeOf after behind fieldOf heard partOf begun told rowed headRow idRow contentRow nameRow goTo Meets
+    unfolding Fits planAt blocks.key _>>=_ movedOn isEnded isOver codeOf after planAfter fieldOf heard partOf begun told rowed headRow idRow contentRow nameRow goTo Meets
     key-fits b o = go (ltb i 32)
       where
         go : (x : Bool) → Fits P (pick x here (at role.Key 0)) b (pick x (done b) (ask grammar.text (λ a. done (withKey (a .0) b))))
@@ -95,7 +95,7 @@ module _ (s k m first c i p client : ℕ) where
         go false = (never, refl, refl, λ a _. then (withKey (a .0) b) o)
 
     right-fits : (b : Block) → b .client ≡ client → Fits P (pick (ltb (i % 128) 64) here (at role.RightClient 0)) b (blocks.right i b)
-    unfolding Fits planAt blocks.right blocks.anId _>>=_ settled isEnded isOver codeOf after behind fieldOf heard partOf begun told rowed headRow idRow contentRow nameRow goTo Meets Within
+    unfolding Fits planAt blocks.right blocks.anId _>>=_ movedOn isEnded isOver codeOf after planAfter fieldOf heard partOf begun told rowed headRow idRow contentRow nameRow goTo Meets Within
     right-fits b o = go (ltb (i % 128) 64)
       where
         go : (x : Bool) → Fits P (pick x here (at role.RightClient 0)) b (pick x (done b) (blocks.anId grammar.rightClock >>= λ id. done (withRight id b)))
@@ -103,11 +103,11 @@ module _ (s k m first c i p client : ℕ) where
         go false = (never, refl, refl, λ a _. (never, refl, refl, λ a₁ _. then (withRight (record { client = a .0; clock = a₁ .0 }) b) o))
 
     left-fits : (b : Block) → b .client ≡ client → Fits P (at role.LeftClient 0) b ((blocks.anId grammar.leftClock >>= λ id. done (withLeft id b)) >>= blocks.right i)
-    unfolding Fits planAt blocks.anId _>>=_ settled isEnded isOver codeOf after behind fieldOf heard partOf begun told rowed headRow idRow contentRow nameRow goTo toRight Meets Within
+    unfolding Fits planAt blocks.anId _>>=_ movedOn isEnded isOver codeOf after planAfter fieldOf heard partOf begun told rowed headRow idRow contentRow nameRow goTo toRight Meets Within
     left-fits b o = (never, refl, refl, λ a _. (never, refl, refl, λ a₁ _. right-fits (withLeft (record { client = a .0; clock = a₁ .0 }) b) o))
 
     parent-fits : (b : Block) → b .client ≡ client → Fits P (at role.ParentInfo 0) b (blocks.parent b >>= blocks.key i)
-    unfolding Fits planAt blocks.parent blocks.parentAfter blocks.anId _>>=_ settled isEnded isOver codeOf after behind fieldOf heard partOf begun told rowed headRow idRow contentRow nameRow goTo toParent Meets Within
+    unfolding Fits planAt blocks.parent blocks.parentAfter blocks.anId _>>=_ movedOn isEnded isOver codeOf after planAfter fieldOf heard partOf begun told rowed headRow idRow contentRow nameRow goTo toParent Meets Within
     parent-fits b o = (never, refl, refl, λ a _. go (eqb (a .0) 1))
       where
         go : (x : Bool)
@@ -135,7 +135,7 @@ module _ (s k m first c i p client : ℕ) where
   item-fits item b o = fits-bind Ends (blocks.place i b) (blocks.content i p) _ b (place-fits (λ q r b₁. Fits Ends q r (blocks.content i p b₁)) (content-fits item) b o)
 
   body-fits : Fits Ends (at (infoRole i) 0) (plain client c 0 0) (blocks.body client c i p)
-  unfolding Fits planAt infoRole blocks.body blocks.bare _>>=_ settled isEnded isOver codeOf after behind fieldOf heard partOf begun told rowed headRow idRow contentRow nameRow lengthened Meets Within isItem isBare
+  unfolding Fits planAt infoRole blocks.body blocks.bare _>>=_ movedOn isEnded isOver codeOf after planAfter fieldOf heard partOf begun told rowed headRow idRow contentRow nameRow lengthened Meets Within isItem isBare
   body-fits = go (eqb i 10) refl (eqb i 0) refl
     where
       go : (x : Bool) → eqb i 10 ≡ x → (y : Bool) → eqb i 0 ≡ y
@@ -153,7 +153,7 @@ module _ (s k m first c client : ℕ) where
     pub ends : Ends s k m first c info (b .1) client q r (b .0)
 
   block-fits : (r : Block) → r .client ≡ client → Fits Block-ends (planAt s k m first c 0 0 role.Info 0) r (blocks.block client c)
-  unfolding Fits planAt blocks.block _>>=_ settled isEnded isOver codeOf after behind fieldOf heard partOf begun told rowed headRow idRow contentRow nameRow informed Meets Within
+  unfolding Fits planAt blocks.block _>>=_ movedOn isEnded isOver codeOf after planAfter fieldOf heard partOf begun told rowed headRow idRow contentRow nameRow informed Meets Within
   block-fits r o = (
     never,
     refl,
@@ -185,12 +185,12 @@ before-goes s n m first c = go (eqb n 0) (eqb s 0)
 
 -- a block that ended, and what follows it: more, from its end on
 module _ (s k m first c client : ℕ) (P : Plan → Block → Unit {0} → Type 0) (more : ℕ → Grammar Block (Unit {0}))
-    (goes : (n : ℕ) (r : Block) (q : Plan) → r .client ≡ client → first ≤ c + n → Passed q → settled q ≡ before s k m first (c + n) → Fits P q r (more (c + n))) (low : first ≤ c) where
+    (goes : (n : ℕ) (r : Block) (q : Plan) → r .client ≡ client → first ≤ c + n → Passed q → movedOn q ≡ before s k m first (c + n) → Fits P q r (more (c + n))) (low : first ≤ c) where
   abbrev next : Block × ℕ → Grammar Block (Unit {0})
-  next b = pick (ltb maxClock (c + b .0 .length .0)) (stop 3 (b .1)) (blocks.kept (b .0) (b .1) (more (c + b .0 .length .0)))
+  next b = pick (ltb maxClock (c + b .0 .length .0)) (stop 3 (b .1)) (blocks.unlessDropped (b .0) (b .1) (more (c + b .0 .length .0)))
 
   behind-block : (q : Plan) (r : Block) (b : Block × ℕ) → Block-ends s k m first c client q r b → Fits P q r (next b)
-  unfolding Fits blocks.kept planAt isEnded codeOf settled onward before isKept blocks.dropped
+  unfolding Fits blocks.unlessDropped planAt isEnded codeOf movedOn onward before isKept blocks.dropped
   behind-block q r b h = subst (λ (x : Plan). Fits P x r (next b)) (sym (h .ends .plan)) (go (ltb maxClock (c + n)) refl (blocks.dropped (b .0)) refl)
     where
       n : ℕ
@@ -202,7 +202,7 @@ module _ (s k m first c client : ℕ) (P : Plan → Block → Unit {0} → Type 
       is-ended : isEnded ended ≡ true
       is-ended = refl
 
-      settles : settled ended ≡ before s k m first (c + n)
+      settles : movedOn ended ≡ before s k m first (c + n)
       settles = refl
 
       kept-is : isKept ended ≡ not (blocks.dropped (b .0))
@@ -232,7 +232,7 @@ module _ (s k m first c client : ℕ) (P : Plan → Block → Unit {0} → Type 
         goes n r (onward ended) own (omega (arith, low)) (λ e. absurd (not-both (sym e ∙ onward-goes ended))) (settled-here (onward ended) (onward-goes ended) ∙ sym (settled-ended ended is-ended) ∙ settles),
       )
 
-  one-more-fits : (r : Block) (q : Plan) → r .client ≡ client → Passed q → settled q ≡ before s (suc k) m first c → Fits P q r (blocks.block client c >>= next)
+  one-more-fits : (r : Block) (q : Plan) → r .client ≡ client → Passed q → movedOn q ≡ before s (suc k) m first c → Fits P q r (blocks.block client c >>= next)
   unfolding blocks.block _>>=_
   one-more-fits r q own passed settles =
       fits-settled P (planAt s k m first c 0 0 role.Info 0) q r _ _ passed (settles ∙ before-one s k m first c) info-goes
@@ -246,10 +246,10 @@ module _ (s m first client : ℕ) (P : Plan → Block → Unit {0} → Type 0) w
   pub record Behind (q : Plan) : Type 0 where
     pub passed : Passed q
     pub clock : ℕ
-    pub settles : settled q ≡ before s 0 m first clock
+    pub settles : movedOn q ≡ before s 0 m first clock
 
   module _ (then : (q : Plan) (r : Block) → Behind q → P q r tt) where
-    blocks-fit : (k c : ℕ) (r : Block) (q : Plan) → r .client ≡ client → first ≤ c → Passed q → settled q ≡ before s k m first c → Fits P q r (blocks.blocks k client c)
+    blocks-fit : (k c : ℕ) (r : Block) (q : Plan) → r .client ≡ client → first ≤ c → Passed q → movedOn q ≡ before s k m first c → Fits P q r (blocks.blocks k client c)
     unfolding Fits blocks.blocks
     blocks-fit zero c r q own low passed settles = then q r (record { passed = passed; clock = c; settles = settles })
     blocks-fit (suc k) c r q own low passed settles = one-more-fits s k m first c client P (λ n. blocks.blocks k client n) (λ n. blocks-fit k (c + n)) low r q own passed settles
@@ -258,7 +258,7 @@ module _ (s m first client : ℕ) (P : Plan → Block → Unit {0} → Type 0) w
 
 -- where the grammar is done, so is the plan
 abbrev pub Final : Plan → Block → Unit {0} → Type 0
-Final q r x = Passed q × (isOver (settled q) ≡ true)
+Final q r x = Passed q × (isOver (movedOn q) ≡ true)
 
 before-section : (n m first c : ℕ) → before (suc n) 0 m first c ≡ planAt (suc n) 0 m first c 0 0 role.Blocks 0
 unfolding before planAt blockRole sectionRole
@@ -279,7 +279,7 @@ behind-client n m seen k c =
 
 -- a section's head, and what follows it
 module _ (n m : ℕ) (seen : List ℕ)
-    (goes : (seen : List ℕ) (m first c : ℕ) (r : Block) (q : Plan) → Passed q → settled q ≡ before n 0 m first c → Fits Final q r (blocks.sections n seen m)) where
+    (goes : (seen : List ℕ) (m first c : ℕ) (r : Block) (q : Plan) → Passed q → movedOn q ≡ before n 0 m first c → Fits Final q r (blocks.sections n seen m)) where
   blocks-then : (k client clock : ℕ) (cs : List ℕ) (r : Block) (q : Plan) → r .client ≡ client → q ≡ before n k (m - k) clock clock
       → Fits Final q r (blocks.blocks k client clock >>= λ _. blocks.sections n cs (m - k))
   blocks-then k client clock cs r q own e =
@@ -291,7 +291,7 @@ module _ (n m : ℕ) (seen : List ℕ)
 
   head-fits : (first c : ℕ) (r : Block)
       → Fits Final (planAt (suc n) 0 m first c 0 0 role.Blocks 0) r (ask (grammar.number (grammar.upTo m)) (λ a. ask (grammar.number grammar.client) (λ x. behind-client n m seen (a .0) x)))
-  unfolding Fits planAt settled isEnded isOver codeOf after behind fieldOf heard partOf begun told rowed headRow idRow contentRow nameRow goTo announced Meets Within
+  unfolding Fits planAt movedOn isEnded isOver codeOf after planAfter fieldOf heard partOf begun told rowed headRow idRow contentRow nameRow goTo announced Meets Within
   head-fits first c r = (never, refl, refl, λ a _. (never, refl, refl, λ x _. go (among (x .0) seen) (a .0) x))
     where
       go : (y : Bool) (k : ℕ) (x : ℕ × ℕ)
@@ -304,7 +304,7 @@ none-over : (m first c : ℕ) → isOver (before 0 0 m first c) ≡ true
 unfolding isOver before blockRole sectionRole codeOf
 none-over m first c = refl
 
-sections-fit : (n : ℕ) (seen : List ℕ) (m first c : ℕ) (r : Block) (q : Plan) → Passed q → settled q ≡ before n 0 m first c → Fits Final q r (blocks.sections n seen m)
+sections-fit : (n : ℕ) (seen : List ℕ) (m first c : ℕ) (r : Block) (q : Plan) → Passed q → movedOn q ≡ before n 0 m first c → Fits Final q r (blocks.sections n seen m)
 unfolding Fits blocks.sections _>>=_
 sections-fit zero seen m first c r q passed settles = (passed, ap isOver settles ∙ none-over m first c)
 sections-fit (suc n) seen m first c r q passed settles =
@@ -317,7 +317,7 @@ sectioned-is n = refl
 
 -- all of them
 pub all-fit : (r : Block) → Fits Final start r blocks.allBlocks
-unfolding Fits blocks.allBlocks _>>=_ settled isEnded isOver codeOf after behind fieldOf heard partOf begun told Meets Within
+unfolding Fits blocks.allBlocks _>>=_ movedOn isEnded isOver codeOf after planAfter fieldOf heard partOf begun told Meets Within
 all-fit r = (never, refl, refl, λ a _. sections-fit (a .0) [] maxBlocks 0 0 _ _ (λ e. absurd (not-both (sym e ∙ goes-on (a .0)))) (settled-here _ (goes-on (a .0)) ∙ sectioned-is (a .0)))
   where
     goes-on : (n : ℕ) → isEnded (sectioned n start) ≡ false

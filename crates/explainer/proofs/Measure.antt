@@ -11,7 +11,7 @@ use Rattle.numbers.specs.Number.{pick}
 use Rattle.roles.specs.declared.Role.{Role}
 use Rattle.roles.specs.declared.Role.the-variants as role
 use Rattle.roles.specs.declared.Plan.{Plan}
-use Rattle.roles.specs.Roles.{goTo, sectioned, announced, onward, headed, behind, codeOf, isEnded, blockRole, sectionRole}
+use Rattle.roles.specs.Roles.{goTo, sectioned, announced, onward, headed, planAfter, codeOf, isEnded, blockRole, sectionRole}
 use Rattle.grammar.specs.Grammar.{Answer}
 use Rattle.telling.specs.Telling.{heard}
 use Rattle.telling.specs.TellingInner.{fieldOf}
@@ -49,13 +49,13 @@ goes-less : (n : ℕ) (r : Role) (q q₁ : Plan) → q .role ≡ r → 1 ≤ n �
 unfolding left
 goes-less n r q q₁ e some g = omega (arith, g .sections, g .blocks, g .room, g .less, ap weight e, some)
 
-own-less : (r : Role) (q : Plan) (v p : ℕ) → q .role ≡ r → Own r → codeOf r ≢ 0 → 1 ≤ most (fieldOf r q) → left (behind r q v p) < left q
+own-less : (r : Role) (q : Plan) (v p : ℕ) → q .role ≡ r → Own r → codeOf r ≢ 0 → 1 ≤ most (fieldOf r q) → left (planAfter r q v p) < left q
 unfolding isEnded goTo
 own-less r q v p e o ne some = goes-less (most (fieldOf r q)) r q _ e some (own-goes r q v p o (ne-eqb (codeOf r) 0 ne))
 
 pub draw-less : (r : Role) (q : Plan) (a : Answer (fieldOf r q)) (h : Sheet) (sh : List ℕ) (own : ℕ) → Meets (fieldOf r q) a → q .role ≡ r → codeOf r ≢ 0 → codeOf r ≢ 28 → Holds r q h sh own
-    → left (behind r q (heard (fieldOf r q) a .0) (heard (fieldOf r q) a .1)) < left q
-unfolding behind goTo announced sectioned headed fieldOf heard Meets Within Holds Own most weight left codeOf
+    → left (planAfter r q (heard (fieldOf r q) a .0) (heard (fieldOf r q) a .1)) < left q
+unfolding planAfter goTo announced sectioned headed fieldOf heard Meets Within Holds Own most weight left codeOf
 draw-less role.Sections q a h sh own m e n0 n28 x = omega (arith, m, section-weight (a .0), ap weight e)
 draw-less role.Blocks q a h sh own m e n0 n28 x = omega (arith, m, x, ap weight e)
 draw-less role.Client q a h sh own m e n0 n28 x = omega (arith, ap weight e)

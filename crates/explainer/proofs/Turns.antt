@@ -24,7 +24,7 @@ use Rattle.decoder.proofs.Laws.{fields-up-to}
 use Rattle.cells.specs.Cells.{stateIn, Small}
 use Rattle.roles.specs.declared.Role.the-variants as role
 use Rattle.roles.specs.declared.Plan.{Plan}
-use Rattle.roles.specs.Roles.{start, codeOf, behind, after, onward, settled, isEnded}
+use Rattle.roles.specs.Roles.{start, codeOf, planAfter, after, onward, movedOn, isEnded}
 use Rattle.roles.specs.RolesInner.{isOver, isKept}
 use Rattle.origins.specs.declared.Line.{Line}
 use Rattle.origins.specs.Sheets.{linesFrom}
@@ -99,7 +99,7 @@ module _ {S : Type 0} (tell : ℕ → (f : Field) → Answer f → S → S → L
   unfolding watch onSeen found Fits
   found-onward q r h n (ask f k) s e fit = go (reader f s)
     where
-      same : settled q ≡ settled (onward q)
+      same : movedOn q ≡ movedOn (onward q)
       same = settled-ended q e ∙ sym (settled-here (onward q) (onward-goes q))
 
       go : (d : Drawn S (Answer f)) → found tell q h n (onSeen f s d (λ a t. watch reader (k a) t)) ≡ found tell (onward q) h n (onSeen f s d (λ a t. watch reader (k a) t))
@@ -192,7 +192,7 @@ module _ (form : ℕ) (u : List ℕ) (goal : List Line) (w sh : List ℕ) (q : P
       unfolding aheadOf
       ahead-dropped k = rw k refl
 
-      over-onward : isOver (settled q) ≡ true → Final (onward q) (inv .row) tt
+      over-onward : isOver (movedOn q) ≡ true → Final (onward q) (inv .row) tt
       over-onward o = ((λ x. absurd (not-both (sym x ∙ onward-goes q))), ap isOver (settled-here (onward q) (onward-goes q) ∙ sym (settled-ended q ended)) ∙ o)
 
       pub onward-follows : Follows form u goal w sh (onward q) (aheadOf q ahead) own

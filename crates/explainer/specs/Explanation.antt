@@ -14,9 +14,9 @@ use Rattle.decoder.specs.Columned.{columned}
 use Rattle.decoder.specs.Opening.{openedOf}
 use Rattle.roles.specs.declared.Role.the-variants as role
 use Rattle.roles.specs.declared.Plan.{Plan}
-use Rattle.roles.specs.Roles.{start, codeOf, after, settled, ownClock}
+use Rattle.roles.specs.Roles.{start, codeOf, after, movedOn, ownClock}
 use Rattle.origins.specs.declared.Line.{Line}
-use Rattle.origins.specs.Origins.{inLine, linesInLine, linesIn, wordsOf}
+use Rattle.origins.specs.Origins.{lineStand, linesInLine, linesIn, lineWords}
 use Rattle.telling.specs.Telling.{heard}
 use Rattle.explainer.specs.Watch.{Seen, drew, kept, watch}
 
@@ -38,7 +38,7 @@ clockLine q =
     record {
       field = ownClock;
       value = q .clock;
-      stand = inLine 0 0;
+      stand = lineStand 0 0;
       rise = record { base = q .first; sign = 1; size = q .clock - q .first };
       part = noPart;
     }
@@ -50,7 +50,7 @@ module _ {S : Type 0} (tell : ℕ → (f : Field) → Answer f → S → S → L
   found q h zero (kept b ∷ rest) = h .head ++ (clockLine q ∷ h .own)
   found q h (suc n) (kept b ∷ rest) = found q h n rest
   found q h n (drew f a s t ∷ rest) =
-      let p = settled q in
+      let p = movedOn q in
       found (after p (heard f a .0) (heard f a .1)) (noted (codeOf (p .role)) (tell (codeOf (p .role)) f a s t) h) n rest
 
 abbrev pub blank : Sheet
@@ -67,4 +67,4 @@ explanation form u n = pick (eqb form 1) (found linesInLine start blank n (watch
 -- as words
 unfoldable pub words : List Line → List ℕ
 words [] = []
-words (l ∷ ls) = wordsOf l ++ words ls
+words (l ∷ ls) = lineWords l ++ words ls

@@ -7,7 +7,7 @@ use lib.ListN.{length, getD, take, drop}
 use lib.Seq.{take-add, drop-drop, drop-cons}
 use Rattle.cells.specs.Cells.{partIn}
 use Rattle.origins.specs.declared.Line.{Line}
-use Rattle.origins.specs.Origins.{wordsOf}
+use Rattle.origins.specs.Origins.{lineWords}
 use Rattle.origins.specs.Sheets.{lineIn, linesFrom}
 use Rattle.explainer.specs.Explanation.{words}
 
@@ -17,7 +17,7 @@ length-lines sh i zero = refl
 length-lines sh i (suc n) = ap suc (length-lines sh (suc i) n)
 
 pub length-words : (ls : List Line) → length (words ls) ≡ 12 * length ls
-unfolding words wordsOf
+unfolding words lineWords
 length-words [] = refl
 length-words (l ∷ ls) = omega (arith, length-words ls)
 
@@ -36,11 +36,11 @@ gets-are l k j (suc n) h =
     ap (λ (r : List ℕ). getD l (k + j) 0 ∷ r) (gets-are l k (suc j) n (omega (arith, h)))
     ∙ sym (ap (take (suc n)) (drop-cons l (k + j) 0 (omega (arith, h))) ∙ ap (λ (m : ℕ). getD l (k + j) 0 ∷ take n (drop m l)) e)
 
-line-gets : (sh : List ℕ) (i : ℕ) → wordsOf (lineIn sh i) ≡ gets sh (12 * i) 0 12
-unfolding wordsOf lineIn partIn gets
+line-gets : (sh : List ℕ) (i : ℕ) → lineWords (lineIn sh i) ≡ gets sh (12 * i) 0 12
+unfolding lineWords lineIn partIn gets
 line-gets sh i = ap (λ (k : ℕ). getD sh (12 * i + 0) 0 ∷ getD sh (12 * i + 1) 0 ∷ getD sh (12 * i + 2) 0 ∷ getD sh (12 * i + 3) 0 ∷ getD sh (12 * i + 4) 0 ∷ getD sh (12 * i + 5) 0 ∷ getD sh (12 * i + 6) 0 ∷ getD sh (12 * i + 7) 0 ∷ getD sh (12 * i + 8) 0 ∷ getD sh (12 * i + 9) 0 ∷ getD sh (12 * i + 10) 0 ∷ getD sh k 0 ∷ []) (let e : 12 * i + 10 + 1 ≡ 12 * i + 11 = omega arith in e)
 
-line-words : (sh : List ℕ) (i : ℕ) → 12 * i + 12 ≤ length sh → wordsOf (lineIn sh i) ≡ take 12 (drop (12 * i) sh)
+line-words : (sh : List ℕ) (i : ℕ) → 12 * i + 12 ≤ length sh → lineWords (lineIn sh i) ≡ take 12 (drop (12 * i) sh)
 line-words sh i h =
     line-gets sh i ∙ gets-are sh (12 * i) 0 12 (omega (arith, h)) ∙ ap (λ (k : ℕ). take 12 (drop k sh)) (let e : 12 * i + 0 ≡ 12 * i = omega arith in e)
 

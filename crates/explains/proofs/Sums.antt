@@ -29,14 +29,14 @@ use Rattle.grammar.specs.Blocks.{allBlocks}
 use Rattle.decoder.specs.Line.{line}
 use Rattle.decoder.specs.Opening.{openedOf}
 use Rattle.decoder.specs.States.{maxKeys, Differences, State, withKey, withLeft, withRight, withText}
-use Rattle.decoder.specs.Columned.{differenceDrawn, numberIn, textIn, textDrawn, joining, numbered, keyIn, columned}
+use Rattle.decoder.specs.Columned.{differenceDrawn, numberIn, textIn, textDrawn, joining, keyByNumber, keyIn, columned}
 use Rattle.string.specs.String.{nextText}
 use Rattle.string.specs.declared.Answer as string-answer
 use Rattle.string.specs.declared.Answer.the-variants as string
 use Rattle.roles.specs.declared.Role.{Role}
 use Rattle.roles.specs.declared.Role.the-variants as role
 use Rattle.roles.specs.declared.Plan.{Plan}
-use Rattle.roles.specs.Roles.{start, goTo, sectioned, announced, onward, headed, informed, lengthened, lasting, contentRole, toContent, toKey, toRight, toParent, toNode, behind, after, codeOf, ownClock, keyText, isEnded, settled}
+use Rattle.roles.specs.Roles.{start, goTo, sectioned, announced, onward, headed, informed, lengthened, endedWith, contentRole, toContent, toKey, toRight, toParent, toNode, planAfter, after, codeOf, ownClock, keyText, isEnded, movedOn}
 use Rattle.origins.specs.declared.Line.{Line}
 use Rattle.origins.specs.declared.Rise.{Rise}
 use Rattle.origins.specs.Origins.{noRise, rising, storedLine, plainLine, lineAt, linesInLine, riseOf, baseOf, textLine, keyLine, keyLines, numberLine, linesIn}
@@ -190,8 +190,8 @@ module _ (u : List ℕ) (code : ℕ) where
       go (string.Bad why) z = absurd (let n : _≡_ {A = ℕ} 0 1 = cc in omega arith)
       go (string.Next q c) z = sym (ap (λ (x : Drawn State Part). stateIn t x .key) z)
 
-  numbered-leaves : (a : ℕ × ℕ) (s t : State) (p : Part) → numbered u (got a s) ≡ got p t → t .key ≡ s .key
-  unfolding numbered stateIn
+  numbered-leaves : (a : ℕ × ℕ) (s t : State) (p : Part) → keyByNumber u (got a s) ≡ got p t → t .key ≡ s .key
+  unfolding keyByNumber stateIn
   numbered-leaves a s t p e = go (ltb (a .0) (length (s .keys))) (ltb (length (s .keys)) maxKeys) e
     where
       go : (known room : Bool)
@@ -201,10 +201,10 @@ module _ (u : List ℕ) (code : ℕ) where
       go false false z = absurd (let n : _≡_ {A = ℕ} 0 1 = cc in omega arith)
 
   key-sums : (p : Part) (s t : State) → keyIn u s ≡ got p t → Adds (keyLine u code p (s .key .place .last) t)
-  unfolding keyIn numbered keyLine
+  unfolding keyIn keyByNumber keyLine
   key-sums p s t e = go (differenceDrawn (λ c. withKey c s) (s .key .to) (nextDifference (take (s .key .to) u) (s .key .place))) refl e
     where
-      go : (x : Drawn State (ℕ × ℕ)) → differenceDrawn (λ c. withKey c s) (s .key .to) (nextDifference (take (s .key .to) u) (s .key .place)) ≡ x → numbered u x ≡ got p t
+      go : (x : Drawn State (ℕ × ℕ)) → differenceDrawn (λ c. withKey c s) (s .key .to) (nextDifference (take (s .key .to) u) (s .key .place)) ≡ x → keyByNumber u x ≡ got p t
           → Adds (keyLine u code p (s .key .place .last) t)
       go (not why) h z = absurd (let n : _≡_ {A = ℕ} 0 1 = cc in omega arith)
       go (got a r) h z =
@@ -260,8 +260,8 @@ low-onward : (q : Plan) → Low q → Low (onward q)
 unfolding onward
 low-onward q h = omega (arith, h)
 
-low-settled : (q : Plan) → Low q → Low (settled q)
-unfolding settled
+low-settled : (q : Plan) → Low q → Low (movedOn q)
+unfolding movedOn
 low-settled q h = low-pick (isEnded q) (onward q) q (low-onward q h) h
 
 low-to : (r : Role) (q : Plan) → Low q → Low (goTo r q)
@@ -278,8 +278,8 @@ low-content q h = low-to (contentRole (q .info % 32)) q h
 low-key : (q : Plan) → Low q → Low (toKey q)
 low-key q h = low-pick (ltb (q .info) 32) (toContent q) (goTo role.Key q) (low-content q h) (low-to role.Key q h)
 
-low-behind : (r : Role) (q : Plan) (v p : ℕ) → Low q → Low (behind r q v p)
-unfolding behind sectioned announced headed informed toRight toParent toNode
+low-behind : (r : Role) (q : Plan) (v p : ℕ) → Low q → Low (planAfter r q v p)
+unfolding planAfter sectioned announced headed informed toRight toParent toNode
 low-behind role.Sections q v p h = omega arith
 low-behind role.Blocks q v p h = omega arith
 low-behind role.Client q v p h = low-to role.FirstClock q h
@@ -302,8 +302,8 @@ low-behind role.Text q v p h = low-lengthened role.Ended v q h
 low-behind role.MarkKey q v p h = low-to role.MarkValue q h
 low-behind role.MarkValue q v p h = low-lengthened role.Ended 1 q h
 low-behind role.TypeNumber q v p h =
-    low-pick (ltb maxType v) (goTo role.Over q) (pick (isNamed v) (goTo role.NodeName q) (lasting 1 q)) (low-to role.Over q h)
-    (low-pick (isNamed v) (goTo role.NodeName q) (lasting 1 q) (low-to role.NodeName q h) (low-lengthened role.Ended 1 q h))
+    low-pick (ltb maxType v) (goTo role.Over q) (pick (isNamed v) (goTo role.NodeName q) (endedWith 1 q)) (low-to role.Over q h)
+    (low-pick (isNamed v) (goTo role.NodeName q) (endedWith 1 q) (low-to role.NodeName q h) (low-lengthened role.Ended 1 q h))
 low-behind role.NodeName q v p h = low-lengthened role.Ended 1 q h
 low-behind role.ListLength q v p h = low-lengthened role.ListValues v q h
 low-behind role.ListValues q v p h = low-to role.Ended q h
@@ -347,10 +347,10 @@ module _ {S : Type 0} (r : Reader S) (tell : ℕ → (f : Field) → Answer f �
   found-sums (kept b ∷ rest) w q h zero low told = sums-append (h .head) (clockLine q ∷ h .own) (told .head) (clock-sums q low, told .own)
   found-sums (kept b ∷ rest) w q h (suc n) low told = found-sums rest w q h n low told
   found-sums (drew f a s t ∷ rest) w q h zero low told =
-      let p = settled q in
+      let p = movedOn q in
       found-sums rest (w .1) _ _ zero (low-after p (heard f a .0) (heard f a .1) (low-settled q low)) (told-noted (codeOf (p .role)) _ h (true-of (codeOf (p .role)) f a s t (w .0)) told)
   found-sums (drew f a s t ∷ rest) w q h (suc n) low told =
-      let p = settled q in
+      let p = movedOn q in
       found-sums rest (w .1) _ _ (suc n) (low-after p (heard f a .0) (heard f a .1) (low-settled q low)) (told-noted (codeOf (p .role)) _ h (true-of (codeOf (p .role)) f a s t (w .0)) told)
 
 blank-told : Told blank

@@ -6,7 +6,7 @@ use mathlib.Core.Bool.{true, false}
 use mathlib.Core.List.{List}
 use Rattle.numbers.specs.declared.Refusal.{Refusal}
 use Rattle.block.specs.declared.Block.{Block}
-use Rattle.grammar.specs.Course.{Course, item, over, stopped, ending}
+use Rattle.grammar.specs.Course.{Course, thing, over, stopped, ending}
 use Rattle.decoder.specs.Update.{blocksOf, deleteSet}
 use Rattle.ranges.specs.Ranges.{Range}
 use Rattle.deletes.specs.declared.Checked.{Checked}
@@ -27,7 +27,7 @@ onChecked f g (checked.Refused why) = g why
 
 checked-is : {X : Type 0} (c : Course Range) (x : Checked) (f : ℕ → X) (g : Refusal → X) → ending c checked.Done checked.Refused ≡ x → ending c f g ≡ onChecked f g x
 unfolding ending
-checked-is (item a p c) x f g e = checked-is c x f g e
+checked-is (thing a p c) x f g e = checked-is c x f g e
 checked-is (over a t) x f g e = ap (onChecked f g) e
 checked-is (stopped why) x f g e = ap (onChecked f g) e
 
@@ -64,11 +64,11 @@ onWhole x g (Refused why) = g why
 whole-ends : {X : Type 0} (c : Course Block) (d : ℕ → Course Range) (x : X) (g : Refusal → X)
     → ending c (λ at. ending (d at) (λ e. x) g) g ≡ onWhole x g (ending c (λ at. ending (d at) (λ e. Reads) (λ why. Refused why)) (λ why. Refused why))
 unfolding ending
-whole-ends (item a p c) d x g = whole-ends c d x g
+whole-ends (thing a p c) d x g = whole-ends c d x g
 whole-ends (over a at) d x g = go (d at)
   where
     go : (y : Course Range) → ending y (λ e. x) g ≡ onWhole x g (ending y (λ e. Reads) (λ why. Refused why))
-    go (item r p y) = go y
+    go (thing r p y) = go y
     go (over r t) = refl
     go (stopped why) = refl
 whole-ends (stopped why) d x g = refl
@@ -84,6 +84,6 @@ unfolding wholeOf isWhole ending
 readable form u e = go (blocksOf form u) e
   where
     go : (c : Course Block) → Reads ≡ ending c (λ at. ending (deleteSet form u at) (λ v. Reads) (λ why. Refused why)) (λ why. Refused why) → ending c (λ s. true) (λ why. false) ≡ true
-    go (item a p c) h = go c h
+    go (thing a p c) h = go c h
     go (over a s) h = refl
     go (stopped why) h = absurd (let z : _≡_ {A = ℕ} 0 1 = cc in omega arith)

@@ -23,7 +23,7 @@ use Rattle.string.proofs.Texts.{read-ends}
 use Rattle.grammar.specs.Grammar as grammar
 use Rattle.grammar.specs.Grammar.{Field}
 use Rattle.grammar.specs.Course as course
-use Rattle.decoder.specs.Line.{numberAt, varAt, bounded, upTo, byteAt, soMany, bytesAt, checked, line, numberOf}
+use Rattle.decoder.specs.Line.{numberAt, varAt, bounded, upTo, byteAt, soMany, bytesAt, checked, line, numberBy}
 use Rattle.decoder.specs.States.{Texts, State, movedTo, withClient, withLeft, withRight, withInfo, withText, withParent, withLen}
 use Rattle.decoder.specs.Columned.{onto, numberIn, columned}
 use Rattle.decoder.specs.ColumnedInner.{fields}
@@ -43,10 +43,10 @@ unfolding fields stateIn
 in-line form u w h f = rw (eq-eqb form 1 h) refl
 
 pub clock-line : (u : List ℕ) (at k : ℕ) → upTo maxClock u at ≡ line 1 u (grammar.number (clockAt k)) at
-unfolding line numberOf clockAt
+unfolding line numberBy clockAt
 clock-line u at k = go (eqb k 2)
   where
-    go : (b : Bool) → upTo maxClock u at ≡ numberOf 1 u (pick b grammar.leftClock grammar.rightClock) at
+    go : (b : Bool) → upTo maxClock u at ≡ numberBy 1 u (pick b grammar.leftClock grammar.rightClock) at
     go true = refl
     go false = refl
 

@@ -101,13 +101,13 @@ number-of v n to (number.Bad why) e = absurd (let z : _≡_ {A = ℕ} 1 0 = ap t
 
 -- no number, no text
 pub text-none : (u w v : List ℕ) (k : ℕ) (r : List ℕ) (d : Drawn) → d ≡ Refused → NumberDrawn u 5 w v d → TextDrawn u k w v r r d
-unfolding textsGiven numbersGiven numberDrawn textDrawn textsIn numbersIn strings.nextText strings.drawn
+unfolding textsGiven numbersGiven numberDrawn textDrawn textsIn numbersIn strings.nextText strings.unitsDrawn
 text-none u w v k r d h p =
     let a = nextNumber (take (cell w 5 4) u) (numbersIn w 5 .place) in
     (p .0, p .1, beside-none k r, rw h (go a (ap (numbersGiven v 5) (sym h) ∙ p .2)))
   where
     go : (a : number-answer.Answer) → course.not (whyIn v) ≡ numberDrawn (λ c. c) (cell w 5 4) a
-        → course.not (whyIn v) ≡ textDrawn (λ c. c) (cell w 5 4) (strings.drawn (take (cell w 5 4) u) (cell w 5 5) (cell w 5 6) a)
+        → course.not (whyIn v) ≡ textDrawn (λ c. c) (cell w 5 4) (strings.unitsDrawn (take (cell w 5 4) u) (cell w 5 5) (cell w 5 6) a)
     go (number.Next x c) e = absurd (let z : _≡_ {A = ℕ} 0 1 = ap told e in omega arith)
     go (number.Bad why) e = ap course.not (ap (reason (whyIn v)) e)
 
@@ -117,8 +117,8 @@ module _ (u w v : List ℕ) (n : ℕ) (p : NumberDrawn u 5 w v (Number n)) where
   found = number-of v n (cell w 5 4) (nextNumber (take (cell w 5 4) u) (numbersIn w 5 .place)) (p .2)
 
   text-next : (t : List ℕ) (x : Taken) → t ≡ take (cell v 5 4) u → x ≡ takeUnits 7 n (slice (cell v 5 5) (cell v 5 6) t)
-      → fromTexts u (textsIn w 5) (λ c. c) ≡ textDrawn (λ c. c) (cell v 5 4) (strings.ending (cell v 5 5) (cell v 5 6) (numbersIn v 5 .place) x)
-  unfolding textsIn numbersIn strings.nextText strings.drawn strings.taken
+      → fromTexts u (textsIn w 5) (λ c. c) ≡ textDrawn (λ c. c) (cell v 5 4) (strings.textEnding (cell v 5 5) (cell v 5 6) (numbersIn v 5 .place) x)
+  unfolding textsIn numbersIn strings.nextText strings.unitsDrawn strings.unitsTaken
   text-next t x et ex = rw (ex, et, found .1, p .3 .0, p .3 .1, found .0) refl
 
   -- its units end past the texts, or in a pair
@@ -126,7 +126,7 @@ module _ (u w v : List ℕ) (n : ℕ) (p : NumberDrawn u 5 w v (Number n)) where
       → t ≡ take (cell v 5 4) u → x ≡ takeUnits 7 n (slice at (cell v 5 6) t)
       → (d ≡ Refused) × Small z × Elsewhere 9 v z × (whyIn z ≡ record { number = number; place = at })
       → TextDrawn u k w z r r d
-  unfolding textsGiven textDrawn strings.ending
+  unfolding textsGiven textDrawn strings.textEnding
   text-refused z r t d k at number x ea told et ex h = (
     h .1,
     elsewhere-on 5 w v z (p .1) (elsewhere-any 5 v z (h .2)),
@@ -138,7 +138,7 @@ module _ (u w v : List ℕ) (n : ℕ) (p : NumberDrawn u 5 w v (Number n)) where
   pub text-took : (r t : List ℕ) (k at : ℕ) (x : Taken) (b : Bytes) → k + 1 < length r → at ≡ cell v 5 5 → x ≡ units.Took b
       → t ≡ take (cell v 5 4) u → x ≡ takeUnits 7 n (slice at (cell v 5 6) t)
       → TextDrawn u k w (set v 40 (at + b .0)) r (set (set r k at) (k + 1) (b .0)) (Number n)
-  unfolding textsGiven textDrawn strings.ending partIn numbersIn
+  unfolding textsGiven textDrawn strings.textEnding partIn numbersIn
   text-took r t k at x b room ea told et ex =
       let z = set v 40 (at + b .0) in
       let h : Held 5 v _ z = put-at 5 v (column v 5) v (omega arith) (held 5 v (p .0)) 40 5 (at + b .0) refl (omega arith) in

@@ -17,7 +17,7 @@ use Rattle.readings.proofs.Columns.{clash}
 use Rattle.readings.proofs.Groups.{two}
 use Rattle.summary.specs.Rows.{Row}
 use Rattle.tally.specs.Tally.{Under, Descends, kept}
-use Rattle.gathered.specs.RowsOf.{ofClient, rowOf, put, clientsAfter, rowsOf}
+use Rattle.gathered.specs.RowsOf.{ofClient, rowOf, insertClient, clientsAfter, rowsOf}
 
 -- ---- clients stand highest first
 
@@ -27,22 +27,22 @@ under-up c d [] h u = tt
 under-up c d (x ∷ ds) h u = (omega (arith, u .0), under-up c d ds h (u .1))
 
 -- by how c stands to d
-by-order : (P : List ℕ → Type 0) (c d : ℕ) (ds : List ℕ) → (d < c → P (c ∷ (d ∷ ds))) → (d ≡ c → P (d ∷ ds)) → (c < d → P (d ∷ put c ds)) → P (put c (d ∷ ds))
-unfolding put
+by-order : (P : List ℕ → Type 0) (c d : ℕ) (ds : List ℕ) → (d < c → P (c ∷ (d ∷ ds))) → (d ≡ c → P (d ∷ ds)) → (c < d → P (d ∷ insertClient c ds)) → P (insertClient c (d ∷ ds))
+unfolding insertClient
 by-order P c d ds less same more = go (ltb d c) refl (eqb d c) refl
   where
-    go : (x : Bool) → ltb d c ≡ x → (y : Bool) → eqb d c ≡ y → P (pick x (c ∷ (d ∷ ds)) (pick y (d ∷ ds) (d ∷ put c ds)))
+    go : (x : Bool) → ltb d c ≡ x → (y : Bool) → eqb d c ≡ y → P (pick x (c ∷ (d ∷ ds)) (pick y (d ∷ ds) (d ∷ insertClient c ds)))
     go true l y e = less (ltb-true d c l)
     go false l true e = same (eqb-true d c e)
     go false l false e = more (lt-of-le-ne (ltb-false d c l) (λ z. eqb-false d c e (sym z)))
 
-under-put : (e c : ℕ) (ds : List ℕ) → c < e → Under e ds → Under e (put c ds)
-unfolding Under put
+under-put : (e c : ℕ) (ds : List ℕ) → c < e → Under e ds → Under e (insertClient c ds)
+unfolding Under insertClient
 under-put e c [] h u = (h, tt)
 under-put e c (d ∷ ds) h u = by-order (Under e) c d ds (λ l. (h, u)) (λ s. u) (λ m. (u .0, under-put e c ds h (u .1)))
 
-pub descends-put : (c : ℕ) (ds : List ℕ) → Descends ds → Descends (put c ds)
-unfolding Under Descends put
+pub descends-put : (c : ℕ) (ds : List ℕ) → Descends ds → Descends (insertClient c ds)
+unfolding Under Descends insertClient
 descends-put c [] f = (tt, tt)
 descends-put c (d ∷ ds) f =
     by-order Descends c d ds (λ l. ((l, under-up c d ds (omega (arith, l)) (f .0)), f)) (λ s. f) (λ m. (under-put d c ds m (f .0), descends-put c ds (f .1)))
@@ -50,7 +50,7 @@ descends-put c (d ∷ ds) f =
 pub descends-after : (cs : List ℕ) (bs : List Block) → Descends cs → Descends (clientsAfter cs bs)
 unfolding clientsAfter
 descends-after cs [] f = f
-descends-after cs (b ∷ bs) f = descends-after (put (b .client) cs) bs (descends-put (b .client) cs f)
+descends-after cs (b ∷ bs) f = descends-after (insertClient (b .client) cs) bs (descends-put (b .client) cs f)
 
 -- ---- which they are
 
@@ -62,8 +62,8 @@ unfoldable pub or : Bool → Bool → Bool
 or true y = true
 or false y = y
 
-pub among-put : (x c : ℕ) (ds : List ℕ) → among x (put c ds) ≡ or (eqb c x) (among x ds)
-unfolding among put or
+pub among-put : (x c : ℕ) (ds : List ℕ) → among x (insertClient c ds) ≡ or (eqb c x) (among x ds)
+unfolding among insertClient or
 among-put x c [] = go (eqb c x)
   where
     go : (t : Bool) → pick t true false ≡ or t false
@@ -96,7 +96,7 @@ among-after x cs [] = go (among x cs)
     go : (t : Bool) → t ≡ or t false
     go true = refl
     go false = refl
-among-after x cs (b ∷ bs) = among-after x (put (b .client) cs) bs ∙ ap (λ (t : Bool). or t (some (ofClient x bs))) (among-put x (b .client) cs) ∙ go (eqb (b .client) x) (among x cs)
+among-after x cs (b ∷ bs) = among-after x (insertClient (b .client) cs) bs ∙ ap (λ (t : Bool). or t (some (ofClient x bs))) (among-put x (b .client) cs) ∙ go (eqb (b .client) x) (among x cs)
   where
     go : (t y : Bool) → or (or t y) (some (ofClient x bs)) ≡ or y (some (pick t (b ∷ ofClient x bs) (ofClient x bs)))
     go true true = refl
@@ -281,8 +281,8 @@ of-few c (b ∷ bs) = go (eqb (b .client) c) (of-few c bs)
     go true h = omega arith
     go false h = omega arith
 
-put-length : (c : ℕ) (ds : List ℕ) → (length ds ≤ length (put c ds)) × (length (put c ds) ≤ suc (length ds))
-unfolding put
+put-length : (c : ℕ) (ds : List ℕ) → (length ds ≤ length (insertClient c ds)) × (length (insertClient c ds) ≤ suc (length ds))
+unfolding insertClient
 put-length c [] = (omega arith, omega arith)
 put-length c (d ∷ ds) =
     by-order (λ (l : List ℕ). (length (d ∷ ds) ≤ length l) × (length l ≤ suc (length (d ∷ ds)))) c d ds (λ l. (omega arith, omega arith)) (λ s. (omega arith, omega arith))
@@ -293,11 +293,11 @@ unfolding rowsOf
 length-rows-of bs = length-map (clientsAfter [] bs) (rowOf bs)
 
 -- a client twice is a client once
-put-twice : (c : ℕ) (ds : List ℕ) → put c (put c ds) ≡ put c ds
-unfolding put
+put-twice : (c : ℕ) (ds : List ℕ) → insertClient c (insertClient c ds) ≡ insertClient c ds
+unfolding insertClient
 put-twice c [] = rw (le-ltb c c (omega arith), eq-eqb c c refl)
 put-twice c (d ∷ ds) =
-    by-order (λ (l : List ℕ). put c l ≡ l) c d ds
+    by-order (λ (l : List ℕ). insertClient c l ≡ l) c d ds
     (λ l. rw (le-ltb c c (omega arith), eq-eqb c c refl))
     (λ s. rw (le-ltb d c (omega (arith, s)), eq-eqb d c s))
     (λ m. rw (le-ltb d c (omega arith), ne-eqb d c (λ e. omega (arith, e, m))) (ap (λ (l : List ℕ). d ∷ l) (put-twice c ds)))
@@ -310,9 +310,9 @@ after-groups cs (b ∷ []) = omega (arith, put-length (b .client) cs .1)
 after-groups cs (b ∷ (d ∷ bs)) =
     two owner (λ (gs : List (List Block)). length (clientsAfter cs (b ∷ (d ∷ bs))) ≤ length cs + length gs) b d bs
     (λ g gs is same.
-    let once : put (d .client) (put (b .client) cs) ≡ put (d .client) cs = ap (λ (n : ℕ). put (d .client) (put n cs)) same ∙ put-twice (d .client) cs in
+    let once : insertClient (d .client) (insertClient (b .client) cs) ≡ insertClient (d .client) cs = ap (λ (n : ℕ). insertClient (d .client) (insertClient n cs)) same ∙ put-twice (d .client) cs in
     omega (arith, after-groups cs (d ∷ bs), ap length is, ap (λ (l : List ℕ). length (clientsAfter l bs)) once))
-    (λ other. omega (arith, after-groups (put (b .client) cs) (d ∷ bs), put-length (b .client) cs .1))
+    (λ other. omega (arith, after-groups (insertClient (b .client) cs) (d ∷ bs), put-length (b .client) cs .1))
 
 -- so blocks have no more rows than groups
 pub rows-groups : (bs : List Block) → length (rowsOf bs) ≤ length (groups owner bs)

@@ -19,11 +19,11 @@ use Rattle.grammar.specs.GrammarInner.{_>>=_}
 use Rattle.grammar.specs.Course as course
 use Rattle.grammar.specs.Course.{stopped, run}
 use Rattle.grammar.specs.Blocks.{blocks, sections}
-use Rattle.decoder.specs.Line.{line, numberOf, upTo}
+use Rattle.decoder.specs.Line.{line, numberBy, upTo}
 use Rattle.decoder.specs.States.{Numbers, State, withClient}
 use Rattle.decoder.specs.Columned.{onto, columned, numberIn, numberDrawn}
 use Rattle.decoder.specs.ColumnedInner.{fields}
-use Rattle.decoder.specs.Update.{placed, blocksOf}
+use Rattle.decoder.specs.Update.{restPlaces, blocksOf}
 use Rattle.cells.specs.declared.Drawn.{Drawn}
 use Rattle.cells.specs.declared.Drawn.the-variants as drawn
 use Rattle.cells.specs.Cells.{atIn, placeIn, whyIn, stateIn, given, Small}
@@ -38,13 +38,13 @@ use Rattle.gathered.specs.Gathered.{sectionsFrom, Begins}
 
 pub begun-at : (form : ℕ) (u w v : List ℕ) (d : Drawn) → Small v → given v d ≡ onto (stateIn w) (upTo maxClients u (atIn w)) → ((x : Begun) → Counted form u w v x → Starts form u v x)
     → Begins form u v d
-unfolding Begins begins placed reads toCome blocks _>>=_ sectionsFrom
+unfolding Begins begins restPlaces reads toCome blocks _>>=_ sectionsFrom
 begun-at form u w v (drawn.Number n) small e starts =
     let few = within maxClients u (atIn w) (stateIn w) v n e in
     (starts _ (count form u w v small n few (in-line form u maxClients w v (drawn.Number n) e)) .told [], few)
 begun-at form u w v drawn.Refused small e starts = starts _ (uncounted form u w v small (in-line form u maxClients w v drawn.Refused e)) .told []
 
-pub begins-at : (form : ℕ) (u w : List ℕ) (d : Drawn) → Begins form u w d → (n : ℕ) → d ≡ drawn.Number n → (blocksOf form u ≡ placed (sectionsFrom form u n [] maxBlocks w)) × (n ≤ maxClients)
+pub begins-at : (form : ℕ) (u w : List ℕ) (d : Drawn) → Begins form u w d → (n : ℕ) → d ≡ drawn.Number n → (blocksOf form u ≡ restPlaces (sectionsFrom form u n [] maxBlocks w)) × (n ≤ maxClients)
 unfolding Begins
 begins-at form u w d h n e = subst (Begins form u w) e h
 
@@ -55,7 +55,7 @@ begins-not form u w d h e = subst (Begins form u w) e h
 -- ---- a client is a number that clients have
 
 pub client-within : (form : ℕ) (u : List ℕ) (s : State) (v : List ℕ) (x : ℕ) → given v (drawn.Number x) ≡ fields form u (grammar.number grammar.client) s → x ≤ maxValue
-unfolding fields line numberOf columned numberIn numberDrawn given
+unfolding fields line numberBy columned numberIn numberDrawn given
 client-within form u s v x e = go (eqb form 1) e
   where
     value : course.Drawn State (ℕ × ℕ) → ℕ

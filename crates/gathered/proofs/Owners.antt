@@ -11,7 +11,7 @@ use Rattle.block.specs.Kinds.{maxType, isNamed}
 use Rattle.grammar.specs.Grammar as answers
 use Rattle.grammar.specs.Grammar.{Field, Answer, Number, Grammar, stop}
 use Rattle.grammar.specs.GrammarInner.{_>>=_}
-use Rattle.grammar.specs.Course.{Drawn, got, not, Reader, run, items}
+use Rattle.grammar.specs.Course.{Drawn, got, not, Reader, run, things}
 use Rattle.grammar.specs.Blocks as grammar
 use Rattle.readings.specs.Sound.{All}
 use Rattle.readings.proofs.Walks as walks
@@ -100,8 +100,8 @@ module _ (c : ℕ) where
   then-keeps (answers.done a) g h then = then a h
 
   block-keeps : (n k : ℕ) (a : Block × ℕ) → Of (a .0) → Keeps (grammar.blocks n c (k + a .0 .length .0))
-      → Keeps (pick (ltb maxClock (k + a .0 .length .0)) (stop 3 (a .1)) (grammar.kept (a .0) (a .1) (grammar.blocks n c (k + a .0 .length .0))))
-  unfolding walks.Keeps grammar.kept
+      → Keeps (pick (ltb maxClock (k + a .0 .length .0)) (stop 3 (a .1)) (grammar.unlessDropped (a .0) (a .1) (grammar.blocks n c (k + a .0 .length .0))))
+  unfolding walks.Keeps grammar.unlessDropped
   block-keeps n k a h rest =
       chosen Keeps (ltb maxClock (k + a .0 .length .0)) (λ _. tt)
       (λ _. chosen Keeps (grammar.dropped (a .0)) (λ _. rest) (λ _. walks.keeps-map Any (All Of) (λ l. All Of (a .0 ∷ l)) (grammar.blocks n c (k + a .0 .length .0)) (λ l more. (h, more)) rest))
@@ -123,6 +123,6 @@ module _ (c : ℕ) where
       go (got a t) = (tt, tt)
       go (not why) = tt
 
-  pub all-of : {S : Type 0} (r : Reader S) (n k : ℕ) (s : S) → All Of (items (run r (grammar.blocks n c k) s))
+  pub all-of : {S : Type 0} (r : Reader S) (n k : ℕ) (s : S) → All Of (things (run r (grammar.blocks n c k) s))
   unfolding anything
   all-of {S} r n k s = walks.kept-has Any (anything S) r (faithful r) (All Of) (grammar.blocks n c k) (blocks-of n k) s tt

@@ -15,7 +15,7 @@ use Rattle.numbers.specs.Limits.{maxBlocks}
 use Rattle.numbers.proofs.Output.{take-sets}
 use Rattle.block.specs.declared.Block.{Block}
 use Rattle.grammar.specs.Course as course
-use Rattle.grammar.specs.Course.{Run, item, over, stopped, run, items, ending}
+use Rattle.grammar.specs.Course.{Run, thing, over, stopped, run, things, ending}
 use Rattle.grammar.specs.Blocks.{blocks, sections}
 use Rattle.grammar.proofs.Runs.{andThen, run-bind}
 use Rattle.decoder.specs.States.{State}
@@ -25,7 +25,7 @@ use Rattle.readings.specs.Sound.{All}
 use Rattle.readings.proofs.Columns.{clash}
 use Rattle.deletes.specs.declared.Checked.the-variants as checked
 use Rattle.summary.specs.Rows.{Row}
-use Rattle.summary.specs.Words.{row, wordsIn}
+use Rattle.summary.specs.Words.{summaryRow, wordsIn}
 use Rattle.summary.specs.WordsInner.{rowIn, rowsIn}
 use Rattle.summary.proofs.Laws.{rows-are, length-words, words-append}
 use Rattle.tally.specs.Tally.{Descends, clientsIn, placeOf, insertedIn, rowsBy, kept}
@@ -34,7 +34,7 @@ use Rattle.gathered.specs.declared.Head.the-variants as head
 use Rattle.gathered.specs.declared.Tallied.{Tallied}
 use Rattle.gathered.specs.declared.Tallied.the-variants as tallied
 use Rattle.gathered.specs.declared.Scanned.the-variants as scanned
-use Rattle.gathered.specs.RowsOf.{ofClient, firstClock, lastEnd, rowOf, put, rowsOf}
+use Rattle.gathered.specs.RowsOf.{ofClient, firstClock, lastEnd, rowOf, insertClient, rowsOf}
 use Rattle.gathered.specs.Gathered.{Ends, sectionsFrom, blocksFrom, outcome, endOf, Same, Opens, Headed, Tallies, Scans}
 use Rattle.gathered.proofs.Owners.{all-of}
 use Rattle.gathered.proofs.Clients.{or, descends-put, among-put, of-append, of-own, of-others, rows-by}
@@ -42,15 +42,15 @@ use Rattle.gathered.proofs.Clients.{or, descends-put, among-put, of-app
 -- ---- one run, and then another
 
 module _ (F : Unit {0} → State → Run State Block (Unit {0})) where
-  items-then : (c : Run State Block (Unit {0})) → items (andThen c F) ≡ items c ++ ending c (λ s. items (F tt s)) (λ _. [])
-  unfolding items andThen ending
-  items-then (item b p c) = ap (λ (l : List Block). b ∷ l) (items-then c)
+  items-then : (c : Run State Block (Unit {0})) → things (andThen c F) ≡ things c ++ ending c (λ s. things (F tt s)) (λ _. [])
+  unfolding things andThen ending
+  items-then (thing b p c) = ap (λ (l : List Block). b ∷ l) (items-then c)
   items-then (over a s) = refl
   items-then (stopped why) = refl
 
   ending-then : {X : Type 0} (f : State → X) (g : Refusal → X) (c : Run State Block (Unit {0})) → ending (andThen c F) f g ≡ ending c (λ s. ending (F tt s) f g) g
   unfolding andThen ending
-  ending-then f g (item b p c) = ending-then f g c
+  ending-then f g (thing b p c) = ending-then f g c
   ending-then f g (over a s) = refl
   ending-then f g (stopped why) = refl
 
@@ -58,13 +58,13 @@ module _ (F : Unit {0} → State → Run State Block (Unit {0})) where
 module _ {X : Type 0} (f : State → X) (g : Refusal → X) where
   ends-got : (c : Run State Block (Unit {0})) (s : State) → outcome c ≡ course.got tt s → ending c f g ≡ f s
   unfolding outcome ending
-  ends-got (item b p c) s e = ends-got c s e
+  ends-got (thing b p c) s e = ends-got c s e
   ends-got (over a t) s e = ap f (let z : t ≡ s = cc in z)
   ends-got (stopped why) s e = absurd (let z : _≡_ {A = ℕ} 0 1 = cc in omega arith)
 
   ends-not : (c : Run State Block (Unit {0})) (why : Refusal) → outcome c ≡ course.not why → ending c f g ≡ g why
   unfolding outcome ending
-  ends-not (item b p c) why e = ends-not c why e
+  ends-not (thing b p c) why e = ends-not c why e
   ends-not (over a t) why e = absurd (let z : _≡_ {A = ℕ} 0 1 = cc in omega arith)
   ends-not (stopped w) why e = ap g (let z : w ≡ why = cc in z)
 
@@ -109,22 +109,22 @@ all-inserted P zero v os h k = (k, h)
 all-inserted P (suc p) v [] h k = (k, tt)
 all-inserted P (suc p) v (o ∷ os) h k = (h .0, all-inserted P p v os (h .1) k)
 
-clients-inserted : (c n : ℕ) (os : List ℕ) → n < 64 → among c (clientsIn os) ≡ false → clientsIn (insertedIn c n os) ≡ put c (clientsIn os)
-unfolding clientsIn insertedIn placeOf put among
+clients-inserted : (c n : ℕ) (os : List ℕ) → n < 64 → among c (clientsIn os) ≡ false → clientsIn (insertedIn c n os) ≡ insertClient c (clientsIn os)
+unfolding clientsIn insertedIn placeOf insertClient among
 clients-inserted c n [] l e = ap (λ (d : ℕ). d ∷ []) (omega (arith, l))
 clients-inserted c n (o ∷ os) l e = go (leb (o / 64) c) refl (eqb (o / 64) c) refl e (clients-inserted c n os l)
   where
     go : (x : Bool) → leb (o / 64) c ≡ x → (y : Bool) → eqb (o / 64) c ≡ y → pick y true (among c (clientsIn os)) ≡ false
-        → (among c (clientsIn os) ≡ false → clientsIn (take (placeOf c os) os ++ ((c * 64 + n) ∷ drop (placeOf c os) os)) ≡ put c (clientsIn os))
+        → (among c (clientsIn os) ≡ false → clientsIn (take (placeOf c os) os ++ ((c * 64 + n) ∷ drop (placeOf c os) os)) ≡ insertClient c (clientsIn os))
         → clientsIn (take (pick x 0 (suc (placeOf c os))) (o ∷ os) ++ ((c * 64 + n) ∷ drop (pick x 0 (suc (placeOf c os))) (o ∷ os)))
-        ≡ pick (ltb (o / 64) c) (c ∷ (o / 64 ∷ clientsIn os)) (pick y (o / 64 ∷ clientsIn os) (o / 64 ∷ put c (clientsIn os)))
+        ≡ pick (ltb (o / 64) c) (c ∷ (o / 64 ∷ clientsIn os)) (pick y (o / 64 ∷ clientsIn os) (o / 64 ∷ insertClient c (clientsIn os)))
     go x h true q e rest = clash e
     go true h false q e rest =
         ap (λ (d : ℕ). d ∷ (o / 64 ∷ clientsIn os)) (omega (arith, l))
-        ∙ sym (ap (λ (t : Bool). pick t (c ∷ (o / 64 ∷ clientsIn os)) (o / 64 ∷ put c (clientsIn os))) (lt-ltb (o / 64) c (omega (arith, leb-true (o / 64) c h, eqb-false (o / 64) c q))))
+        ∙ sym (ap (λ (t : Bool). pick t (c ∷ (o / 64 ∷ clientsIn os)) (o / 64 ∷ insertClient c (clientsIn os))) (lt-ltb (o / 64) c (omega (arith, leb-true (o / 64) c h, eqb-false (o / 64) c q))))
     go false h false q e rest =
         ap (λ (ds : List ℕ). o / 64 ∷ ds) (rest e)
-        ∙ sym (ap (λ (t : Bool). pick t (c ∷ (o / 64 ∷ clientsIn os)) (o / 64 ∷ put c (clientsIn os))) (le-ltb (o / 64) c (omega (arith, leb-false (o / 64) c h))))
+        ∙ sym (ap (λ (t : Bool). pick t (c ∷ (o / 64 ∷ clientsIn os)) (o / 64 ∷ insertClient c (clientsIn os))) (le-ltb (o / 64) c (omega (arith, leb-false (o / 64) c h))))
 
 among-snoc : (x c : ℕ) (cs : List ℕ) → among x (cs ++ (c ∷ [])) ≡ or (eqb c x) (among x cs)
 unfolding among or
@@ -153,7 +153,7 @@ not-more x c cs e = go (eqb c x) refl (sym (among-snoc x c cs) ∙ e)
 -- ---- rows in the order of sections
 
 row-first : List Row → Row
-row-first [] = row 0 0 0 0
+row-first [] = summaryRow 0 0 0 0
 row-first (r ∷ rs) = r
 
 row-rest : List Row → List Row
@@ -192,7 +192,7 @@ module _ (c : ℕ) (ds bs : List Block) (own : All (λ (b : Block). b .client �
       go true q e rest = clash e
       go false q e rest = ap₂ (λ (r : Row) (rs : List Row). r ∷ rs) (other-row d (λ z. eqb-false d c q (sym z))) (rest e)
 
-  own-row : ofClient c ds ≡ [] → rowOf (ds ++ bs) c ≡ row c (firstClock bs) (lastEnd bs) (length bs)
+  own-row : ofClient c ds ≡ [] → rowOf (ds ++ bs) c ≡ summaryRow c (firstClock bs) (lastEnd bs) (length bs)
   unfolding rowOf
   own-row e = rw (of-append c ds bs, e, of-own c bs own) refl
 
@@ -208,9 +208,9 @@ opens form u w o seen room w₁ o₁ x k c t h e = subst (Headed form u w o seen
 pub record Walked (form : ℕ) (u : List ℕ) (c : Run State Block (Unit {0})) (w rows order : List ℕ) (left room seen : ℕ) : Type 0 where
   pub blocks : List Block
   pub clients : List ℕ
-  pub all : items c ≡ blocks ++ items (sectionsFrom form u left clients room w)
+  pub all : things c ≡ blocks ++ things (sectionsFrom form u left clients room w)
   pub ends : outcome c ≡ outcome (sectionsFrom form u left clients room w)
-  pub can : Ends (items c)
+  pub can : Ends (things c)
   pub small : Small w
   pub size : length rows ≡ 256
   pub words : length order ≡ 64
@@ -223,7 +223,7 @@ pub record Walked (form : ℕ) (u : List ℕ) (c : Run State Block (Unit {0})) (
   pub same : Same clients (clientsIn (take seen order))
   pub names : All (Names clients) (take seen order)
 
-pub walk-begins : (form : ℕ) (u w rows order : List ℕ) (n : ℕ) → Small w → n ≤ 64 → length rows ≡ 256 → length order ≡ 64 → Ends (items (sectionsFrom form u n [] maxBlocks w))
+pub walk-begins : (form : ℕ) (u w rows order : List ℕ) (n : ℕ) → Small w → n ≤ 64 → length rows ≡ 256 → length order ≡ 64 → Ends (things (sectionsFrom form u n [] maxBlocks w))
     → Walked form u (sectionsFrom form u n [] maxBlocks w) w rows order n maxBlocks 0
 unfolding wordsIn clientsIn Descends ofClient
 walk-begins form u w rows order n small few size words can =
@@ -253,10 +253,10 @@ module _ (form : ℕ) (u : List ℕ) (c₀ : Run State Block (Unit {0})) (w rows
 
   -- no section is left
   pub at-end : left ≤ 0 → Scans c₀ rows order (scanned.Sections seen (atIn w))
-  unfolding Scans endOf sectionsFrom sections run outcome ending items stateIn
+  unfolding Scans endOf sectionsFrom sections run outcome ending things stateIn
   at-end z =
       let none : sectionsFrom form u left (i .clients) room w ≡ over tt (stateIn w) = ap (λ (n : ℕ). sectionsFrom form u n (i .clients) room w) (let y : left ≡ 0 = omega (arith, z) in y) in
-      let all : items c₀ ≡ i .blocks = i .all ∙ ap (λ (d : Run State Block (Unit {0})). i .blocks ++ items d) none ∙ append-nil (i .blocks) in
+      let all : things c₀ ≡ i .blocks = i .all ∙ ap (λ (d : Run State Block (Unit {0})). i .blocks ++ things d) none ∙ append-nil (i .blocks) in
       let rows-are-in : rowsIn (length (i .clients)) rows ≡ map (rowOf (i .blocks)) (i .clients) =
       rows-are (length (i .clients)) rows (map (rowOf (i .blocks)) (i .clients)) (length-map (i .clients) (rowOf (i .blocks))) (ap (λ (n : ℕ). take (4 * n) rows) (i .count) ∙ i .table) in (
         omega (arith, i .few),
@@ -288,11 +288,11 @@ module _ (form : ℕ) (u : List ℕ) (c₀ : Run State Block (Unit {0})) (w rows
       pub few-blocks : k ≤ maxBlocks
       few-blocks = omega (arith, o .few, i .limit)
 
-      split : items c₀ ≡ i .blocks ++ (items (blocksFrom form u k c t w₁) ++ ending (blocksFrom form u k c t w₁) (λ s. items (then-come tt s)) (λ _. []))
-      split = i .all ∙ ap (λ (l : List Block). i .blocks ++ l) (ap items here ∙ items-then then-come (blocksFrom form u k c t w₁))
+      split : things c₀ ≡ i .blocks ++ (things (blocksFrom form u k c t w₁) ++ ending (blocksFrom form u k c t w₁) (λ s. things (then-come tt s)) (λ _. []))
+      split = i .all ∙ ap (λ (l : List Block). i .blocks ++ l) (ap things here ∙ items-then then-come (blocksFrom form u k c t w₁))
 
-      pub can-here : Ends (items (blocksFrom form u k c t w₁))
-      can-here = ends-front (items (blocksFrom form u k c t w₁)) _ (ends-back (i .blocks) _ (subst Ends split (i .can)))
+      pub can-here : Ends (things (blocksFrom form u k c t w₁))
+      can-here = ends-front (things (blocksFrom form u k c t w₁)) _ (ends-back (i .blocks) _ (subst Ends split (i .can)))
 
       outcome-here : outcome c₀ ≡ ending (blocksFrom form u k c t w₁) (λ s. outcome (then-come tt s)) (λ why. course.not why)
       unfolding outcome
@@ -304,9 +304,9 @@ module _ (form : ℕ) (u : List ℕ) (c₀ : Run State Block (Unit {0})) (w rows
           refused-by why (outcome-here ∙ ends-not (λ s. outcome (then-come tt s)) (λ w. course.not w) (blocksFrom form u k c t w₁) why (subst (Tallies (blocksFrom form u k c t w₁) w₂) e h))
 
       module _ (w₂ rows₁ : List ℕ) (x : Tallied) (f e n : ℕ) (s₂ : Small w₂) (h : Tallies (blocksFrom form u k c t w₁) w₂ x) (is : x ≡ tallied.Blocks f e n)
-          (put-in : rows₁ ≡ sets rows (4 * seen) (wordsIn (row c f e n ∷ []))) where
+          (put-in : rows₁ ≡ sets rows (4 * seen) (wordsIn (summaryRow c f e n ∷ []))) where
         abbrev bs : List Block
-        bs = items (blocksFrom form u k c t w₁)
+        bs = things (blocksFrom form u k c t w₁)
 
         tallies : (f ≡ firstClock bs) × (e ≡ lastEnd bs) × (n ≡ length bs) × (outcome (blocksFrom form u k c t w₁) ≡ course.got tt (stateIn w₂))
         unfolding Tallies
@@ -322,23 +322,23 @@ module _ (form : ℕ) (u : List ℕ) (c₀ : Run State Block (Unit {0})) (w rows
         new : among c (i .clients) ≡ false
         new = i .same c ∙ o .new
 
-        all-now : items c₀ ≡ (i .blocks ++ bs) ++ items (sectionsFrom form u (left - 1) cs (room - k) w₂)
+        all-now : things c₀ ≡ (i .blocks ++ bs) ++ things (sectionsFrom form u (left - 1) cs (room - k) w₂)
         unfolding then-come sectionsFrom
         all-now =
-            split ∙ ap (λ (l : List Block). i .blocks ++ (bs ++ l)) (ends-got (λ s. items (then-come tt s)) (λ _. []) (blocksFrom form u k c t w₁) (stateIn w₂) (tallies .3))
-            ∙ sym (append-assoc (i .blocks) bs (items (sectionsFrom form u (left - 1) cs (room - k) w₂)))
+            split ∙ ap (λ (l : List Block). i .blocks ++ (bs ++ l)) (ends-got (λ s. things (then-come tt s)) (λ _. []) (blocksFrom form u k c t w₁) (stateIn w₂) (tallies .3))
+            ∙ sym (append-assoc (i .blocks) bs (things (sectionsFrom form u (left - 1) cs (room - k) w₂)))
 
         ends-now : outcome c₀ ≡ outcome (sectionsFrom form u (left - 1) cs (room - k) w₂)
         unfolding then-come sectionsFrom
         ends-now = outcome-here ∙ ends-got (λ s. outcome (then-come tt s)) (λ why. course.not why) (blocksFrom form u k c t w₁) (stateIn w₂) (tallies .3)
 
-        the-row : row c f e n ≡ rowOf (i .blocks ++ bs) c
+        the-row : summaryRow c f e n ≡ rowOf (i .blocks ++ bs) c
         the-row = rw (tallies .0, tallies .1, tallies .2) (sym (own-row c (i .blocks) bs own (i .owned c new)))
 
         table-now : take (4 * (seen + 1)) rows₁ ≡ wordsIn (map (rowOf (i .blocks ++ bs)) cs)
         table-now =
-            let vs = wordsIn (row c f e n ∷ []) in
-            let lv : length vs ≡ 4 = length-words (row c f e n ∷ []) in
+            let vs = wordsIn (summaryRow c f e n ∷ []) in
+            let lv : length vs ≡ 4 = length-words (summaryRow c f e n ∷ []) in
             ap₂ take (let z : 4 * (seen + 1) ≡ 4 * seen + length vs = omega (arith, lv) in z) put-in ∙ take-sets rows vs (4 * seen) (omega (arith, lv, i .size, i .few, some))
             ∙ ap₂ (λ (l m : List ℕ). l ++ m) (i .table ∙ ap wordsIn (sym (other-rows c (i .blocks) bs own (i .clients) new))) (ap (λ (r : Row). wordsIn (r ∷ [])) the-row)
             ∙ sym (ap wordsIn (map-snoc (rowOf (i .blocks ++ bs)) (i .clients) c) ∙ words-append (map (rowOf (i .blocks ++ bs)) (i .clients)) (rowOf (i .blocks ++ bs) c ∷ []))
@@ -348,7 +348,7 @@ module _ (form : ℕ) (u : List ℕ) (c₀ : Run State Block (Unit {0})) (w rows
             let out = not-more x c (i .clients) q in
             of-append x (i .blocks) bs ∙ ap₂ (λ (l m : List Block). l ++ m) (i .owned x (out .1)) (of-others c x bs (out .0) own)
 
-        clients-now : clientsIn (take (seen + 1) o₁) ≡ put c (clientsIn (take seen order))
+        clients-now : clientsIn (take (seen + 1) o₁) ≡ insertClient c (clientsIn (take seen order))
         clients-now = ap clientsIn (o .order) ∙ clients-inserted c seen (take seen order) (omega (arith, i .few, some)) (o .new)
 
         names-now : All (Names cs) (take (seen + 1) o₁)
@@ -366,7 +366,7 @@ module _ (form : ℕ) (u : List ℕ) (c₀ : Run State Block (Unit {0})) (w rows
               ends = ends-now;
               can = i .can;
               small = s₂;
-              size = ap length put-in ∙ length-sets rows (4 * seen) (wordsIn (row c f e n ∷ [])) ∙ i .size;
+              size = ap length put-in ∙ length-sets rows (4 * seen) (wordsIn (summaryRow c f e n ∷ [])) ∙ i .size;
               words = words ∙ i .words;
               count = omega (arith, length-append (i .clients) (c ∷ []), i .count);
               few = omega (arith, i .few, some);

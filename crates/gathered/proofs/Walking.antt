@@ -9,7 +9,7 @@ use Rattle.numbers.specs.Limits.{maxClock, maxBlocks}
 use Rattle.block.specs.declared.Block.{Block}
 use Rattle.grammar.specs.GrammarInner.{_>>=_}
 use Rattle.grammar.specs.Course as course
-use Rattle.grammar.specs.Course.{Run, item, over, stopped, run, items, ending}
+use Rattle.grammar.specs.Course.{Run, thing, over, stopped, run, things, ending}
 use Rattle.grammar.specs.Blocks.{blocks, sections}
 use Rattle.grammar.proofs.Runs.{andThen, run-bind}
 use Rattle.decoder.specs.States.{State, movedTo}
@@ -34,7 +34,7 @@ alone k c t = record { sections = 0; blocks = k; room = 0; seen = 0; client = c;
 module _ (form : ℕ) (u w m : List ℕ) (k c t : ℕ) where
   then-nothing : (r : Run State Block (Unit {0})) → andThen r (λ a s. run (fields form u) (sections 0 (take 0 m) 0) s) ≡ r
   unfolding andThen run sections
-  then-nothing (item b p r) = ap (item b p) (then-nothing r)
+  then-nothing (thing b p r) = ap (thing b p) (then-nothing r)
   then-nothing (over a s) = refl
   then-nothing (stopped why) = refl
 
@@ -73,7 +73,7 @@ end-of (x ∷ bs) b cs h = end-of bs b cs (h .1)
 
 pub record Walking (form : ℕ) (u : List ℕ) (c : Run State Block (Unit {0})) (k : ℕ) (w r m : List ℕ) (s : Spot) (f e n : ℕ) : Type 0 where
   pub seen : List Block
-  pub all : items c ≡ seen ++ items (reads form u m w s)
+  pub all : things c ≡ seen ++ things (reads form u m w s)
   pub ends : outcome c ≡ outcome (reads form u m w s)
   pub steps : length seen + left s ≤ k
   pub few : k ≤ maxBlocks
@@ -81,18 +81,18 @@ pub record Walking (form : ℕ) (u : List ℕ) (c : Run State Block (Unit {0})) 
   pub small : Small w
   pub fields : length r ≡ 24
   pub memory : length m ≡ 1
-  pub can : Ends (items c)
+  pub can : Ends (things c)
   pub first : f ≡ firstClock seen
   pub end : e ≡ lastEnd seen
   pub count : n ≡ length seen
 
-pub walk-begins : (form : ℕ) (u w r m : List ℕ) (k c t : ℕ) → Small w → length r ≡ 24 → length m ≡ 1 → k ≤ maxBlocks → t ≤ maxClock → Ends (items (blocksFrom form u k c t w))
+pub walk-begins : (form : ℕ) (u w r m : List ℕ) (k c t : ℕ) → Small w → length r ≡ 24 → length m ≡ 1 → k ≤ maxBlocks → t ≤ maxClock → Ends (things (blocksFrom form u k c t w))
     → Walking form u (blocksFrom form u k c t w) k w r m (alone k c t) 0 0 0
 unfolding firstClock lastEnd left
 walk-begins form u w r m k c t small row one few low can =
     record {
       seen = [];
-      all = ap items (sym (reads-alone form u w m k c t));
+      all = ap things (sym (reads-alone form u w m k c t));
       ends = ap outcome (sym (reads-alone form u w m k c t));
       steps = omega arith;
       few = few;
@@ -111,9 +111,9 @@ module _ (form : ℕ) (u : List ℕ) (c : Run State Block (Unit {0})) (k : ℕ) 
   countable = omega (arith, i .count, i .steps, i .few)
 
   tallied-all : (s₁ : State) (w₁ : List ℕ) → reads form u m w s ≡ over tt s₁ → s₁ ≡ stateIn w₁ → Tallies c w₁ (tallied.Blocks f e n)
-  unfolding Tallies outcome ending items
+  unfolding Tallies outcome ending things
   tallied-all s₁ w₁ q z =
-      let all : items c ≡ i .seen = i .all ∙ ap (λ (d : Run State Block (Unit {0})). i .seen ++ items d) q ∙ append-nil (i .seen) in
+      let all : things c ≡ i .seen = i .all ∙ ap (λ (d : Run State Block (Unit {0})). i .seen ++ things d) q ∙ append-nil (i .seen) in
       (i .first ∙ ap firstClock (sym all), i .end ∙ ap lastEnd (sym all), i .count ∙ ap length (sym all), i .ends ∙ ap outcome q ∙ ap (course.got tt) z)
 
   -- no block is left
@@ -123,25 +123,25 @@ module _ (form : ℕ) (u : List ℕ) (c : Run State Block (Unit {0})) (k : ℕ) 
 
   module _ (m₁ w₁ r₁ : List ℕ) (x : Step) (st : Stepped form u m w r s m₁ w₁ r₁ x) where
     module _ (p : ℕ) (t : Spot) (q : x ≡ step.Block p t) where
-      here : reads form u m w s ≡ item (rowIn r₁) p (reads form u m₁ w₁ t)
+      here : reads form u m w s ≡ thing (rowIn r₁) p (reads form u m₁ w₁ t)
       here = reads-block form u m w r s m₁ w₁ r₁ x st p t q
 
       pub block-less : left t < left s
       block-less = on-block form u m w r s m₁ w₁ r₁ x st p t q .3
 
-      split : items c ≡ i .seen ++ (rowIn r₁ ∷ items (reads form u m₁ w₁ t))
-      unfolding items
-      split = i .all ∙ ap (λ (d : Run State Block (Unit {0})). i .seen ++ items d) here
+      split : things c ≡ i .seen ++ (rowIn r₁ ∷ things (reads form u m₁ w₁ t))
+      unfolding things
+      split = i .all ∙ ap (λ (d : Run State Block (Unit {0})). i .seen ++ things d) here
 
       pub its-end : rowIn r₁ .clock + rowIn r₁ .length .0 ≤ maxClock
-      its-end = end-of (i .seen) (rowIn r₁) (items (reads form u m₁ w₁ t)) (subst Ends split (i .can))
+      its-end = end-of (i .seen) (rowIn r₁) (things (reads form u m₁ w₁ t)) (subst Ends split (i .can))
 
       pub block-tallied : (g : ℕ) → (n ≡ 0 → g ≡ rowIn r₁ .clock) × (0 < n → g ≡ f) → Walking form u c k w₁ r₁ m₁ t g (rowIn r₁ .clock + rowIn r₁ .length .0) (n + 1)
       unfolding outcome ending
       block-tallied g h =
           record {
             seen = i .seen ++ (rowIn r₁ ∷ []);
-            all = split ∙ sym (append-assoc (i .seen) (rowIn r₁ ∷ []) (items (reads form u m₁ w₁ t)));
+            all = split ∙ sym (append-assoc (i .seen) (rowIn r₁ ∷ []) (things (reads form u m₁ w₁ t)));
             ends = i .ends ∙ ap outcome here;
             steps = omega (arith, i .steps, block-less, length-append (i .seen) (rowIn r₁ ∷ []));
             few = i .few;
@@ -166,7 +166,7 @@ module _ (form : ℕ) (u : List ℕ) (c : Run State Block (Unit {0})) (k : ℕ) 
       goes-on =
           record {
             seen = i .seen;
-            all = i .all ∙ ap (λ (d : Run State Block (Unit {0})). i .seen ++ items d) on-here;
+            all = i .all ∙ ap (λ (d : Run State Block (Unit {0})). i .seen ++ things d) on-here;
             ends = i .ends ∙ ap outcome on-here;
             steps = omega (arith, i .steps, on-less);
             few = i .few;

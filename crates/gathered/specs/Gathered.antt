@@ -11,11 +11,11 @@ use Rattle.numbers.specs.Limits.{maxClock, maxClients, maxBlocks}
 use Rattle.block.specs.declared.Block.{Block}
 use Rattle.grammar.specs.GrammarInner.{_>>=_}
 use Rattle.grammar.specs.Course as course
-use Rattle.grammar.specs.Course.{Run, stopped, run, items, ending}
+use Rattle.grammar.specs.Course.{Run, stopped, run, things, ending}
 use Rattle.grammar.specs.Blocks.{blocks, sections}
 use Rattle.decoder.specs.States.{State}
 use Rattle.decoder.specs.ColumnedInner.{fields}
-use Rattle.decoder.specs.Update.{placed, blocksOf}
+use Rattle.decoder.specs.Update.{restPlaces, blocksOf}
 use Rattle.cells.specs.declared.Drawn.{Drawn}
 use Rattle.cells.specs.declared.Drawn.the-variants as drawn
 use Rattle.cells.specs.Cells.{stateIn, whyIn}
@@ -63,7 +63,7 @@ endOf c = ending c (λ s. checked.Done (s .at)) (λ why. checked.Refused why)
 
 -- the section count of an update, to the words w
 unfoldable pub Begins : ℕ → List ℕ → List ℕ → Drawn → Type 0
-Begins form u w (drawn.Number n) = (blocksOf form u ≡ placed (sectionsFrom form u n [] maxBlocks w)) × (n ≤ maxClients)
+Begins form u w (drawn.Number n) = (blocksOf form u ≡ restPlaces (sectionsFrom form u n [] maxBlocks w)) × (n ≤ maxClients)
 Begins form u w drawn.Refused = blocksOf form u ≡ stopped (whyIn w)
 
 -- ---- a section's head: w, o before it and w₁, o₁ after it, where `seen` words of o are the sections before
@@ -89,13 +89,13 @@ Headed form u w o seen room w₁ o₁ (head.Refused why) =
 
 unfoldable pub Tallies : Run State Block (Unit {0}) → List ℕ → Tallied → Type 0
 Tallies c w (tallied.Blocks f e n) =
-    (f ≡ firstClock (items c)) × (e ≡ lastEnd (items c)) × (n ≡ length (items c)) × (outcome c ≡ course.got tt (stateIn w))
+    (f ≡ firstClock (things c)) × (e ≡ lastEnd (things c)) × (n ≡ length (things c)) × (outcome c ≡ course.got tt (stateIn w))
 Tallies c w (tallied.Refused why) = outcome c ≡ course.not why
 
 -- ---- all sections, into rows w in the order of the words o
 
 unfoldable pub Scans : Run State Block (Unit {0}) → List ℕ → List ℕ → Scanned → Type 0
-Scans c w o (scanned.Sections n at) = (n ≤ 64) × (kept (rowsBy w (take n o)) ≡ rowsOf (items c)) × (endOf c ≡ checked.Done at)
+Scans c w o (scanned.Sections n at) = (n ≤ 64) × (kept (rowsBy w (take n o)) ≡ rowsOf (things c)) × (endOf c ≡ checked.Done at)
 Scans c w o (scanned.Refused why) = endOf c ≡ checked.Refused why
 
 -- the rows of an update, in the words w

@@ -6,10 +6,10 @@ use lib.ListN.{length}
 use Rattle.numbers.specs.declared.Refusal.{Refusal}
 use Rattle.numbers.specs.Number.{pick}
 use Rattle.block.specs.declared.Block.{Block}
-use Rattle.grammar.specs.Course.{items, ending}
+use Rattle.grammar.specs.Course.{things, ending}
 use Rattle.decoder.specs.Update.{blocksOf, deleteSet}
 use Rattle.summary.specs.Rows.{Row}
-use Rattle.summary.specs.Words.{row}
+use Rattle.summary.specs.Words.{summaryRow}
 
 -- the blocks of one client, in reading order
 unfoldable pub ofClient : ℕ → List Block → List Block
@@ -26,17 +26,17 @@ lastEnd (b ∷ []) = b .clock + b .length .0
 lastEnd (b ∷ (c ∷ bs)) = lastEnd (c ∷ bs)
 
 unfoldable pub rowOf : List Block → ℕ → Row
-rowOf bs c = row c (firstClock (ofClient c bs)) (lastEnd (ofClient c bs)) (length (ofClient c bs))
+rowOf bs c = summaryRow c (firstClock (ofClient c bs)) (lastEnd (ofClient c bs)) (length (ofClient c bs))
 
 -- a client among others, highest first, each once
-unfoldable pub put : ℕ → List ℕ → List ℕ
-put c [] = c ∷ []
-put c (d ∷ ds) = pick (ltb d c) (c ∷ (d ∷ ds)) (pick (eqb d c) (d ∷ ds) (d ∷ put c ds))
+unfoldable pub insertClient : ℕ → List ℕ → List ℕ
+insertClient c [] = c ∷ []
+insertClient c (d ∷ ds) = pick (ltb d c) (c ∷ (d ∷ ds)) (pick (eqb d c) (d ∷ ds) (d ∷ insertClient c ds))
 
 -- the clients of blocks, with those seen before
 unfoldable pub clientsAfter : List ℕ → List Block → List ℕ
 clientsAfter cs [] = cs
-clientsAfter cs (b ∷ bs) = clientsAfter (put (b .client) cs) bs
+clientsAfter cs (b ∷ bs) = clientsAfter (insertClient (b .client) cs) bs
 
 unfoldable pub rowsOf : List Block → List Row
 rowsOf bs = map (rowOf bs) (clientsAfter [] bs)
@@ -50,5 +50,5 @@ pub data Told : Type 0 where
 unfoldable pub toldOf : ℕ → List ℕ → Told
 toldOf form u =
     ending (blocksOf form u)
-    (λ at. ending (deleteSet form u at) (λ e. rows (rowsOf (items (blocksOf form u)))) (λ why. refused why))
+    (λ at. ending (deleteSet form u at) (λ e. rows (rowsOf (things (blocksOf form u)))) (λ why. refused why))
     (λ why. refused why)

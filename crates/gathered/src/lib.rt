@@ -14,7 +14,7 @@ ghost use Prim.Native.Nat.{_≤_, _<_};
 ghost use lib.ListN.{length, take};
 ghost use Rattle.numbers.specs.Limits.{maxClock, maxClients, maxBlocks};
 ghost use Rattle.cells.specs.Cells.{Small};
-ghost use Rattle.grammar.specs.Course.{items};
+ghost use Rattle.grammar.specs.Course.{things};
 ghost use Rattle.tally.specs.Tally.{Descends, clientsIn};
 ghost use Rattle.gathered.specs.RowsOf.{firstClock, toldOf};
 ghost use Rattle.gathered.specs.Gathered.{Ends, sectionsFrom, blocksFrom, Begins, Headed, Tallies, Scans, Tells, whyHead, whyTallied, whyScanned, whyChecked};
@@ -102,7 +102,7 @@ fn tally_blocks(
     clock: u64,
 ) -> Tallied
     requires { ⌜ Small (now w) × (length (now r) ≡ 24) × (blocks ≤ maxBlocks) × (clock ≤ maxClock)
-        × Ends (items (blocksFrom form (now update) blocks client clock (now w))) ⌝ }
+        × Ends (things (blocksFrom form (now update) blocks client clock (now w))) ⌝ }
     ensures { λ x. ⌜ Small (now (w .exit)) × (length (now (r .exit)) ≡ 24)
         × Tallies (blocksFrom form (now (update .entry)) blocks client clock (now (w .entry))) (now (w .exit)) x ⌝ }
 {
@@ -158,7 +158,7 @@ fn scan(
     order: &mut [u64],
 ) -> Scanned
     requires { ⌜ Small (now w) × (sections ≤ maxClients) × (length (now rows) ≡ 256) × (length (now order) ≡ 64)
-        × Ends (items (sectionsFrom form (now update) sections [] maxBlocks (now w))) ⌝ }
+        × Ends (things (sectionsFrom form (now update) sections [] maxBlocks (now w))) ⌝ }
     ensures { λ r. ⌜ Scans (sectionsFrom form (now (update .entry)) sections [] maxBlocks (now (w .entry))) (now (rows .exit)) (now (order .exit)) r ⌝ }
 {
     let mut fields = [0u64; 24];

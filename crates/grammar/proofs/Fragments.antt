@@ -6,7 +6,7 @@ use mathlib.Core.List.{List, [], _∷_, _++_}
 use lib.Dec.{eqb}
 use Rattle.numbers.specs.Number.{pick}
 use Rattle.grammar.specs.Grammar.{Field, Answer, Grammar, ask, emit, stop, done}
-use Rattle.grammar.specs.Course.{Drawn, got, not, Reader, Run, item, over, stopped, onDrawn, run}
+use Rattle.grammar.specs.Course.{Drawn, got, not, Reader, Run, thing, over, stopped, onDrawn, run}
 use Rattle.grammar.specs.Fragments.{Held, ended, waits, orWait, begin, goOn, finish, arrives, joined}
 
 -- with more bytes an answer stays, and so does a refusal other than 1
@@ -29,7 +29,7 @@ module _ {S E A : Type 0} where
               → goOn r′ (pick b (over (waits (ask f k)) s) (stopped why)) ≡ orWait (ask f k) s (r′ f s) (λ a t. begin r′ (k a) t)
           wait true q = refl
           wait false q = rw (h q, q)
-  go-on-begin r r′ firm (emit e p x) s = ap (item e p) (go-on-begin r r′ firm x s)
+  go-on-begin r r′ firm (emit e p x) s = ap (thing e p) (go-on-begin r r′ firm x s)
   go-on-begin r r′ firm (stop n p) s = refl
   go-on-begin r r′ firm (done a) s = refl
 
@@ -46,7 +46,7 @@ module _ {S E A : Type 0} where
           wait : (b : Bool) → finish r (pick b (over (waits (ask f k)) s) (stopped why)) ≡ stopped why
           wait true = rw e refl
           wait false = refl
-  finish-begin r (emit e p x) s = ap (item e p) (finish-begin r x s)
+  finish-begin r (emit e p x) s = ap (thing e p) (finish-begin r x s)
   finish-begin r (stop n p) s = refl
   finish-begin r (done a) s = refl
 

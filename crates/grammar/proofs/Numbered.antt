@@ -109,7 +109,7 @@ unfolding Owns _>>=_ grammar.block
 block-owns c clock = λ a. owns-bind Low (grammar.body c clock (a .0) (a .1)) _ (body-owns c clock (a .0) (a .1)) (λ b. tt)
 
 blocks-own : (k c clock : ℕ) → Owns Low (grammar.blocks k c clock)
-unfolding Owns grammar.blocks grammar.kept
+unfolding Owns grammar.blocks grammar.unlessDropped
 blocks-own zero c clock = tt
 blocks-own (suc k) c clock =
     owns-bind Low (grammar.block c clock) _ (block-owns c clock) (λ a.
@@ -134,8 +134,8 @@ ranges-own (suc k) client end = λ c l.
     let more = ranges-own k client (c .0 + l .0) in
     owns-either Low (ltb maxClock (c .0 + l .0)) _ _ low3 (owns-either Low (eqb (l .0) 0) _ _ more more)
 
-clients-own : (n : ℕ) → Owns Low (deletes.clients n)
-unfolding Owns _>>=_ deletes.clients
+clients-own : (n : ℕ) → Owns Low (deletes.deletedClients n)
+unfolding Owns _>>=_ deletes.deletedClients
 clients-own zero = tt
 clients-own (suc n) = λ c k. owns-bind Low (deletes.ranges (k .0) (c .0) 0) _ (ranges-own (k .0) (c .0) 0) (λ x. clients-own n)
 

@@ -5,7 +5,7 @@ use mathlib.Core.Bool.{Bool, true, false}
 use Rattle.numbers.specs.Number.{pick}
 use Rattle.grammar.specs.Grammar.{Field, Answer, Grammar, ask, emit, stop, done}
 use Rattle.grammar.specs.GrammarInner.{_>>=_}
-use Rattle.grammar.specs.Course.{Drawn, got, not, Reader, Run, item, over, stopped, onDrawn, run}
+use Rattle.grammar.specs.Course.{Drawn, got, not, Reader, Run, thing, over, stopped, onDrawn, run}
 
 -- a choice that is made on both sides alike
 pub both : {A B : Type 0} (R : A → B → Type 0) (b : Bool) {x x′ : A} {y y′ : B} → R x y → R x′ y′ → R (pick b x x′) (pick b y y′)
@@ -13,7 +13,7 @@ both R true p q = p
 both R false p q = q
 
 unfoldable pub andThen : {S E A B : Type 0} → Run S E A → (A → S → Run S E B) → Run S E B
-andThen (item e p c) f = item e p (andThen c f)
+andThen (thing e p c) f = thing e p (andThen c f)
 andThen (over a s) f = f a s
 andThen (stopped why) f = stopped why
 
@@ -25,7 +25,7 @@ run-bind r (ask f k) g s = go (r f s) (λ a t. run-bind r (k a) g t)
         → onDrawn d (λ a t. run r (k a >>= g) t) ≡ andThen (onDrawn d (λ a t. run r (k a) t)) (λ a t. run r (g a) t)
     go (got a t) h = h a t
     go (not why) h = refl
-run-bind r (emit e p x) g s = ap (item e p) (run-bind r x g s)
+run-bind r (emit e p x) g s = ap (thing e p) (run-bind r x g s)
 run-bind r (stop n p) g s = refl
 run-bind r (done a) g s = refl
 
@@ -38,6 +38,6 @@ run-same r r′ h (ask f k) s = go (r f s) (r′ f s) (h f s) (λ a t. run-same 
         → onDrawn d (λ a t. run r (k a) t) ≡ onDrawn d′ (λ a t. run r′ (k a) t)
     go (got a t) d′ e more = more a t ∙ ap (λ (z : Drawn _ (Answer f)). onDrawn z (λ a t. run r′ (k a) t)) e
     go (not why) d′ e more = ap (λ (z : Drawn _ (Answer f)). onDrawn z (λ a t. run r′ (k a) t)) e
-run-same r r′ h (emit e p x) s = ap (item e p) (run-same r r′ h x s)
+run-same r r′ h (emit e p x) s = ap (thing e p) (run-same r r′ h x s)
 run-same r r′ h (stop n p) s = refl
 run-same r r′ h (done a) s = refl

@@ -2,14 +2,14 @@
 use mathlib.Core.Path.{_≡_, refl, ap, ap₂, _∙_}
 use Rattle.grammar.specs.Grammar.{Answer, Grammar, ask, emit, stop, done}
 use Rattle.grammar.specs.GrammarInner.{_>>=_}
-use Rattle.grammar.specs.Course.{Drawn, got, not, Reader, Run, item, over, stopped, onDrawn, run}
+use Rattle.grammar.specs.Course.{Drawn, got, not, Reader, Run, thing, over, stopped, onDrawn, run}
 use Rattle.grammar.specs.Blocks.{allBlocks}
 use Rattle.grammar.specs.Deletes.{allRanges}
 use Rattle.grammar.specs.Update.{Row, block, range, each, anUpdate}
 use Rattle.grammar.proofs.Runs.{andThen, run-bind}
 
 unfoldable pub eachKept : {S E F A : Type 0} → (E → F) → Run S E A → Run S F A
-eachKept g (item e p c) = item (g e) p (eachKept g c)
+eachKept g (thing e p c) = thing (g e) p (eachKept g c)
 eachKept g (over a s) = over a s
 eachKept g (stopped why) = stopped why
 
@@ -21,7 +21,7 @@ run-each r g (ask f k) s = go (r f s) (λ a t. run-each r g (k a) t)
         → onDrawn d (λ a t. run r (each g (k a)) t) ≡ eachKept g (onDrawn d (λ a t. run r (k a) t))
     go (got a t) h = h a t
     go (not why) h = refl
-run-each r g (emit e p x) s = ap (item (g e) p) (run-each r g x s)
+run-each r g (emit e p x) s = ap (thing (g e) p) (run-each r g x s)
 run-each r g (stop n p) s = refl
 run-each r g (done a) s = refl
 

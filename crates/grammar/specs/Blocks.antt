@@ -112,15 +112,15 @@ module _ {E : Type 0} where
 unfoldable pub dropped : Block → Bool
 dropped b = pick (eqb (b .length .0) 0) (isItem (b .kind)) false
 
-unfoldable pub kept : Block → ℕ → Grammar Block (Unit {0}) → Grammar Block (Unit {0})
-kept b at then = pick (dropped b) then (emit b at then)
+unfoldable pub unlessDropped : Block → ℕ → Grammar Block (Unit {0}) → Grammar Block (Unit {0})
+unlessDropped b at then = pick (dropped b) then (emit b at then)
 
 -- k blocks, each starting where the one before ended; an end is a clock
 unfoldable pub blocks : ℕ → ℕ → ℕ → Grammar Block (Unit {0})
 blocks zero c clock = done tt
 blocks (suc k) c clock = do
   (b, at) ← block c clock
-  pick (ltb maxClock (clock + b .length .0)) (stop 3 at) (kept b at (blocks k c (clock + b .length .0)))
+  pick (ltb maxClock (clock + b .length .0)) (stop 3 at) (unlessDropped b at (blocks k c (clock + b .length .0)))
 
 -- n sections: block count, client, first clock, blocks; `room` blocks may still be announced, and a client that was seen is refused with 4
 unfoldable pub sections : ℕ → List ℕ → ℕ → Grammar Block (Unit {0})

@@ -15,7 +15,7 @@ abbrev pub Reader : Type 0 → Type 0
 Reader S = (f : Field) → S → Drawn S (Answer f)
 
 pub data Run (S E A : Type 0) : Type 0 where
-  item : E → ℕ → Run S E A → Run S E A
+  thing : E → ℕ → Run S E A → Run S E A
   over : A → S → Run S E A
   stopped : Refusal → Run S E A
 
@@ -25,7 +25,7 @@ onDrawn (not why) then = stopped why
 
 unfoldable pub run : {S E A : Type 0} → Reader S → Grammar E A → S → Run S E A
 run r (ask f k) s = onDrawn (r f s) (λ a t. run r (k a) t)
-run r (emit e p x) s = item e p (run r x s)
+run r (emit e p x) s = thing e p (run r x s)
 run r (stop n p) s = stopped (record { number = n; place = p })
 run r (done a) s = over a s
 
@@ -36,19 +36,19 @@ Course E = Run ℕ E (Unit {0})
 
 -- what n rows take: one thing more is refused with 8
 unfoldable pub fit : {S E A : Type 0} → ℕ → Run S E A → Run S E A
-fit zero (item a p c) = stopped (record { number = 8; place = p })
-fit (suc n) (item a p c) = item a p (fit n c)
+fit zero (thing a p c) = stopped (record { number = 8; place = p })
+fit (suc n) (thing a p c) = thing a p (fit n c)
 fit n (over a s) = over a s
 fit n (stopped why) = stopped why
 
 -- the things themselves
-unfoldable pub items : {S E A : Type 0} → Run S E A → List E
-items (item a p c) = a ∷ items c
-items (over a s) = []
-items (stopped why) = []
+unfoldable pub things : {S E A : Type 0} → Run S E A → List E
+things (thing a p c) = a ∷ things c
+things (over a s) = []
+things (stopped why) = []
 
 -- what follows the last of them
 unfoldable pub ending : {S E A X : Type 0} → Run S E A → (S → X) → (Refusal → X) → X
-ending (item a p c) read refused = ending c read refused
+ending (thing a p c) read refused = ending c read refused
 ending (over a s) read refused = read s
 ending (stopped why) read refused = refused why

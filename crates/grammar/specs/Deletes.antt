@@ -17,13 +17,13 @@ ranges (suc k) client end = do
   pick (ltb maxClock (clock + len)) (stop 3 at)
       (pick (eqb len 0) (ranges k client (clock + len)) (emit (range client clock len) at (ranges k client (clock + len))))
 
-unfoldable pub clients : ℕ → Grammar Range (Unit {0})
-clients zero = done tt
-clients (suc n) = do
+unfoldable pub deletedClients : ℕ → Grammar Range (Unit {0})
+deletedClients zero = done tt
+deletedClients (suc n) = do
   (client, _) ← draw (number (upTo maxValue))
   (k, _) ← draw (number any)
   _ ← ranges k client 0
-  clients n
+  deletedClients n
 
 unfoldable pub allRanges : Grammar Range (Unit {0})
-allRanges = draw (number (upTo maxClients)) >>= λ (n, _). clients n
+allRanges = draw (number (upTo maxClients)) >>= λ (n, _). deletedClients n

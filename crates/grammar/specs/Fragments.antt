@@ -5,7 +5,7 @@ use lib.Dec.{eqb}
 use Rattle.numbers.specs.declared.Refusal.{Refusal}
 use Rattle.numbers.specs.Number.{pick}
 use Rattle.grammar.specs.Grammar.{Field, Answer, Grammar, ask, emit, stop, done}
-use Rattle.grammar.specs.Course.{Drawn, got, not, Reader, Run, item, over, stopped, run}
+use Rattle.grammar.specs.Course.{Drawn, got, not, Reader, Run, thing, over, stopped, run}
 
 -- the grammar is at its end, or waits at a field
 pub data Held (E A : Type 0) : Type 0 where
@@ -19,20 +19,20 @@ orWait x s (not why) then = pick (eqb (why .number) 1) (over (waits x) s) (stopp
 
 unfoldable pub begin : {S E A : Type 0} → Reader S → Grammar E A → S → Run S E (Held E A)
 begin r (ask f k) s = orWait (ask f k) s (r f s) (λ a t. begin r (k a) t)
-begin r (emit e p x) s = item e p (begin r x s)
+begin r (emit e p x) s = thing e p (begin r x s)
 begin r (stop n p) s = stopped (record { number = n; place = p })
 begin r (done a) s = over (ended a) s
 
 -- more bytes have come, which r has too
 unfoldable pub goOn : {S E A : Type 0} → Reader S → Run S E (Held E A) → Run S E (Held E A)
-goOn r (item e p c) = item e p (goOn r c)
+goOn r (thing e p c) = thing e p (goOn r c)
 goOn r (over (ended a) s) = over (ended a) s
 goOn r (over (waits x) s) = begin r x s
 goOn r (stopped why) = stopped why
 
 -- no more will come
 unfoldable pub finish : {S E A : Type 0} → Reader S → Run S E (Held E A) → Run S E A
-finish r (item e p c) = item e p (finish r c)
+finish r (thing e p c) = thing e p (finish r c)
 finish r (over (ended a) s) = over a s
 finish r (over (waits x) s) = run r x s
 finish r (stopped why) = stopped why

@@ -4,7 +4,7 @@ use mathlib.Core.Bool.{true, false}
 use mathlib.Core.List.{List}
 use lib.ListN.{length}
 use Rattle.numbers.specs.Number.{none}
-use Rattle.grammar.specs.Course.{items, ending}
+use Rattle.grammar.specs.Course.{things, ending}
 use Rattle.ranges.specs.Ranges.{normal}
 use Rattle.deletes.specs.DeleteSet.{taken, wordsOf}
 use Rattle.updates.specs.Promises.{refused}
@@ -22,7 +22,7 @@ abbrev pub notGiven : ℕ → HeldRead
 notGiven why = record { refused = true; number = why; ranges = 0 }
 
 unfoldable pub readHeld : List ℕ → ℕ → HeldRead
-readHeld v n = ending (taken 1 v 0 n) (λ t. given (length (normal (items (taken 1 v 0 n))))) (λ why. notGiven (why .number))
+readHeld v n = ending (taken 1 v 0 n) (λ t. given (length (normal (things (taken 1 v 0 n))))) (λ why. notGiven (why .number))
 
 unfoldable pub wordsGiven : List ℕ → ℕ → List ℕ
 wordsGiven v n = wordsOf 1 v 0 n

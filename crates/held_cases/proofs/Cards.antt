@@ -25,7 +25,7 @@ use Rattle.held_sorts.specs.Promises.{lent, sortHeldOf}
 use Rattle.slow_held_sorts.specs.Promises.{slowSortHeldOf}
 use Rattle.numbers.specs.Output.{padded}
 use Rattle.ranges.specs.Table.{flat}
-use Rattle.updates.specs.Promises.{reading, rowsOf, wordsOf}
+use Rattle.updates.specs.Promises.{reading, tableOf, rangeWords}
 use Rattle.held_sorts.proofs.Sorts.{sortedheld}
 use Rattle.table.proofs.Sorts.{block}
 use Rattle.update_cases.proofs.Sorts.{told}
@@ -57,7 +57,7 @@ module _ {M : Type 1} (𝓤 : URA M) (H : Heap 𝓤) (A : Atoms 𝓤) (mem : Mem
   Held-lines·end = tripleOf 𝓤 H A held-lines·end-fn.signature (held-lines·end-fn.spec 𝓤 H A mem run)
 
   module _ (C : Calls 𝓤 H) where
-    pub held-sorts·sort-held! : Triple 𝓤 (C #held-sorts·sort-held) Held-sorts·sort-held → (form₀ : ℕ) (g-form : Has byte form₀) (at-update : Seat) (update₀ : List ℕ) (at-held : Seat) (held₀ : List ℕ) (at-rows : Seat) (rows₀ : List Block) (at-ranges : Seat) (ranges₀ : List ℕ) (at-given : Seat) (given₀ : List ℕ) (at-order : Seat) (order₀ : List ℕ) (at-counts : Seat) (counts₀ : List ℕ) (at-pending : Seat) (pending₀ : List ℕ) → Card 𝓤 H A C #held-sorts·sort-held (val byte form₀ g-form ∷ pass byte at-update update₀ ∷ pass byte at-held held₀ ∷ mut block at-rows rows₀ (rowsOf (length rows₀) ((sortHeldOf form₀ update₀ held₀ (length rows₀) (length ranges₀ / 3) (length given₀ / 3) (lent order₀ counts₀ pending₀)) .reading)) ∷ mut word at-ranges ranges₀ (wordsOf (length ranges₀) ((sortHeldOf form₀ update₀ held₀ (length rows₀) (length ranges₀ / 3) (length given₀ / 3) (lent order₀ counts₀ pending₀)) .reading)) ∷ mut word at-given given₀ (padded (length given₀) (flat ((sortHeldOf form₀ update₀ held₀ (length rows₀) (length ranges₀ / 3) (length given₀ / 3) (lent order₀ counts₀ pending₀)) .held))) ∷ mut word at-order order₀ (padded (length order₀) ((sortHeldOf form₀ update₀ held₀ (length rows₀) (length ranges₀ / 3) (length given₀ / 3) (lent order₀ counts₀ pending₀)) .order)) ∷ mut word at-counts counts₀ (padded (length counts₀) ((sortHeldOf form₀ update₀ held₀ (length rows₀) (length ranges₀ / 3) (length given₀ / 3) (lent order₀ counts₀ pending₀)) .counts)) ∷ mut word at-pending pending₀ (padded (length pending₀) ((sortHeldOf form₀ update₀ held₀ (length rows₀) (length ranges₀ / 3) (length given₀ / 3) (lent order₀ counts₀ pending₀)) .pending)) ∷ []) sortedheld (answered (sortHeldOf form₀ update₀ held₀ (length rows₀) (length ranges₀ / 3) (length given₀ / 3) (lent order₀ counts₀ pending₀)))
+    pub held-sorts·sort-held! : Triple 𝓤 (C #held-sorts·sort-held) Held-sorts·sort-held → (form₀ : ℕ) (g-form : Has byte form₀) (at-update : Seat) (update₀ : List ℕ) (at-held : Seat) (held₀ : List ℕ) (at-rows : Seat) (rows₀ : List Block) (at-ranges : Seat) (ranges₀ : List ℕ) (at-given : Seat) (given₀ : List ℕ) (at-order : Seat) (order₀ : List ℕ) (at-counts : Seat) (counts₀ : List ℕ) (at-pending : Seat) (pending₀ : List ℕ) → Card 𝓤 H A C #held-sorts·sort-held (val byte form₀ g-form ∷ pass byte at-update update₀ ∷ pass byte at-held held₀ ∷ mut block at-rows rows₀ (tableOf (length rows₀) ((sortHeldOf form₀ update₀ held₀ (length rows₀) (length ranges₀ / 3) (length given₀ / 3) (lent order₀ counts₀ pending₀)) .reading)) ∷ mut word at-ranges ranges₀ (rangeWords (length ranges₀) ((sortHeldOf form₀ update₀ held₀ (length rows₀) (length ranges₀ / 3) (length given₀ / 3) (lent order₀ counts₀ pending₀)) .reading)) ∷ mut word at-given given₀ (padded (length given₀) (flat ((sortHeldOf form₀ update₀ held₀ (length rows₀) (length ranges₀ / 3) (length given₀ / 3) (lent order₀ counts₀ pending₀)) .held))) ∷ mut word at-order order₀ (padded (length order₀) ((sortHeldOf form₀ update₀ held₀ (length rows₀) (length ranges₀ / 3) (length given₀ / 3) (lent order₀ counts₀ pending₀)) .order)) ∷ mut word at-counts counts₀ (padded (length counts₀) ((sortHeldOf form₀ update₀ held₀ (length rows₀) (length ranges₀ / 3) (length given₀ / 3) (lent order₀ counts₀ pending₀)) .counts)) ∷ mut word at-pending pending₀ (padded (length pending₀) ((sortHeldOf form₀ update₀ held₀ (length rows₀) (length ranges₀ / 3) (length given₀ / 3) (lent order₀ counts₀ pending₀)) .pending)) ∷ []) sortedheld (answered (sortHeldOf form₀ update₀ held₀ (length rows₀) (length ranges₀ / 3) (length given₀ / 3) (lent order₀ counts₀ pending₀)))
     held-sorts·sort-held! known form₀ g-form at-update update₀ at-held held₀ at-rows rows₀ at-ranges ranges₀ at-given given₀ at-order order₀ at-counts counts₀ at-pending pending₀ = record {
       contract = Held-sorts·sort-held;
       known = known;
@@ -71,7 +71,7 @@ module _ {M : Type 1} (𝓤 : URA M) (H : Heap 𝓤) (A : Atoms 𝓤) (mem : Mem
       said = λ ns r ws. since 𝓤 (λ e. (e .0, (e .1, (e .2, (e .3, (e .4, (e .5, (e .6, tt))))))));
     }
 
-    pub slow-held-sorts·sort-held-slowly! : Triple 𝓤 (C #slow-held-sorts·sort-held-slowly) Slow-held-sorts·sort-held-slowly → (form₀ : ℕ) (g-form : Has byte form₀) (at-update : Seat) (update₀ : List ℕ) (at-held : Seat) (held₀ : List ℕ) (at-rows : Seat) (rows₀ : List Block) (at-ranges : Seat) (ranges₀ : List ℕ) (at-given : Seat) (given₀ : List ℕ) (at-order : Seat) (order₀ : List ℕ) (at-counts : Seat) (counts₀ : List ℕ) (at-pending : Seat) (pending₀ : List ℕ) → Card 𝓤 H A C #slow-held-sorts·sort-held-slowly (val byte form₀ g-form ∷ pass byte at-update update₀ ∷ pass byte at-held held₀ ∷ mut block at-rows rows₀ (rowsOf (length rows₀) ((slowSortHeldOf form₀ update₀ held₀ (length rows₀) (length ranges₀ / 3) (length given₀ / 3) (lent order₀ counts₀ pending₀)) .reading)) ∷ mut word at-ranges ranges₀ (wordsOf (length ranges₀) ((slowSortHeldOf form₀ update₀ held₀ (length rows₀) (length ranges₀ / 3) (length given₀ / 3) (lent order₀ counts₀ pending₀)) .reading)) ∷ mut word at-given given₀ (padded (length given₀) (flat ((slowSortHeldOf form₀ update₀ held₀ (length rows₀) (length ranges₀ / 3) (length given₀ / 3) (lent order₀ counts₀ pending₀)) .held))) ∷ mut word at-order order₀ (padded (length order₀) ((slowSortHeldOf form₀ update₀ held₀ (length rows₀) (length ranges₀ / 3) (length given₀ / 3) (lent order₀ counts₀ pending₀)) .order)) ∷ mut word at-counts counts₀ (padded (length counts₀) ((slowSortHeldOf form₀ update₀ held₀ (length rows₀) (length ranges₀ / 3) (length given₀ / 3) (lent order₀ counts₀ pending₀)) .counts)) ∷ mut word at-pending pending₀ (padded (length pending₀) ((slowSortHeldOf form₀ update₀ held₀ (length rows₀) (length ranges₀ / 3) (length given₀ / 3) (lent order₀ counts₀ pending₀)) .pending)) ∷ []) sortedheld (answered (slowSortHeldOf form₀ update₀ held₀ (length rows₀) (length ranges₀ / 3) (length given₀ / 3) (lent order₀ counts₀ pending₀)))
+    pub slow-held-sorts·sort-held-slowly! : Triple 𝓤 (C #slow-held-sorts·sort-held-slowly) Slow-held-sorts·sort-held-slowly → (form₀ : ℕ) (g-form : Has byte form₀) (at-update : Seat) (update₀ : List ℕ) (at-held : Seat) (held₀ : List ℕ) (at-rows : Seat) (rows₀ : List Block) (at-ranges : Seat) (ranges₀ : List ℕ) (at-given : Seat) (given₀ : List ℕ) (at-order : Seat) (order₀ : List ℕ) (at-counts : Seat) (counts₀ : List ℕ) (at-pending : Seat) (pending₀ : List ℕ) → Card 𝓤 H A C #slow-held-sorts·sort-held-slowly (val byte form₀ g-form ∷ pass byte at-update update₀ ∷ pass byte at-held held₀ ∷ mut block at-rows rows₀ (tableOf (length rows₀) ((slowSortHeldOf form₀ update₀ held₀ (length rows₀) (length ranges₀ / 3) (length given₀ / 3) (lent order₀ counts₀ pending₀)) .reading)) ∷ mut word at-ranges ranges₀ (rangeWords (length ranges₀) ((slowSortHeldOf form₀ update₀ held₀ (length rows₀) (length ranges₀ / 3) (length given₀ / 3) (lent order₀ counts₀ pending₀)) .reading)) ∷ mut word at-given given₀ (padded (length given₀) (flat ((slowSortHeldOf form₀ update₀ held₀ (length rows₀) (length ranges₀ / 3) (length given₀ / 3) (lent order₀ counts₀ pending₀)) .held))) ∷ mut word at-order order₀ (padded (length order₀) ((slowSortHeldOf form₀ update₀ held₀ (length rows₀) (length ranges₀ / 3) (length given₀ / 3) (lent order₀ counts₀ pending₀)) .order)) ∷ mut word at-counts counts₀ (padded (length counts₀) ((slowSortHeldOf form₀ update₀ held₀ (length rows₀) (length ranges₀ / 3) (length given₀ / 3) (lent order₀ counts₀ pending₀)) .counts)) ∷ mut word at-pending pending₀ (padded (length pending₀) ((slowSortHeldOf form₀ update₀ held₀ (length rows₀) (length ranges₀ / 3) (length given₀ / 3) (lent order₀ counts₀ pending₀)) .pending)) ∷ []) sortedheld (answered (slowSortHeldOf form₀ update₀ held₀ (length rows₀) (length ranges₀ / 3) (length given₀ / 3) (lent order₀ counts₀ pending₀)))
     slow-held-sorts·sort-held-slowly! known form₀ g-form at-update update₀ at-held held₀ at-rows rows₀ at-ranges ranges₀ at-given given₀ at-order order₀ at-counts counts₀ at-pending pending₀ = record {
       contract = Slow-held-sorts·sort-held-slowly;
       known = known;

@@ -26,7 +26,7 @@ use Rattle.sorting.specs.Steps.{State}
 use Rattle.sorting.specs.Rules.{queue, below}
 use Rattle.sorting.specs.Rule28Inner.{rule28}
 use Rattle.sorting.specs.Named.{asksOf, ruleOf}
-use Rattle.sorting.specs.Sorted.{clients, outcome, numbersFrom, countsIn, outcomeOf, orderOf}
+use Rattle.sorting.specs.Sorted.{allClients, outcome, blockNumbersFrom, countsIn, outcomeOf, orderOf}
 use Rattle.sorting.specs.Held.{ruleHeld, heldIn, owners, outcomeHeld, orderHeld, countsHeld}
 use Rattle.outcome.specs.Tie.{slotOf, Slotted, Sortable, Opened, Ended, overlaid}
 use Rattle.outcome.specs.Came.{Came}
@@ -81,7 +81,7 @@ module _ (bs : List Block) (fit : Fit bs) (rows : List Block) (back : take (leng
   pub gone-is : (d : Id) → is-gone d ≡ ltb 0 (held d)
   gone-is d = held-is w h normal d
 
-  pub firsts : (c : ℕ) → 0 < length (queue bs c) → firstOf ss c ≡ getD (numbersFrom 0 bs c) 0 0
+  pub firsts : (c : ℕ) → 0 < length (queue bs c) → firstOf ss c ≡ getD (blockNumbersFrom 0 bs c) 0 0
   firsts c some = first-some is-slotted (fit .ordered) (fit .count) rows back c some 0
 
   pub places : (d : Id) → placed-at d ≡ holder (queue bs (d .client)) (d .clock)

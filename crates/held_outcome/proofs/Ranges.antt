@@ -14,7 +14,7 @@ use Rattle.ranges.specs.Ranges.{Range}
 use Rattle.ranges.specs.RangesInner.{Hit, Deleted, Apart, Leads, Normal}
 use Rattle.ranges.specs.TableInner.{row, rowsFrom}
 use Rattle.ranges.proofs.Theory.{After, after}
-use Rattle.sorting.specs.Held.{within, heldIn}
+use Rattle.sorting.specs.Held.{inRange, heldIn}
 use Rattle.sorting.proofs.Held.{within-is, ranges-hold}
 use Rattle.sorting.proofs.Outcome.{below-or}
 use Rattle.placing.specs.Halving.{found}

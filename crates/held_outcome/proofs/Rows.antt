@@ -16,7 +16,7 @@ use Rattle.readings.specs.SoundInner.{Ordered, Chain}
 use Rattle.slots.specs.Slots.{Slot, slot, rank, isNamed}
 use Rattle.slots.proofs.Ranks.{clientAt, named-slot, slot-rank, slot-named}
 use Rattle.sorting.specs.Rules.{queue, isSkip}
-use Rattle.sorting.specs.Sorted.{numbersFrom}
+use Rattle.sorting.specs.Sorted.{blockNumbersFrom}
 use Rattle.sorting.proofs.Outcome.{below-or}
 use Rattle.outcome.specs.Tie.{slotOf, Slotted}
 use Rattle.outcome.proofs.Places.{slot-for, row-block, row-below}
@@ -159,11 +159,11 @@ module _ {bs : List Block} {ss : List Slot} (slotted : Slotted bs [] ss) (ordere
         go (inr h) = same (ltb (lo + ended q k) (length rows)) (numberAt (span lo (lo + length q)) (lo + ended q k) n k) (number-out n h)
             ∙ sym (rw (le-ltb (ended q k) (length q) h) refl)
 
-    pub first-some : firstOf ss c ≡ getD (numbersFrom 0 bs c) 0 0
+    pub first-some : firstOf ss c ≡ getD (blockNumbersFrom 0 bs c) 0 0
     unfolding firstOf
     first-some =
         ap (λ (i : ℕ). slotOf ss i .first) is-rank ∙ slotted .firsts p (at-slot .1) (omega (arith, count-is))
-        ∙ ap (λ (x : ℕ). getD (numbersFrom 0 bs x) 0 0) (at-slot .2)
+        ∙ ap (λ (x : ℕ). getD (blockNumbersFrom 0 bs x) 0 0) (at-slot .2)
 
   -- ---- a client without blocks has no slot, or a slot without rows
 

@@ -29,7 +29,7 @@ use Rattle.sorting.specs.Rules.{queue, isSkip, also, deps, others, unmet, waits
 use Rattle.sorting.specs.Rule28.{asks28}
 use Rattle.sorting.specs.Rule28Inner.{rule28}
 use Rattle.sorting.specs.Named.{asksOf, ruleOf}
-use Rattle.sorting.specs.Sorted.{clients, steps, order, outcome, waiting, pendingIn, outcomeOf}
+use Rattle.sorting.specs.Sorted.{allClients, steps, order, outcome, waiting, pendingIn, outcomeOf}
 use Rattle.sorting.specs.Held.{ruleHeld, owners, pendingHeld}
 use Rattle.sorting.proofs.Outcome.{can-intro}
 use Rattle.sorting.proofs.Rules.{report-waits}

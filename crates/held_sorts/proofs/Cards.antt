@@ -26,7 +26,7 @@ use Rattle.held_sorter.specs.HeldSorter.{countsBy, orderBy, pendingBy, sortingB
 use Rattle.numbers.specs.Output.{padded}
 use Rattle.reports.specs.Reports.{fitted}
 use Rattle.sorter.specs.Sorter.{maxReaches, slotsFor}
-use Rattle.updates.specs.Promises.{refused, rowsOf, wordsOf}
+use Rattle.updates.specs.Promises.{refused, tableOf, rangeWords}
 use Rattle.held_sorts.proofs.Sorts.{sortedheld, heldread}
 use Rattle.reader.proofs.Sorts.{refusal}
 use Rattle.reader.proofs.Sorts.{refusal}
@@ -75,7 +75,7 @@ module _ {M : Type 1} (𝓤 : URA M) (H : Heap 𝓤) (A : Atoms 𝓤) (mem : Mem
       said = λ ns r ws. since 𝓤 (λ e. (e, tt));
     }
 
-    pub held-sorts·refuse! : Triple 𝓤 (C #held-sorts·refuse) Held-sorts·refuse → (at-rows : Seat) (rows₀ : List Block) (at-ranges : Seat) (ranges₀ : List ℕ) (at-given : Seat) (given₀ : List ℕ) (at-order : Seat) (order₀ : List ℕ) (at-counts : Seat) (counts₀ : List ℕ) (at-pending : Seat) (pending₀ : List ℕ) (why₀ : Refusal) (g-why : Has refusal why₀) → Card 𝓤 H A C #held-sorts·refuse (mut block at-rows rows₀ (rowsOf (length rows₀) (refused why₀)) ∷ mut word at-ranges ranges₀ (wordsOf (length ranges₀) (refused why₀)) ∷ mut word at-given given₀ (padded (length given₀) []) ∷ mut word at-order order₀ (padded (length order₀) []) ∷ mut word at-counts counts₀ (padded (length counts₀) []) ∷ mut word at-pending pending₀ (padded (length pending₀) []) ∷ val refusal why₀ g-why ∷ []) sortedheld (answered (refusedWith why₀))
+    pub held-sorts·refuse! : Triple 𝓤 (C #held-sorts·refuse) Held-sorts·refuse → (at-rows : Seat) (rows₀ : List Block) (at-ranges : Seat) (ranges₀ : List ℕ) (at-given : Seat) (given₀ : List ℕ) (at-order : Seat) (order₀ : List ℕ) (at-counts : Seat) (counts₀ : List ℕ) (at-pending : Seat) (pending₀ : List ℕ) (why₀ : Refusal) (g-why : Has refusal why₀) → Card 𝓤 H A C #held-sorts·refuse (mut block at-rows rows₀ (tableOf (length rows₀) (refused why₀)) ∷ mut word at-ranges ranges₀ (rangeWords (length ranges₀) (refused why₀)) ∷ mut word at-given given₀ (padded (length given₀) []) ∷ mut word at-order order₀ (padded (length order₀) []) ∷ mut word at-counts counts₀ (padded (length counts₀) []) ∷ mut word at-pending pending₀ (padded (length pending₀) []) ∷ val refusal why₀ g-why ∷ []) sortedheld (answered (refusedWith why₀))
     held-sorts·refuse! known at-rows rows₀ at-ranges ranges₀ at-given given₀ at-order order₀ at-counts counts₀ at-pending pending₀ why₀ g-why = record {
       contract = Held-sorts·refuse;
       known = known;

@@ -9,7 +9,7 @@ use lib.ListN.{length}
 use borrow.Author.Tests.{eqb-true, eqb-false}
 use Rattle.numbers.specs.Number.{pick, nowhere}
 use Rattle.block.specs.declared.Block.{Block}
-use Rattle.grammar.specs.Course.{Course, item, over, stopped, fit, items, ending}
+use Rattle.grammar.specs.Course.{Course, thing, over, stopped, fit, things, ending}
 use Rattle.ranges.specs.Ranges.{Range, normal}
 use Rattle.decoder.specs.Update.{deleteSet}
 use Rattle.sorting.specs.Steps.{State, start, after, Ends}
@@ -29,7 +29,7 @@ use Rattle.grammar.specs.Numbered as grammar
 use Rattle.agreement.specs.Numbered.{Stops}
 use Rattle.agreement.proofs.Courses.{fit-stops}
 use Rattle.agreement.proofs.Numbered.{deletes-numbered}
-use Rattle.held_sorts.specs.Promises.{Finder, quickly, whole, whySort, fitting, against, afterReading, sortHeldBy, sortHeldOf}
+use Rattle.held_sorts.specs.Promises.{Finder, quickly, sortedAll, whySort, fitting, against, afterReading, sortHeldBy, sortHeldOf}
 use Rattle.sorts.proofs.Demand.{demanded}
 use Rattle.held_sorts.specs.Demand.{Demand3Held}
 
@@ -49,7 +49,7 @@ read-whole : (m : Room) (t : SortHeld) (c : Course Range) → Stops c
     → ending c (λ s. fitting m t) (λ why. refusedWith (nowhere (why .number))) .refusal .number ≡ 0
     → (ending c (λ _. true) (λ _. false) ≡ true) × (ending c (λ s. fitting m t) (λ why. refusedWith (nowhere (why .number))) ≡ t)
 unfolding ending grammar.Stops
-read-whole m t (item a p c) h e = read-whole m t c h e
+read-whole m t (thing a p c) h e = read-whole m t c h e
 read-whole m t (over x s) h e = (refl, fitting-done m t e)
 read-whole m t (stopped why) h e = absurd (omega (arith, h .0, e))
 
@@ -64,30 +64,30 @@ module _ (F : Finder) (form : ℕ) (u v : List ℕ) (blockRows rangeRows heldRow
   s = sortHeldBy F form u v blockRows rangeRows heldRows m
 
   pub after-done : s .refusal .number ≡ 0
-      → (r .refusal .number ≡ 0) × (ending c (λ _. true) (λ _. false) ≡ true) × (s ≡ whole F (normal (items c)) r)
+      → (r .refusal .number ≡ 0) × (ending c (λ _. true) (λ _. false) ≡ true) × (s ≡ sortedAll F (normal (things c)) r)
   unfolding sortHeldBy afterReading against
   after-done h = go (eqb (r .refusal .number) 0) refl h
     where
       sort : SortHeld
-      sort = ending c (λ s. fitting m (whole F (normal (items c)) r)) (λ why. refusedWith (nowhere (why .number)))
+      sort = ending c (λ s. fitting m (sortedAll F (normal (things c)) r)) (λ why. refusedWith (nowhere (why .number)))
 
       go : (x : Bool) → eqb (r .refusal .number) 0 ≡ x → pick x sort (refusedWith (r .refusal)) .refusal .number ≡ 0
-          → (r .refusal .number ≡ 0) × (ending c (λ _. true) (λ _. false) ≡ true) × (pick x sort (refusedWith (r .refusal)) ≡ whole F (normal (items c)) r)
+          → (r .refusal .number ≡ 0) × (ending c (λ _. true) (λ _. false) ≡ true) × (pick x sort (refusedWith (r .refusal)) ≡ sortedAll F (normal (things c)) r)
       go true e h =
-          let w = read-whole m (whole F (normal (items c)) r) c (fit-stops heldRows (deleteSet 1 v 0) (deletes-numbered 1 v 0)) h in
+          let w = read-whole m (sortedAll F (normal (things c)) r) c (fit-stops heldRows (deleteSet 1 v 0) (deletes-numbered 1 v 0)) h in
           (eqb-true (r .refusal .number) 0 e, w .0, w .1)
       go false e h = absurd (eqb-false (r .refusal .number) 0 e h)
 
 -- ---- demand 3 over held sets
 
 whole-demanded : (c : Course Range) (r : Reading) → r .refusal .number ≡ 0 → ending c (λ _. true) (λ _. false) ≡ true
-    → Demand3Held r c (whole quickly (normal (items c)) r)
-unfolding whole orderHeld countsHeld pendingHeld
+    → Demand3Held r c (sortedAll quickly (normal (things c)) r)
+unfolding sortedAll orderHeld countsHeld pendingHeld
 whole-demanded c r z e = record {
   read = (z, e);
   reading = refl;
   held = refl;
-  demanded = demanded ruleHeld held-mono (r .blocks) (heldIn (normal (items c))) (owners (r .blocks)) (clients-blocks (r .blocks) []);
+  demanded = demanded ruleHeld held-mono (r .blocks) (heldIn (normal (things c))) (owners (r .blocks)) (clients-blocks (r .blocks) []);
 }
 
 pub demand-3-held : (form : ℕ) (u v : List ℕ) (blockRows rangeRows heldRows : ℕ) (m : Room)

@@ -11,7 +11,7 @@ use Rattle.picker.specs.Picker.{nowhere as noRow}
 use Rattle.reports.specs.Reports.{fitted}
 use Rattle.slots.specs.Slots.{Slot}
 use Rattle.sorter.specs.Sorter.{slotsFor, maxReaches}
-use Rattle.updates.specs.Promises.{Reading, reading, answer, rowsOf}
+use Rattle.updates.specs.Promises.{Reading, reading, answer, tableOf}
 use Rattle.updates.proofs.Read.{rows-length, rows-back}
 use Rattle.held_sorter.specs.HeldSorter.{sortingBy, orderBy, countsBy, pendingBy}
 use Rattle.held_outcome.proofs.Answers.{order-is, counts-are, pending-are, sorting-is}
@@ -37,7 +37,7 @@ module _ (form : ℕ) (u v : List ℕ) (rows₀ : List Block) (ranges₀ given�
   W = wordsGiven v (length given₀)
 
   abbrev rows : List Block
-  rows = rowsOf M R
+  rows = tableOf M R
 
   abbrev n : ℕ
   n = answer R .blocks

@@ -36,7 +36,7 @@ use Rattle.held_answers.specs.Answers.{answered, refusedWith}
 use Rattle.held_answers.specs.AnswersInner.{answerTo, readHeld, wordsGiven}
 use Rattle.numbers.specs.Output.{padded}
 use Rattle.sort_answers.specs.AnswersInner.{judged}
-use Rattle.updates.specs.Promises.{answer, reading, refused, rowsOf, wordsOf}
+use Rattle.updates.specs.Promises.{answer, reading, refused, tableOf, rangeWords}
 use Rattle.held_sorts.proofs.Sorts.{sortedheld, heldread, heldread-number, heldread-ranges}
 use Rattle.reader.proofs.Sorts.{refusal, refusal-has}
 use Rattle.sorter.proofs.Sorts.{sorting}
@@ -190,10 +190,10 @@ module _ (κs : Lfts 8) (qs : Shares 8) (a : Args f.signature κs)
 
   -- the sorter's arguments: what it leaves in the words is O, C and Q
   abbrev pub handed : Has word (answer R .blocks) → Has word (G .ranges) → List ℕ → List ℕ → List ℕ → List Arg
-  handed g g′ O C Q = read block at-rows (rowsOf (length rows₀) R) ∷ val word (answer R .blocks) g ∷ read word at-given (wordsGiven held₀ (length given₀)) ∷ val word (G .ranges) g′ ∷ mut word at-order order₀ O ∷ mut word at-counts counts₀ C ∷ mut word at-pending pending₀ Q ∷ []
+  handed g g′ O C Q = read block at-rows (tableOf (length rows₀) R) ∷ val word (answer R .blocks) g ∷ read word at-given (wordsGiven held₀ (length given₀)) ∷ val word (G .ranges) g′ ∷ mut word at-order order₀ O ∷ mut word at-counts counts₀ C ∷ mut word at-pending pending₀ Q ∷ []
 
   module _ {M : Type 1} (𝓤 : URA M) (H : Heap 𝓤) (A : Atoms 𝓤) (W : Given 𝓤 H A) (mem : Memory → SProp 𝓤) (run : Routine → Fun 𝓤) (𝓣 : Tables 𝓤 H) (known-updates·read-update : Triple 𝓤 (𝓣 .C #updates·read-update) (Updates·read-update 𝓤 H A mem run)) (known-held-sorts·refuse : Triple 𝓤 (𝓣 .C #held-sorts·refuse) (Held-sorts·refuse 𝓤 H A mem run)) (known-held-answers·read-held : Triple 𝓤 (𝓣 .C #held-answers·read-held) (Held-answers·read-held 𝓤 H A mem run)) (known-sort-answers·judge : Triple 𝓤 (𝓣 .C #sort-answers·judge) (Sort-answers·judge 𝓤 H A mem run)) (known-held-answers·done : Triple 𝓤 (𝓣 .C #held-answers·done) (Held-answers·done 𝓤 H A mem run))
-      (F : Finder) (s : Name) (S : Sorting) (O C Q : List ℕ) (card : (g : Has word (answer R .blocks)) (g′ : Has word (G .ranges)) → (answer R .blocks ≤ length (rowsOf (length rows₀) R)) × (3 * G .ranges ≤ length (wordsGiven held₀ (length given₀))) → Card 𝓤 H A (𝓣 .C) s (handed g g′ O C Q) sorting S)
+      (F : Finder) (s : Name) (S : Sorting) (O C Q : List ℕ) (card : (g : Has word (answer R .blocks)) (g′ : Has word (G .ranges)) → (answer R .blocks ≤ length (tableOf (length rows₀) R)) × (3 * G .ranges ≤ length (wordsGiven held₀ (length given₀))) → Card 𝓤 H A (𝓣 .C) s (handed g g′ O C Q) sorting S)
       (gives : (z : R .refusal .number ≡ 0) (y : G .refused ≡ false) → length rows₀ ≤ noRow → Gives F form₀ update₀ held₀ rows₀ ranges₀ given₀ order₀ counts₀ pending₀ z y S O C Q)
       (Post : Val → SProp 𝓤) (exits : (r : SortedHeld) (rows₁ : List Block) (ranges₁ given₁ order₁ counts₁ pending₁ : List ℕ) → Has sortedheld r → Right F r rows₁ ranges₁ given₁ order₁ counts₁ pending₁ → ent 𝓤 (sem 𝓤 H A (refs (hs rows₁ ranges₁ given₁ order₁ counts₁ pending₁))) (Post (sortedheld .val r))) where
     pub walk : ent 𝓤 (onEntry 𝓤 H A f.signature κs qs a at-entry) (WpFn 𝓤 H (𝓣 .C) (𝓣 .Λ) (fn s) (vals (ps rows₀ ranges₀ given₀ order₀ counts₀ pending₀)) Post)
@@ -238,15 +238,15 @@ module _ (κs : Lfts 8) (qs : Shares 8) (a : Args f.signature κs)
         flat ! $
         assigns ! (agg ! (and-then ! (load ! (from ! (stop !)) (look ! 85 refl)) (and-then ! (load ! (from ! (fld ! refl (stop !))) (look-in ! 125 (sub ! 1 refl (whole !)))) (no-more !)))) (from ! (stop !)) (init ! 83 refl (tt, (tt, (record { fits = are .1 .1 .1 .1 .1 .1 .1 .1 .0 .0 .1 .0 }, tt)))) $
         flat ! $
-        calls-by ! (fmOf 𝓤 H (W .laws) 𝓣) (2 ∷ 3 ∷ 4 ∷ 5 ∷ 6 ∷ 7 ∷ []) (hs (rowsOf (length rows₀) (reading form₀ update₀ (length rows₀) (length ranges₀ / 3))) (wordsOf (length ranges₀) (reading form₀ update₀ (length rows₀) (length ranges₀ / 3))) given₀ order₀ counts₀ pending₀) (held-sorts·refuse! 𝓤 H A mem run (𝓣 .C) known-held-sorts·refuse at-rows (rowsOf (length rows₀) (reading form₀ update₀ (length rows₀) (length ranges₀ / 3))) at-ranges (wordsOf (length ranges₀) (reading form₀ update₀ (length rows₀) (length ranges₀ / 3))) at-given given₀ at-order order₀ at-counts counts₀ at-pending pending₀ ((answer (reading form₀ update₀ (length rows₀) (length ranges₀ / 3))) .refusal) (update-refusal (answer (reading form₀ update₀ (length rows₀) (length ranges₀ / 3))) (g₁ .0))) refl (λ P. and-then ! (load ! (from ! (stop !)) (look ! 103 refl)) (and-then ! (load ! (from ! (stop !)) (look ! 99 refl)) (and-then ! (load ! (from ! (stop !)) (look ! 95 refl)) (and-then ! (load ! (from ! (stop !)) (look ! 91 refl)) (and-then ! (load ! (from ! (stop !)) (look ! 87 refl)) (and-then ! (load ! (from ! (stop !)) (look ! 83 refl)) (and-then ! (load ! (from ! (fld ! refl (stop !))) (look-in ! 123 (sub ! 0 refl (whole !)))) (no-more !)))))))) (λ g₃.
+        calls-by ! (fmOf 𝓤 H (W .laws) 𝓣) (2 ∷ 3 ∷ 4 ∷ 5 ∷ 6 ∷ 7 ∷ []) (hs (tableOf (length rows₀) (reading form₀ update₀ (length rows₀) (length ranges₀ / 3))) (rangeWords (length ranges₀) (reading form₀ update₀ (length rows₀) (length ranges₀ / 3))) given₀ order₀ counts₀ pending₀) (held-sorts·refuse! 𝓤 H A mem run (𝓣 .C) known-held-sorts·refuse at-rows (tableOf (length rows₀) (reading form₀ update₀ (length rows₀) (length ranges₀ / 3))) at-ranges (rangeWords (length ranges₀) (reading form₀ update₀ (length rows₀) (length ranges₀ / 3))) at-given given₀ at-order order₀ at-counts counts₀ at-pending pending₀ ((answer (reading form₀ update₀ (length rows₀) (length ranges₀ / 3))) .refusal) (update-refusal (answer (reading form₀ update₀ (length rows₀) (length ranges₀ / 3))) (g₁ .0))) refl (λ P. and-then ! (load ! (from ! (stop !)) (look ! 103 refl)) (and-then ! (load ! (from ! (stop !)) (look ! 99 refl)) (and-then ! (load ! (from ! (stop !)) (look ! 95 refl)) (and-then ! (load ! (from ! (stop !)) (look ! 91 refl)) (and-then ! (load ! (from ! (stop !)) (look ! 87 refl)) (and-then ! (load ! (from ! (stop !)) (look ! 83 refl)) (and-then ! (load ! (from ! (fld ! refl (stop !))) (look-in ! 123 (sub ! 0 refl (whole !)))) (no-more !)))))))) (λ g₃.
         land ! (from ! (stop !)) (init ! 143 refl (g₃ .1 .0)) $
         return-on ! Post refl (look ! 143 refl) $
-        free-all ! (_ ∷ []) En (has _ ∷ has _ ∷ has _ ∷ has _ ∷ has _ ∷ has _ ∷ has _ ∷ has _ ∷ has _ ∷ has _ ∷ has _ ∷ bare ∷ bare ∷ bare ∷ has _ ∷ has _ ∷ has _ ∷ has _ ∷ has _ ∷ has _ ∷ has _ ∷ has _ ∷ has _ ∷ has _ ∷ has _ ∷ has _ ∷ has _ ∷ has _ ∷ has _ ∷ has _ ∷ has _ ∷ []) [] $ by ! (exits (answered (refusedWith ((answer (reading form₀ update₀ (length rows₀) (length ranges₀ / 3))) .refusal))) (rowsOf (length (rowsOf (length rows₀) (reading form₀ update₀ (length rows₀) (length ranges₀ / 3)))) (refused ((answer (reading form₀ update₀ (length rows₀) (length ranges₀ / 3))) .refusal))) (wordsOf (length (wordsOf (length ranges₀) (reading form₀ update₀ (length rows₀) (length ranges₀ / 3)))) (refused ((answer (reading form₀ update₀ (length rows₀) (length ranges₀ / 3))) .refusal))) (padded (length given₀) []) (padded (length order₀) []) (padded (length counts₀) []) (padded (length pending₀) []) (g₃ .0) (exit-unread F form₀ update₀ held₀ rows₀ ranges₀ given₀ order₀ counts₀ pending₀ (eqb-false _ 0 (not-true _ y₂))))))
+        free-all ! (_ ∷ []) En (has _ ∷ has _ ∷ has _ ∷ has _ ∷ has _ ∷ has _ ∷ has _ ∷ has _ ∷ has _ ∷ has _ ∷ has _ ∷ bare ∷ bare ∷ bare ∷ has _ ∷ has _ ∷ has _ ∷ has _ ∷ has _ ∷ has _ ∷ has _ ∷ has _ ∷ has _ ∷ has _ ∷ has _ ∷ has _ ∷ has _ ∷ has _ ∷ has _ ∷ has _ ∷ has _ ∷ []) [] $ by ! (exits (answered (refusedWith ((answer (reading form₀ update₀ (length rows₀) (length ranges₀ / 3))) .refusal))) (tableOf (length (tableOf (length rows₀) (reading form₀ update₀ (length rows₀) (length ranges₀ / 3)))) (refused ((answer (reading form₀ update₀ (length rows₀) (length ranges₀ / 3))) .refusal))) (rangeWords (length (rangeWords (length ranges₀) (reading form₀ update₀ (length rows₀) (length ranges₀ / 3)))) (refused ((answer (reading form₀ update₀ (length rows₀) (length ranges₀ / 3))) .refusal))) (padded (length given₀) []) (padded (length order₀) []) (padded (length counts₀) []) (padded (length pending₀) []) (g₃ .0) (exit-unread F form₀ update₀ held₀ rows₀ ranges₀ given₀ order₀ counts₀ pending₀ (eqb-false _ 0 (not-true _ y₂))))))
         (λ y₂.
         skip-on ! $
         assigns ! (addr ! (from ! (fld ! refl (hop ! (look-in ! 131 (sub ! 0 refl (whole !))) (stop !))))) (from ! (stop !)) (init ! 81 refl (tt, tt)) $
         assigns ! (agg ! (and-then ! (load ! (from ! (stop !)) (look ! 81 refl)) (and-then ! (load ! (from ! (fld ! refl (stop !))) (look-in ! 131 (sub ! 1 refl (whole !)))) (no-more !)))) (from ! (stop !)) (init ! 79 refl (tt, (tt, (record { fits = are .1 .1 .1 .1 .1 .0 .0 .1 .0 }, tt)))) $
-        calls-by ! (fmOf 𝓤 H (W .laws) 𝓣) (1 ∷ 4 ∷ []) (hs (rowsOf (length rows₀) (reading form₀ update₀ (length rows₀) (length ranges₀ / 3))) (wordsOf (length ranges₀) (reading form₀ update₀ (length rows₀) (length ranges₀ / 3))) given₀ order₀ counts₀ pending₀) (held-answers·read-held! 𝓤 H A mem run (𝓣 .C) known-held-answers·read-held at-held held₀ at-given given₀) refl (λ P. and-then ! (load ! (from ! (stop !)) (look ! 137 refl)) (and-then ! (load ! (from ! (stop !)) (look ! 79 refl)) (no-more !))) (λ g₄.
+        calls-by ! (fmOf 𝓤 H (W .laws) 𝓣) (1 ∷ 4 ∷ []) (hs (tableOf (length rows₀) (reading form₀ update₀ (length rows₀) (length ranges₀ / 3))) (rangeWords (length ranges₀) (reading form₀ update₀ (length rows₀) (length ranges₀ / 3))) given₀ order₀ counts₀ pending₀) (held-answers·read-held! 𝓤 H A mem run (𝓣 .C) known-held-answers·read-held at-held held₀ at-given given₀) refl (λ P. and-then ! (load ! (from ! (stop !)) (look ! 137 refl)) (and-then ! (load ! (from ! (stop !)) (look ! 79 refl)) (no-more !))) (λ g₄.
         land ! (from ! (stop !)) (init ! 121 refl (g₄ .1 .0)) $
         assigns ! (of-opd ! (load ! (from ! (fld ! refl (stop !))) (look-in ! 121 (sub ! 0 refl (whole !))))) (from ! (stop !)) (store ! 107 refl (tt, tt)) $
         tests ! (load ! (from ! (stop !)) (look ! 107 refl))  -- (readHeld held₀ (length given₀)) .refused
@@ -278,10 +278,10 @@ module _ (κs : Lfts 8) (qs : Shares 8) (a : Args f.signature κs)
         flat ! $
         assigns ! (agg ! (and-then ! (load ! (from ! (fld ! refl (stop !))) (look-in ! 121 (sub ! 1 refl (whole !)))) (and-then ! (lit ! tt) (no-more !)))) (from ! (stop !)) (init ! 53 refl (refusal .lawful M 𝓤 H A W .typed (record { number = (readHeld held₀ (length given₀)) .number; place = 0 }) _ (refusal-has ((readHeld held₀ (length given₀)) .number) (heldread-number (readHeld held₀ (length given₀)) (g₄ .0)) 0 (refl, lit< tt)) .0)) $
         flat ! $
-        calls-by ! (fmOf 𝓤 H (W .laws) 𝓣) (2 ∷ 3 ∷ 4 ∷ 5 ∷ 6 ∷ 7 ∷ []) (hs (rowsOf (length rows₀) (reading form₀ update₀ (length rows₀) (length ranges₀ / 3))) (wordsOf (length ranges₀) (reading form₀ update₀ (length rows₀) (length ranges₀ / 3))) (wordsGiven held₀ (length given₀)) order₀ counts₀ pending₀) (held-sorts·refuse! 𝓤 H A mem run (𝓣 .C) known-held-sorts·refuse at-rows (rowsOf (length rows₀) (reading form₀ update₀ (length rows₀) (length ranges₀ / 3))) at-ranges (wordsOf (length ranges₀) (reading form₀ update₀ (length rows₀) (length ranges₀ / 3))) at-given (wordsGiven held₀ (length given₀)) at-order order₀ at-counts counts₀ at-pending pending₀ (record { number = (readHeld held₀ (length given₀)) .number; place = 0 }) (refusal-has ((readHeld held₀ (length given₀)) .number) (heldread-number (readHeld held₀ (length given₀)) (g₄ .0)) 0 (refl, lit< tt))) refl (λ P. and-then ! (load ! (from ! (stop !)) (look ! 75 refl)) (and-then ! (load ! (from ! (stop !)) (look ! 71 refl)) (and-then ! (load ! (from ! (stop !)) (look ! 67 refl)) (and-then ! (load ! (from ! (stop !)) (look ! 63 refl)) (and-then ! (load ! (from ! (stop !)) (look ! 59 refl)) (and-then ! (load ! (from ! (stop !)) (look ! 55 refl)) (and-then ! (load ! (from ! (stop !)) (look ! 53 refl)) (no-more !)))))))) (λ g₆.
+        calls-by ! (fmOf 𝓤 H (W .laws) 𝓣) (2 ∷ 3 ∷ 4 ∷ 5 ∷ 6 ∷ 7 ∷ []) (hs (tableOf (length rows₀) (reading form₀ update₀ (length rows₀) (length ranges₀ / 3))) (rangeWords (length ranges₀) (reading form₀ update₀ (length rows₀) (length ranges₀ / 3))) (wordsGiven held₀ (length given₀)) order₀ counts₀ pending₀) (held-sorts·refuse! 𝓤 H A mem run (𝓣 .C) known-held-sorts·refuse at-rows (tableOf (length rows₀) (reading form₀ update₀ (length rows₀) (length ranges₀ / 3))) at-ranges (rangeWords (length ranges₀) (reading form₀ update₀ (length rows₀) (length ranges₀ / 3))) at-given (wordsGiven held₀ (length given₀)) at-order order₀ at-counts counts₀ at-pending pending₀ (record { number = (readHeld held₀ (length given₀)) .number; place = 0 }) (refusal-has ((readHeld held₀ (length given₀)) .number) (heldread-number (readHeld held₀ (length given₀)) (g₄ .0)) 0 (refl, lit< tt))) refl (λ P. and-then ! (load ! (from ! (stop !)) (look ! 75 refl)) (and-then ! (load ! (from ! (stop !)) (look ! 71 refl)) (and-then ! (load ! (from ! (stop !)) (look ! 67 refl)) (and-then ! (load ! (from ! (stop !)) (look ! 63 refl)) (and-then ! (load ! (from ! (stop !)) (look ! 59 refl)) (and-then ! (load ! (from ! (stop !)) (look ! 55 refl)) (and-then ! (load ! (from ! (stop !)) (look ! 53 refl)) (no-more !)))))))) (λ g₆.
         land ! (from ! (stop !)) (init ! 143 refl (g₆ .1 .0)) $
         return-on ! Post refl (look ! 143 refl) $
-        free-all ! (_ ∷ []) En (has _ ∷ has _ ∷ has _ ∷ has _ ∷ has _ ∷ has _ ∷ has _ ∷ has _ ∷ has _ ∷ has _ ∷ has _ ∷ has _ ∷ bare ∷ bare ∷ has _ ∷ has _ ∷ has _ ∷ has _ ∷ has _ ∷ bare ∷ bare ∷ bare ∷ bare ∷ bare ∷ bare ∷ bare ∷ bare ∷ bare ∷ bare ∷ bare ∷ bare ∷ has _ ∷ has _ ∷ has _ ∷ has _ ∷ has _ ∷ has _ ∷ has _ ∷ has _ ∷ has _ ∷ has _ ∷ has _ ∷ has _ ∷ has _ ∷ has _ ∷ has _ ∷ []) [] $ by ! (exits (answered (refusedWith (record { number = (readHeld held₀ (length given₀)) .number; place = 0 }))) (rowsOf (length (rowsOf (length rows₀) (reading form₀ update₀ (length rows₀) (length ranges₀ / 3)))) (refused (record { number = (readHeld held₀ (length given₀)) .number; place = 0 }))) (wordsOf (length (wordsOf (length ranges₀) (reading form₀ update₀ (length rows₀) (length ranges₀ / 3)))) (refused (record { number = (readHeld held₀ (length given₀)) .number; place = 0 }))) (padded (length (wordsGiven held₀ (length given₀))) []) (padded (length order₀) []) (padded (length counts₀) []) (padded (length pending₀) []) (g₆ .0) (exit-ungiven F form₀ update₀ held₀ rows₀ ranges₀ given₀ order₀ counts₀ pending₀ (eqb-true _ 0 (not-false _ y₂)) y₅))))
+        free-all ! (_ ∷ []) En (has _ ∷ has _ ∷ has _ ∷ has _ ∷ has _ ∷ has _ ∷ has _ ∷ has _ ∷ has _ ∷ has _ ∷ has _ ∷ has _ ∷ bare ∷ bare ∷ has _ ∷ has _ ∷ has _ ∷ has _ ∷ has _ ∷ bare ∷ bare ∷ bare ∷ bare ∷ bare ∷ bare ∷ bare ∷ bare ∷ bare ∷ bare ∷ bare ∷ bare ∷ has _ ∷ has _ ∷ has _ ∷ has _ ∷ has _ ∷ has _ ∷ has _ ∷ has _ ∷ has _ ∷ has _ ∷ has _ ∷ has _ ∷ has _ ∷ has _ ∷ has _ ∷ []) [] $ by ! (exits (answered (refusedWith (record { number = (readHeld held₀ (length given₀)) .number; place = 0 }))) (tableOf (length (tableOf (length rows₀) (reading form₀ update₀ (length rows₀) (length ranges₀ / 3)))) (refused (record { number = (readHeld held₀ (length given₀)) .number; place = 0 }))) (rangeWords (length (rangeWords (length ranges₀) (reading form₀ update₀ (length rows₀) (length ranges₀ / 3)))) (refused (record { number = (readHeld held₀ (length given₀)) .number; place = 0 }))) (padded (length (wordsGiven held₀ (length given₀))) []) (padded (length order₀) []) (padded (length counts₀) []) (padded (length pending₀) []) (g₆ .0) (exit-ungiven F form₀ update₀ held₀ rows₀ ranges₀ given₀ order₀ counts₀ pending₀ (eqb-true _ 0 (not-false _ y₂)) y₅))))
         (λ y₅.
         skip-on ! $
         assigns ! (addr ! (from ! (fld ! refl (hop ! (look-in ! 135 (sub ! 0 refl (whole !))) (stop !))))) (from ! (stop !)) (init ! 51 refl (tt, tt)) $
@@ -294,12 +294,12 @@ module _ (κs : Lfts 8) (qs : Shares 8) (a : Args f.signature κs)
         assigns ! (agg ! (and-then ! (load ! (from ! (stop !)) (look ! 39 refl)) (and-then ! (load ! (from ! (fld ! refl (stop !))) (look-in ! 127 (sub ! 1 refl (whole !)))) (no-more !)))) (from ! (stop !)) (init ! 37 refl (tt, (tt, (record { fits = are .1 .1 .1 .1 .1 .1 .1 .0 .0 .1 .0 }, tt)))) $
         assigns ! (addr ! (from ! (fld ! refl (hop ! (look-in ! 125 (sub ! 0 refl (whole !))) (stop !))))) (from ! (stop !)) (init ! 35 refl (tt, tt)) $
         assigns ! (agg ! (and-then ! (load ! (from ! (stop !)) (look ! 35 refl)) (and-then ! (load ! (from ! (fld ! refl (stop !))) (look-in ! 125 (sub ! 1 refl (whole !)))) (no-more !)))) (from ! (stop !)) (init ! 33 refl (tt, (tt, (record { fits = are .1 .1 .1 .1 .1 .1 .1 .1 .0 .0 .1 .0 }, tt)))) $
-        calls-by ! (fmOf 𝓤 H (W .laws) 𝓣) (2 ∷ 4 ∷ 5 ∷ 6 ∷ 7 ∷ []) (hs (rowsOf (length rows₀) (reading form₀ update₀ (length rows₀) (length ranges₀ / 3))) (wordsOf (length ranges₀) (reading form₀ update₀ (length rows₀) (length ranges₀ / 3))) (wordsGiven held₀ (length given₀)) order₀ counts₀ pending₀) (card (update-blocks (answer (reading form₀ update₀ (length rows₀) (length ranges₀ / 3))) (g₁ .0)) (heldread-ranges (readHeld held₀ (length given₀)) (g₄ .0)) (asks F form₀ update₀ held₀ rows₀ ranges₀ given₀ order₀ counts₀ pending₀ (eqb-true _ 0 (not-false _ y₂)) y₅)) refl (λ P. and-then ! (load ! (from ! (stop !)) (look ! 49 refl)) (and-then ! (load ! (from ! (fld ! refl (stop !))) (look-in ! 123 (sub ! 1 refl (whole !)))) (and-then ! (load ! (from ! (stop !)) (look ! 45 refl)) (and-then ! (load ! (from ! (fld ! refl (stop !))) (look-in ! 121 (sub ! 2 refl (whole !)))) (and-then ! (load ! (from ! (stop !)) (look ! 41 refl)) (and-then ! (load ! (from ! (stop !)) (look ! 37 refl)) (and-then ! (load ! (from ! (stop !)) (look ! 33 refl)) (no-more !)))))))) (λ g₇.
+        calls-by ! (fmOf 𝓤 H (W .laws) 𝓣) (2 ∷ 4 ∷ 5 ∷ 6 ∷ 7 ∷ []) (hs (tableOf (length rows₀) (reading form₀ update₀ (length rows₀) (length ranges₀ / 3))) (rangeWords (length ranges₀) (reading form₀ update₀ (length rows₀) (length ranges₀ / 3))) (wordsGiven held₀ (length given₀)) order₀ counts₀ pending₀) (card (update-blocks (answer (reading form₀ update₀ (length rows₀) (length ranges₀ / 3))) (g₁ .0)) (heldread-ranges (readHeld held₀ (length given₀)) (g₄ .0)) (asks F form₀ update₀ held₀ rows₀ ranges₀ given₀ order₀ counts₀ pending₀ (eqb-true _ 0 (not-false _ y₂)) y₅)) refl (λ P. and-then ! (load ! (from ! (stop !)) (look ! 49 refl)) (and-then ! (load ! (from ! (fld ! refl (stop !))) (look-in ! 123 (sub ! 1 refl (whole !)))) (and-then ! (load ! (from ! (stop !)) (look ! 45 refl)) (and-then ! (load ! (from ! (fld ! refl (stop !))) (look-in ! 121 (sub ! 2 refl (whole !)))) (and-then ! (load ! (from ! (stop !)) (look ! 41 refl)) (and-then ! (load ! (from ! (stop !)) (look ! 37 refl)) (and-then ! (load ! (from ! (stop !)) (look ! 33 refl)) (no-more !)))))))) (λ g₇.
         land ! (from ! (stop !)) (init ! 119 refl (g₇ .1 .0)) $
         assigns ! (of-opd ! (load ! (from ! (fld ! refl (stop !))) (look-in ! 129 (sub ! 1 refl (whole !))))) (from ! (stop !)) (init ! 31 refl (tt, record { fits = are .1 .1 .1 .1 .1 .1 .0 .0 .1 .0 })) $
         assigns ! (of-opd ! (load ! (from ! (fld ! refl (stop !))) (look-in ! 127 (sub ! 1 refl (whole !))))) (from ! (stop !)) (init ! 29 refl (tt, record { fits = are .1 .1 .1 .1 .1 .1 .1 .0 .0 .1 .0 })) $
         assigns ! (of-opd ! (load ! (from ! (fld ! refl (stop !))) (look-in ! 125 (sub ! 1 refl (whole !))))) (from ! (stop !)) (init ! 27 refl (tt, record { fits = are .1 .1 .1 .1 .1 .1 .1 .1 .0 .0 .1 .0 })) $
-        calls-by ! (fmOf 𝓤 H (W .laws) 𝓣) ([]) (hs (rowsOf (length rows₀) (reading form₀ update₀ (length rows₀) (length ranges₀ / 3))) (wordsOf (length ranges₀) (reading form₀ update₀ (length rows₀) (length ranges₀ / 3))) (wordsGiven held₀ (length given₀)) O C Q) (sort-answers·judge! 𝓤 H A mem run (𝓣 .C) known-sort-answers·judge S (g₇ .0) (at-order .count) (refl, are .1 .1 .1 .1 .1 .1 .0 .0 .1 .0) (at-counts .count) (refl, are .1 .1 .1 .1 .1 .1 .1 .0 .0 .1 .0) 0 (refl, lit< tt) (at-pending .count) (refl, are .1 .1 .1 .1 .1 .1 .1 .1 .0 .0 .1 .0)) refl (λ P. and-then ! (load ! (from ! (stop !)) (look ! 119 refl)) (and-then ! (load ! (from ! (stop !)) (look ! 31 refl)) (and-then ! (load ! (from ! (stop !)) (look ! 29 refl)) (and-then ! (lit ! tt) (and-then ! (load ! (from ! (stop !)) (look ! 27 refl)) (no-more !)))))) (λ g₈.
+        calls-by ! (fmOf 𝓤 H (W .laws) 𝓣) ([]) (hs (tableOf (length rows₀) (reading form₀ update₀ (length rows₀) (length ranges₀ / 3))) (rangeWords (length ranges₀) (reading form₀ update₀ (length rows₀) (length ranges₀ / 3))) (wordsGiven held₀ (length given₀)) O C Q) (sort-answers·judge! 𝓤 H A mem run (𝓣 .C) known-sort-answers·judge S (g₇ .0) (at-order .count) (refl, are .1 .1 .1 .1 .1 .1 .0 .0 .1 .0) (at-counts .count) (refl, are .1 .1 .1 .1 .1 .1 .1 .0 .0 .1 .0) 0 (refl, lit< tt) (at-pending .count) (refl, are .1 .1 .1 .1 .1 .1 .1 .1 .0 .0 .1 .0)) refl (λ P. and-then ! (load ! (from ! (stop !)) (look ! 119 refl)) (and-then ! (load ! (from ! (stop !)) (look ! 31 refl)) (and-then ! (load ! (from ! (stop !)) (look ! 29 refl)) (and-then ! (lit ! tt) (and-then ! (load ! (from ! (stop !)) (look ! 27 refl)) (no-more !)))))) (λ g₈.
         land ! (from ! (stop !)) (init ! 117 refl (g₈ .1 .0)) $
         assigns ! (bin ! (load ! (from ! (stop !)) (look ! 117 refl)) (lit ! tt) tt) (from ! (stop !)) (store ! 107 refl (tt, tt)) $
         tests ! (load ! (from ! (stop !)) (look ! 107 refl))  -- not (eqb (judged S (at-order .count) (at-counts .count) 0 (at-pending .count)) 0)
@@ -331,13 +331,13 @@ module _ (κs : Lfts 8) (qs : Shares 8) (a : Args f.signature κs)
         flat ! $
         assigns ! (agg ! (and-then ! (load ! (from ! (stop !)) (look ! 117 refl)) (and-then ! (lit ! tt) (no-more !)))) (from ! (stop !)) (init ! 1 refl (refusal .lawful M 𝓤 H A W .typed (record { number = judged S (at-order .count) (at-counts .count) 0 (at-pending .count); place = 0 }) _ (refusal-has (judged S (at-order .count) (at-counts .count) 0 (at-pending .count)) (g₈ .0) 0 (refl, lit< tt)) .0)) $
         flat ! $
-        calls-by ! (fmOf 𝓤 H (W .laws) 𝓣) (2 ∷ 3 ∷ 4 ∷ 5 ∷ 6 ∷ 7 ∷ []) (hs (rowsOf (length rows₀) (reading form₀ update₀ (length rows₀) (length ranges₀ / 3))) (wordsOf (length ranges₀) (reading form₀ update₀ (length rows₀) (length ranges₀ / 3))) (wordsGiven held₀ (length given₀)) O C Q) (held-sorts·refuse! 𝓤 H A mem run (𝓣 .C) known-held-sorts·refuse at-rows (rowsOf (length rows₀) (reading form₀ update₀ (length rows₀) (length ranges₀ / 3))) at-ranges (wordsOf (length ranges₀) (reading form₀ update₀ (length rows₀) (length ranges₀ / 3))) at-given (wordsGiven held₀ (length given₀)) at-order O at-counts C at-pending Q (record { number = judged S (at-order .count) (at-counts .count) 0 (at-pending .count); place = 0 }) (refusal-has (judged S (at-order .count) (at-counts .count) 0 (at-pending .count)) (g₈ .0) 0 (refl, lit< tt))) refl (λ P. and-then ! (load ! (from ! (stop !)) (look ! 23 refl)) (and-then ! (load ! (from ! (stop !)) (look ! 19 refl)) (and-then ! (load ! (from ! (stop !)) (look ! 15 refl)) (and-then ! (load ! (from ! (stop !)) (look ! 11 refl)) (and-then ! (load ! (from ! (stop !)) (look ! 7 refl)) (and-then ! (load ! (from ! (stop !)) (look ! 3 refl)) (and-then ! (load ! (from ! (stop !)) (look ! 1 refl)) (no-more !)))))))) (λ g₁₀.
+        calls-by ! (fmOf 𝓤 H (W .laws) 𝓣) (2 ∷ 3 ∷ 4 ∷ 5 ∷ 6 ∷ 7 ∷ []) (hs (tableOf (length rows₀) (reading form₀ update₀ (length rows₀) (length ranges₀ / 3))) (rangeWords (length ranges₀) (reading form₀ update₀ (length rows₀) (length ranges₀ / 3))) (wordsGiven held₀ (length given₀)) O C Q) (held-sorts·refuse! 𝓤 H A mem run (𝓣 .C) known-held-sorts·refuse at-rows (tableOf (length rows₀) (reading form₀ update₀ (length rows₀) (length ranges₀ / 3))) at-ranges (rangeWords (length ranges₀) (reading form₀ update₀ (length rows₀) (length ranges₀ / 3))) at-given (wordsGiven held₀ (length given₀)) at-order O at-counts C at-pending Q (record { number = judged S (at-order .count) (at-counts .count) 0 (at-pending .count); place = 0 }) (refusal-has (judged S (at-order .count) (at-counts .count) 0 (at-pending .count)) (g₈ .0) 0 (refl, lit< tt))) refl (λ P. and-then ! (load ! (from ! (stop !)) (look ! 23 refl)) (and-then ! (load ! (from ! (stop !)) (look ! 19 refl)) (and-then ! (load ! (from ! (stop !)) (look ! 15 refl)) (and-then ! (load ! (from ! (stop !)) (look ! 11 refl)) (and-then ! (load ! (from ! (stop !)) (look ! 7 refl)) (and-then ! (load ! (from ! (stop !)) (look ! 3 refl)) (and-then ! (load ! (from ! (stop !)) (look ! 1 refl)) (no-more !)))))))) (λ g₁₀.
         land ! (from ! (stop !)) (init ! 143 refl (g₁₀ .1 .0)) $
         return-on ! Post refl (look ! 143 refl) $
-        free-all ! (_ ∷ []) En (has _ ∷ has _ ∷ has _ ∷ has _ ∷ has _ ∷ has _ ∷ has _ ∷ has _ ∷ has _ ∷ has _ ∷ has _ ∷ has _ ∷ has _ ∷ has _ ∷ has _ ∷ has _ ∷ has _ ∷ has _ ∷ has _ ∷ bare ∷ bare ∷ bare ∷ bare ∷ bare ∷ bare ∷ bare ∷ bare ∷ bare ∷ bare ∷ bare ∷ bare ∷ has _ ∷ has _ ∷ bare ∷ bare ∷ bare ∷ bare ∷ bare ∷ bare ∷ bare ∷ bare ∷ bare ∷ bare ∷ bare ∷ bare ∷ bare ∷ has _ ∷ has _ ∷ has _ ∷ has _ ∷ has _ ∷ has _ ∷ has _ ∷ has _ ∷ has _ ∷ has _ ∷ has _ ∷ has _ ∷ has _ ∷ has _ ∷ has _ ∷ has _ ∷ has _ ∷ has _ ∷ has _ ∷ has _ ∷ has _ ∷ has _ ∷ has _ ∷ has _ ∷ has _ ∷ has _ ∷ []) [] $ by ! (exits (answered (refusedWith (record { number = judged S (at-order .count) (at-counts .count) 0 (at-pending .count); place = 0 }))) (rowsOf (length (rowsOf (length rows₀) (reading form₀ update₀ (length rows₀) (length ranges₀ / 3)))) (refused (record { number = judged S (at-order .count) (at-counts .count) 0 (at-pending .count); place = 0 }))) (wordsOf (length (wordsOf (length ranges₀) (reading form₀ update₀ (length rows₀) (length ranges₀ / 3)))) (refused (record { number = judged S (at-order .count) (at-counts .count) 0 (at-pending .count); place = 0 }))) (padded (length (wordsGiven held₀ (length given₀))) []) (padded (length O) []) (padded (length C) []) (padded (length Q) []) (g₁₀ .0) (exit-refused F form₀ update₀ held₀ rows₀ ranges₀ given₀ order₀ counts₀ pending₀ (eqb-true _ 0 (not-false _ y₂)) y₅ (gives (eqb-true _ 0 (not-false _ y₂)) y₅ (omega (arith, sz .0, are .1 .1 .1 .0 .0 .1 .0))) (at-order .count) (at-counts .count) (at-pending .count) (sz .1 .1 .1 .0) (sz .1 .1 .1 .1 .0) (sz .1 .1 .1 .1 .1 .0) (eqb-false _ 0 (not-true _ y₉))))))
+        free-all ! (_ ∷ []) En (has _ ∷ has _ ∷ has _ ∷ has _ ∷ has _ ∷ has _ ∷ has _ ∷ has _ ∷ has _ ∷ has _ ∷ has _ ∷ has _ ∷ has _ ∷ has _ ∷ has _ ∷ has _ ∷ has _ ∷ has _ ∷ has _ ∷ bare ∷ bare ∷ bare ∷ bare ∷ bare ∷ bare ∷ bare ∷ bare ∷ bare ∷ bare ∷ bare ∷ bare ∷ has _ ∷ has _ ∷ bare ∷ bare ∷ bare ∷ bare ∷ bare ∷ bare ∷ bare ∷ bare ∷ bare ∷ bare ∷ bare ∷ bare ∷ bare ∷ has _ ∷ has _ ∷ has _ ∷ has _ ∷ has _ ∷ has _ ∷ has _ ∷ has _ ∷ has _ ∷ has _ ∷ has _ ∷ has _ ∷ has _ ∷ has _ ∷ has _ ∷ has _ ∷ has _ ∷ has _ ∷ has _ ∷ has _ ∷ has _ ∷ has _ ∷ has _ ∷ has _ ∷ has _ ∷ has _ ∷ []) [] $ by ! (exits (answered (refusedWith (record { number = judged S (at-order .count) (at-counts .count) 0 (at-pending .count); place = 0 }))) (tableOf (length (tableOf (length rows₀) (reading form₀ update₀ (length rows₀) (length ranges₀ / 3)))) (refused (record { number = judged S (at-order .count) (at-counts .count) 0 (at-pending .count); place = 0 }))) (rangeWords (length (rangeWords (length ranges₀) (reading form₀ update₀ (length rows₀) (length ranges₀ / 3)))) (refused (record { number = judged S (at-order .count) (at-counts .count) 0 (at-pending .count); place = 0 }))) (padded (length (wordsGiven held₀ (length given₀))) []) (padded (length O) []) (padded (length C) []) (padded (length Q) []) (g₁₀ .0) (exit-refused F form₀ update₀ held₀ rows₀ ranges₀ given₀ order₀ counts₀ pending₀ (eqb-true _ 0 (not-false _ y₂)) y₅ (gives (eqb-true _ 0 (not-false _ y₂)) y₅ (omega (arith, sz .0, are .1 .1 .1 .0 .0 .1 .0))) (at-order .count) (at-counts .count) (at-pending .count) (sz .1 .1 .1 .0) (sz .1 .1 .1 .1 .0) (sz .1 .1 .1 .1 .1 .0) (eqb-false _ 0 (not-true _ y₉))))))
         (λ y₉.
         skip-on ! $
-        calls-by ! (fmOf 𝓤 H (W .laws) 𝓣) ([]) (hs (rowsOf (length rows₀) (reading form₀ update₀ (length rows₀) (length ranges₀ / 3))) (wordsOf (length ranges₀) (reading form₀ update₀ (length rows₀) (length ranges₀ / 3))) (wordsGiven held₀ (length given₀)) O C Q) (held-answers·done! 𝓤 H A mem run (𝓣 .C) known-held-answers·done (answer (reading form₀ update₀ (length rows₀) (length ranges₀ / 3))) (g₁ .0) ((readHeld held₀ (length given₀)) .ranges) (heldread-ranges (readHeld held₀ (length given₀)) (g₄ .0)) S (g₇ .0)) refl (λ P. and-then ! (load ! (from ! (stop !)) (look ! 123 refl)) (and-then ! (load ! (from ! (fld ! refl (stop !))) (look-in ! 121 (sub ! 2 refl (whole !)))) (and-then ! (load ! (from ! (stop !)) (look ! 119 refl)) (no-more !)))) (λ g₁₁.
+        calls-by ! (fmOf 𝓤 H (W .laws) 𝓣) ([]) (hs (tableOf (length rows₀) (reading form₀ update₀ (length rows₀) (length ranges₀ / 3))) (rangeWords (length ranges₀) (reading form₀ update₀ (length rows₀) (length ranges₀ / 3))) (wordsGiven held₀ (length given₀)) O C Q) (held-answers·done! 𝓤 H A mem run (𝓣 .C) known-held-answers·done (answer (reading form₀ update₀ (length rows₀) (length ranges₀ / 3))) (g₁ .0) ((readHeld held₀ (length given₀)) .ranges) (heldread-ranges (readHeld held₀ (length given₀)) (g₄ .0)) S (g₇ .0)) refl (λ P. and-then ! (load ! (from ! (stop !)) (look ! 123 refl)) (and-then ! (load ! (from ! (fld ! refl (stop !))) (look-in ! 121 (sub ! 2 refl (whole !)))) (and-then ! (load ! (from ! (stop !)) (look ! 119 refl)) (no-more !)))) (λ g₁₁.
         land ! (from ! (stop !)) (init ! 143 refl (g₁₁ .1 .0)) $
         returns-within ! Post refl (look ! 143 refl) $
-        free-all ! (_ ∷ []) En (has _ ∷ has _ ∷ has _ ∷ has _ ∷ has _ ∷ has _ ∷ has _ ∷ has _ ∷ has _ ∷ has _ ∷ has _ ∷ has _ ∷ has _ ∷ has _ ∷ has _ ∷ has _ ∷ has _ ∷ has _ ∷ has _ ∷ bare ∷ bare ∷ bare ∷ bare ∷ bare ∷ bare ∷ bare ∷ bare ∷ bare ∷ bare ∷ bare ∷ bare ∷ has _ ∷ has _ ∷ bare ∷ bare ∷ bare ∷ bare ∷ bare ∷ bare ∷ bare ∷ bare ∷ bare ∷ bare ∷ bare ∷ bare ∷ bare ∷ has _ ∷ has _ ∷ has _ ∷ has _ ∷ has _ ∷ has _ ∷ has _ ∷ has _ ∷ has _ ∷ has _ ∷ has _ ∷ has _ ∷ has _ ∷ []) [] $ by ! (exits (answerTo (answer (reading form₀ update₀ (length rows₀) (length ranges₀ / 3))) ((readHeld held₀ (length given₀)) .ranges) S) (rowsOf (length rows₀) (reading form₀ update₀ (length rows₀) (length ranges₀ / 3))) (wordsOf (length ranges₀) (reading form₀ update₀ (length rows₀) (length ranges₀ / 3))) (wordsGiven held₀ (length given₀)) O C Q (g₁₁ .0) (exit-done F form₀ update₀ held₀ rows₀ ranges₀ given₀ order₀ counts₀ pending₀ (eqb-true _ 0 (not-false _ y₂)) y₅ (gives (eqb-true _ 0 (not-false _ y₂)) y₅ (omega (arith, sz .0, are .1 .1 .1 .0 .0 .1 .0))) (at-order .count) (at-counts .count) (at-pending .count) (sz .1 .1 .1 .0) (sz .1 .1 .1 .1 .0) (sz .1 .1 .1 .1 .1 .0) (eqb-true _ 0 (not-false _ y₉))))))))))))))
+        free-all ! (_ ∷ []) En (has _ ∷ has _ ∷ has _ ∷ has _ ∷ has _ ∷ has _ ∷ has _ ∷ has _ ∷ has _ ∷ has _ ∷ has _ ∷ has _ ∷ has _ ∷ has _ ∷ has _ ∷ has _ ∷ has _ ∷ has _ ∷ has _ ∷ bare ∷ bare ∷ bare ∷ bare ∷ bare ∷ bare ∷ bare ∷ bare ∷ bare ∷ bare ∷ bare ∷ bare ∷ has _ ∷ has _ ∷ bare ∷ bare ∷ bare ∷ bare ∷ bare ∷ bare ∷ bare ∷ bare ∷ bare ∷ bare ∷ bare ∷ bare ∷ bare ∷ has _ ∷ has _ ∷ has _ ∷ has _ ∷ has _ ∷ has _ ∷ has _ ∷ has _ ∷ has _ ∷ has _ ∷ has _ ∷ has _ ∷ has _ ∷ []) [] $ by ! (exits (answerTo (answer (reading form₀ update₀ (length rows₀) (length ranges₀ / 3))) ((readHeld held₀ (length given₀)) .ranges) S) (tableOf (length rows₀) (reading form₀ update₀ (length rows₀) (length ranges₀ / 3))) (rangeWords (length ranges₀) (reading form₀ update₀ (length rows₀) (length ranges₀ / 3))) (wordsGiven held₀ (length given₀)) O C Q (g₁₁ .0) (exit-done F form₀ update₀ held₀ rows₀ ranges₀ given₀ order₀ counts₀ pending₀ (eqb-true _ 0 (not-false _ y₂)) y₅ (gives (eqb-true _ 0 (not-false _ y₂)) y₅ (omega (arith, sz .0, are .1 .1 .1 .0 .0 .1 .0))) (at-order .count) (at-counts .count) (at-pending .count) (sz .1 .1 .1 .0) (sz .1 .1 .1 .1 .0) (sz .1 .1 .1 .1 .1 .0) (eqb-true _ 0 (not-false _ y₉))))))))))))))

@@ -11,7 +11,7 @@ use Rattle.numbers.specs.declared.Refusal.{Refusal}
 use Rattle.numbers.specs.Number.{pick, nowhere}
 use Rattle.numbers.specs.Output.{padded}
 use Rattle.block.specs.declared.Block.{Block}
-use Rattle.grammar.specs.Course.{Course, item, over, stopped, fit, items, ending}
+use Rattle.grammar.specs.Course.{Course, thing, over, stopped, fit, things, ending}
 use Rattle.ranges.specs.Ranges.{Range, normal}
 use Rattle.ranges.specs.RangesInner.{Normal}
 use Rattle.ranges.specs.Table.{flat}
@@ -24,7 +24,7 @@ use Rattle.deletes.specs.DeleteSet.{taken, wordsOf as wordsRead}
 use Rattle.reports.specs.Reports.{fitted}
 use Rattle.reports.proofs.Fitted.{fitted-padded, fitted-length}
 use Rattle.sorter.specs.declared.Sorting.{Sorting}
-use Rattle.updates.specs.Promises.{Reading, refused, reading, answer, rowsOf, wordsOf}
+use Rattle.updates.specs.Promises.{Reading, refused, reading, answer, tableOf, rangeWords}
 use Rattle.updates.proofs.Read.{length-padded, reading-good, rows-length, words-length, rows-fit}
 use Rattle.sort_answers.specs.Answers.{Room, whyNot}
 use Rattle.sort_answers.specs.AnswersInner.{judged}
@@ -33,7 +33,7 @@ use Rattle.held_answers.specs.declared.HeldRead.{HeldRead}
 use Rattle.held_answers.specs.declared.SortedHeld.{SortedHeld}
 use Rattle.held_answers.specs.Answers.{SortHeld, refusedWith, answered}
 use Rattle.held_answers.specs.AnswersInner.{given, notGiven, readHeld, wordsGiven, answerTo}
-use Rattle.held_sorts.specs.Promises.{lent, Found, Finder, whole, whySort, fitting, against, afterReading, sortHeldBy, Leaves}
+use Rattle.held_sorts.specs.Promises.{lent, Found, Finder, sortedAll, whySort, fitting, against, afterReading, sortHeldBy, Leaves}
 
 -- ---- held ids that were refused, and those that were read
 
@@ -43,13 +43,13 @@ module _ (n : ℕ) {X : Type 0} (a : X) (h : ℕ → X) where
 
   not-read : (c : Course Range) → told c .refused ≡ true → ending c (λ _. a) (λ why. h (why .number)) ≡ h (told c .number)
   unfolding ending
-  not-read (item r p c) e = not-read c e
+  not-read (thing r p c) e = not-read c e
   not-read (over x t) e = absurd (let z : _≡_ {A = ℕ} 0 1 = cc in omega arith)
   not-read (stopped w) e = refl
 
   was-read : (c : Course Range) → told c .refused ≡ false → (ending c (λ _. a) (λ why. h (why .number)) ≡ a) × (told c ≡ given n)
   unfolding ending
-  was-read (item r p c) e = was-read c e
+  was-read (thing r p c) e = was-read c e
   was-read (over x t) e = (refl, refl)
   was-read (stopped w) e = absurd (let z : _≡_ {A = ℕ} 0 1 = cc in omega arith)
 
@@ -91,7 +91,7 @@ module _ (F : Finder) (form : ℕ) (u v : List ℕ) (rows₀ : List Block) (rang
   c = fit (K / 3) (deleteSet 1 v 0)
 
   abbrev rs : List Range
-  rs = normal (items c)
+  rs = normal (things c)
 
   abbrev G : HeldRead
   G = readHeld v K
@@ -108,13 +108,13 @@ module _ (F : Finder) (form : ℕ) (u v : List ℕ) (rows₀ : List Block) (rang
   -- a refusal leaves nothing
   by-refusal : (why : Refusal) (m k j : ℕ) (order counts pending : List ℕ) → s ≡ refusedWith why → m ≡ M → k ≡ N → j ≡ K
       → length order ≡ length order₀ → length counts ≡ length counts₀ → length pending ≡ length pending₀
-      → Right (answered (refusedWith why)) (rowsOf m (refused why)) (wordsOf k (refused why)) (padded j []) (padded (length order) []) (padded (length counts) [])
+      → Right (answered (refusedWith why)) (tableOf m (refused why)) (rangeWords k (refused why)) (padded j []) (padded (length order) []) (padded (length counts) [])
       (padded (length pending) [])
   unfolding flat
   by-refusal why m k j order counts pending e p q t a b d = (
     ap answered (sym e),
-    ap (λ (x : ℕ). rowsOf x (refused why)) p ∙ ap (λ (x : SortHeld). rowsOf M (x .reading)) (sym e),
-    ap (λ (x : ℕ). wordsOf x (refused why)) q ∙ ap (λ (x : SortHeld). wordsOf N (x .reading)) (sym e),
+    ap (λ (x : ℕ). tableOf x (refused why)) p ∙ ap (λ (x : SortHeld). tableOf M (x .reading)) (sym e),
+    ap (λ (x : ℕ). rangeWords x (refused why)) q ∙ ap (λ (x : SortHeld). rangeWords N (x .reading)) (sym e),
     ap (λ (x : ℕ). padded x []) t ∙ ap (λ (x : SortHeld). padded K (flat (x .held))) (sym e),
     ap (λ (x : ℕ). padded x []) a ∙ ap (λ (x : SortHeld). padded (length order₀) (x .order)) (sym e),
     ap (λ (x : ℕ). padded x []) b ∙ ap (λ (x : SortHeld). padded (length counts₀) (x .counts)) (sym e),
@@ -122,18 +122,18 @@ module _ (F : Finder) (form : ℕ) (u v : List ℕ) (rows₀ : List Block) (rang
   )
 
   pub exit-unread : (R .refusal .number ≡ 0 → ⊥)
-      → Right (answered (refusedWith (R .refusal))) (rowsOf (length (rowsOf M R)) (refused (R .refusal))) (wordsOf (length (wordsOf N R)) (refused (R .refusal)))
+      → Right (answered (refusedWith (R .refusal))) (tableOf (length (tableOf M R)) (refused (R .refusal))) (rangeWords (length (rangeWords N R)) (refused (R .refusal)))
       (padded (length given₀) []) (padded (length order₀) []) (padded (length counts₀) []) (padded (length pending₀) [])
   unfolding sortHeldBy afterReading
   exit-unread z =
-      by-refusal (R .refusal) (length (rowsOf M R)) (length (wordsOf N R)) K order₀ counts₀ pending₀
+      by-refusal (R .refusal) (length (tableOf M R)) (length (rangeWords N R)) K order₀ counts₀ pending₀
       (ap (λ (x : Bool). pick x (against F room c R) (refusedWith (R .refusal))) (ne-eqb (R .refusal .number) 0 z))
       (rows-length form u M N) (words-length form u M N) refl refl refl refl
 
   -- ---- the update was read
 
   rs-fit : 3 * length rs ≤ K
-  rs-fit = omega (arith, normal-length (items c), fit-count (K / 3) (deleteSet 1 v 0))
+  rs-fit = omega (arith, normal-length (things c), fit-count (K / 3) (deleteSet 1 v 0))
 
   module _ (z : R .refusal .number ≡ 0) where
     after-is : s ≡ against F room c R
@@ -148,13 +148,13 @@ module _ (F : Finder) (form : ℕ) (u v : List ℕ) (rows₀ : List Block) (rang
 
       refused-is : s ≡ refusedWith (nowhere (G .number))
       unfolding against readHeld taken
-      refused-is = after-is ∙ not-read (length rs) (fitting room (whole F rs R)) (λ n. refusedWith (nowhere n)) c y
+      refused-is = after-is ∙ not-read (length rs) (fitting room (sortedAll F rs R)) (λ n. refusedWith (nowhere n)) c y
 
-      pub exit-ungiven : Right (answered (refusedWith (nowhere (G .number)))) (rowsOf (length (rowsOf M R)) (refused (nowhere (G .number))))
-          (wordsOf (length (wordsOf N R)) (refused (nowhere (G .number)))) (padded (length W) []) (padded (length order₀) []) (padded (length counts₀) [])
+      pub exit-ungiven : Right (answered (refusedWith (nowhere (G .number)))) (tableOf (length (tableOf M R)) (refused (nowhere (G .number))))
+          (rangeWords (length (rangeWords N R)) (refused (nowhere (G .number)))) (padded (length W) []) (padded (length order₀) []) (padded (length counts₀) [])
           (padded (length pending₀) [])
       exit-ungiven =
-          by-refusal (nowhere (G .number)) (length (rowsOf M R)) (length (wordsOf N R)) (length W) order₀ counts₀ pending₀ refused-is
+          by-refusal (nowhere (G .number)) (length (tableOf M R)) (length (rangeWords N R)) (length W) order₀ counts₀ pending₀ refused-is
           (rows-length form u M N) (words-length form u M N) (ap length words-none ∙ length-padded K [] (omega arith)) refl refl refl
 
     -- they were read
@@ -178,7 +178,7 @@ module _ (F : Finder) (form : ℕ) (u v : List ℕ) (rows₀ : List Block) (rang
 
       -- ---- what a sorter is given
 
-      pub asks : (answer R .blocks ≤ length (rowsOf M R)) × (3 * G .ranges ≤ length W)
+      pub asks : (answer R .blocks ≤ length (tableOf M R)) × (3 * G .ranges ≤ length W)
       unfolding answer
       asks = (omega (arith, rows-fit form u M N, rows-length form u M N), omega (arith, rs-fit, many, long))
 
@@ -187,7 +187,7 @@ module _ (F : Finder) (form : ℕ) (u v : List ℕ) (rows₀ : List Block) (rang
       back = rw (many, words-are) (rows-flat rs (replicate (K - length (flat rs)) 0))
 
       pub is-normal : Normal (rowsFrom W 0 (G .ranges))
-      is-normal = subst Normal (sym back) (normal-is (items c) .0)
+      is-normal = subst Normal (sym back) (normal-is (things c) .0)
 
       pub fine : Fit bs
       fine = let good = reading-good form u M (N / 3) in record { ordered = good .ordered; count = good .count; groups = good .clients }
@@ -208,11 +208,11 @@ module _ (F : Finder) (form : ℕ) (u v : List ℕ) (rows₀ : List Block) (rang
         pub pending : Q ≡ fitted (length pending₀) (found .pending)
 
       abbrev last : ℕ
-      last = whySort room (whole F rs R)
+      last = whySort room (sortedAll F rs R)
 
-      sort-at : s ≡ pick (eqb last 0) (whole F rs R) (refusedWith (nowhere last))
+      sort-at : s ≡ pick (eqb last 0) (sortedAll F rs R) (refusedWith (nowhere last))
       unfolding against fitting readHeld taken
-      sort-at = after-is ∙ was-read (length rs) (fitting room (whole F rs R)) (λ n. refusedWith (nowhere n)) c y .0
+      sort-at = after-is ∙ was-read (length rs) (fitting room (sortedAll F rs R)) (λ n. refusedWith (nowhere n)) c y .0
 
       -- ---- judged with so many words
 
@@ -222,24 +222,24 @@ module _ (F : Finder) (form : ℕ) (u v : List ℕ) (rows₀ : List Block) (rang
         why = judged S order counts 0 pending
 
         why-at : why ≡ last
-        unfolding judged whySort whole
+        unfolding judged whySort sortedAll
         why-at = rw (← a, ← b, ← d, g .sorting) refl
 
         pub exit-refused : (why ≡ 0 → ⊥)
-            → Right (answered (refusedWith (nowhere why))) (rowsOf (length (rowsOf M R)) (refused (nowhere why))) (wordsOf (length (wordsOf N R)) (refused (nowhere why)))
+            → Right (answered (refusedWith (nowhere why))) (tableOf (length (tableOf M R)) (refused (nowhere why))) (rangeWords (length (rangeWords N R)) (refused (nowhere why)))
             (padded (length W) []) (padded (length O) []) (padded (length C) []) (padded (length Q) [])
         exit-refused h =
-            by-refusal (nowhere why) (length (rowsOf M R)) (length (wordsOf N R)) (length W) O C Q
-            (sort-at ∙ ap (λ (x : Bool). pick x (whole F rs R) (refusedWith (nowhere last))) (ne-eqb last 0 (λ e. h (why-at ∙ e))) ∙ ap (λ (n : ℕ). refusedWith (nowhere n)) (sym why-at))
+            by-refusal (nowhere why) (length (tableOf M R)) (length (rangeWords N R)) (length W) O C Q
+            (sort-at ∙ ap (λ (x : Bool). pick x (sortedAll F rs R) (refusedWith (nowhere last))) (ne-eqb last 0 (λ e. h (why-at ∙ e))) ∙ ap (λ (n : ℕ). refusedWith (nowhere n)) (sym why-at))
             (rows-length form u M N) (words-length form u M N) long (ap length (g .order) ∙ fitted-length (length order₀) (found .order))
             (ap length (g .counts) ∙ fitted-length (length counts₀) (found .counts)) (ap length (g .pending) ∙ fitted-length (length pending₀) (found .pending))
 
-        pub exit-done : why ≡ 0 → Right (answerTo (answer R) (G .ranges) S) (rowsOf M R) (wordsOf N R) W O C Q
-        unfolding answerTo answer answered whole whySort
+        pub exit-done : why ≡ 0 → Right (answerTo (answer R) (G .ranges) S) (tableOf M R) (rangeWords N R) W O C Q
+        unfolding answerTo answer answered sortedAll whySort
         exit-done h = (
           ap (answerTo (answer R) (G .ranges)) (g .sorting) ∙ ap (λ (n : ℕ). answerTo (answer R) n made) many ∙ ap answered (sym done-is),
-          ap (λ (x : SortHeld). rowsOf M (x .reading)) (sym done-is),
-          ap (λ (x : SortHeld). wordsOf N (x .reading)) (sym done-is),
+          ap (λ (x : SortHeld). tableOf M (x .reading)) (sym done-is),
+          ap (λ (x : SortHeld). rangeWords N (x .reading)) (sym done-is),
           words-are ∙ ap (λ (x : SortHeld). padded K (flat (x .held))) (sym done-is),
           g .order ∙ fitted-padded (length order₀) (found .order) (fits .0) ∙ ap (λ (x : SortHeld). padded (length order₀) (x .order)) (sym done-is),
           g .counts ∙ fitted-padded (length counts₀) (found .counts) (fits .1) ∙ ap (λ (x : SortHeld). padded (length counts₀) (x .counts)) (sym done-is),
@@ -252,5 +252,5 @@ module _ (F : Finder) (form : ℕ) (u v : List ℕ) (rows₀ : List Block) (rang
             fits : Fits room (length (found .order)) (length (found .counts)) (length (found .pending))
             fits = all-fit room (length (found .order)) (length (found .counts)) (length (found .pending)) ok
 
-            done-is : s ≡ whole F rs R
-            done-is = sort-at ∙ ap (λ (x : Bool). pick x (whole F rs R) (refusedWith (nowhere last))) (eq-eqb last 0 ok)
+            done-is : s ≡ sortedAll F rs R
+            done-is = sort-at ∙ ap (λ (x : Bool). pick x (sortedAll F rs R) (refusedWith (nowhere last))) (eq-eqb last 0 ok)

@@ -2,7 +2,7 @@
 -- a vector too (`sorts`).
 use mathlib.Core.Path.{_≡_}
 use mathlib.Core.Bool.{true, false}
-use Rattle.grammar.specs.Course.{Course, items, ending}
+use Rattle.grammar.specs.Course.{Course, things, ending}
 use Rattle.ranges.specs.Ranges.{Range, normal}
 use Rattle.sorting.specs.Held.{ruleHeld, heldIn, owners}
 use Rattle.updates.specs.Promises.{Reading}
@@ -15,5 +15,5 @@ pub record Demand3Held (r : Reading) (c : Course Range) (s : SortHeld) : Type 0 
   -- both were read whole, and the held ids stand as they were given, in normal form
   pub read : (r .refusal .number ≡ 0) × (ending c (λ _. true) (λ _. false) ≡ true)
   pub reading : s .reading ≡ r
-  pub held : s .held ≡ normal (items c)
-  pub demanded : Demanded ruleHeld (r .blocks) (heldIn (normal (items c))) (owners (r .blocks)) (s .order) (s .counts) (s .pending)
+  pub held : s .held ≡ normal (things c)
+  pub demanded : Demanded ruleHeld (r .blocks) (heldIn (normal (things c))) (owners (r .blocks)) (s .order) (s .counts) (s .pending)

@@ -7,11 +7,11 @@ use lib.ListN.{length}
 use Rattle.numbers.specs.Number.{pick, none, nowhere}
 use Rattle.numbers.specs.Output.{padded}
 use Rattle.block.specs.declared.Block.{Block}
-use Rattle.grammar.specs.Course.{Course, fit, items, ending}
+use Rattle.grammar.specs.Course.{Course, fit, things, ending}
 use Rattle.ranges.specs.Ranges.{Range, normal}
 use Rattle.ranges.specs.Table.{flat}
 use Rattle.decoder.specs.Update.{deleteSet}
-use Rattle.updates.specs.Promises.{Reading, reading, rowsOf, wordsOf}
+use Rattle.updates.specs.Promises.{Reading, reading, tableOf, rangeWords}
 use Rattle.sorting.specs.Held.{orderHeld, countsHeld, pendingHeld}
 use Rattle.sort_answers.specs.Answers.{Room, whyNot}
 use Rattle.held_answers.specs.declared.SortedHeld.{SortedHeld}
@@ -37,8 +37,8 @@ abbrev pub quickly : Finder
 quickly bs rs = record { order = orderHeld bs rs; counts = countsHeld bs rs; pending = pendingHeld bs rs }
 
 -- what was read, sorted by what these ranges hold
-unfoldable pub whole : Finder → List Range → Reading → SortHeld
-whole F rs r =
+unfoldable pub sortedAll : Finder → List Range → Reading → SortHeld
+sortedAll F rs r =
     record {
       refusal = none;
       order = F (r .blocks) rs .order;
@@ -57,7 +57,7 @@ fitting m s = pick (eqb (whySort m s) 0) s (refusedWith (nowhere (whySort m s)))
 
 -- the held ids are read after the update, and their refusal blames no byte; they stand in normal form
 unfoldable pub against : Finder → Room → Course Range → Reading → SortHeld
-against F m c r = ending c (λ s. fitting m (whole F (normal (items c)) r)) (λ why. refusedWith (nowhere (why .number)))
+against F m c r = ending c (λ s. fitting m (sortedAll F (normal (things c)) r)) (λ why. refusedWith (nowhere (why .number)))
 
 unfoldable pub afterReading : Finder → Room → Course Range → Reading → SortHeld
 afterReading F m c r = pick (eqb (r .refusal .number) 0) (against F m c r) (refusedWith (r .refusal))
@@ -76,8 +76,8 @@ abbrev pub Leaves : SortHeld → List Block → List ℕ → List ℕ → List �
     → SortedHeld → List Block → List ℕ → List ℕ → List ℕ → List ℕ → List ℕ → Type 0
 Leaves s rows ranges held order counts pending r rows₁ ranges₁ held₁ order₁ counts₁ pending₁ =
     (r ≡ answered s)
-    × (rows₁ ≡ rowsOf (length rows) (s .reading))
-    × (ranges₁ ≡ wordsOf (length ranges) (s .reading))
+    × (rows₁ ≡ tableOf (length rows) (s .reading))
+    × (ranges₁ ≡ rangeWords (length ranges) (s .reading))
     × (held₁ ≡ padded (length held) (flat (s .held)))
     × (order₁ ≡ padded (length order) (s .order))
     × (counts₁ ≡ padded (length counts) (s .counts))

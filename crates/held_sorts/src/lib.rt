@@ -7,7 +7,7 @@ ghost use mathlib.Core.Path.{_≡_};
 ghost use mathlib.Core.List.{[]};
 ghost use lib.ListN.{length};
 ghost use Rattle.numbers.specs.Output.{padded};
-ghost use Rattle.updates.specs.Promises.{refused, rowsOf, wordsOf};
+ghost use Rattle.updates.specs.Promises.{refused, tableOf, rangeWords};
 ghost use Rattle.held_answers.specs.Answers.{refusedWith, answered};
 ghost use Rattle.held_sorts.specs.Promises.{SortUpdateHeld};
 
@@ -21,8 +21,8 @@ pub fn refuse(
     pending: &mut [u64],
     why: Refusal,
 ) -> SortedHeld
-    ensures { λ r. ⌜ (r ≡ answered (refusedWith why)) × (now (rows .exit) ≡ rowsOf (length (now (rows .entry))) (refused why))
-        × (now (ranges .exit) ≡ wordsOf (length (now (ranges .entry))) (refused why))
+    ensures { λ r. ⌜ (r ≡ answered (refusedWith why)) × (now (rows .exit) ≡ tableOf (length (now (rows .entry))) (refused why))
+        × (now (ranges .exit) ≡ rangeWords (length (now (ranges .entry))) (refused why))
         × (now (given .exit) ≡ padded (length (now (given .entry))) []) × (now (order .exit) ≡ padded (length (now (order .entry))) [])
         × (now (counts .exit) ≡ padded (length (now (counts .entry))) []) × (now (pending .exit) ≡ padded (length (now (pending .entry))) []) ⌝ }
 {

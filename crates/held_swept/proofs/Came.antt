@@ -13,7 +13,7 @@ use Rattle.slots.specs.Slots.{Slot}
 use Rattle.picker.specs.Picker.{nowhere}
 use Rattle.sorting.specs.Steps.{State}
 use Rattle.sorting.specs.Named.{asksOf, ruleOf}
-use Rattle.sorting.specs.Sorted.{clients, countsIn, outcomeOf, countsOf}
+use Rattle.sorting.specs.Sorted.{allClients, countsIn, outcomeOf, countsOf}
 use Rattle.sorting.specs.Slow.{slowOutcome, slowOrderOf, slowOutcomeOf}
 use Rattle.sorting.specs.Held.{owners, countsHeld}
 use Rattle.sorting.proofs.Rules.{reaches-mono}
@@ -83,7 +83,7 @@ module _ (bs : List Block) (fit : Fit bs) (rows : List Block) (back : take (leng
   -- the outcome is one
   pub stands : Stands us (outcomeOf (ruleOf 28) numbered []) d
   stands = subst (λ (s : State ℕ). Stands us s d)
-      (same-outcome (ruleOf 28) (reaches-mono (asksOf 28)) numbered (clients numbered []) (clients-blocks numbered []) (remote [])) came-at
+      (same-outcome (ruleOf 28) (reaches-mono (asksOf 28)) numbered (allClients numbered []) (clients-blocks numbered []) (remote [])) came-at
 
   -- ---- the order and the counts
 

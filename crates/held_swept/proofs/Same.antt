@@ -7,7 +7,7 @@ use Rattle.block.specs.declared.Block.{Block}
 use Rattle.ranges.specs.Ranges.{Range}
 use Rattle.sorting.specs.Steps.{State, start, Sorts}
 use Rattle.sorting.specs.Sorted.{steps, order, countsIn, pendingIn}
-use Rattle.sorting.specs.Slow.{slowly}
+use Rattle.sorting.specs.Slow.{slowSteps}
 use Rattle.sorting.specs.Held.{ruleHeld, heldIn, owners, outcomeHeld, orderHeld, countsHeld, pendingHeld}
 use Rattle.sorting.proofs.Clients.{clients-blocks, clients-fall}
 use Rattle.sorting.proofs.Numbers.{numbersBy-length}
@@ -16,7 +16,7 @@ use Rattle.sorting.proofs.Held.{held-mono}
 use Rattle.held_swept.specs.HeldSlowly.{slowOutcomeHeld, slowOrderHeld, slowCountsHeld, slowPendingHeld}
 
 module _ (bs : List Block) (rs : List Range) where
-  pub held-slowly : Sorts (steps ruleHeld bs) (heldIn rs) (slowly ruleHeld bs (owners bs) (heldIn rs))
+  pub held-slowly : Sorts (steps ruleHeld bs) (heldIn rs) (slowSteps ruleHeld bs (owners bs) (heldIn rs))
   held-slowly = slow-sorted ruleHeld held-mono bs (owners bs) (clients-blocks bs []) (heldIn rs)
 
   same-state : slowOutcomeHeld bs rs ≡ outcomeHeld bs rs
@@ -33,6 +33,6 @@ module _ (bs : List Block) (rs : List Range) where
   pub same-steps : length (slowOrderHeld bs rs) ≡ length (orderHeld bs rs)
   unfolding slowOrderHeld orderHeld
   same-steps =
-      numbersBy-length ruleHeld bs (start (heldIn rs)) (slowly ruleHeld bs (owners bs) (heldIn rs))
+      numbersBy-length ruleHeld bs (start (heldIn rs)) (slowSteps ruleHeld bs (owners bs) (heldIn rs))
       ∙ same-length ruleHeld held-mono bs (owners bs) (clients-blocks bs []) (heldIn rs) (clients-fall bs [])
       ∙ sym (numbersBy-length ruleHeld bs (start (heldIn rs)) (order ruleHeld bs (owners bs) (heldIn rs)))

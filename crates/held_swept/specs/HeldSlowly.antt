@@ -7,14 +7,14 @@ use Rattle.block.specs.declared.Block.{Block}
 use Rattle.ranges.specs.Ranges.{Range}
 use Rattle.sorting.specs.Steps.{State, start}
 use Rattle.sorting.specs.Sorted.{numbersBy, countsIn, pendingIn}
-use Rattle.sorting.specs.Slow.{slowly, slowOutcome}
+use Rattle.sorting.specs.Slow.{slowSteps, slowOutcome}
 use Rattle.sorting.specs.Held.{ruleHeld, heldIn, owners}
 
 abbrev pub slowOutcomeHeld : List Block → List Range → State Id
 slowOutcomeHeld bs rs = slowOutcome ruleHeld bs (owners bs) (heldIn rs)
 
 unfoldable pub slowOrderHeld : List Block → List Range → List ℕ
-slowOrderHeld bs rs = numbersBy ruleHeld bs (start (heldIn rs)) (slowly ruleHeld bs (owners bs) (heldIn rs))
+slowOrderHeld bs rs = numbersBy ruleHeld bs (start (heldIn rs)) (slowSteps ruleHeld bs (owners bs) (heldIn rs))
 
 unfoldable pub slowCountsHeld : List Block → List Range → List ℕ
 slowCountsHeld bs rs = countsIn bs (slowOutcomeHeld bs rs) (owners bs)

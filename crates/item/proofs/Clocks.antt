@@ -19,7 +19,7 @@ use Rattle.columns.specs.declared.difference.Answer.the-variants as answer
 use Rattle.columns.specs.Difference as difference
 use Rattle.grammar.specs.Grammar as grammar
 use Rattle.grammar.specs.Course.{Drawn, got, not}
-use Rattle.decoder.specs.Line.{bounded, varAt, upTo, line, numberOf}
+use Rattle.decoder.specs.Line.{bounded, varAt, upTo, line, numberBy}
 use Rattle.decoder.specs.States.{Differences, State}
 use Rattle.decoder.specs.Columned.{differenceDrawn, fromDifferences, onto, numberIn, columned}
 use Rattle.decoder.specs.ColumnedInner.{fields}
@@ -84,11 +84,11 @@ column-clock u c put = go (difference.nextDifference (take (c .to) u) (c .place)
 
 module _ (form : ℕ) (u : List ℕ) (s : State) where
   left-clock : Clock (fields form u (grammar.number grammar.leftClock) s)
-  unfolding fields line numberOf upTo columned numberIn
+  unfolding fields line numberBy upTo columned numberIn
   left-clock = either Clock (eqb form 1) _ _ (λ _. onto-clock s (upTo maxClock u (s .at)) (bounded-clock (varAt u (s .at)))) (λ _. column-clock u (s .left) _)
 
   right-clock : Clock (fields form u (grammar.number grammar.rightClock) s)
-  unfolding fields line numberOf upTo columned numberIn
+  unfolding fields line numberBy upTo columned numberIn
   right-clock = either Clock (eqb form 1) _ _ (λ _. onto-clock s (upTo maxClock u (s .at)) (bounded-clock (varAt u (s .at)))) (λ _. column-clock u (s .right) _)
 
   clock-is : (b : Bool) → Clock (fields form u (grammar.number (pick b grammar.leftClock grammar.rightClock)) s)

@@ -21,7 +21,7 @@ use Rattle.readings.specs.Sound.{bytesIn}
 use Rattle.readings.specs.SoundInner.{Lies, Sound}
 use Rattle.parts.specs.Brim.{brim}
 use Rattle.kept.specs.Kept.{Piece, piece, wholePiece}
-use Rattle.kept.specs.Cut.{bytesFor, broken, before, cutPart, span, cutList, tornText, isWhole, partOf, front, behind, shortened, begunLater, cutRow, torn}
+use Rattle.kept.specs.Cut.{bytesFor, broken, bytesBefore, cutPart, span, cutList, tornText, isWhole, partOf, front, behind, shortened, begunLater, cutRow, torn}
 use Rattle.kept.specs.Plan.{cutIn, cuts, skipFor, sane, partAt, cutAt, restOf}
 use Rattle.kept.proofs.Sane.{within-sane}
 use Rattle.kept.proofs.Lists.{IsList, list-row, span-within, span-rest}
@@ -65,9 +65,9 @@ module _ (u : List ℕ) (b : Block) (sound : Sound u b) where
   torn-text n kind = go (broken (takeUnits 9 n (bytesIn u (b .part)))) refl
     where
       go : (t : Bool) → broken (takeUnits 9 n (bytesIn u (b .part))) ≡ t
-          → pick t true (broken (takeUnits 9 (b .length .0 - n) (drop (before (bytesIn u (b .part)) n) (bytesIn u (b .part))))) ≡ t
+          → pick t true (broken (takeUnits 9 (b .length .0 - n) (drop (bytesBefore (bytesIn u (b .part)) n) (bytesIn u (b .part))))) ≡ t
       go true e = refl
-      go false e = ap broken (rest-taken n (before (bytesIn u (b .part)) n) kind (not-broken (takeUnits 9 n (bytesIn u (b .part))) e) .taken)
+      go false e = ap broken (rest-taken n (bytesBefore (bytesIn u (b .part)) n) kind (not-broken (takeUnits 9 n (bytesIn u (b .part))) e) .taken)
 
   pub torn-first : (n : ℕ) → torn u (piece b n (b .length .0)) ≡ tornAt u b n
   unfolding torn isWhole tornAt cuts cutIn
@@ -152,9 +152,9 @@ module _ (u : List ℕ) (b : Block) (sound : Sound u b) where
             let t = bytesIn u (b .part) in
             let e = skipFor u b n in
             let p = skip-text some k in
-            let first : e ≡ before t n = sym (ap bytesFor p) in
-            let rest : b .part .bytes .0 - e ≡ before (drop (before t n) t) (b .length .0 - n) =
-            sym (ap bytesFor (rest-taken n e (eqb-true (b .kind) TEXT k) p .taken)) ∙ ap (λ (x : ℕ). before (drop x t) (b .length .0 - n)) first in
+            let first : e ≡ bytesBefore t n = sym (ap bytesFor p) in
+            let rest : b .part .bytes .0 - e ≡ bytesBefore (drop (bytesBefore t n) t) (b .length .0 - n) =
+            sym (ap bytesFor (rest-taken n e (eqb-true (b .kind) TEXT k) p .taken)) ∙ ap (λ (x : ℕ). bytesBefore (drop x t) (b .length .0 - n)) first in
             ap₂ partWith first rest
         go false k true l =
             let first = skip-list some l in

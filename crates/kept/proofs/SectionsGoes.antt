@@ -17,7 +17,7 @@ use Rattle.readings.specs.Groups.{groups}
 use Rattle.readings.specs.GroupsInner.{joined}
 use Rattle.readings.proofs.Groups.{groups-joined, groups-all, ordered-distinct}
 use Rattle.parts.specs.Brim.{brim}
-use Rattle.kept.specs.Kept.{Section, remote, falls, piece, wholePiece, keepFrom, withPieces, keepEach, place, falling, clientOf, sectionsOf}
+use Rattle.kept.specs.Kept.{Section, remote, falls, piece, wholePiece, keepFrom, withPieces, keepEach, putSection, falling, clientOf, sectionsOf}
 use Rattle.kept.specs.Cut.{torn, tornPieces, anyTorn}
 use Rattle.kept.specs.Plan.{Planned, plannedFrom, placed, skipFor, Stop, stopAt, stop, restOf, onward, stopsOf, unplanned, endedWords, endedCount, planAll, planAllWords, Of, Opens, further, GoesOn, Goes}
 use Rattle.kept.proofs.SectionsPlaced.{alone, before, behind, falling-length, into, into-falling}
@@ -157,7 +157,7 @@ module _ (u : List ℕ) (all rows : List Block) (same : take (length all) rows �
 
   -- ---- in their places
 
-  each-place : (p : Planned) (s : Section) (ps : List Planned) (ss : List Section) → Plans p s → Each ps ss → Each (placed p ps) (place s ss)
+  each-place : (p : Planned) (s : Section) (ps : List Planned) (ss : List Section) → Plans p s → Each ps ss → Each (placed p ps) (putSection s ss)
   unfolding Each
   each-place p s [] [] one h = rw (placed-first p, alone s) (one, tt)
   each-place p s [] (t ∷ ss) one h = absurd h
@@ -167,7 +167,7 @@ module _ (u : List ℕ) (all rows : List Block) (same : take (length all) rows �
       clients-same : ltb (p .client) (q .client) ≡ ltb (s .client) (t .client)
       clients-same = ap₂ ltb (one .client) (h .0 .client)
 
-      go : Each (placed p ps) (place s ss) → (x : Bool) → ltb (s .client) (t .client) ≡ x → Each (placed p (q ∷ ps)) (place s (t ∷ ss))
+      go : Each (placed p ps) (putSection s ss) → (x : Bool) → ltb (s .client) (t .client) ≡ x → Each (placed p (q ∷ ps)) (putSection s (t ∷ ss))
       go on true e = rw (placed-behind p q ps (clients-same ∙ e), behind s t ss e) (h .0, on)
       go on false e = rw (placed-before p q ps (clients-same ∙ e), before s t ss e) (one, h)
 
@@ -176,7 +176,7 @@ module _ (u : List ℕ) (all rows : List Block) (same : take (length all) rows �
   each-inserted [] l [] m h k = k
   each-inserted [] l (s ∷ ss) m h k = absurd h
   each-inserted (p ∷ ps) l [] m h k = absurd h
-  each-inserted (p ∷ ps) l (s ∷ ss) m h k = each-inserted ps (placed p l) ss (place s m) (h .1) (each-place p s l m (h .0) k)
+  each-inserted (p ∷ ps) l (s ∷ ss) m h k = each-inserted ps (placed p l) ss (putSection s m) (h .1) (each-place p s l m (h .0) k)
 
   each-goes : (ps : List Planned) (ss : List Section) → anyTorn u ss ≡ false → Each ps ss → Goes u all (stopsOf rows ps) ss
   unfolding Each stopsOf anyTorn GoesOn

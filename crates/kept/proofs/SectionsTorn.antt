@@ -14,7 +14,7 @@ use Rattle.readings.specs.SoundInner.{Sound, Ordered}
 use Rattle.readings.specs.Groups.{groups}
 use Rattle.readings.proofs.Groups.{groups-all}
 use Rattle.parts.specs.Brim.{brim}
-use Rattle.kept.specs.Kept.{Piece, Section, remote, falls, piece, wholePiece, keepFrom, withPieces, keepEach, place, falling, clientOf, sectionsOf}
+use Rattle.kept.specs.Kept.{Piece, Section, remote, falls, piece, wholePiece, keepFrom, withPieces, keepEach, putSection, falling, clientOf, sectionsOf}
 use Rattle.kept.specs.Cut.{torn, tornPieces, anyTorn, formatIn, anyFormat}
 use Rattle.kept.specs.Plan.{unplanned, planAll}
 use Rattle.kept.proofs.SectionsRun.{tornAt, tornOne, formatRows, formatOne, or, or-none, or-swap}
@@ -30,14 +30,14 @@ module _ (has : List Piece → Bool) (any : List Section → Bool) (none : has [
   with-any c [] ss = rw none refl
   with-any c (p ∷ ps) ss = more (record { client = c; pieces = p ∷ ps }) ss
 
-  place-any : (s : Section) (ts : List Section) → any (place s ts) ≡ or (has (s .pieces)) (any ts)
-  unfolding place
+  place-any : (s : Section) (ts : List Section) → any (putSection s ts) ≡ or (has (s .pieces)) (any ts)
+  unfolding putSection
   place-any s [] = more s []
   place-any s (t ∷ ts) = go (place-any s ts) (ltb (s .client) (t .client))
     where
-      go : any (place s ts) ≡ or (has (s .pieces)) (any ts) → (x : Bool) → any (pick x (t ∷ place s ts) (s ∷ (t ∷ ts))) ≡ or (has (s .pieces)) (any (t ∷ ts))
+      go : any (putSection s ts) ≡ or (has (s .pieces)) (any ts) → (x : Bool) → any (pick x (t ∷ putSection s ts) (s ∷ (t ∷ ts))) ≡ or (has (s .pieces)) (any (t ∷ ts))
       go on true =
-          more t (place s ts) ∙ ap (or (has (t .pieces))) on ∙ or-swap (has (t .pieces)) (has (s .pieces)) (any ts)
+          more t (putSection s ts) ∙ ap (or (has (t .pieces))) on ∙ or-swap (has (t .pieces)) (has (s .pieces)) (any ts)
           ∙ ap (or (has (s .pieces))) (sym (more t ts))
       go on false = more s (t ∷ ts)
 

@@ -7,7 +7,7 @@ use native.Mathlib.Omega.{arith}
 use lib.ListN.{length, take, replicate, length-append, length-map}
 use Rattle.numbers.specs.declared.Refusal.{Refusal}
 use Rattle.numbers.specs.Output.{padded}
-use Rattle.grammar.specs.Course.{Course, item, over, stopped, items, ending}
+use Rattle.grammar.specs.Course.{Course, thing, over, stopped, things, ending}
 use Rattle.vector.specs.declared.Entries.{Entries}
 use Rattle.vector.specs.declared.Entries.the-variants.{Read, Refused}
 use Rattle.vector.specs.Vector.{Entry, clientsIn}
@@ -19,29 +19,29 @@ use Rattle.kept.specs.Plan.{paired, entriesOf}
 -- ---- how a course ends
 
 abbrev Over : Course Entry → ℕ → Type 0
-Over (item a p c) s = Over c s
+Over (thing a p c) s = Over c s
 Over (over x t) s = t ≡ s
 Over (stopped why) s = ⊥
 
 abbrev Stopped : Course Entry → Refusal → Type 0
-Stopped (item a p c) why = Stopped c why
+Stopped (thing a p c) why = Stopped c why
 Stopped (over x t) why = ⊥
 Stopped (stopped r) why = r ≡ why
 
 ends : (c : Course Entry) → ((s : ℕ) × Over c s) ⊎ ((why : Refusal) × Stopped c why)
-ends (item a p c) = ends c
+ends (thing a p c) = ends c
 ends (over x t) = inl (t, refl)
 ends (stopped why) = inr (why, refl)
 
 over-ends : {X : Type 0} (c : Course Entry) (s : ℕ) (f : ℕ → X) (g : Refusal → X) → Over c s → ending c f g ≡ f s
 unfolding ending
-over-ends (item a p c) s f g h = over-ends c s f g h
+over-ends (thing a p c) s f g h = over-ends c s f g h
 over-ends (over x t) s f g h = ap f h
 over-ends (stopped why) s f g h = absurd h
 
 stopped-ends : {X : Type 0} (c : Course Entry) (why : Refusal) (f : ℕ → X) (g : Refusal → X) → Stopped c why → ending c f g ≡ g why
 unfolding ending
-stopped-ends (item a p c) why f g h = stopped-ends c why f g h
+stopped-ends (thing a p c) why f g h = stopped-ends c why f g h
 stopped-ends (over x t) why f g h = absurd h
 stopped-ends (stopped r) why f g h = ap g h
 
@@ -86,10 +86,10 @@ why-of (Refused why) r = why
 pub record WasRead (c : Course Entry) (m : ℕ) : Type 1 where
   pub after : ℕ
   pub ends-so : {X : Type 0} (f : ℕ → X) (g : Refusal → X) → ending c f g ≡ f after
-  pub size : m ≡ length (items c)
+  pub size : m ≡ length (things c)
   pub room : (k : ℕ) → m ≤ length (padded k (clientsIn (kept c)))
-  pub clients : (k : ℕ) → take m (padded k (clientsIn (kept c))) ≡ clientsIn (items c)
-  pub entries : (k l : ℕ) → entriesOf m (padded k (clientsIn (kept c))) (padded l (clocksIn (kept c))) ≡ items c
+  pub clients : (k : ℕ) → take m (padded k (clientsIn (kept c))) ≡ clientsIn (things c)
+  pub entries : (k l : ℕ) → entriesOf m (padded k (clientsIn (kept c))) (padded l (clocksIn (kept c))) ≡ things c
 
 pub was-read : (c : Course Entry) (m : ℕ) → vector-inner.entriesOf c ≡ Read m → WasRead c m
 unfolding vector-inner.entriesOf kept
@@ -98,17 +98,17 @@ was-read c m e = go (ends c)
     go : ((s : ℕ) × Over c s) ⊎ ((why : Refusal) × Stopped c why) → WasRead c m
     go (inl x) =
         let h = x .1 in
-        let all : kept c ≡ items c = over-ends c (x .0) (λ (s : ℕ). items c) (λ (why : Refusal). []) h in
-        let size : m ≡ length (items c) = sym (ap count e) ∙ ap count (over-ends c (x .0) (λ (s : ℕ). Read (length (items c))) (λ (why : Refusal). Refused why) h) in
+        let all : kept c ≡ things c = over-ends c (x .0) (λ (s : ℕ). things c) (λ (why : Refusal). []) h in
+        let size : m ≡ length (things c) = sym (ap count e) ∙ ap count (over-ends c (x .0) (λ (s : ℕ). Read (length (things c))) (λ (why : Refusal). Refused why) h) in
         record {
           after = x .0;
           ends-so = λ f g. over-ends c (x .0) f g h;
           size = size;
-          room = λ k. rw (all, size) (clients-fit (items c) k);
-          clients = λ k. rw (all, size) (clients-again (items c) k);
-          entries = λ k l. rw (all, size) (entries-again (items c) k l);
+          room = λ k. rw (all, size) (clients-fit (things c) k);
+          clients = λ k. rw (all, size) (clients-again (things c) k);
+          entries = λ k l. rw (all, size) (entries-again (things c) k l);
         }
-    go (inr x) = absurd (subst read-is (sym e ∙ stopped-ends c (x .0) (λ (s : ℕ). Read (length (items c))) (λ (why : Refusal). Refused why) (x .1)) tt)
+    go (inr x) = absurd (subst read-is (sym e ∙ stopped-ends c (x .0) (λ (s : ℕ). Read (length (things c))) (λ (why : Refusal). Refused why) (x .1)) tt)
 
 -- it was refused
 pub was-refused : {X : Type 0} (c : Course Entry) (why : Refusal) → vector-inner.entriesOf c ≡ Refused why → (f : ℕ → X) (g : Refusal → X) → ending c f g ≡ g why
@@ -116,7 +116,7 @@ unfolding vector-inner.entriesOf
 was-refused {X} c why e f g = go (ends c)
   where
     go : ((s : ℕ) × Over c s) ⊎ ((r : Refusal) × Stopped c r) → ending c f g ≡ g why
-    go (inl x) = absurd (subst read-is (sym (over-ends c (x .0) (λ (s : ℕ). Read (length (items c))) (λ (r : Refusal). Refused r) (x .1)) ∙ e) tt)
+    go (inl x) = absurd (subst read-is (sym (over-ends c (x .0) (λ (s : ℕ). Read (length (things c))) (λ (r : Refusal). Refused r) (x .1)) ∙ e) tt)
     go (inr x) =
-        let same : x .0 ≡ why = ap (λ (a : Entries). why-of a why) (sym (stopped-ends c (x .0) (λ (s : ℕ). Read (length (items c))) (λ (r : Refusal). Refused r) (x .1)) ∙ e) in
+        let same : x .0 ≡ why = ap (λ (a : Entries). why-of a why) (sym (stopped-ends c (x .0) (λ (s : ℕ). Read (length (things c))) (λ (r : Refusal). Refused r) (x .1)) ∙ e) in
         stopped-ends c (x .0) f g (x .1) ∙ ap g same

@@ -10,12 +10,12 @@ use borrow.Author.Tests.{ltb-false, ne-eqb}
 use Rattle.numbers.specs.declared.Refusal.{Refusal}
 use Rattle.numbers.specs.declared.Read.{Read}
 use Rattle.numbers.specs.declared.Read.the-variants as read
-use Rattle.numbers.specs.Number.{pick, Spelt, got, short, long, spelt, placed, readUnsigned}
+use Rattle.numbers.specs.Number.{pick, Spelt, got, short, long, spelt, answerAt, readUnsigned}
 use Rattle.numbers.specs.Limits.{maxClients, maxValue, maxClock}
 use Rattle.grammar.specs.Grammar.{Grammar}
 use Rattle.grammar.specs.GrammarInner.{_>>=_}
-use Rattle.grammar.specs.Course.{Drawn, got as drew, not, Course, item, over, stopped, onDrawn, run, items, ending}
-use Rattle.decoder.specs.Line.{numberAt, varAt, bounded, upTo, numberOf, line}
+use Rattle.grammar.specs.Course.{Drawn, got as drew, not, Course, thing, over, stopped, onDrawn, run, things, ending}
+use Rattle.decoder.specs.Line.{numberAt, varAt, bounded, upTo, numberBy, line}
 use Rattle.vector.specs.Vector.{Entry, entry, holds, entries, aVector, vectorOf}
 use Rattle.readings.specs.Sound.{All}
 use Rattle.readings.proofs.Columns.{chosen}
@@ -33,8 +33,8 @@ abbrev Within : ℕ → Drawn ℕ (ℕ × ℕ) → Type 0
 Within most (drew a e) = a .0 ≤ most
 Within most (not why) = Some why
 
-placed-some : (s : List ℕ) (at : ℕ) (x : Spelt) → SomeRead (placed s at x)
-unfolding placed
+placed-some : (s : List ℕ) (at : ℕ) (x : Spelt) → SomeRead (answerAt s at x)
+unfolding answerAt
 placed-some s at (got v e) = tt
 placed-some s at short = omega arith
 placed-some s at long = omega arith
@@ -50,7 +50,7 @@ up-to-within most u at = go (readUnsigned u at) (placed-some u at (spelt 9 at (d
 -- ---- the whole of it
 
 abbrev Fair : Course Entry → Type 0
-Fair (item e p c) = (e .clock ≤ maxClock) × Fair c
+Fair (thing e p c) = (e .clock ≤ maxClock) × Fair c
 Fair (over x s) = Unit {0}
 Fair (stopped why) = Some why
 
@@ -66,7 +66,7 @@ module _ (v : List ℕ) where
   picked false x y at p q = q
 
   entries-fair : (n : ℕ) (seen : List Entry) (at : ℕ) → Fair (run (line 1 v) (entries n seen) at)
-  unfolding entries run line numberOf _>>=_
+  unfolding entries run line numberBy _>>=_
   entries-fair zero seen at = tt
   entries-fair (suc n) seen at =
       drawn-fair maxValue (upTo maxValue v at) _ (up-to-within maxValue v at) (λ c t _.
@@ -74,15 +74,15 @@ module _ (v : List ℕ) where
       (drawn-fair maxClock (upTo maxClock v t) _ (up-to-within maxClock v t) (λ k w h. (h, entries-fair n (seen ++ (entry (c .0) (k .0) ∷ [])) w))))
 
   vector-fair : Fair (vectorOf v)
-  unfolding vectorOf aVector run line numberOf _>>=_
+  unfolding vectorOf aVector run line numberBy _>>=_
   vector-fair = drawn-fair maxClients (upTo maxClients v 0) _ (up-to-within maxClients v 0) (λ n s _. entries-fair (n .0) [] s)
 
-pub vector-clocks : (v : List ℕ) → All (λ (e : Entry). e .clock ≤ maxClock) (items (vectorOf v))
-unfolding items
+pub vector-clocks : (v : List ℕ) → All (λ (e : Entry). e .clock ≤ maxClock) (things (vectorOf v))
+unfolding things
 vector-clocks v = go (vectorOf v) (vector-fair v)
   where
-    go : (c : Course Entry) → Fair c → All (λ (e : Entry). e .clock ≤ maxClock) (items c)
-    go (item e p c) h = (h .0, go c (h .1))
+    go : (c : Course Entry) → Fair c → All (λ (e : Entry). e .clock ≤ maxClock) (things c)
+    go (thing e p c) h = (h .0, go c (h .1))
     go (over x s) h = tt
     go (stopped why) h = tt
 
@@ -98,6 +98,6 @@ by-number {X} v x g = go (vectorOf v) (vector-fair v)
   where
     go : (c : Course Entry) → Fair c
         → ending c (λ s. x) (λ why. g (why .number)) ≡ pick (eqb (ending c (λ s. 0) (λ why. why .number)) 0) x (g (ending c (λ s. 0) (λ why. why .number)))
-    go (item a p c) h = go c (h .1)
+    go (thing a p c) h = go c (h .1)
     go (over y s) h = refl
     go (stopped why) h = rw (ne-eqb (why .number) 0 (λ e. omega (arith, e, h))) refl

@@ -32,20 +32,20 @@ broken (units.Took b) = false
 broken (units.Refused why) = true
 
 -- the bytes that the first n units take
-abbrev pub before : List ℕ → ℕ → ℕ
-before t n = bytesFor (takeUnits 9 n t)
+abbrev pub bytesBefore : List ℕ → ℕ → ℕ
+bytesBefore t n = bytesFor (takeUnits 9 n t)
 
 -- the part of a text from unit `from` on, `n` units
 unfoldable pub cutPart : List ℕ → Part → ℕ → ℕ → Part
 cutPart u p from n =
     let t = bytesIn u p in
-    record { place = p .place + before t from; bytes = record { 0 = before (drop (before t from) t) n } }
+    record { place = p .place + bytesBefore t from; bytes = record { 0 = bytesBefore (drop (bytesBefore t from) t) n } }
 
 -- whether one of its ends lies inside a pair
 unfoldable pub tornText : List ℕ → Part → ℕ → ℕ → Bool
 tornText u p from n =
     let t = bytesIn u p in
-    pick (broken (takeUnits 9 from t)) true (broken (takeUnits 9 n (drop (before t from) t)))
+    pick (broken (takeUnits 9 from t)) true (broken (takeUnits 9 n (drop (bytesBefore t from) t)))
 
 -- ---- a list's bytes, by entries
 

@@ -57,13 +57,13 @@ keepEach v ([] ∷ gs) = keepEach v gs
 keepEach v ((b ∷ bs) ∷ gs) = withPieces (b .client) (keepFrom (remote v (b .client)) (b ∷ bs)) (keepEach v gs)
 
 -- highest client first
-unfoldable pub place : Section → List Section → List Section
-place s [] = s ∷ []
-place s (t ∷ ts) = pick (ltb (s .client) (t .client)) (t ∷ place s ts) (s ∷ (t ∷ ts))
+unfoldable pub putSection : Section → List Section → List Section
+putSection s [] = s ∷ []
+putSection s (t ∷ ts) = pick (ltb (s .client) (t .client)) (t ∷ putSection s ts) (s ∷ (t ∷ ts))
 
 unfoldable pub falling : List Section → List Section
 falling [] = []
-falling (s ∷ ss) = place s (falling ss)
+falling (s ∷ ss) = putSection s (falling ss)
 
 abbrev pub clientOf : Block → ℕ
 clientOf b = b .client

@@ -24,7 +24,7 @@ use Rattle.grammar.specs.Grammar as grammar
 use Rattle.grammar.specs.Course.{Drawn, got, not}
 use Rattle.decoder.specs.Line.{wordOf, spanned, valuesAt, line}
 use Rattle.decoder.specs.States.{maxKeys, State, movedTo, withKey, withText, withKeys}
-use Rattle.decoder.specs.Columned.{onto, textDrawn, textIn, joining, numbered, keyIn, columned}
+use Rattle.decoder.specs.Columned.{onto, textDrawn, textIn, joining, keyByNumber, keyIn, columned}
 use Rattle.decoder.specs.ColumnedInner.{fields}
 use Rattle.decoder.proofs.Laws.{fields-columned}
 use Rattle.cells.specs.declared.Drawn as cells-drawn
@@ -104,26 +104,26 @@ module _ (form : ℕ) (u w : List ℕ) (blame n : ℕ) where
 -- ---- a key by its number
 
 -- which is drawn from its column
-pub key-drawn : (u w v : List ℕ) (r : cells-drawn.Drawn) → DifferenceDrawn u 0 w v r → numbered u (given v r) ≡ keyIn u (stateIn w)
+pub key-drawn : (u w v : List ℕ) (r : cells-drawn.Drawn) → DifferenceDrawn u 0 w v r → keyByNumber u (given v r) ≡ keyIn u (stateIn w)
 unfolding keyIn stateIn
-key-drawn u w v r d = ap (numbered u) (difference-onto u w v 0 r (λ c. withKey c (stateIn w)) (state-key w v (d .1)) d)
+key-drawn u w v r d = ap (keyByNumber u) (difference-onto u w v 0 r (λ c. withKey c (stateIn w)) (state-key w v (d .1)) d)
 
 module _ (u v : List ℕ) where
-  pub key-none : not (whyIn v) ≡ numbered u (given v drawn.Refused)
-  unfolding numbered given
+  pub key-none : not (whyIn v) ≡ keyByNumber u (given v drawn.Refused)
+  unfolding keyByNumber given
   key-none = refl
 
   module _ (x : ℕ) where
-    pub key-known : x < keyCount v → got (getD (keysIn v) x noPart) (stateIn v) ≡ numbered u (given v (drawn.Number x))
-    unfolding numbered given stateIn
+    pub key-known : x < keyCount v → got (getD (keysIn v) x noPart) (stateIn v) ≡ keyByNumber u (given v (drawn.Number x))
+    unfolding keyByNumber given stateIn
     key-known l = rw (keys-length v, lt-ltb x (keyCount v) l) refl
 
-    pub key-over : keyCount v ≤ x → maxKeys ≤ keyCount v → not (record { number = 3; place = placeIn v }) ≡ numbered u (given v (drawn.Number x))
-    unfolding numbered given stateIn
+    pub key-over : keyCount v ≤ x → maxKeys ≤ keyCount v → not (record { number = 3; place = placeIn v }) ≡ keyByNumber u (given v (drawn.Number x))
+    unfolding keyByNumber given stateIn
     key-over l m = rw (keys-length v, le-ltb x (keyCount v) l, le-ltb (keyCount v) maxKeys m) refl
 
-    pub key-new : keyCount v ≤ x → keyCount v < maxKeys → joining (textIn u (stateIn v)) ≡ numbered u (given v (drawn.Number x))
-    unfolding numbered given stateIn
+    pub key-new : keyCount v ≤ x → keyCount v < maxKeys → joining (textIn u (stateIn v)) ≡ keyByNumber u (given v (drawn.Number x))
+    unfolding keyByNumber given stateIn
     key-new l m = rw (keys-length v, le-ltb x (keyCount v) l, lt-ltb (keyCount v) maxKeys m) refl
 
 -- ---- a key that joins

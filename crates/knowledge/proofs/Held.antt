@@ -12,7 +12,7 @@ use Rattle.ranges.specs.Ranges.{Range}
 use Rattle.ranges.specs.RangesInner.{Deleted}
 use Rattle.sorting.specs.Quick.{Listed}
 use Rattle.sorting.specs.Sorted.{order}
-use Rattle.sorting.specs.Held.{within, ruleHeld, heldIn, owners, orderHeld}
+use Rattle.sorting.specs.Held.{inRange, ruleHeld, heldIn, owners, orderHeld}
 use Rattle.sorting.proofs.Outcome.{below-or}
 use Rattle.sorting.proofs.Held.{held-mono, held-sorts, ranges-hold}
 use Rattle.knowledge.specs.More.{AtLeast, Ran}
@@ -22,7 +22,7 @@ use Rattle.knowledge.proofs.More.{more-knowledge}
 at-most-one : (rs : List Range) (d : Id) → heldIn rs d ≤ 1
 unfolding heldIn
 at-most-one [] d = omega arith
-at-most-one (r ∷ rs) d = go (within (r .client) (r .clock) (r .len) d) (at-most-one rs d)
+at-most-one (r ∷ rs) d = go (inRange (r .client) (r .clock) (r .len) d) (at-most-one rs d)
   where
     go : (x : Bool) → heldIn rs d ≤ 1 → pick x 1 (heldIn rs d) ≤ 1
     go true h = omega arith

@@ -10,7 +10,7 @@ use Rattle.numbers.specs.Limits.{maxUpdate}
 use Rattle.numbers.specs.Output.{padded}
 use Rattle.block.specs.declared.Id.{Id}
 use Rattle.block.specs.declared.Block.{Block}
-use Rattle.grammar.specs.Course.{items}
+use Rattle.grammar.specs.Course.{things}
 use Rattle.decoder.specs.Update.{blocksOf}
 use Rattle.readings.proofs.Orders.{blocks-ordered}
 use Rattle.readings.proofs.Sounds.{blocks-sound}
@@ -19,7 +19,7 @@ use Rattle.kept.specs.Kept.{remote, sectionsOf}
 use Rattle.updates.specs.Promises.{Reading, reading}
 use Rattle.sorting.specs.Rules.{queue, byReaches}
 use Rattle.sorting.specs.Named.{asksOf}
-use Rattle.sorting.specs.Sorted.{clients, order, orderOf}
+use Rattle.sorting.specs.Sorted.{allClients, order, orderOf}
 use Rattle.sorting.proofs.Rules.{reaches-mono}
 use Rattle.sorting.proofs.Taken.{sorts}
 use Rattle.written.specs.Written.{AllAlike, sectionsRead}
@@ -46,7 +46,7 @@ use Rattle.later.proofs.Later.{ended, sort-sorts}
 all-sorted : (asks : ℕ → Block → List Id) (bs : List Block) (v : List Entry) → Ran (byReaches asks) bs (remote v) (orderOf (byReaches asks) bs v)
 unfolding orderOf
 all-sorted asks bs v =
-    record { run = order (byReaches asks) bs (clients bs v) (remote v); whole = sorts (byReaches asks) (reaches-mono asks) bs v .ends; order = refl }
+    record { run = order (byReaches asks) bs (allClients bs v) (remote v); whole = sorts (byReaches asks) (reaches-mono asks) bs v .ends; order = refl }
 
 module _ (form : ℕ) (u v : List ℕ) (to : ℕ) (d : DiffCall form u v to) where
   abbrev m : ℕ
@@ -69,10 +69,10 @@ module _ (form : ℕ) (u v : List ℕ) (to : ℕ) (d : DiffCall form u v to) whe
       ∙ take-append-seam (D .bytes) (replicate (length (d .out) - length (D .bytes)) 0)
 
   abbrev bs : List Block
-  bs = items (blocksOf form u)
+  bs = things (blocksOf form u)
 
   abbrev es : List Block
-  es = items (blocksOf to (writtenBy d))
+  es = things (blocksOf to (writtenBy d))
 
   -- the blocks of the diff, where it is not too long to be read
   again : length (writtenBy d) ≤ maxUpdate → AllAlike (writtenBy d) es u (sectionsRead u (sectionsOf (entriesIn v) bs))
@@ -81,8 +81,8 @@ module _ (form : ℕ) (u v : List ℕ) (to : ℕ) (d : DiffCall form u v to) whe
       let same : D .reading .blocks ≡ bs = ap (λ (r : Reading). r .blocks) (h .source) ∙ all-read form u m n (h .read) .blocks in
       let r = reread-there form u v to m n (length (d .out)) diff-done (subst (λ (x : List ℕ). length x ≤ maxUpdate) bytes-are short) in
       let there = all-read to (D .bytes) m n (ap (λ (why : Refusal). why .number) (r .refusal)) .blocks in
-      subst (λ (x : List ℕ). AllAlike x (items (blocksOf to x)) u (sectionsRead u (sectionsOf (entriesIn v) bs))) (sym bytes-are)
-      (subst (λ (l : List Block). AllAlike (D .bytes) (items (blocksOf to (D .bytes))) u (sectionsRead u (sectionsOf (entriesIn v) l))) same
+      subst (λ (x : List ℕ). AllAlike x (things (blocksOf to x)) u (sectionsRead u (sectionsOf (entriesIn v) bs))) (sym bytes-are)
+      (subst (λ (l : List Block). AllAlike (D .bytes) (things (blocksOf to (D .bytes))) u (sectionsRead u (sectionsOf (entriesIn v) l))) same
       (subst (λ (l : List Block). AllAlike (D .bytes) l u (sectionsRead u (sectionsOf (entriesIn v) (D .reading .blocks)))) there (r .blocks)))
 
   left : length (writtenBy d) ≤ maxUpdate → (c : ℕ) → Remains c (remote (entriesIn v) c) (queue bs c) (queue es c)

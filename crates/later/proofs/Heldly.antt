@@ -5,7 +5,7 @@ use mathlib.Core.Path.{_≡_, sym, subst, ap, _∙_}
 use mathlib.Core.List.{List}
 use lib.ListN.{length, take}
 use Rattle.block.specs.declared.Block.{Block}
-use Rattle.grammar.specs.Course.{fit, items}
+use Rattle.grammar.specs.Course.{fit, things}
 use Rattle.decoder.specs.Update.{blocksOf, deleteSet}
 use Rattle.ranges.specs.Ranges.{Range, normal}
 use Rattle.updates.specs.Promises.{reading}
@@ -35,13 +35,13 @@ module _ {form : ℕ} {u v : List ℕ} (a : HeldCall form u v) where
       ∙ front-padded (length (a .order)) (heldSort a .order)
 
   -- it sorted all blocks of its update, from what it was given
-  ran : Ran ruleHeld (items (blocksOf form u)) (heldIn (givenHeld a)) (heldSort a .order)
+  ran : Ran ruleHeld (things (blocksOf form u)) (heldIn (givenHeld a)) (heldSort a .order)
   ran =
       let m = length (a .rows) in
       let n = length (a .ranges) / 3 in
       let d = demand-3-held form u v m n (length (a .held) / 3) (lent (a .order) (a .counts) (a .pending)) call-done in
       let bs = reading form u m n .blocks in
-      let first : Ran ruleHeld bs (heldIn (normal (items (fit (length (a .held) / 3) (deleteSet 1 v 0))))) (heldSort a .order) =
+      let first : Ran ruleHeld bs (heldIn (normal (things (fit (length (a .held) / 3) (deleteSet 1 v 0))))) (heldSort a .order) =
       record { run = d .demanded .run; whole = d .demanded .sorts .ends; order = d .demanded .numbers } in
       let all : Ran ruleHeld bs (heldIn (givenHeld a)) (heldSort a .order) =
       subst (λ (rs : List Range). Ran ruleHeld bs (heldIn rs) (heldSort a .order)) (sym (d .held)) first in
@@ -51,6 +51,6 @@ module _ {form : ℕ} {u v : List ℕ} (a : HeldCall form u v) where
 pub holding-more : (form : ℕ) (u v w : List ℕ) (a : HeldCall form u v) (b : HeldCall form u w) → Larger (givenHeld a) (givenHeld b)
     → (n : ℕ) → Listed n (takenHeld a) → Listed n (takenHeld b)
 holding-more form u v w a b more n l =
-    let k = more-knowledge ruleHeld held-mono (items (blocksOf form u)) (heldIn (givenHeld a)) (heldIn (givenHeld b))
+    let k = more-knowledge ruleHeld held-mono (things (blocksOf form u)) (heldIn (givenHeld a)) (heldIn (givenHeld b))
     (larger-knows (givenHeld a) (givenHeld b) more) (ran a) (ran b) in
     subst (Listed n) (sym (taken-is b)) (k .taken n (subst (Listed n) (taken-is a) l))

@@ -7,7 +7,7 @@ use native.Mathlib.Omega.{arith}
 use lib.ListN.{length}
 use Rattle.block.specs.declared.Id.{Id}
 use Rattle.block.specs.declared.Block.{Block}
-use Rattle.grammar.specs.Course.{items}
+use Rattle.grammar.specs.Course.{things}
 use Rattle.decoder.specs.Update.{blocksOf}
 use Rattle.kept.specs.Kept.{remote}
 use Rattle.sorting.specs.Quick.{Listed}
@@ -28,7 +28,7 @@ use Rattle.later.proofs.Words.{sortIn, call-done, taken-is, reach-is}
 
 -- what a call that is done sorted: all blocks of its update
 pub ended : {f : ℕ → ℕ → Room → Sort} (R : Rule ℕ) (form : ℕ) (u v : List ℕ) → Sorter R form u v f → (a : Call f)
-    → Ended R (items (blocksOf form u)) (entriesIn v) (sortIn a)
+    → Ended R (things (blocksOf form u)) (entriesIn v) (sortIn a)
 ended {f} R form u v sorts a =
     let m = length (a .rows) in
     let n = length (a .ranges) / 3 in
@@ -39,7 +39,7 @@ module _ {f g : ℕ → ℕ → Room → Sort} (asks : ℕ → Block → List Id
     (after : Sorter (byReaches asks) form u w g) (more : AsHigh v w) (a : Call f) (b : Call g) where
   pub not-worse : NotWorse a b
   not-worse =
-      let bs = items (blocksOf form u) in
+      let bs = things (blocksOf form u) in
       let x = ended (byReaches asks) form u v before a in
       let y = ended (byReaches asks) form u w after b in
       let k = more-knowledge (byReaches asks) (reaches-mono asks) bs (remote (entriesIn v)) (remote (entriesIn w)) more (x .ran) (y .ran) in

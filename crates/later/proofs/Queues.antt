@@ -18,7 +18,7 @@ use Rattle.readings.specs.SoundInner.{Sound, Ordered}
 use Rattle.readings.specs.Groups.{groups, Distinct}
 use Rattle.readings.specs.GroupsInner.{joined, Single, clients}
 use Rattle.readings.proofs.Groups.{groups-joined, groups-single, ordered-distinct}
-use Rattle.kept.specs.Kept.{Piece, piece, Section, remote, falls, wholePiece, keepFrom, withPieces, keepEach, place, falling, clientOf, sectionsOf}
+use Rattle.kept.specs.Kept.{Piece, piece, Section, remote, falls, wholePiece, keepFrom, withPieces, keepEach, putSection, falling, clientOf, sectionsOf}
 use Rattle.kept.specs.KeptInner.{rowsOf, SoundSection}
 use Rattle.kept.specs.Cut.{isWhole, cutRow, shortened, begunLater}
 use Rattle.kept.proofs.SectionsKept.{not-fallen, sections-sound}
@@ -73,8 +73,8 @@ piecesFor c (s ∷ ss) = pick (eqb (s .client) c) (s .pieces ++ piecesFor c ss) 
 
 module _ (c : ℕ) where
   -- a section passes only sections of other clients
-  place-for : (s : Section) (ts : List Section) → piecesFor c (place s ts) ≡ piecesFor c (s ∷ ts)
-  unfolding place piecesFor
+  place-for : (s : Section) (ts : List Section) → piecesFor c (putSection s ts) ≡ piecesFor c (s ∷ ts)
+  unfolding putSection piecesFor
   place-for s [] = refl
   place-for s (t ∷ ts) = go (ltb (s .client) (t .client)) refl (place-for s ts)
     where
@@ -86,8 +86,8 @@ module _ (c : ℕ) where
       swap false e true f l ps = refl
       swap false e false f l ps = refl
 
-      go : (x : Bool) → ltb (s .client) (t .client) ≡ x → piecesFor c (place s ts) ≡ piecesFor c (s ∷ ts)
-          → piecesFor c (pick x (t ∷ place s ts) (s ∷ (t ∷ ts))) ≡ piecesFor c (s ∷ (t ∷ ts))
+      go : (x : Bool) → ltb (s .client) (t .client) ≡ x → piecesFor c (putSection s ts) ≡ piecesFor c (s ∷ ts)
+          → piecesFor c (pick x (t ∷ putSection s ts) (s ∷ (t ∷ ts))) ≡ piecesFor c (s ∷ (t ∷ ts))
       go true e rec =
           ap (λ (ps : List Piece). pick (eqb (t .client) c) (t .pieces ++ ps) ps) rec
           ∙ swap (eqb (s .client) c) refl (eqb (t .client) c) refl (ltb-true (s .client) (t .client) e) (piecesFor c ts)

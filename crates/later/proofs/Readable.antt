@@ -18,7 +18,7 @@ use Rattle.sorting.specs.Named.{ruleOf}
 use Rattle.updates.specs.declared.Update.{Update}
 use Rattle.updates.specs.Promises.{Reading, known, early, reading, answer}
 use Rattle.sort_answers.specs.Answers.{isRule, Sort, refusedWith, Room, whyNot}
-use Rattle.sorts.specs.Promises.{quickly, whole, whySort, fitting, against, afterReading, sortBy, sortOf}
+use Rattle.sorts.specs.Promises.{quickly, sortedAll, whySort, fitting, against, afterReading, sortBy, sortOf}
 use Rattle.rereading.specs.Vectors.{Reads, entriesIn}
 use Rattle.rereading.proofs.Done.{done}
 use Rattle.later.specs.Calls.{DiffCall, writtenBy, ReadCall}
@@ -39,23 +39,23 @@ module _ (R : Rule ℕ) (room : Room) (v : List ℕ) (r : Reading) where
       go false false false true = inr (inr refl)
       go false false false false = inl refl
 
-  fitting-why : ForWords (fitting room (whole quickly R (entriesIn v) r) .refusal .number)
-  unfolding fitting whole
-  fitting-why = go (eqb (whySort room (whole quickly R (entriesIn v) r)) 0) (words-why (whole quickly R (entriesIn v) r))
+  fitting-why : ForWords (fitting room (sortedAll quickly R (entriesIn v) r) .refusal .number)
+  unfolding fitting sortedAll
+  fitting-why = go (eqb (whySort room (sortedAll quickly R (entriesIn v) r)) 0) (words-why (sortedAll quickly R (entriesIn v) r))
     where
-      go : (x : Bool) → ForWords (whySort room (whole quickly R (entriesIn v) r))
-          → ForWords (pick x (whole quickly R (entriesIn v) r) (refusedWith (nowhere (whySort room (whole quickly R (entriesIn v) r)))) .refusal .number)
+      go : (x : Bool) → ForWords (whySort room (sortedAll quickly R (entriesIn v) r))
+          → ForWords (pick x (sortedAll quickly R (entriesIn v) r) (refusedWith (nowhere (whySort room (sortedAll quickly R (entriesIn v) r)))) .refusal .number)
       go true w = inl refl
       go false w = w
 
   against-why : Reads v → ForWords (against quickly R room (vectorOf v) r .refusal .number)
   unfolding against
   against-why reads =
-      subst (λ (s : Sort). ForWords (s .refusal .number)) (sym (by-number v (fitting room (whole quickly R (entriesIn v) r)) (λ n. refusedWith (nowhere n))))
+      subst (λ (s : Sort). ForWords (s .refusal .number)) (sym (by-number v (fitting room (sortedAll quickly R (entriesIn v) r)) (λ n. refusedWith (nowhere n))))
       (go (eqb (whyVector v) 0) (sym (by-number v true (λ n. false)) ∙ reads))
     where
       go : (x : Bool) → pick x true false ≡ true
-          → ForWords (pick x (fitting room (whole quickly R (entriesIn v) r)) (refusedWith (nowhere (whyVector v))) .refusal .number)
+          → ForWords (pick x (fitting room (sortedAll quickly R (entriesIn v) r)) (refusedWith (nowhere (whyVector v))) .refusal .number)
       go true e = fitting-why
       go false e = absurd (let z : _≡_ {A = ℕ} 0 1 = cc in omega arith)
 

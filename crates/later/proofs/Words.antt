@@ -18,7 +18,7 @@ use Rattle.kept.specs.Kept.{remote}
 use Rattle.sorting.specs.Steps.{State, start, step, after, Run}
 use Rattle.sorting.specs.Quick.{Listed}
 use Rattle.sorting.specs.Rules.{queue, system, byReaches}
-use Rattle.sorting.specs.Sorted.{clients, steps, reachesIn}
+use Rattle.sorting.specs.Sorted.{allClients, steps, reachesIn}
 use Rattle.sorting.proofs.Outcome.{below-or, can-fits}
 use Rattle.sorting.proofs.Demand.{others-stay}
 use Rattle.sorting.proofs.Clients.{clients-blocks, clients-vector}
@@ -92,16 +92,16 @@ module _ (asks : ℕ → Block → List Id) (bs : List Block) where
       ∙ others-stay asks bs s c d (λ p. let h = can-fits (steps (byReaches asks) bs) s c (r .0) in omega (arith, h, none, ap (λ (x : ℕ). length (queue bs x)) p))
 
   pub reach-known : (v : List Entry) (cs : List ℕ) → Run (steps (byReaches asks) bs) (start (remote v)) cs → (rest : List ℕ) (c : ℕ)
-      → reachAt (length (clients bs v)) (reachesIn (after (steps (byReaches asks) bs) (start (remote v)) cs) (clients bs v) ++ rest) c
+      → reachAt (length (allClients bs v)) (reachesIn (after (steps (byReaches asks) bs) (start (remote v)) cs) (allClients bs v) ++ rest) c
       ≡ (after (steps (byReaches asks) bs) (start (remote v)) cs) .known c
-  reach-known v cs r rest c = go (listed-or c (clients bs v))
+  reach-known v cs r rest c = go (listed-or c (allClients bs v))
     where
-      go : Listed c (clients bs v) ⊎ (Listed c (clients bs v) → ⊥)
-          → reachAt (length (clients bs v)) (reachesIn (after (steps (byReaches asks) bs) (start (remote v)) cs) (clients bs v) ++ rest) c
+      go : Listed c (allClients bs v) ⊎ (Listed c (allClients bs v) → ⊥)
+          → reachAt (length (allClients bs v)) (reachesIn (after (steps (byReaches asks) bs) (start (remote v)) cs) (allClients bs v) ++ rest) c
           ≡ (after (steps (byReaches asks) bs) (start (remote v)) cs) .known c
-      go (inl l) = reach-listed (after (steps (byReaches asks) bs) (start (remote v)) cs) (clients bs v) rest c l
+      go (inl l) = reach-listed (after (steps (byReaches asks) bs) (start (remote v)) cs) (allClients bs v) rest c l
       go (inr n) =
-          reach-unlisted (after (steps (byReaches asks) bs) (start (remote v)) cs) (clients bs v) rest c n
+          reach-unlisted (after (steps (byReaches asks) bs) (start (remote v)) cs) (allClients bs v) rest c n
           ∙ sym (never-lifted (start (remote v)) cs r c (empty (below-or 0 (length (queue bs c)))) ∙ unnamed v c (λ l. n (clients-vector bs v c l)))
         where
           empty : (0 < length (queue bs c)) ⊎ (length (queue bs c) ≤ 0) → length (queue bs c) ≡ 0
@@ -134,6 +134,6 @@ module _ {f : ℕ → ℕ → Room → Sort} (a : Call f) where
       ap (λ (x : Sorted). reachAt (x .reaches) (a .reaches₁) c) (a .promised .0)
       ∙ ap (λ (ws : List ℕ). reachAt (length (sortIn .reaches) / 2) ws c) (a .promised .5)
       ∙ ap (λ (ws : List ℕ). reachAt (length ws / 2) (padded n ws) c) (e .reaches)
-      ∙ ap (λ (k : ℕ). reachAt k (padded n (reachesIn s (clients bs v))) c)
-      (ap (λ (k : ℕ). k / 2) (reaches-length s (clients bs v)) ∙ half (length (clients bs v)))
-      ∙ reach-known asks bs v (e .ran .run) (e .ran .whole .run) (replicate (n - length (reachesIn s (clients bs v))) 0) c
+      ∙ ap (λ (k : ℕ). reachAt k (padded n (reachesIn s (allClients bs v))) c)
+      (ap (λ (k : ℕ). k / 2) (reaches-length s (allClients bs v)) ∙ half (length (allClients bs v)))
+      ∙ reach-known asks bs v (e .ran .run) (e .ran .whole .run) (replicate (n - length (reachesIn s (allClients bs v))) 0) c

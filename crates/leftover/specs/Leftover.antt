@@ -43,8 +43,8 @@ unfoldable pub setEnd : ℕ → List ℕ → ℕ
 setEnd form u = ending (blocksOf form u) (λ at. ending (deleteSet form u at) (λ end. end) (λ why. length u)) (λ why. length u)
 
 -- all that stays unread of an update that is read to its end
-unfoldable pub left : ℕ → List ℕ → List Stretch
-left form u = stretch (setEnd form u) (length u) ∷ columnsLeft form u
+unfoldable pub unreadOf : ℕ → List ℕ → List Stretch
+unreadOf form u = stretch (setEnd form u) (length u) ∷ columnsLeft form u
 
 -- ---- the lowest byte
 
@@ -59,4 +59,4 @@ lowest n (x ∷ xs) = lowest (lower n x) xs
 
 -- the lowest byte of an update that stays unread; its end, where all are read
 unfoldable pub lowestLeft : ℕ → List ℕ → ℕ
-lowestLeft form u = lowest (length u) (left form u)
+lowestLeft form u = lowest (length u) (unreadOf form u)

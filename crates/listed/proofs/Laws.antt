@@ -20,7 +20,7 @@ use Rattle.ranges.specs.TableInner.{rowsFrom}
 use Rattle.ranges.proofs.Flat.{length-flat, length-rows, rows-flat}
 use Rattle.lines.specs.LinesInner.{overlay}
 use Rattle.lines.proofs.Laws.{Put, overlay-whole}
-use Rattle.updates.specs.Promises.{Reading, reading, answer, rowsOf, wordsOf}
+use Rattle.updates.specs.Promises.{Reading, reading, answer, tableOf, rangeWords}
 use Rattle.listing_text.specs.Listing.{listing, header, blockLines, rangeLines, endLine, emptyLine, refusedLine}
 use Rattle.listing_text.proofs.Laws as lines
 use Rattle.listed.specs.Listed.{maxInput, same, isEmpty, emptyV1, emptyV2, linesOf, listedReading, listedUpdate, listedParts, listed}
@@ -92,20 +92,20 @@ module _ (form : ℕ) (rows : List Block) (blocks : ℕ) (words : List ℕ) (ran
 
 module _ (R : Reading) (n m : ℕ) where
   abbrev shown : ℕ → List ℕ
-  shown form = listing form (take (answer R .blocks) (rowsOf n R)) (rowsFrom (wordsOf m R) 0 (answer R .ranges))
+  shown form = listing form (take (answer R .blocks) (tableOf n R)) (rowsFrom (rangeWords m R) 0 (answer R .ranges))
 
-  pub tables-fit : length (rowsOf n R) ≡ 512 → length (wordsOf m R) ≡ 3072 → (answer R .blocks ≤ length (rowsOf n R)) × (3 * answer R .ranges ≤ length (wordsOf m R)) × (93 + 71 * answer R .blocks + 63 * answer R .ranges < 2 ^ 63)
-  unfolding answer rowsOf wordsOf padded
+  pub tables-fit : length (tableOf n R) ≡ 512 → length (rangeWords m R) ≡ 3072 → (answer R .blocks ≤ length (tableOf n R)) × (3 * answer R .ranges ≤ length (rangeWords m R)) × (93 + 71 * answer R .blocks + 63 * answer R .ranges < 2 ^ 63)
+  unfolding answer tableOf rangeWords padded
   tables-fit h k = (blocks-in, ranges-in, omega (arith, blocks-in, ranges-in, h, k))
     where
-      blocks-in : length (R .blocks) ≤ length (rowsOf n R)
+      blocks-in : length (R .blocks) ≤ length (tableOf n R)
       blocks-in = omega (arith, length-append (R .blocks) (replicate (n - length (R .blocks)) noBlock))
 
-      ranges-in : 3 * length (R .ranges) ≤ length (wordsOf m R)
+      ranges-in : 3 * length (R .ranges) ≤ length (rangeWords m R)
       ranges-in = omega (arith, length-flat (R .ranges), length-append (flat (R .ranges)) (replicate (m - length (flat (R .ranges))) 0))
 
   shown-all : (form : ℕ) → shown form ≡ listing form (R .blocks) (R .ranges)
-  unfolding answer rowsOf wordsOf padded
+  unfolding answer tableOf rangeWords padded
   shown-all form = ap₂ (listing form) (take-at (R .blocks) (replicate (n - length (R .blocks)) noBlock) (length (R .blocks)) refl) (rows-flat (R .ranges) (replicate (m - length (flat (R .ranges))) 0))
 
   pub lines-done : (form : ℕ) → eqb (answer R .refusal .number) 0 ≡ true → shown form ≡ linesOf form R

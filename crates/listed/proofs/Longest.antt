@@ -11,7 +11,7 @@ use Rattle.numbers.specs.declared.Written.{Written}
 use Rattle.numbers.specs.Number.{pick, none, nowhere}
 use Rattle.numbers.specs.Output.{written}
 use Rattle.numbers.proofs.Output.{verdict-done}
-use Rattle.grammar.specs.Course.{Course, item, over, stopped, fit, items, ending}
+use Rattle.grammar.specs.Course.{Course, thing, over, stopped, fit, things, ending}
 use Rattle.decoder.specs.Update.{blocksOf}
 use Rattle.ranges.specs.Ranges.{normal}
 use Rattle.ranges.proofs.Theory.{normal-length}
@@ -23,10 +23,10 @@ use Rattle.listing_text.proofs.Laws.{named-short, listing-short}
 use Rattle.listed.specs.Listed.{maxInput, maxText, blockRows, rangeRows, isEmpty, linesOf, listedReading, listedUpdate, listedParts, listed, Lists}
 
 -- n rows take no more than n things
-fit-short : {A : Type 0} (n : ℕ) (c : Course A) → length (items (fit n c)) ≤ n
-unfolding fit items
-fit-short zero (item a p c) = omega arith
-fit-short (suc n) (item a p c) = omega (arith, fit-short n c)
+fit-short : {A : Type 0} (n : ℕ) (c : Course A) → length (things (fit n c)) ≤ n
+unfolding fit things
+fit-short zero (thing a p c) = omega arith
+fit-short (suc n) (thing a p c) = omega (arith, fit-short n c)
 fit-short zero (over x s) = omega arith
 fit-short (suc n) (over x s) = omega arith
 fit-short zero (stopped why) = omega arith
@@ -35,7 +35,7 @@ fit-short (suc n) (stopped why) = omega arith
 -- what holds of each way that a course can end
 ends-in : {A X : Type 0} (P : X → Type 0) (c : Course A) (done : ℕ → X) (not : Refusal → X) → ((s : ℕ) → P (done s)) → ((why : Refusal) → P (not why)) → P (ending c done not)
 unfolding ending
-ends-in P (item a p c) done not h k = ends-in P c done not h k
+ends-in P (thing a p c) done not h k = ends-in P c done not h k
 ends-in P (over x s) done not h k = h s
 ends-in P (stopped why) done not h k = k why
 
@@ -55,9 +55,9 @@ unfolding reading withBlocks withRanges
 reading-within form u n m =
     let c = fit n (blocksOf form u) in
     picks (Within n m) (eqb (early form u) 0) (withBlocks form u m c) (refused (nowhere (early form u)))
-    (ends-in (Within n m) c (λ s. withRanges (items c) (fit m (deleteSet form u s))) (λ why. refused why)
-    (λ s. let d = fit m (deleteSet form u s) in ends-in (Within n m) d (λ e. record { refusal = none; blocks = items c; ranges = normal (items d) }) (λ why. refused why)
-    (λ e. (fit-short n (blocksOf form u), omega (arith, normal-length (items d), fit-short m (deleteSet form u s))))
+    (ends-in (Within n m) c (λ s. withRanges (things c) (fit m (deleteSet form u s))) (λ why. refused why)
+    (λ s. let d = fit m (deleteSet form u s) in ends-in (Within n m) d (λ e. record { refusal = none; blocks = things c; ranges = normal (things d) }) (λ why. refused why)
+    (λ e. (fit-short n (blocksOf form u), omega (arith, normal-length (things d), fit-short m (deleteSet form u s))))
     (none-within n m))
     (none-within n m))
     (none-within n m (nowhere (early form u)))

@@ -14,13 +14,13 @@ use Rattle.ranges.specs.Ranges.{Range}
 use Rattle.ranges.specs.TableInner.{row, rowsFrom}
 use Rattle.lines.specs.LinesInner.{overlay}
 use Rattle.lines.proofs.Laws.{decimal-short, overlay-nil, Put, put-then}
-use Rattle.listing_text.specs.Listing.{number, named, kindName, blockLine, blockLines, rangeLine, rangeLines, header, endLine, listing}
+use Rattle.listing_text.specs.Listing.{numberThen, named, kindName, blockLine, blockLines, rangeLine, rangeLines, header, endLine, listing}
 use Rattle.listing_text.specs.Words.{wordForm, wordBlocks, wordRanges}
 
 -- ---- lengths
 
-pub number-short : (v end : ℕ) → length (number v end) ≤ 21
-unfolding number
+pub number-short : (v end : ℕ) → length (numberThen v end) ≤ 21
+unfolding numberThen
 number-short v end = simp length-append (omega (arith, decimal-short v))
 
 pub named-short : (word : List ℕ) (v end : ℕ) → length (named word v end) ≤ length word + 21

@@ -12,12 +12,12 @@ use Rattle.lines.specs.Lines.{decimal}
 use Rattle.listing_text.specs.Words.{wordForm, wordBlocks, wordRanges, wordRefused, wordAt, wordEmpty, wordEnd, wordGc, wordSkip, wordDeleted, wordBinary, wordText, wordFormat, wordType, wordAny}
 
 -- a number with the byte that ends it
-unfoldable pub number : ℕ → ℕ → List ℕ
-number v end = decimal v ++ (end ∷ [])
+unfoldable pub numberThen : ℕ → ℕ → List ℕ
+numberThen v end = decimal v ++ (end ∷ [])
 
 -- a word before it
 unfoldable pub named : List ℕ → ℕ → ℕ → List ℕ
-named word v end = word ++ number v end
+named word v end = word ++ numberThen v end
 
 -- the name of a block's kind; a row that has no block has none
 unfoldable pub kindName : ℕ → List ℕ
@@ -30,14 +30,14 @@ kindName kind =
     (cond (eqb kind FORMAT) wordFormat (cond (eqb kind TYPE) wordType (cond (eqb kind ANY) wordAny [])))))))
 
 unfoldable pub blockLine : Block → List ℕ
-blockLine b = number (b .client) 32 ++ number (b .clock) 32 ++ number (b .length .0) 32 ++ kindName (b .kind) ++ (10 ∷ [])
+blockLine b = numberThen (b .client) 32 ++ numberThen (b .clock) 32 ++ numberThen (b .length .0) 32 ++ kindName (b .kind) ++ (10 ∷ [])
 
 unfoldable pub blockLines : List Block → List ℕ
 blockLines [] = []
 blockLines (b ∷ bs) = blockLine b ++ blockLines bs
 
 unfoldable pub rangeLine : Range → List ℕ
-rangeLine r = number (r .client) 32 ++ number (r .clock) 32 ++ number (r .len) 10
+rangeLine r = numberThen (r .client) 32 ++ numberThen (r .clock) 32 ++ numberThen (r .len) 10
 
 unfoldable pub rangeLines : List Range → List ℕ
 rangeLines [] = []

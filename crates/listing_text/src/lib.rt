@@ -5,7 +5,7 @@ ghost use lib.ListN.{length, take};
 ghost use Rattle.ranges.specs.Table.{range};
 ghost use Rattle.ranges.specs.TableInner.{rowsFrom};
 ghost use Rattle.lines.specs.LinesInner.{overlay};
-ghost use Rattle.listing_text.specs.Listing.{number, named, kindName, blockLine, blockLines, rangeLine, rangeLines};
+ghost use Rattle.listing_text.specs.Listing.{numberThen, named, kindName, blockLine, blockLines, rangeLine, rangeLines};
 ghost use Rattle.listing_text.specs.Listing.{header, endLine, emptyLine, refusedLine};
 use block::Block;
 use lines::put_byte;
@@ -13,10 +13,10 @@ use lines::put_decimal;
 use lines::put_text;
 use numbers::Refusal;
 
-// A number with the byte that ends it.
+// A numberThen with the byte that ends it.
 fn put_number(out: &mut [u8], used: usize, v: u64, end: u8) -> usize
     requires { ⌜ used + 21 < 2 ^ 63 ⌝ }
-    ensures { λ r. ⌜ (r ≡ used + length (number v end)) × (now (out .exit) ≡ overlay (now (out .entry)) used (number v end)) ⌝ }
+    ensures { λ r. ⌜ (r ≡ used + length (numberThen v end)) × (now (out .exit) ≡ overlay (now (out .entry)) used (numberThen v end)) ⌝ }
 {
     let at = put_decimal(out, used, v);
     put_byte(out, at, end)
@@ -127,7 +127,7 @@ pub fn put_empty(out: &mut [u8], used: usize) -> usize
     put_text(out, used, b"empty\n")
 }
 
-// The number and the byte that is blamed.
+// The numberThen and the byte that is blamed.
 pub fn put_refused(out: &mut [u8], used: usize, why: Refusal) -> usize
     requires { ⌜ used + 53 < 2 ^ 63 ⌝ }
     ensures { λ r. ⌜ (r ≡ used + length (refusedLine why)) × (now (out .exit) ≡ overlay (now (out .entry)) used (refusedLine why)) ⌝ }

@@ -14,7 +14,7 @@ use Rattle.numbers.specs.Limits.{maxValue, maxClock}
 use Rattle.runs.specs.declared.Column.{Column}
 use Rattle.runs.specs.declared.Column.the-variants.{Number, Difference, Byte}
 use Rattle.runs.specs.Difference.{zeroKey}
-use Rattle.runs.specs.Runs.{Coding, coding, over, opened, column, within}
+use Rattle.runs.specs.Runs.{Coding, coding, runsOn, runsAfter, column, within}
 use Rattle.longest.specs.Longest.{Run, expanded, Rule, Stand, AtLeastOnce, Says, leadsIn, leadsBy, spelled, Apart, Longest, OfCodings, OfColumns}
 
 -- ---- the keys of values
@@ -169,16 +169,16 @@ after-first c r p k n (v ∷ vs) = go (eqb (c .keyOf p v) k) (after-first c r v 
     go true h = h
     go false h = refl
 
-over-spelled : (c : Coding) (p k n : ℕ) (vs : List ℕ) → over c p k n vs ≡ spelled c (runsOver c p k n vs)
-unfolding over spelled runsOver
+over-spelled : (c : Coding) (p k n : ℕ) (vs : List ℕ) → runsOn c p k n vs ≡ spelled c (runsOver c p k n vs)
+unfolding runsOn spelled runsOver
 over-spelled c p k n [] = let less : n + 1 - 1 ≡ n = omega arith in rw less
 over-spelled c p k n (v ∷ vs) = go (eqb (c .keyOf p v) k) (over-spelled c v k (n + 1) vs) (over-spelled c v (c .keyOf p v) 0 vs)
   where
     less : n + 1 - 1 ≡ n
     less = omega arith
 
-    go : (b : Bool) → over c v k (n + 1) vs ≡ spelled c (runsOver c v k (n + 1) vs) → over c v (c .keyOf p v) 0 vs ≡ spelled c (runsOver c v (c .keyOf p v) 0 vs)
-        → pick b (over c v k (n + 1) vs) (c .spell k n ++ over c v (c .keyOf p v) 0 vs)
+    go : (b : Bool) → runsOn c v k (n + 1) vs ≡ spelled c (runsOver c v k (n + 1) vs) → runsOn c v (c .keyOf p v) 0 vs ≡ spelled c (runsOver c v (c .keyOf p v) 0 vs)
+        → pick b (runsOn c v k (n + 1) vs) (c .spell k n ++ runsOn c v (c .keyOf p v) 0 vs)
         ≡ spelled c (pick b (runsOver c v k (n + 1) vs) (record { key = k; times = n + 1 } ∷ runsOver c v (c .keyOf p v) 0 vs))
     go true same other = same
     go false same other = rw (other, after-first c (record { key = k; times = n + 1 }) v (c .keyOf p v) 0 vs, less)
@@ -236,7 +236,7 @@ same-runs (r ∷ rs) (s ∷ ss) some some′ h g e =
 -- ---- of every coding
 
 written-of : (c : Coding) (vs : List ℕ) → column c vs ≡ spelled c (runsOf c vs)
-unfolding column opened runsOf spelled
+unfolding column runsAfter runsOf spelled
 written-of c [] = refl
 written-of c (v ∷ vs) = over-spelled c v (c .keyOf 0 v) 0 vs
 

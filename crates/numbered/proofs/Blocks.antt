@@ -16,7 +16,7 @@ use Rattle.vector.specs.Vector.{Entry}
 use Rattle.readings.specs.Sound.{owner, All}
 use Rattle.readings.specs.SoundInner.{Follows, Stays, Ordered}
 use Rattle.sorting.specs.Rules.{queue}
-use Rattle.sorting.specs.Sorted.{numbersFrom, clients}
+use Rattle.sorting.specs.Sorted.{blockNumbersFrom, allClients}
 use Rattle.sorting.proofs.Numbers.{numbersFrom-length, numbersFrom-at, numbered, number-below, owner-at, each-numbered}
 use Rattle.numbered.specs.Numbered.{asked, placed, byNumber, numberedFrom}
 
@@ -36,12 +36,12 @@ module _ (gone : Id → Bool) (place : Id → ℕ) (first : ℕ → ℕ) where
   numbered-owners i [] = refl
   numbered-owners i (b ∷ bs) = ap (λ (cs : List ℕ). b .client ∷ cs) (numbered-owners (suc i) bs)
 
-  pub numbered-clients : (bs : List Block) (v : List Entry) → clients (from 0 bs) v ≡ clients bs v
-  unfolding clients
+  pub numbered-clients : (bs : List Block) (v : List Entry) → allClients (from 0 bs) v ≡ allClients bs v
+  unfolding allClients
   numbered-clients bs v = rw (numbered-owners 0 bs) refl
 
-  pub numbered-numbers : (i n : ℕ) (bs : List Block) (c : ℕ) → numbersFrom n (from i bs) c ≡ numbersFrom n bs c
-  unfolding numberedFrom numbersFrom byNumber
+  pub numbered-numbers : (i n : ℕ) (bs : List Block) (c : ℕ) → blockNumbersFrom n (from i bs) c ≡ blockNumbersFrom n bs c
+  unfolding numberedFrom blockNumbersFrom byNumber
   numbered-numbers i n [] c = refl
   numbered-numbers i n (b ∷ bs) c = rw (numbered-numbers (suc i) (suc n) bs c) refl
 
@@ -58,7 +58,7 @@ module _ (gone : Id → Bool) (place : Id → ℕ) (first : ℕ → ℕ) where
   numbered-row i (b ∷ bs) zero h = let e : i + 0 ≡ i = omega arith in rw e refl
   numbered-row i (b ∷ bs) (suc x) h = let e : i + suc x ≡ suc i + x = omega arith in rw e (numbered-row (suc i) bs x (omega arith))
 
-  module _ (bs : List Block) (ordered : Ordered bs) (firsts : (c : ℕ) → 0 < length (queue bs c) → first c ≡ getD (numbersFrom 0 bs c) 0 0) where
+  module _ (bs : List Block) (ordered : Ordered bs) (firsts : (c : ℕ) → 0 < length (queue bs c) → first c ≡ getD (blockNumbersFrom 0 bs c) 0 0) where
     -- row x is at or behind its client's first
     pub first-le : (x : ℕ) → x < length bs → first (getD bs x noBlock .client) ≤ x
     first-le x h =
@@ -68,7 +68,7 @@ module _ (gone : Id → Bool) (place : Id → ℕ) (first : ℕ → ℕ) where
 
     pub numbered-at : (c k : ℕ) → k < length (queue bs c) → getD (queue (from 0 bs) c) k noBlock ≡ byNumber gone place k (getD (queue bs c) k noBlock)
     numbered-at c k h =
-        let x = getD (numbersFrom 0 bs c) k 0 in
+        let x = getD (blockNumbersFrom 0 bs c) k 0 in
         let below = number-below bs c k h in
         let is = numbered bs c k h in
         let e : (0 + x) - first c ≡ k = omega (arith, numbersFrom-at bs ordered c k h, firsts c (omega arith)) in

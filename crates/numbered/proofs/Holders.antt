@@ -16,7 +16,7 @@ use Rattle.block.specs.Row.{noBlock}
 use Rattle.readings.specs.Sound.{All}
 use Rattle.readings.specs.SoundInner.{Follows, Stays, Ordered, Adjoins, Chain}
 use Rattle.sorting.specs.Rules.{queue, isSkip}
-use Rattle.sorting.specs.Held.{within}
+use Rattle.sorting.specs.Held.{inRange}
 use Rattle.sorting.proofs.Numbers.{one-more}
 use Rattle.sorting.proofs.Held.{holdsAt, told}
 use Rattle.numbered.specs.Numbered.{ended, starts, holder}
@@ -107,7 +107,7 @@ module _ (q : List Block) (chain : Chain q) (few : length q ≤ maxBlocks) (d : 
 
   -- what a block of the queue holds
   holds-by : (j : ℕ) → holdsAt q j d ≡ pick (isSkip (at q j)) false (leb (at q j .clock) k && ltb k (endOf (at q j)))
-  unfolding holdsAt within
+  unfolding holdsAt inRange
   holds-by j = rw (eq-eqb (d .client) (d .client) refl) refl
 
   pick-same : (x : Bool) → pick x false false ≡ false

@@ -21,7 +21,7 @@ use Rattle.sorting.specs.Steps.{State, start, can, step, after}
 use Rattle.sorting.specs.Rules.{queue, isSkip, also, deps, others, unmet, waits, free, system, below, byReaches}
 use Rattle.sorting.specs.Rule28.{asks28}
 use Rattle.sorting.specs.Rule28Inner.{rule28}
-use Rattle.sorting.specs.Sorted.{clients, steps, order, outcome, numbersFrom, numbersBy, countsIn, outcomeOf, orderOf}
+use Rattle.sorting.specs.Sorted.{allClients, steps, order, outcome, blockNumbersFrom, numbersBy, countsIn, outcomeOf, orderOf}
 use Rattle.sorting.specs.Held.{ruleHeld, owners}
 use Rattle.sorting.proofs.Outcome.{Moved, step-taken, step-own, can-fits}
 use Rattle.sorting.proofs.Numbers.{one-more, owner-at}
@@ -83,7 +83,7 @@ never-skips gone place k b = refl
 module _ (bs : List Block) (ordered : Ordered bs) (few : length bs ≤ maxBlocks) (κ : Id → ℕ)
     (gone : Id → Bool) (gone-is : (d : Id) → gone d ≡ ltb 0 (κ d))
     (place : Id → ℕ) (place-is : (d : Id) → place d ≡ holder (queue bs (d .client)) (d .clock))
-    (first : ℕ → ℕ) (firsts : (c : ℕ) → 0 < length (queue bs c) → first c ≡ getD (numbersFrom 0 bs c) 0 0) where
+    (first : ℕ → ℕ) (firsts : (c : ℕ) → 0 < length (queue bs c) → first c ≡ getD (blockNumbersFrom 0 bs c) 0 0) where
   abbrev ns : List Block
   ns = numberedFrom gone place first 0 bs
 

@@ -13,11 +13,11 @@ use Rattle.block.specs.declared.Block.{Block}
 use Rattle.kept.specs.Kept.{remote}
 use Rattle.readings.specs.SoundInner.{Ordered}
 use Rattle.sorting.specs.Steps.{System, State, start, can, step, after}
-use Rattle.sorting.specs.Quick.{left}
+use Rattle.sorting.specs.Quick.{remaining}
 use Rattle.sorting.specs.Rules.{queue}
 use Rattle.sorting.specs.Rule28Inner.{rule28}
-use Rattle.sorting.specs.Sorted.{numbersFrom, numbersBy}
-use Rattle.sorting.specs.Slow.{lowestFirst, again, fronts, drain, sweep, sweeps, slow, slowly, slowOrderOf}
+use Rattle.sorting.specs.Sorted.{blockNumbersFrom, numbersBy}
+use Rattle.sorting.specs.Slow.{lowestFirst, again, fronts, drain, sweep, sweeps, slow, slowSteps, slowOrderOf}
 use Rattle.sorting.specs.Held.{ruleHeld, owners}
 use Rattle.sorting.proofs.Quick.{after-append}
 use Rattle.sorting.proofs.HeldReaches.{numbers-same}
@@ -80,33 +80,33 @@ module _ {A B : Type 0} {S : System A} {U : System B} {P : State A → ℕ → T
           on-same s u (c ∷ x) (c ∷ x) (sweeps S k cs (after S s (c ∷ x))) (sweeps U k cs (after U u (c ∷ x))) (record { one = refl; ends = e })
           (rec (after S s (c ∷ x)) (after U u (c ∷ x)) e)
 
-  left-same : (cs : List ℕ) (s : State A) (u : State B) → Like s u → left S s cs ≡ left U u cs
-  unfolding left
+  left-same : (cs : List ℕ) (s : State A) (u : State B) → Like s u → remaining S s cs ≡ remaining U u cs
+  unfolding remaining
   left-same [] s u l = refl
   left-same (c ∷ cs) s u l = rw (same .size c, same .taken s u l c, left-same cs s u l) refl
 
   pub slow-same : (cs : List ℕ) (s : State A) (u : State B) → Like s u → One s u (slow S cs s) (slow U cs u)
   unfolding slow
-  slow-same cs s u l = rw (← (left-same cs s u l)) (sweeps-same (suc (left S s cs)) (lowestFirst cs) s u l)
+  slow-same cs s u l = rw (← (left-same cs s u l)) (sweeps-same (suc (remaining S s cs)) (lowestFirst cs) s u l)
 
 -- ---- held ids, and numbers
 
 module _ (bs : List Block) (ordered : Ordered bs) (few : length bs ≤ maxBlocks) (κ : Id → ℕ)
     (gone : Id → Bool) (gone-is : (d : Id) → gone d ≡ ltb 0 (κ d))
     (place : Id → ℕ) (place-is : (d : Id) → place d ≡ holder (queue bs (d .client)) (d .clock))
-    (first : ℕ → ℕ) (firsts : (c : ℕ) → 0 < length (queue bs c) → first c ≡ getD (numbersFrom 0 bs c) 0 0) where
+    (first : ℕ → ℕ) (firsts : (c : ℕ) → 0 < length (queue bs c) → first c ≡ getD (blockNumbersFrom 0 bs c) 0 0) where
   abbrev ns : List Block
   ns = numberedFrom gone place first 0 bs
 
-  one-order : slowly ruleHeld bs (owners bs) κ ≡ slowly rule28 ns (owners bs) (remote [])
-  unfolding slowly
+  one-order : slowSteps ruleHeld bs (owners bs) κ ≡ slowSteps rule28 ns (owners bs) (remote [])
+  unfolding slowSteps
   one-order =
       slow-same (alike bs ordered few κ gone gone-is place place-is first firsts) (λ s c. tt) (owners bs) (start κ) (start (remote []))
       (begun bs ordered few κ gone gone-is place place-is first firsts) .one
 
-  pub same-slow-order : numbersBy ruleHeld bs (start κ) (slowly ruleHeld bs (owners bs) κ) ≡ slowOrderOf rule28 ns []
+  pub same-slow-order : numbersBy ruleHeld bs (start κ) (slowSteps ruleHeld bs (owners bs) κ) ≡ slowOrderOf rule28 ns []
   unfolding slowOrderOf
   same-slow-order = rw (numbered-clients gone place first bs [])
       (numbers-same ruleHeld rule28 bs ns (λ c. sym (numbered-numbers gone place first 0 0 bs c)) (start κ) (start (remote [])) (λ c. refl)
-      (slowly ruleHeld bs (owners bs) κ)
+      (slowSteps ruleHeld bs (owners bs) κ)
       ∙ ap (numbersBy rule28 ns (start (remote []))) one-order)

@@ -20,7 +20,7 @@ use Rattle.string.specs.declared.Opened.the-variants as opened
 use Rattle.string.specs.String as strings
 use Rattle.grammar.specs.GrammarInner.{_>>=_}
 use Rattle.grammar.specs.Course as course
-use Rattle.decoder.specs.Line.{line, numberOf, byteAt, soMany, bytesAt}
+use Rattle.decoder.specs.Line.{line, numberBy, byteAt, soMany, bytesAt}
 use Rattle.decoder.specs.States.{State, Texts, withText, withKeys, movedTo}
 use Rattle.decoder.specs.Opening.{cut, heads, endOf, numbersFrom, differencesFrom, bytesFrom, standing, withOpened, textOpened, onHeads, openedOf}
 use Rattle.cells.specs.declared.Drawn.{Drawn}
@@ -123,11 +123,11 @@ pub record Cutting (u w : List ℕ) (k at : ℕ) : Type 0 where
 
 module _ (u : List ℕ) where
   pub cutting-empty : length u ≡ 0 → openedOf u ≡ course.not (record { number = 1; place = 0 })
-  unfolding openedOf heads course.run course.onDrawn onHeads _>>=_ line numberOf byteAt
+  unfolding openedOf heads course.run course.onDrawn onHeads _>>=_ line numberBy byteAt
   cutting-empty e = rw e refl
 
   pub cutting-none : (w : List ℕ) → length u ≢ 0 → Cutting u w 0 1
-  unfolding openedOf heads course.run course.onDrawn _>>=_ line numberOf byteAt
+  unfolding openedOf heads course.run course.onDrawn _>>=_ line numberBy byteAt
   cutting-none w l = record {
     parts = [];
     many = refl;

@@ -28,7 +28,7 @@ use Rattle.grammar.specs.Grammar as grammar
 use Rattle.grammar.specs.Grammar.{Number, Field}
 use Rattle.grammar.specs.Course.{Drawn, got, not}
 use Rattle.decoder.specs.States.{maxKeys, Differences, State, withKey, withLeft, withRight, withText}
-use Rattle.decoder.specs.Columned.{differenceDrawn, fromDifferences, textDrawn, textIn, joining, numbered, keyIn, numberIn, columned}
+use Rattle.decoder.specs.Columned.{differenceDrawn, fromDifferences, textDrawn, textIn, joining, keyByNumber, keyIn, numberIn, columned}
 use Rattle.roles.specs.Roles.{keyText}
 use Rattle.origins.specs.Origins.{rising, baseOf, riseOf, storedLine, textLine, keyLine, keyLines, numberLine, linesIn}
 use Rattle.origin_facts.specs.Facts.{All, On, Sums, Plain, AddsAs, AddsFirst, Adds}
@@ -128,7 +128,7 @@ module _ (u : List ℕ) (code : ℕ) (s : State) where
       go false = tt
 
   key-adds : On (Fine grammar.key) (keyIn u s)
-  unfolding keyIn differenceDrawn numbered On Steps linesIn joining textDrawn Adds
+  unfolding keyIn differenceDrawn keyByNumber On Steps linesIn joining textDrawn Adds
   key-adds = go (nextDifference (take (s .key .to) u) (s .key .place)) (next-steps (take (s .key .to) u) (s .key .place))
     where
       joined : (t : State) → ((p : Part) (r : State) → r .key ≡ t .key → Fine grammar.key p r) → (a : string-answer.Answer)
@@ -142,7 +142,7 @@ module _ (u : List ℕ) (code : ℕ) (s : State) where
       told v t place h false true = joined t h (nextText (take (t .text .to) u) (t .text .place))
       told v t place h false false = tt
 
-      go : (a : Answer) → Steps (s .key .place .last) a → On (Fine grammar.key) (numbered u (differenceDrawn (λ c. withKey c s) (s .key .to) a))
+      go : (a : Answer) → Steps (s .key .place .last) a → On (Fine grammar.key) (keyByNumber u (differenceDrawn (λ c. withKey c s) (s .key .to) a))
       go (Next v d) q =
           told v (withKey (record { place = d; to = s .key .to }) s) (d .from)
           (λ p r e. key-lines p r v d (rw e refl) (sums v (s .key .place .last) (d .key) (q .0)) (q .1)) (ltb v (length (s .keys))) (ltb (length (s .keys)) maxKeys)

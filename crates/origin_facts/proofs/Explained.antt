@@ -16,7 +16,7 @@ use Rattle.decoder.specs.Columned.{columned}
 use Rattle.decoder.specs.Opening.{openedOf}
 use Rattle.roles.specs.declared.Role.the-variants as role
 use Rattle.roles.specs.declared.Plan.{Plan}
-use Rattle.roles.specs.Roles.{start, after, codeOf, ownClock, settled}
+use Rattle.roles.specs.Roles.{start, after, codeOf, ownClock, movedOn}
 use Rattle.origins.specs.declared.Line.{Line}
 use Rattle.origins.specs.Origins.{storedLine, plainLine, lineAt, linesInLine, linesIn}
 use Rattle.telling.specs.Telling.{heard}
@@ -56,11 +56,11 @@ module _ (P : Line → Type 0) where
         → (q : Plan) (h : Sheet) → Told h → (x : Drawn S (Answer f)) → r f s ≡ x → (n : ℕ) → All P (found tell q h n (onSeen f s x then))
     unfolding found onSeen
     drawn-all f s i then next q h t (got a b) e zero =
-        let z = keeps (codeOf (settled q .role)) f a s b i e in
-        next a b (z .0) _ _ (told-noted (codeOf (settled q .role)) _ h (z .1) t) zero
+        let z = keeps (codeOf (movedOn q .role)) f a s b i e in
+        next a b (z .0) _ _ (told-noted (codeOf (movedOn q .role)) _ h (z .1) t) zero
     drawn-all f s i then next q h t (got a b) e (suc n) =
-        let z = keeps (codeOf (settled q .role)) f a s b i e in
-        next a b (z .0) _ _ (told-noted (codeOf (settled q .role)) _ h (z .1) t) (suc n)
+        let z = keeps (codeOf (movedOn q .role)) f a s b i e in
+        next a b (z .0) _ _ (told-noted (codeOf (movedOn q .role)) _ h (z .1) t) (suc n)
     drawn-all f s i then next q h t (not why) e n = tt
 
     pub found-all : {A : Type 0} (g : Grammar Block A) (s : S) → I s → (q : Plan) (h : Sheet) → Told h → (n : ℕ) → All P (found tell q h n (watch r g s))

@@ -19,17 +19,17 @@ use Rattle.anys.proofs.Places.{read-ends}
 use Rattle.grammar.specs.Grammar as grammar
 use Rattle.grammar.specs.Grammar.{Number}
 use Rattle.grammar.specs.Course.{Drawn, got, not}
-use Rattle.decoder.specs.Line.{numberAt, varAt, bounded, upTo, byteAt, deleteAt, numberOf, soMany, bytesAt, checked, wordOf, line}
-use Rattle.origins.specs.Origins.{inLine, storedLine, plainLine, lineAt}
+use Rattle.decoder.specs.Line.{numberAt, varAt, bounded, upTo, byteAt, deleteAt, numberBy, soMany, bytesAt, checked, wordOf, line}
+use Rattle.origins.specs.Origins.{lineStand, storedLine, plainLine, lineAt}
 use Rattle.origin_facts.specs.Facts.{On, Spells, IsByte, SpeltIn, Leads}
 use Rattle.origin_facts.proofs.Draws.{on-got, on-bounded}
 
 module _ (u : List ℕ) (at : ℕ) where
   abbrev Read-so : ℕ × ℕ → ℕ → Type 0
-  Read-so a e = Spells u (a .0) (inLine at e)
+  Read-so a e = Spells u (a .0) (lineStand at e)
 
   var-spells : On Read-so (varAt u at)
-  unfolding On varAt numberAt inLine
+  unfolding On varAt numberAt lineStand
   var-spells = go (readUnsigned u at) refl
     where
       go : (r : Read) → readUnsigned u at ≡ r → On Read-so (numberAt at r)
@@ -40,16 +40,16 @@ module _ (u : List ℕ) (at : ℕ) where
   unfolding upTo
   up-to-spells most = on-bounded Read-so most (varAt u at) var-spells
 
-  byte-is : On (λ (a : ℕ × ℕ) (e : ℕ). IsByte u (a .0) (inLine at e)) (byteAt u at)
-  unfolding On byteAt inLine
+  byte-is : On (λ (a : ℕ × ℕ) (e : ℕ). IsByte u (a .0) (lineStand at e)) (byteAt u at)
+  unfolding On byteAt lineStand
   byte-is = go (leb (length u) at)
     where
-      go : (b : Bool) → On (λ (a : ℕ × ℕ) (e : ℕ). IsByte u (a .0) (inLine at e)) (pick b (not (record { number = 1; place = length u })) (got (getD u at 0, at) (at + 1)))
+      go : (b : Bool) → On (λ (a : ℕ × ℕ) (e : ℕ). IsByte u (a .0) (lineStand at e)) (pick b (not (record { number = 1; place = length u })) (got (getD u at 0, at) (at + 1)))
       go true = tt
       go false = (omega arith, refl)
 
-  every-spells : (n : Number) → On (λ (a : ℕ × ℕ) (e : ℕ). SpeltIn u n (a .0) (inLine at e)) (numberOf 1 u n at)
-  unfolding SpeltIn numberOf deleteAt
+  every-spells : (n : Number) → On (λ (a : ℕ × ℕ) (e : ℕ). SpeltIn u n (a .0) (lineStand at e)) (numberBy 1 u n at)
+  unfolding SpeltIn numberBy deleteAt
   every-spells grammar.byte = byte-is
   every-spells grammar.info = byte-is
   every-spells (grammar.upTo most) = up-to-spells most
@@ -66,7 +66,7 @@ module _ (u : List ℕ) (at : ℕ) where
   pub bytes-there : (code : ℕ) (n : Number) (a : ℕ × ℕ) (e : ℕ) → line 1 u (grammar.number n) at ≡ got a e
       → let l = lineAt code (grammar.number n) a at e in SpeltIn u n (l .value) (l .stand)
   unfolding line lineAt plainLine
-  bytes-there code n a e h = on-got (λ (a : ℕ × ℕ) (e : ℕ). SpeltIn u n (a .0) (inLine at e)) (numberOf 1 u n at) a e (every-spells n) h
+  bytes-there code n a e h = on-got (λ (a : ℕ × ℕ) (e : ℕ). SpeltIn u n (a .0) (lineStand at e)) (numberBy 1 u n at) a e (every-spells n) h
 
   -- ---- stored bytes
 
@@ -74,7 +74,7 @@ module _ (u : List ℕ) (at : ℕ) where
   Led p = Leads u (storedLine 0 0 p at)
 
   led : On (λ (p : Part) (e : ℕ). Led p) (bytesAt u at)
-  unfolding On bytesAt soMany storedLine inLine
+  unfolding On bytesAt soMany storedLine lineStand
   led = go (readUnsigned u at) refl
     where
       room : (n e : ℕ) → readUnsigned u at ≡ read.Number n e → (b : Bool)

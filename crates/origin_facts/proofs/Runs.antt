@@ -37,11 +37,11 @@ use Rattle.string.specs.declared.Answer as string-answer
 use Rattle.string.specs.declared.Answer.the-variants as string
 use Rattle.string.specs.String as strings
 use Rattle.string.specs.String.{nextText}
-use Rattle.origins.specs.Origins.{counted, numberTimes, differenceTimes, byteTimes}
+use Rattle.origins.specs.Origins.{timesRead, numberTimes, differenceTimes, byteTimes}
 
 -- the count that was read
-count-read : (s : List ℕ) (more e n f : ℕ) → readUnsigned s e ≡ read.Number n f → ltb maxCount n ≡ false → counted more (readUnsigned s e) ≡ n + more
-unfolding counted
+count-read : (s : List ℕ) (more e n f : ℕ) → readUnsigned s e ≡ read.Number n f → ltb maxCount n ≡ false → timesRead more (readUnsigned s e) ≡ n + more
+unfolding timesRead
 count-read s more e n f q l = rw (q, l) refl
 
 -- ---- numbers
@@ -96,14 +96,14 @@ module _ (s : List ℕ) where
   LeavesText (string.Bad why) = Unit {0}
 
   pub next-text : (c : string-place.Place) → c .units .count ≤ timesOf (c .units) → LeavesText (nextText s c)
-  unfolding nextText strings.drawn strings.taken strings.ending LeavesText LeavesNumber
+  unfolding nextText strings.unitsDrawn strings.unitsTaken strings.textEnding LeavesText LeavesNumber
   next-text c few = go (nextNumber s (c .units)) (next-number (c .units) few)
     where
-      ended : (rest : number-place.Place) → rest .count < timesOf rest → (x : Taken) → LeavesText (strings.ending (c .at) (c .end) rest x)
+      ended : (rest : number-place.Place) → rest .count < timesOf rest → (x : Taken) → LeavesText (strings.textEnding (c .at) (c .end) rest x)
       ended rest h (units.Took b) = h
       ended rest h (units.Refused why) = tt
 
-      go : (a : number-answer.Answer) → LeavesNumber a → LeavesText (strings.drawn s (c .at) (c .end) a)
+      go : (a : number-answer.Answer) → LeavesNumber a → LeavesText (strings.unitsDrawn s (c .at) (c .end) a)
       go (number.Next n rest) h = ended rest h (takeUnits 7 n _)
       go (number.Bad why) h = tt
 

@@ -36,22 +36,22 @@ use Rattle.string.specs.declared.Opened.the-variants as opened-as
 use Rattle.string.specs.String.{placeAt, opened, openText, nextText}
 use Rattle.grammar.specs.Grammar as grammar
 use Rattle.grammar.specs.Grammar.{Number, Field}
-use Rattle.grammar.specs.Course.{Drawn, got, not, Run, item, over, stopped, run}
+use Rattle.grammar.specs.Course.{Drawn, got, not, Run, thing, over, stopped, run}
 use Rattle.decoder.specs.Line.{line}
 use Rattle.decoder.specs.States.{maxKeys, Numbers, Differences, Bytes, Texts, State, movedTo, withKey, withClient, withLeft, withRight, withInfo, withText, withParent, withTypes, withLen, withKeys}
-use Rattle.decoder.specs.Columned.{numberDrawn, fromNumbers, differenceDrawn, fromDifferences, byteDrawn, fromBytes, textDrawn, textIn, onto, joining, numbered, keyIn, numberIn, columned}
+use Rattle.decoder.specs.Columned.{numberDrawn, fromNumbers, differenceDrawn, fromDifferences, byteDrawn, fromBytes, textDrawn, textIn, onto, joining, keyByNumber, keyIn, numberIn, columned}
 use Rattle.decoder.specs.Opening.{heads, standing, withOpened, textOpened, onHeads, openedOf}
 use Rattle.roles.specs.Roles.{keyText}
 use Rattle.origins.specs.declared.Line.{Line}
-use Rattle.origins.specs.Origins.{inLine, inRun, endless, numberTimes, differenceTimes, byteTimes, numberStand, differenceStand, byteStand, textStand, standIn, storedLine, textLine, keyLine, keyLines, numberLine, linesIn}
+use Rattle.origins.specs.Origins.{lineStand, inRun, endless, numberTimes, differenceTimes, byteTimes, numberStand, differenceStand, byteStand, textStand, standIn, storedLine, textLine, keyLine, keyLines, numberLine, linesIn}
 use Rattle.origin_facts.specs.Facts.{All, On, Numbered, NumbersWithin, DifferencesWithin, BytesWithin, TextsWithin, Within}
 use Rattle.origin_facts.proofs.Draws.{on-got, on-onto, on-bounded}
 use Rattle.origin_facts.proofs.Runs.{LeavesNumber, next-number, LeavesText, next-text, LeavesDifference, next-difference, LeavesByte, next-byte}
 
 -- ---- which value it is
 
-pub numbered-in-line : (from to : ℕ) → Numbered (inLine from to)
-unfolding Numbered inLine
+pub numbered-in-line : (from to : ℕ) → Numbered (lineStand from to)
+unfolding Numbered lineStand
 numbered-in-line from to = λ e. absurd (omega (arith, e))
 
 numbered-in-run : (from to n left : ℕ) → left < n → Numbered (inRun from to n left)
@@ -185,7 +185,7 @@ module _ (u : List ℕ) (code : ℕ) (s : State) (h : Within u s) where
   keys-within ks t w = record { key = w .key; client = w .client; left = w .left; right = w .right; info = w .info; text = w .text; parent = w .parent; types = w .types; len = w .len }
 
   key-fine : On (Fine grammar.key) (keyIn u s)
-  unfolding keyIn differenceDrawn numbered On LeavesDifference linesIn differenceStand joining
+  unfolding keyIn differenceDrawn keyByNumber On LeavesDifference linesIn differenceStand joining
   key-fine = go (nextDifference (take (s .key .to) u) (s .key .place)) (next-difference (take (s .key .to) u) (s .key .place) (h .key))
     where
       told : (v : ℕ) (t : State) (place : ℕ) → Within u t → Numbered (differenceStand u (t .key)) → t .keys ≡ s .keys → (b o : Bool)
@@ -197,7 +197,7 @@ module _ (u : List ℕ) (code : ℕ) (s : State) (h : Within u s) where
           (λ why. tt)
       told v t place w a e false false = tt
 
-      go : (a : difference-answer.Answer) → LeavesDifference (take (s .key .to) u) a → On (Fine grammar.key) (numbered u (differenceDrawn (λ c. withKey c s) (s .key .to) a))
+      go : (a : difference-answer.Answer) → LeavesDifference (take (s .key .to) u) a → On (Fine grammar.key) (keyByNumber u (differenceDrawn (λ c. withKey c s) (s .key .to) a))
       go (difference.Next v d) q =
           told v (withKey (record { place = d; to = s .key .to }) s) (d .from)
           (record { key = omega arith; client = h .client; left = h .left; right = h .right; info = h .info; text = h .text; parent = h .parent; types = h .types; len = h .len })
@@ -256,7 +256,7 @@ module _ (u : List ℕ) where
 
   heads-within : (r : Run ℕ (Unit {0}) (List Part)) → On (λ (a : Unit {0}) (t : State). Within u t) (onHeads u r)
   unfolding On onHeads textOpened
-  heads-within (item e p c) = heads-within c
+  heads-within (thing e p c) = heads-within c
   heads-within (over ps at) = let s = standing ps at in opened-text s (standing-within ps at) _ (text-starts (take (s .text .to) u) (s .text .place .units .at))
   heads-within (stopped why) = tt
 

@@ -13,7 +13,7 @@ use Rattle.cells.specs.Cells.{keyCount, stateIn, partIn}
 use Rattle.cells.proofs.Keys.{keys-length}
 use Rattle.roles.specs.Roles.{keyText}
 use Rattle.origins.specs.declared.Line.{Line}
-use Rattle.origins.specs.Origins.{textLine, keyLine, keyLines, wordsOf}
+use Rattle.origins.specs.Origins.{textLine, keyLine, keyLines, lineWords}
 use Rattle.origins.specs.Sheets.{lineIn, linesFrom, Above}
 
 -- the first n words of line i are those of c, and below the line nothing changed
@@ -41,9 +41,9 @@ module _ (i : ℕ) (sh c : List ℕ) where
             getD-set-other v k (12 * i + j) (getD c n 0) 0 (λ p. s (omega arith)) ∙ h .words j (omega (arith, s))
 
 -- all twelve
-module _ (i : ℕ) (sh v : List ℕ) (l : Line) (h : Held i sh (wordsOf l) 12 v) where
+module _ (i : ℕ) (sh v : List ℕ) (l : Line) (h : Held i sh (lineWords l) 12 v) where
   pub line-held : lineIn v i ≡ l
-  unfolding lineIn partIn wordsOf
+  unfolding lineIn partIn lineWords
   line-held =
       let e : 12 * i + 10 + 1 ≡ 12 * i + 11 = omega arith in
       rw (e, h .words 0 (omega arith), h .words 1 (omega arith), h .words 2 (omega arith), h .words 3 (omega arith), h .words 4 (omega arith), h .words 5 (omega arith), h .words 6 (omega arith), h .words 7 (omega arith), h .words 8 (omega arith), h .words 9 (omega arith), h .words 10 (omega arith), h .words 11 (omega arith)) refl
@@ -64,10 +64,10 @@ module _ (sh : List ℕ) (i : ℕ) (l : Line) where
       let b = 12 * i in
       set (set (set (set (set (set (set (set (set (set (set (set sh b (l .field)) (b + 1) (l .value)) (b + 2) (l .stand .place)) (b + 3) (l .stand .bytes)) (b + 4) (l .stand .source)) (b + 5) (l .stand .which)) (b + 6) (l .stand .of)) (b + 7) (l .rise .base)) (b + 8) (l .rise .sign)) (b + 9) (l .rise .size)) (b + 10) (l .part .place)) (b + 11) (l .part .bytes .0)
 
-  pub filled-held : 12 * (i + 1) ≤ length sh → Held i sh (wordsOf l) 12 filled
-  unfolding wordsOf
+  pub filled-held : 12 * (i + 1) ≤ length sh → Held i sh (lineWords l) 12 filled
+  unfolding lineWords
   filled-held room =
-      let c = wordsOf l in
+      let c = lineWords l in
       let b = 12 * i in
       let p = put i sh c room in
       p 11 (b + 11) _ (omega arith) refl (p 10 (b + 10) _ (omega arith) refl (p 9 (b + 9) _ (omega arith) refl (p 8 (b + 8) _ (omega arith) refl

@@ -24,8 +24,8 @@ use Rattle.origins.specs.declared.Line.{Line}
 -- ---- where it stands
 
 -- in line, from a place to another
-unfoldable pub inLine : ℕ → ℕ → Stand
-inLine from to = record { place = from; bytes = to - from; source = 0; which = 0; of = 0 }
+unfoldable pub lineStand : ℕ → ℕ → Stand
+lineStand from to = record { place = from; bytes = to - from; source = 0; which = 0; of = 0 }
 
 -- in a run of n values, whose bytes go from a place to another, so many values before its end
 unfoldable pub inRun : ℕ → ℕ → ℕ → ℕ → Stand
@@ -37,22 +37,22 @@ endless from to = record { place = from; bytes = to - from; source = 2; which = 
 -- ---- how many values a run has, by its bytes
 
 -- the count that follows, and so many more
-unfoldable pub counted : ℕ → Read → ℕ
-counted more (read.Number c e) = pick (ltb maxCount c) 0 (c + more)
-counted more (read.Refused why) = 0
+unfoldable pub timesRead : ℕ → Read → ℕ
+timesRead more (read.Number c e) = pick (ltb maxCount c) 0 (c + more)
+timesRead more (read.Refused why) = 0
 
 -- a minus sign, or an odd difference, is followed by a count, less two
 unfoldable pub numberTimes : List ℕ → Signed → ℕ
-numberTimes s (signed.Value minus x e) = pick minus (counted 2 (readUnsigned s e)) 1
+numberTimes s (signed.Value minus x e) = pick minus (timesRead 2 (readUnsigned s e)) 1
 numberTimes s (signed.Wrong why) = 0
 
 unfoldable pub differenceTimes : List ℕ → Signed → ℕ
-differenceTimes s (signed.Value minus x e) = pick (eqb (x % 2) 0) 1 (counted 2 (readUnsigned s e))
+differenceTimes s (signed.Value minus x e) = pick (eqb (x % 2) 0) 1 (timesRead 2 (readUnsigned s e))
 differenceTimes s (signed.Wrong why) = 0
 
 -- a byte by its count, less one
 unfoldable pub byteTimes : List ℕ → ℕ → ℕ
-byteTimes s from = counted 1 (readUnsigned s (from + 1))
+byteTimes s from = timesRead 1 (readUnsigned s (from + 1))
 
 -- ---- the value that a column gave last
 
@@ -91,10 +91,10 @@ rising base key =
 
 -- stored bytes, led by their length or by nothing
 unfoldable pub storedLine : ℕ → ℕ → Part → ℕ → Line
-storedLine code v p from = record { field = code; value = v; stand = inLine from (p .place); rise = noRise; part = p }
+storedLine code v p from = record { field = code; value = v; stand = lineStand from (p .place); rise = noRise; part = p }
 
 unfoldable pub plainLine : ℕ → ℕ → ℕ → ℕ → Line
-plainLine code v from to = record { field = code; value = v; stand = inLine from to; rise = noRise; part = noPart }
+plainLine code v from to = record { field = code; value = v; stand = lineStand from to; rise = noRise; part = noPart }
 
 -- a text's value is its units, that of other bytes their count
 unfoldable pub lineAt : ℕ → (f : Field) → Answer f → ℕ → ℕ → Line
@@ -120,11 +120,11 @@ standIn u grammar.info from t = byteStand u (t .info)
 standIn u grammar.parentInfo from t = byteStand u (t .parent)
 standIn u grammar.len from t = numberStand u (t .len)
 standIn u grammar.typeNumber from t = numberStand u (t .types)
-standIn u grammar.byte from t = inLine from (t .at)
-standIn u (grammar.upTo most) from t = inLine from (t .at)
-standIn u grammar.any from t = inLine from (t .at)
-standIn u (grammar.deleteClock end) from t = inLine from (t .at)
-standIn u grammar.deleteLen from t = inLine from (t .at)
+standIn u grammar.byte from t = lineStand from (t .at)
+standIn u (grammar.upTo most) from t = lineStand from (t .at)
+standIn u grammar.any from t = lineStand from (t .at)
+standIn u (grammar.deleteClock end) from t = lineStand from (t .at)
+standIn u grammar.deleteLen from t = lineStand from (t .at)
 
 -- the value before, where a number is a difference from it
 unfoldable pub baseOf : Number → State → ℕ
@@ -184,8 +184,8 @@ linesIn u code (grammar.values blame n) p s t = storedLine code (p .bytes .0) p 
 
 -- ---- as words
 
-unfoldable pub wordsOf : Line → List ℕ
-wordsOf l =
+unfoldable pub lineWords : Line → List ℕ
+lineWords l =
     let x = l .stand in
     let r = l .rise in
     l .field ∷ l .value ∷ x .place ∷ x .bytes ∷ x .source ∷ x .which ∷ x .of ∷ r .base ∷ r .sign ∷ r .size ∷ l .part .place ∷ l .part .bytes .0 ∷ []

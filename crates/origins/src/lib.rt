@@ -47,7 +47,7 @@ pub struct Line {
 // The count at a place, and so many more; none where a run cannot have so many.
 fn counted(s: &[u8], at: usize, more: u64) -> u64
     requires { ⌜ more ≤ 2 ⌝ }
-    ensures { λ r. ⌜ r ≡ origins.counted more (readUnsigned (now (s .entry)) at) ⌝ }
+    ensures { λ r. ⌜ r ≡ origins.timesRead more (readUnsigned (now (s .entry)) at) ⌝ }
 {
     let Read::Number(c, _) = numbers::read_unsigned(s, at) else {
         return 0;
@@ -95,7 +95,7 @@ fn byte_times(s: &[u8], from: usize) -> u64
 // ---- where a value stands
 
 fn in_line(from: u64, to: u64) -> Stand
-    ensures { λ r. ⌜ r ≡ origins.inLine from to ⌝ }
+    ensures { λ r. ⌜ r ≡ origins.lineStand from to ⌝ }
 {
     let bytes = words::less(to, from);
     Stand {

@@ -16,7 +16,7 @@ use Rattle.readings.proofs.Groups.{two}
 use Rattle.slots.specs.Slots.{Slot, noted, named, notedIn, namedIn, notedAll, namedAll}
 use Rattle.slots.proofs.Notes.{noted-in-room, named-in-room}
 use Rattle.slots.proofs.Clients.{clientsOf, noted-clients, named-clients, noted-all-clients, named-all-clients}
-use Rattle.sorting.specs.Sorted.{insert, insertAll, clients}
+use Rattle.sorting.specs.Sorted.{insert, insertAll, allClients}
 
 -- the two tests that say whether c goes after d, is d, or goes before it
 pub ways : (P : Bool → Bool → Type 0) (c d : ℕ) → (c < d → (y : Bool) → P true y) → (c ≡ d → P false true) → (d < c → P false false) → P (ltb c d) (eqb c d)
@@ -79,8 +79,8 @@ owners-most (a ∷ (b ∷ bs)) ds = go (owners-most (b ∷ bs))
         omega (arith, ap (λ (l : List ℕ). length (insertAll (map owner bs) l)) once, ap length is, rec ds))
         (λ n. omega (arith, insert-length (a .client) ds .1, rec (insert (a .client) ds)))
 
-pub clients-most : (bs : List Block) (v : List Entry) → length (clients bs v) ≤ length (groups owner bs) + length v
-unfolding clients
+pub clients-most : (bs : List Block) (v : List Entry) → length (allClients bs v) ≤ length (groups owner bs) + length v
+unfolding allClients
 clients-most bs v =
     omega (
       arith,
@@ -123,20 +123,20 @@ named-has-room most c cs ss h =
     named-in-room most c ss (omega (arith, length-map (named c ss) (λ (s : Slot). s .client), insertAll-longer cs (clientsOf (named c ss))))
 
 -- so with room for all clients that are reported, these are the slots'
-module _ (bs : List Block) (v : List Entry) (most : ℕ) (room : length (clients bs v) ≤ most) where
+module _ (bs : List Block) (v : List Entry) (most : ℕ) (room : length (allClients bs v) ≤ most) where
   pub owners-fit : length (insertAll (map owner bs) []) ≤ most
-  unfolding clients
+  unfolding allClients
   owners-fit = omega (arith, insertAll-longer (clientsIn v) (insertAll (map owner bs) []), room)
 
   pub owners-names : clientsOf (notedAll most 0 bs []) ≡ insertAll (map owner bs) []
   owners-names = noted-all-clients insert insert-none insert-some insertAll insertAll-none insertAll-some most 0 bs [] owners-fit
 
   pub entries-fit : length (insertAll (clientsIn v) (clientsOf (notedAll most 0 bs []))) ≤ most
-  unfolding clients
+  unfolding allClients
   entries-fit = rw owners-names room
 
-  pub slots-names : clientsOf (namedAll most (clientsIn v) (notedAll most 0 bs [])) ≡ clients bs v
-  unfolding clients
+  pub slots-names : clientsOf (namedAll most (clientsIn v) (notedAll most 0 bs [])) ≡ allClients bs v
+  unfolding allClients
   slots-names =
       named-all-clients insert insert-none insert-some insertAll insertAll-none insertAll-some most (clientsIn v) (notedAll most 0 bs []) entries-fit
       ∙ ap (insertAll (clientsIn v)) owners-names

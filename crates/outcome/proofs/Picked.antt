@@ -25,7 +25,7 @@ use Rattle.picker.specs.Fronts.{frontAt, putFront}
 use Rattle.picker.specs.Picker.{nowhere, oneMore, looked, moved, lift, pushed, desk, pointed, looksEach, looks, kept, took, offered, picked, allPicked}
 use Rattle.sorting.specs.Steps.{start, after, Run, Highest}
 use Rattle.sorting.specs.Named.{asksOf, ruleOf}
-use Rattle.sorting.specs.Sorted.{clients, steps, order, outcome, numbersBy, orderOf}
+use Rattle.sorting.specs.Sorted.{allClients, steps, order, outcome, numbersBy, orderOf}
 use Rattle.sorting.proofs.Quick.{run-more, after-more, highest-more}
 use Rattle.sorting.proofs.Numbers.{numbersBy-more, numbersBy-length}
 use Rattle.sorting.proofs.Rules.{reaches-mono}
@@ -86,9 +86,9 @@ module _ {rule : ℕ} {bs : List Block} {v : List Entry} {ss : List Slot} (given
       → Came rule bs v ss before (desk (look 0 nowhere made left) reach fronts words)
   unfolding outcome orderOf
   idle-came r idle =
-      let e = is-order (ruleOf rule) (reaches-mono (asksOf rule)) bs (clients bs v) (clients-blocks bs v) (remote v) (r .cs) (record { run = r .run; end = idle-stuck given (r .stands) idle }) (r .highest) in
+      let e = is-order (ruleOf rule) (reaches-mono (asksOf rule)) bs (allClients bs v) (clients-blocks bs v) (remote v) (r .cs) (record { run = r .run; end = idle-stuck given (r .stands) idle }) (r .highest) in
       record {
-        steps = r .count ∙ ap length e ∙ sym (numbersBy-length (ruleOf rule) bs (start (remote v)) (order (ruleOf rule) bs (clients bs v) (remote v)));
+        steps = r .count ∙ ap length e ∙ sym (numbersBy-length (ruleOf rule) bs (start (remote v)) (order (ruleOf rule) bs (allClients bs v) (remote v)));
         order = r .numbers ∙ ap (λ (cs : List ℕ). overlaid before (numbersBy (ruleOf rule) bs (start (remote v)) cs)) e;
         ended = subst (λ (cs : List ℕ). Ended rule bs ss (after (steps (ruleOf rule) bs) (start (remote v)) cs) reach fronts) e (idle-ended given (r .stands) idle);
       }

@@ -18,7 +18,7 @@ use Rattle.slots.specs.Slots.{Slot, slot, Falling, rank}
 use Rattle.slots.proofs.Ranks.{clientAt, rank-above, slot-rank}
 use Rattle.sorting.specs.Quick.{Listed}
 use Rattle.sorting.specs.Rules.{queue}
-use Rattle.sorting.specs.Sorted.{numbersFrom}
+use Rattle.sorting.specs.Sorted.{blockNumbersFrom}
 use Rattle.sorting.proofs.Clients.{clients-blocks}
 use Rattle.sorting.proofs.Numbers.{one-more, all-at, numbersFrom-at, number-below, numbered}
 use Rattle.outcome.specs.Tie.{slotOf, Slotted}
@@ -61,7 +61,7 @@ module _ {bs : List Block} {v : List Entry} {ss : List Slot} (slotted : Slotted 
     fits : k < length (queue bs (clientAt ss i))
     fits = omega (arith, slotted .counts i small)
 
-    pub row-number : slotOf ss i .first + k ≡ getD (numbersFrom 0 bs (clientAt ss i)) k 0
+    pub row-number : slotOf ss i .first + k ≡ getD (blockNumbersFrom 0 bs (clientAt ss i)) k 0
     row-number = omega (arith, slotted .firsts i small (omega arith), numbersFrom-at bs ordered (clientAt ss i) k fits)
 
     pub row-below : slotOf ss i .first + k < length bs

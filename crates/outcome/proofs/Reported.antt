@@ -22,7 +22,7 @@ use Rattle.reports.specs.Reports.{countOf, reachOf, pendingOf, countsFrom, reac
 use Rattle.sorting.specs.Steps.{State}
 use Rattle.sorting.specs.Rules.{queue, report, byReaches}
 use Rattle.sorting.specs.Named.{ruleOf}
-use Rattle.sorting.specs.Sorted.{clients, countsIn, reachesIn, waiting, pendingIn}
+use Rattle.sorting.specs.Sorted.{allClients, countsIn, reachesIn, waiting, pendingIn}
 use Rattle.outcome.specs.Tie.{slotOf, Slotted, Awaits, Ended}
 
 -- ---- slots one after another
@@ -117,15 +117,15 @@ module _ (rule : ℕ) (bs : List Block) (ss : List Slot) (s : State ℕ) (reach 
 
 module _ (rule : ℕ) (bs : List Block) (v : List Entry) (ss : List Slot) (slotted : Slotted bs v ss) where
   module _ (s : State ℕ) (reach fronts : List ℕ) (ended : Ended rule bs ss s reach fronts) where
-    pub counts-reported : countsFrom 0 ss fronts ≡ countsIn bs s (clients bs v)
+    pub counts-reported : countsFrom 0 ss fronts ≡ countsIn bs s (allClients bs v)
     counts-reported =
         counts-each bs s fronts 0 ss (each (Counted bs s fronts) ss (λ i h. counted bs s fronts i (slotOf ss i) (slotted .counts i h) (ended .left i h)))
         ∙ ap (countsIn bs s) (slotted .names)
 
-    pub reaches-reported : reachesFrom 0 ss reach ≡ reachesIn s (clients bs v)
+    pub reaches-reported : reachesFrom 0 ss reach ≡ reachesIn s (allClients bs v)
     reaches-reported = reaches-each s reach 0 ss (each (Reached s reach) ss (ended .reaches)) ∙ ap (reachesIn s) (slotted .names)
 
-    pub pending-reported : pendingFrom 0 ss fronts reach ≡ pendingIn (ruleOf rule) bs s (clients bs v)
+    pub pending-reported : pendingFrom 0 ss fronts reach ≡ pendingIn (ruleOf rule) bs s (allClients bs v)
     pending-reported =
         pending-each rule bs s reach fronts 0 ss (each (Waited rule bs s reach fronts) ss (λ i h. waited rule bs ss s reach fronts ended i h (slotted .counts i h)))
         ∙ ap (pendingIn (ruleOf rule) bs s) (slotted .names)

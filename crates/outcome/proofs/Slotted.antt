@@ -19,7 +19,7 @@ use Rattle.slots.proofs.Puts.{put}
 use Rattle.slots.proofs.Notes.{counted, same, noted-put, named-put, noted-falling, named-falling, noted-named, named-named, noted-others, named-others}
 use Rattle.slots.proofs.Clients.{clientsOf}
 use Rattle.sorting.specs.Rules.{queue}
-use Rattle.sorting.specs.Sorted.{insertAll, clients, numbersFrom}
+use Rattle.sorting.specs.Sorted.{insertAll, allClients, blockNumbersFrom}
 use Rattle.sorting.proofs.Numbers.{one-more}
 use Rattle.outcome.specs.Tie.{slotOf, Slotted}
 use Rattle.outcome.proofs.Names.{ways, clients-most, noted-names, named-names, noted-has-room, named-has-room, owners-fit, entries-fit, slots-names}
@@ -48,14 +48,14 @@ module _ (f : Slot → Slot) (x : Slot) (P Q : Slot → Type 0) (other : (s : Sl
 -- ---- a client's blocks among those still to come
 
 own-more : (n : ℕ) (b : Block) (bs : List Block)
-    → (length (queue (b ∷ bs) (b .client)) ≡ suc (length (queue bs (b .client)))) × (getD (numbersFrom n (b ∷ bs) (b .client)) 0 0 ≡ n)
+    → (length (queue (b ∷ bs) (b .client)) ≡ suc (length (queue bs (b .client)))) × (getD (blockNumbersFrom n (b ∷ bs) (b .client)) 0 0 ≡ n)
 own-more n b bs =
     one-more (λ ns q. (length q ≡ suc (length (queue bs (b .client)))) × (getD ns 0 0 ≡ n)) n b bs (b .client) (λ e. (refl, refl)) (λ ne. absurd (ne refl))
 
 other-more : (n : ℕ) (b : Block) (bs : List Block) (c : ℕ) → c ≢ b .client
-    → (length (queue (b ∷ bs) c) ≡ length (queue bs c)) × (getD (numbersFrom n (b ∷ bs) c) 0 0 ≡ getD (numbersFrom (suc n) bs c) 0 0)
+    → (length (queue (b ∷ bs) c) ≡ length (queue bs c)) × (getD (blockNumbersFrom n (b ∷ bs) c) 0 0 ≡ getD (blockNumbersFrom (suc n) bs c) 0 0)
 other-more n b bs c ne =
-    one-more (λ ns q. (length q ≡ length (queue bs c)) × (getD ns 0 0 ≡ getD (numbersFrom (suc n) bs c) 0 0)) n b bs c
+    one-more (λ ns q. (length q ≡ length (queue bs c)) × (getD ns 0 0 ≡ getD (blockNumbersFrom (suc n) bs c) 0 0)) n b bs c
     (λ e. absurd (ne (sym e))) (λ e. (refl, refl))
 
 queue-most : (bs : List Block) (c : ℕ) → length (queue bs c) ≤ length bs
@@ -72,17 +72,17 @@ more-suc k h = rw (lt-ltb k maxBlocks h) refl
 
 -- a slot of client c, with first block i and so many of them, when these blocks are still to come
 abbrev Has : List Block → List Block → ℕ → ℕ → ℕ → Type 0
-Has all bs c i k = (k + length (queue bs c) ≡ length (queue all c)) × (i ≡ getD (numbersFrom 0 all c) 0 0)
+Has all bs c i k = (k + length (queue bs c) ≡ length (queue all c)) × (i ≡ getD (blockNumbersFrom 0 all c) 0 0)
 
 -- slots when the blocks from number n on are still to come: a client without one has all its blocks among them
 record Noting (all : List Block) (n : ℕ) (bs : List Block) (ss : List Slot) : Type 0 where
   falling : Falling ss
   has : All (λ (s : Slot). Has all bs (s .client) (s .first) (s .count)) ss
-  lacks : (c : ℕ) → isNamed c ss ≡ false → (length (queue bs c) ≡ length (queue all c)) × (getD (numbersFrom n bs c) 0 0 ≡ getD (numbersFrom 0 all c) 0 0)
+  lacks : (c : ℕ) → isNamed c ss ≡ false → (length (queue bs c) ≡ length (queue all c)) × (getD (blockNumbersFrom n bs c) 0 0 ≡ getD (blockNumbersFrom 0 all c) 0 0)
 
 -- a slot, and slots, when none is
 abbrev Fits : List Block → Slot → Type 0
-Fits all s = (s .count ≡ length (queue all (s .client))) × (0 < s .count → s .first ≡ getD (numbersFrom 0 all (s .client)) 0 0)
+Fits all s = (s .count ≡ length (queue all (s .client))) × (0 < s .count → s .first ≡ getD (blockNumbersFrom 0 all (s .client)) 0 0)
 
 record Noted (all : List Block) (ss : List Slot) : Type 0 where
   falling : Falling ss
@@ -169,7 +169,7 @@ slot-at P (s ∷ ss) zero all h = all .0
 slot-at P (s ∷ ss) (suc i) all h = slot-at P ss i (all .1) (omega arith)
 
 -- with room for all clients that are reported
-module _ (bs : List Block) (v : List Entry) (most : ℕ) (room : length (clients bs v) ≤ most) (few : length bs ≤ maxBlocks) where
+module _ (bs : List Block) (v : List Entry) (most : ℕ) (room : length (allClients bs v) ≤ most) (few : length bs ≤ maxBlocks) where
   abbrev made : List Slot
   made = namedAll most (clientsIn v) (notedAll most 0 bs [])
 

@@ -27,7 +27,7 @@ use Rattle.picker.proofs.FrontLaws.{front-put, other-put}
 use Rattle.sorting.specs.Steps.{State, can, step, Stuck}
 use Rattle.sorting.specs.Rules.{queue, isSkip, waits, free, system, report}
 use Rattle.sorting.specs.Named.{ruleOf}
-use Rattle.sorting.specs.Sorted.{steps, numbersFrom}
+use Rattle.sorting.specs.Sorted.{steps, blockNumbersFrom}
 use Rattle.sorting.proofs.Outcome.{can-fits, can-ready, can-intro}
 use Rattle.sorting.proofs.Numbers.{owner-at}
 use Rattle.sorting.proofs.Demand.{front}
@@ -152,7 +152,7 @@ module _ {rule : ℕ} {bs : List Block} {v : List Entry} {ss : List Slot} (given
     next-is = st .held i (d .small) .next due-left
 
     -- the row that it has next
-    pub next-number : f i .next ≡ getD (numbersFrom 0 bs (c i)) (s .taken (c i)) 0
+    pub next-number : f i .next ≡ getD (blockNumbersFrom 0 bs (c i)) (s .taken (c i)) 0
     next-number = next-is ∙ row-number (given .slotted) (given .sortable .ordered) i (s .taken (c i)) (d .small) counted
 
     pub next-below : f i .next < length bs

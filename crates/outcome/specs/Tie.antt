@@ -20,7 +20,7 @@ use Rattle.picker.specs.Fronts.{never, frontAt, fresh}
 use Rattle.sorting.specs.Steps.{State}
 use Rattle.sorting.specs.Rules.{queue, report}
 use Rattle.sorting.specs.Named.{ruleOf}
-use Rattle.sorting.specs.Sorted.{clients, numbersFrom}
+use Rattle.sorting.specs.Sorted.{allClients, blockNumbersFrom}
 
 abbrev pub slotOf : List Slot → ℕ → Slot
 slotOf ss i = getD ss i (slot 0 0 0)
@@ -28,9 +28,9 @@ slotOf ss i = getD ss i (slot 0 0 0)
 -- the slots of blocks and of a vector: the clients that are reported, each with how many blocks it has and the number of its first
 pub record Slotted (bs : List Block) (v : List Entry) (ss : List Slot) : Type 0 where
   pub falling : Falling ss
-  pub names : map (λ (s : Slot). s .client) ss ≡ clients bs v
+  pub names : map (λ (s : Slot). s .client) ss ≡ allClients bs v
   pub counts : (i : ℕ) → i < length ss → slotOf ss i .count ≡ length (queue bs (slotOf ss i .client))
-  pub firsts : (i : ℕ) → i < length ss → 0 < slotOf ss i .count → slotOf ss i .first ≡ getD (numbersFrom 0 bs (slotOf ss i .client)) 0 0
+  pub firsts : (i : ℕ) → i < length ss → 0 < slotOf ss i .count → slotOf ss i .first ≡ getD (blockNumbersFrom 0 bs (slotOf ss i .client)) 0 0
 
 -- what a reader makes sure of: a client's blocks stand together, ends are clocks, and there are no more than so many
 pub record Sortable (bs : List Block) : Type 0 where

@@ -11,7 +11,7 @@ use borrow.Author.Tests.{leb-true, leb-false, ltb-false, lt-leb, le-ltb}
 use Rattle.numbers.specs.declared.Refusal.{Refusal}
 use Rattle.numbers.specs.declared.Read.{Read}
 use Rattle.numbers.specs.declared.Read.the-variants as read
-use Rattle.numbers.specs.Number.{pick, Spelt, got, short, long, after, spelt, placed, readUnsigned}
+use Rattle.numbers.specs.Number.{pick, Spelt, got, short, long, lowPart, spelt, answerAt, readUnsigned}
 use Rattle.numbers.specs.Limits.{maxValue, maxClock}
 use Rattle.text.specs.declared.Part.{Part}
 use Rattle.text.specs.declared.Units.{Units}
@@ -30,7 +30,7 @@ use Rattle.grammar.specs.Update.{anUpdate}
 use Rattle.grammar.specs.Fragments.{joined}
 use Rattle.grammar.proofs.Runs.{both}
 use Rattle.grammar.proofs.Fragments.{Firm, arrives-whole}
-use Rattle.decoder.specs.Line.{numberAt, varAt, bounded, upTo, byteAt, restored, deleteAt, numberOf, soMany, bytesAt, checked, wordOf, spanned, valuesAt, line}
+use Rattle.decoder.specs.Line.{numberAt, varAt, bounded, upTo, byteAt, restored, deleteAt, numberBy, soMany, bytesAt, checked, wordOf, spanned, valuesAt, line}
 use Rattle.pieces.specs.Pieces.{inPieces}
 
 -- ---- what is spelt
@@ -40,11 +40,11 @@ FirmSpelt (got x e) y = y ≡ got x e
 FirmSpelt short y = Unit {0}
 FirmSpelt long y = y ≡ long
 
-after-firm : (w v : ℕ) (x y : Spelt) → FirmSpelt x y → FirmSpelt (after w v x) (after w v y)
-unfolding after
-after-firm w v (got x e) y h = ap (after w v) h
+after-firm : (w v : ℕ) (x y : Spelt) → FirmSpelt x y → FirmSpelt (lowPart w v x) (lowPart w v y)
+unfolding lowPart
+after-firm w v (got x e) y h = ap (lowPart w v) h
 after-firm w v short y h = tt
-after-firm w v long y h = ap (after w v) h
+after-firm w v long y h = ap (lowPart w v) h
 
 spelt-firm : (k i : ℕ) (t w : List ℕ) → FirmSpelt (spelt k i t) (spelt k i (t ++ w))
 unfolding spelt
@@ -60,11 +60,11 @@ abbrev FirmRead : Read → Read → Type 0
 FirmRead (read.Number v e) y = y ≡ read.Number v e
 FirmRead (read.Refused why) y = Late why → y ≡ read.Refused why
 
-placed-firm : (s s′ : List ℕ) (at : ℕ) (x y : Spelt) → FirmSpelt x y → FirmRead (placed s at x) (placed s′ at y)
-unfolding placed
-placed-firm s s′ at (got x e) y h = ap (placed s′ at) h
+placed-firm : (s s′ : List ℕ) (at : ℕ) (x y : Spelt) → FirmSpelt x y → FirmRead (answerAt s at x) (answerAt s′ at y)
+unfolding answerAt
+placed-firm s s′ at (got x e) y h = ap (answerAt s′ at) h
 placed-firm s s′ at short y h = λ q. absurd (true≢false q)
-placed-firm s s′ at long y h = λ q. ap (placed s′ at) h
+placed-firm s s′ at long y h = λ q. ap (answerAt s′ at) h
 
 -- the bytes of a part are there
 abbrev pub FirmPart : List ℕ → Drawn ℕ Part → Drawn ℕ Part → Type 0
@@ -125,8 +125,8 @@ module _ (u w : List ℕ) (at : ℕ) where
           (both Firm (ltb maxClock (by + a .0)) (λ q. refl) refl)
       go (not why) y h = λ q. ap (restored by) (h q)
 
-  number-firm : (form : ℕ) (n : Number) → Firm (numberOf form u n at) (numberOf form (u ++ w) n at)
-  unfolding numberOf
+  number-firm : (form : ℕ) (n : Number) → Firm (numberBy form u n at) (numberBy form (u ++ w) n at)
+  unfolding numberBy
   number-firm form grammar.byte = byte-firm
   number-firm form (grammar.upTo most) = up-to-firm most
   number-firm form grammar.any = var-firm

@@ -12,7 +12,7 @@ use borrow.Author.Tests.{ltb-false, leb-false}
 use Rattle.numbers.specs.declared.Refusal.{Refusal}
 use Rattle.numbers.specs.declared.Read.{Read}
 use Rattle.numbers.specs.declared.Read.the-variants as read
-use Rattle.numbers.specs.Number.{pick, Spelt, got, short, long, spelt, placed, readUnsigned}
+use Rattle.numbers.specs.Number.{pick, Spelt, got, short, long, spelt, answerAt, readUnsigned}
 use Rattle.numbers.specs.Limits.{maxValue, maxClock}
 use Rattle.numbers.proofs.Inside.{Reads, unsigned-inside}
 use Rattle.text.specs.declared.Part.{Part}
@@ -26,9 +26,9 @@ use Rattle.anys.proofs.More.{anys-forgets}
 use Rattle.grammar.specs.Grammar as grammar
 use Rattle.grammar.specs.Grammar.{Number, Field, Grammar}
 use Rattle.grammar.specs.Course as course
-use Rattle.grammar.specs.Course.{Drawn, not, Run, item, over, stopped, run}
+use Rattle.grammar.specs.Course.{Drawn, not, Run, thing, over, stopped, run}
 use Rattle.grammar.proofs.Mirrors.{Follows, Mirrors, mirrors}
-use Rattle.decoder.specs.Line.{numberAt, varAt, bounded, upTo, byteAt, restored, deleteAt, numberOf, soMany, bytesAt, checked, wordOf, spanned, valuesAt, line}
+use Rattle.decoder.specs.Line.{numberAt, varAt, bounded, upTo, byteAt, restored, deleteAt, numberBy, soMany, bytesAt, checked, wordOf, spanned, valuesAt, line}
 
 -- so many bytes from a place on
 sliced : (u : List ℕ) (a m : ℕ) → a ≤ length u → slice a (a + m) u ≡ take m (drop a u)
@@ -45,8 +45,8 @@ module _ (u u′ : List ℕ) (n : ℕ) (len : length u ≡ length u′) (same : 
       let e : n + (a - n) ≡ a = omega arith in
       subst (λ (k : ℕ). drop k u ≡ drop k u′) e (sym (drop-drop (a - n) n u) ∙ ap (drop (a - n)) same ∙ drop-drop (a - n) n u′)
 
-  placed-same : (at : ℕ) (x : Spelt) → placed u at x ≡ placed u′ at x
-  unfolding placed
+  placed-same : (at : ℕ) (x : Spelt) → answerAt u at x ≡ answerAt u′ at x
+  unfolding answerAt
   placed-same at (got x e) = refl
   placed-same at short = ap (λ (k : ℕ). read.Refused (record { number = 1; place = k })) len
   placed-same at long = refl
@@ -69,7 +69,7 @@ module _ (u u′ : List ℕ) (n : ℕ) (len : length u ≡ length u′) (same : 
   module _ (at : ℕ) (l : n ≤ at) (m : at ≤ length u) where
     read-same : readUnsigned u′ at ≡ readUnsigned u at
     unfolding readUnsigned
-    read-same = sym (placed-same at (spelt 9 at (drop at u)) ∙ ap (λ (t : List ℕ). placed u′ at (spelt 9 at t)) (tail-same at l))
+    read-same = sym (placed-same at (spelt 9 at (drop at u)) ∙ ap (λ (t : List ℕ). answerAt u′ at (spelt 9 at t)) (tail-same at l))
 
     -- ---- numbers
 
@@ -123,8 +123,8 @@ module _ (u u′ : List ℕ) (n : ℕ) (len : length u ≡ length u′) (same : 
         one true e = tt
         one false e = (omega arith, omega (arith, leb-false (length u) at e))
 
-    number : (form : ℕ) (k : Number) → Follows Stands All (numberOf form u k at) (numberOf form u′ k at)
-    unfolding numberOf
+    number : (form : ℕ) (k : Number) → Follows Stands All (numberBy form u k at) (numberBy form u′ k at)
+    unfolding numberBy
     number form grammar.byte = byte
     number form (grammar.upTo most) = up-to most
     number form grammar.any = follows _ _ var-same var-ends
@@ -222,7 +222,7 @@ module _ (u u′ : List ℕ) (n : ℕ) (len : length u ≡ length u′) (same : 
 
   all-same : {E A : Type 0} (c d : Run ℕ E A) → Mirrors Stands All c d → d ≡ c
   unfolding Mirrors
-  all-same (item e p c) d h = h .1 ∙ ap (item e p) (all-same c (h .0) (h .2))
+  all-same (thing e p c) d h = h .1 ∙ ap (thing e p) (all-same c (h .0) (h .2))
   all-same (over a s) d h = h .1 ∙ ap (over a) (h .2 .0)
   all-same (stopped why) d h = h tt
 

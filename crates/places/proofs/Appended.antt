@@ -5,7 +5,7 @@ use mathlib.Core.Logic.{_≢_}
 use mathlib.Core.List.{List, _++_}
 use lib.Dec.{eqb}
 use Rattle.numbers.specs.declared.Refusal.{Refusal}
-use Rattle.grammar.specs.Course.{Run, item, over, stopped, fit, ending}
+use Rattle.grammar.specs.Course.{Run, thing, over, stopped, fit, ending}
 use Rattle.grammar.specs.Blocks.{allBlocks}
 use Rattle.grammar.specs.Deletes.{allRanges}
 use Rattle.grammar.proofs.Runs.{both}
@@ -26,8 +26,8 @@ ranges-stay form u w at = line-stays form u w allRanges at
 
 pub fit-stays : {S E A : Type 0} (n : ℕ) (x y : Run S E A) → Stays x y → Stays (fit n x) (fit n y)
 unfolding fit Stays
-fit-stays zero (item e p c) y h = λ q. ap (fit zero) (h .1)
-fit-stays (suc n) (item e p c) y h = (fit n (h .0), ap (fit (suc n)) (h .1), fit-stays n c (h .0) (h .2))
+fit-stays zero (thing e p c) y h = λ q. ap (fit zero) (h .1)
+fit-stays (suc n) (thing e p c) y h = (fit n (h .0), ap (fit (suc n)) (h .1), fit-stays n c (h .0) (h .2))
 fit-stays n (over a s) y h = ap (fit n) h
 fit-stays n (stopped why) y h = λ q. ap (fit n) (h q)
 
@@ -35,7 +35,7 @@ fit-stays n (stopped why) y h = λ q. ap (fit n) (h q)
 module _ {S E A X : Type 0} (f f′ : S → X) (g : Refusal → X) (P : X → Type 0) (other : (why : Refusal) → P (g why) → why .number ≢ 1) where
   pub ending-stays : (x y : Run S E A) → Stays x y → (y ≡ x → (s : S) → P (f s) → f′ s ≡ f s) → P (ending x f g) → ending y f′ g ≡ ending x f g
   unfolding ending Stays
-  ending-stays (item e p c) y h next q =
-      ap (λ (z : Run S E A). ending z f′ g) (h .1) ∙ ending-stays c (h .0) (h .2) (λ same. next (h .1 ∙ ap (item e p) same)) q
+  ending-stays (thing e p c) y h next q =
+      ap (λ (z : Run S E A). ending z f′ g) (h .1) ∙ ending-stays c (h .0) (h .2) (λ same. next (h .1 ∙ ap (thing e p) same)) q
   ending-stays (over a s) y h next q = ap (λ (z : Run S E A). ending z f′ g) h ∙ next h s q
   ending-stays (stopped why) y h next q = ap (λ (z : Run S E A). ending z f′ g) (h (other why q))

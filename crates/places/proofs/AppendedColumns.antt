@@ -31,15 +31,15 @@ use Rattle.string.specs.String.{openText, nextText}
 use Rattle.grammar.specs.Grammar as grammar
 use Rattle.grammar.specs.Grammar.{Number, Field}
 use Rattle.grammar.specs.GrammarInner.{_>>=_}
-use Rattle.grammar.specs.Course.{Drawn, got, not, Run, item, over, stopped, onDrawn, run}
+use Rattle.grammar.specs.Course.{Drawn, got, not, Run, thing, over, stopped, onDrawn, run}
 use Rattle.grammar.specs.Blocks.{allBlocks}
 use Rattle.grammar.proofs.Runs.{both}
 use Rattle.grammar.proofs.Fragments.{Firm}
-use Rattle.decoder.specs.Line.{bounded, byteAt, bytesAt, line, numberOf}
+use Rattle.decoder.specs.Line.{bounded, byteAt, bytesAt, line, numberBy}
 use Rattle.decoder.specs.States.{maxKeys, Numbers, Differences, Bytes, State, withText}
-use Rattle.decoder.specs.Columned.{numberDrawn, fromNumbers, differenceDrawn, fromDifferences, byteDrawn, fromBytes, textDrawn, onto, numberIn, textIn, joining, numbered, keyIn, columned}
+use Rattle.decoder.specs.Columned.{numberDrawn, fromNumbers, differenceDrawn, fromDifferences, byteDrawn, fromBytes, textDrawn, onto, numberIn, textIn, joining, keyByNumber, keyIn, columned}
 use Rattle.decoder.specs.Opening.{cut, heads, endOf, standing, withOpened, textOpened, onHeads, openedOf}
-use Rattle.decoder.specs.Update.{placed, inColumns}
+use Rattle.decoder.specs.Update.{restPlaces, inColumns}
 use Rattle.pieces.proofs.Firm.{FirmPart, byte-firm, bytes-firm, line-firm}
 use Rattle.places.specs.Appended.{Stays}
 use Rattle.places.proofs.AppendedRuns.{Keeps, drawn-stays, run-stays}
@@ -62,11 +62,11 @@ Within n s =
     AtMost n (s .key .to) (s .client .to) (s .left .to) (s .right .to) (s .info .to) (s .text .to) (s .parent .to) (s .types .to) (s .len .to)
 
 -- of a state its place
-placed-stays : {E A : Type 0} (x y : Run State E A) → Stays x y → Stays (placed x) (placed y)
-unfolding placed Stays
-placed-stays (item e p c) y h = (placed (h .0), ap placed (h .1), placed-stays c (h .0) (h .2))
-placed-stays (over a s) y h = ap placed h
-placed-stays (stopped why) y h = λ q. ap placed (h q)
+placed-stays : {E A : Type 0} (x y : Run State E A) → Stays x y → Stays (restPlaces x) (restPlaces y)
+unfolding restPlaces Stays
+placed-stays (thing e p c) y h = (restPlaces (h .0), ap restPlaces (h .1), placed-stays c (h .0) (h .2))
+placed-stays (over a s) y h = ap restPlaces h
+placed-stays (stopped why) y h = λ q. ap restPlaces (h q)
 
 module _ (u w : List ℕ) where
   abbrev I : State → Type 0
@@ -157,13 +157,13 @@ module _ (u w : List ℕ) where
   joining-keeps (got a t) y h = (ap joining (h .0), h .1)
   joining-keeps (not why) y h = λ q. ap joining (h q)
 
-  numbered-keeps : (x y : Drawn State (ℕ × ℕ)) → Keeps I x y → Keeps I (numbered u x) (numbered (u ++ w) y)
-  unfolding numbered
+  numbered-keeps : (x y : Drawn State (ℕ × ℕ)) → Keeps I x y → Keeps I (keyByNumber u x) (keyByNumber (u ++ w) y)
+  unfolding keyByNumber
   numbered-keeps (got a t) y h =
-      subst (λ (z : Drawn State (ℕ × ℕ)). Keeps I (numbered u (got a t)) (numbered (u ++ w) z)) (sym (h .0))
+      subst (λ (z : Drawn State (ℕ × ℕ)). Keeps I (keyByNumber u (got a t)) (keyByNumber (u ++ w) z)) (sym (h .0))
       (both (Keeps I) (ltb (a .0) (length (t .keys))) (refl, h .1)
       (both (Keeps I) (ltb (length (t .keys)) maxKeys) (joining-keeps (textIn u t) (textIn (u ++ w) t) (text-keeps t (h .1))) (λ q. refl)))
-  numbered-keeps (not why) y h = λ q. ap (numbered (u ++ w)) (h q)
+  numbered-keeps (not why) y h = λ q. ap (keyByNumber (u ++ w)) (h q)
 
   key-keeps : (s : State) → I s → Keeps I (keyIn u s) (keyIn (u ++ w) s)
   unfolding keyIn
@@ -208,7 +208,7 @@ module _ (u w : List ℕ) where
       go (not why) y q more = λ z. ap (rest (u ++ w)) (q (ne-eqb (why .number) 1 z))
 
   opening-keeps : Keeps I (openedOf u) (openedOf (u ++ w))
-  unfolding openedOf onHeads run heads _>>=_ onDrawn line numberOf
+  unfolding openedOf onHeads run heads _>>=_ onDrawn line numberBy
   opening-keeps = go (byteAt u 0) (byteAt (u ++ w) 0) (byte-firm u w 0)
     where
       rest : List ℕ → Drawn ℕ (ℕ × ℕ) → Drawn State (Unit {0})
@@ -225,5 +225,5 @@ module _ (u w : List ℕ) where
   unfolding inColumns
   states-stay = drawn-stays I _ _ _ _ opening-keeps (λ x. run-stays I (columned u) (columned (u ++ w)) columned-keeps allBlocks)
 
-  pub columns-stay : Stays (placed (inColumns u)) (placed (inColumns (u ++ w)))
+  pub columns-stay : Stays (restPlaces (inColumns u)) (restPlaces (inColumns (u ++ w)))
   columns-stay = placed-stays _ _ states-stay

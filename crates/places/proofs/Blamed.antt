@@ -16,14 +16,14 @@ use Rattle.text.specs.Utf8.{wellFormed}
 use Rattle.string.specs.declared.Opened.{Opened}
 use Rattle.string.specs.String.{opened, openText}
 use Rattle.grammar.specs.Grammar.{Grammar}
-use Rattle.grammar.specs.Course.{Drawn, got, not, Run, item, over, stopped, onDrawn, run, fit}
+use Rattle.grammar.specs.Course.{Drawn, got, not, Run, thing, over, stopped, onDrawn, run, fit}
 use Rattle.grammar.specs.Blocks.{allBlocks}
 use Rattle.grammar.specs.Deletes.{allRanges}
 use Rattle.decoder.specs.Line.{line}
 use Rattle.decoder.specs.States.{State}
 use Rattle.decoder.specs.Columned.{columned}
 use Rattle.decoder.specs.Opening.{heads, standing, withOpened, textOpened, onHeads, openedOf}
-use Rattle.decoder.specs.Update.{placed, inColumns, blocksOf, deleteSet}
+use Rattle.decoder.specs.Update.{restPlaces, inColumns, blocksOf, deleteSet}
 use Rattle.pieces.proofs.Forgets.{chosen}
 use Rattle.places.specs.Places.{Blames, BlamesIn}
 use Rattle.places.proofs.BlamedReads.{tested, not-text, Reads, end-blames, unsigned-reads}
@@ -73,7 +73,7 @@ module _ (u : List ℕ) where
   opened-gives = go (run (line 2 u) heads 0) (line-blames 2 heads (heads-point u) 0)
     where
       go : (c : Run ℕ _ _) → BlamesIn u c → Gives u Any (Stands u) (onHeads u c)
-      go (item e p c) h = go c (h .1)
+      go (thing e p c) h = go c (h .1)
       go (over ps at) h = text-opened ps at
       go (stopped why) h = h
 
@@ -87,9 +87,9 @@ module _ (u : List ℕ) where
       go (got x s) h = run-blames u (Stands u) (columned u) (columned-gives u) Any allBlocks (all-blocks-point u) s (h .1)
       go (not why) h = h
 
-  placed-blames : {E A : Type 0} (c : Run State E A) → BlamesIn u c → BlamesIn u (placed c)
-  unfolding placed BlamesIn
-  placed-blames (item e p c) h = (h .0, placed-blames c (h .1))
+  placed-blames : {E A : Type 0} (c : Run State E A) → BlamesIn u c → BlamesIn u (restPlaces c)
+  unfolding restPlaces BlamesIn
+  placed-blames (thing e p c) h = (h .0, placed-blames c (h .1))
   placed-blames (over a s) h = tt
   placed-blames (stopped why) h = h
 
@@ -105,7 +105,7 @@ ranges-blame form u at = line-blames u form allRanges (all-ranges-point u) at
 -- what so many rows take of it
 pub fit-blames : {S E A : Type 0} (u : List ℕ) (n : ℕ) (c : Run S E A) → BlamesIn u c → BlamesIn u (fit n c)
 unfolding fit BlamesIn Blames
-fit-blames u zero (item e p c) h = inl (h .0)
-fit-blames u (suc n) (item e p c) h = (h .0, fit-blames u n c (h .1))
+fit-blames u zero (thing e p c) h = inl (h .0)
+fit-blames u (suc n) (thing e p c) h = (h .0, fit-blames u n c (h .1))
 fit-blames u n (over a s) h = tt
 fit-blames u n (stopped why) h = h

@@ -143,7 +143,7 @@ module _ (u : List ℕ) where
   block-points c clock = (tt, λ a l. bind Any Info (grammar.body c clock (a .0) (a .1)) _ (body-points (a .0) (a .1) l c clock) (λ b _. l))
 
   blocks-point : (k c clock : ℕ) → Points Any (grammar.blocks k c clock)
-  unfolding Points grammar.blocks grammar.kept
+  unfolding Points grammar.blocks grammar.unlessDropped
   blocks-point zero c clock = tt
   blocks-point (suc k) c clock =
       bind Info Any (grammar.block c clock) _ (block-points c clock) (λ a l.
@@ -186,8 +186,8 @@ module _ (u : List ℕ) where
     ),
   )
 
-  clients-point : (n : ℕ) → Points Any (deletes.clients n)
-  unfolding Points _>>=_ deletes.clients
+  clients-point : (n : ℕ) → Points Any (deletes.deletedClients n)
+  unfolding Points _>>=_ deletes.deletedClients
   clients-point zero = tt
   clients-point (suc n) =
       (tt, λ c _. (tt, λ k _. bind Any Any (deletes.ranges (k .0) (c .0) 0) _ (ranges-point (k .0) (c .0) 0) (λ _ _. clients-point n)))

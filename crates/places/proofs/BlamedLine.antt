@@ -22,7 +22,7 @@ use Rattle.anys.proofs.Laws.{anys-where}
 use Rattle.grammar.specs.Grammar as grammar
 use Rattle.grammar.specs.Grammar.{Number, Field}
 use Rattle.grammar.specs.Course.{Drawn, got, not}
-use Rattle.decoder.specs.Line.{numberAt, varAt, bounded, upTo, byteAt, restored, deleteAt, numberOf, soMany, bytesAt, checked, wordOf, spanned, valuesAt, line}
+use Rattle.decoder.specs.Line.{numberAt, varAt, bounded, upTo, byteAt, restored, deleteAt, numberBy, soMany, bytesAt, checked, wordOf, spanned, valuesAt, line}
 use Rattle.pieces.proofs.Forgets.{chosen}
 use Rattle.places.specs.Places.{Blames}
 use Rattle.places.proofs.BlamedReads.{tested, not-text, Reads, end-blames, unsigned-reads}
@@ -62,8 +62,8 @@ module _ (u : List ℕ) where
     unfolding deleteAt
     delete-gives form by = chosen (Gives u (Byte u) Any) (eqb form 1) (up-to-gives maxClock) (restored-gives by (varAt u at) var-gives)
 
-    number-gives : (form : ℕ) (n : Number) → Gives u (Byte u) Any (numberOf form u n at)
-    unfolding numberOf
+    number-gives : (form : ℕ) (n : Number) → Gives u (Byte u) Any (numberBy form u n at)
+    unfolding numberBy
     number-gives form grammar.byte = byte-gives
     number-gives form (grammar.upTo most) = up-to-gives most
     number-gives form grammar.any = var-gives

@@ -12,7 +12,7 @@ use Rattle.numbers.specs.declared.Read.{Read}
 use Rattle.numbers.specs.declared.Read.the-variants.{Number, Refused}
 use Rattle.numbers.specs.declared.Signed.{Signed}
 use Rattle.numbers.specs.declared.Signed.the-variants.{Value, Wrong}
-use Rattle.numbers.specs.Number.{pick, Spelt, got, short, long, spelt, speltSigned, placed, minusOf, withSign, readUnsigned, readSigned}
+use Rattle.numbers.specs.Number.{pick, Spelt, got, short, long, spelt, speltSigned, answerAt, minusOf, withSign, readUnsigned, readSigned}
 use Rattle.numbers.proofs.Laws.{below-or, at-end}
 use Rattle.numbers.proofs.Inside as inside
 use Rattle.text.specs.Utf8.{wellFormed, after, settled}
@@ -47,28 +47,28 @@ module _ (u s : List ℕ) (l : length s ≤ length u) where
   end-blames = ⊎-elim (λ h. inl h) (λ h. inr (refl, omega arith)) (below-or (length s) (length u))
 
   module _ (at : ℕ) where
-    placed-reads : at < length s → (r : Spelt) → inside.Reads s at (placed s at r) → Reads u at (placed s at r)
-    unfolding placed Blames
+    placed-reads : at < length s → (r : Spelt) → inside.Reads s at (answerAt s at r) → Reads u at (answerAt s at r)
+    unfolding answerAt Blames
     placed-reads b (got v e) h = (h .0, omega (arith, h .1))
     placed-reads b short h = end-blames
     placed-reads b long h = inl (omega arith)
 
     pub unsigned-reads : Reads u at (readUnsigned s at)
-    unfolding readUnsigned placed
+    unfolding readUnsigned answerAt
     unsigned-reads = ⊎-elim
         (λ b. placed-reads b (spelt 9 at (drop at s)) (inside.unsigned-inside s at (omega arith)))
         (λ e. rw (at-end s 9 at (omega arith) e) end-blames)
         (below-or at (length s))
 
-    placed-signed : at < length s → (m : Bool) (r : Spelt) → inside.ReadsSigned s at (withSign m (placed s at r))
-        → ReadsSigned u at (withSign m (placed s at r))
-    unfolding placed withSign Blames
+    placed-signed : at < length s → (m : Bool) (r : Spelt) → inside.ReadsSigned s at (withSign m (answerAt s at r))
+        → ReadsSigned u at (withSign m (answerAt s at r))
+    unfolding answerAt withSign Blames
     placed-signed b m (got v e) h = (h .0, omega (arith, h .1))
     placed-signed b m short h = end-blames
     placed-signed b m long h = inl (omega arith)
 
     pub signed-reads : ReadsSigned u at (readSigned s at)
-    unfolding readSigned speltSigned placed withSign
+    unfolding readSigned speltSigned answerAt withSign
     signed-reads = ⊎-elim
         (λ b. placed-signed b (minusOf (drop at s)) (speltSigned at (drop at s)) (inside.signed-inside s at (omega arith)))
         (λ e. rw (drop-of-length-le s e) end-blames)

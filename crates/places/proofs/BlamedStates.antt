@@ -23,7 +23,7 @@ use Rattle.grammar.specs.Grammar.{Number, Field}
 use Rattle.grammar.specs.Course.{Drawn, got, not}
 use Rattle.decoder.specs.Line.{line}
 use Rattle.decoder.specs.States.{maxKeys, Numbers, Differences, Bytes, Texts, State}
-use Rattle.decoder.specs.Columned.{numberDrawn, fromNumbers, differenceDrawn, fromDifferences, byteDrawn, fromBytes, textDrawn, fromTexts, onto, numberIn, textIn, joining, numbered, keyIn, columned}
+use Rattle.decoder.specs.Columned.{numberDrawn, fromNumbers, differenceDrawn, fromDifferences, byteDrawn, fromBytes, textDrawn, fromTexts, onto, numberIn, textIn, joining, keyByNumber, keyIn, columned}
 use Rattle.pieces.proofs.Forgets.{chosen}
 use Rattle.places.specs.Places.{Blames}
 use Rattle.places.proofs.BlamedGrammars.{Any, Byte, AtByte, Fair, Gives}
@@ -77,9 +77,9 @@ module _ (u : List ℕ) where
 
     texts-give : (c : Texts) (put : Texts → S) → TextHolds (c .place) → ((d : Texts) → TextHolds (d .place) → Inv (put d))
         → Gives u Any Inv (fromTexts u c put)
-    unfolding textDrawn Gives Blames strings.nextText strings.drawn strings.taken strings.ending
+    unfolding textDrawn Gives Blames strings.nextText strings.unitsDrawn strings.unitsTaken strings.textEnding
     texts-give c put h keep =
-        number-next u s (front (c .to)) end (λ r. Gives u Any Inv (textDrawn put (c .to) (strings.drawn s at end r))) (λ _ b. b)
+        number-next u s (front (c .to)) end (λ r. Gives u Any Inv (textDrawn put (c .to) (strings.unitsDrawn s at end r))) (λ _ b. b)
         (λ n rest k. took n rest k (takeUnits 7 n (slice at end s)) refl) (c .place .units) (h .1)
       where
         at : ℕ
@@ -92,7 +92,7 @@ module _ (u : List ℕ) where
         s = take (c .to) u
 
         took : (n : ℕ) (rest : number-place.Place) → Runs u end (rest .at) (rest .from) → (r : Taken) → takeUnits 7 n (slice at end s) ≡ r
-            → Gives u Any Inv (textDrawn put (c .to) (strings.ending at end rest r))
+            → Gives u Any Inv (textDrawn put (c .to) (strings.textEnding at end rest r))
         took n rest k (units.Took b) e =
             let within = cut 7 n (b .0) (slice at end s) e .within in
             (tt, keep _ (omega (arith, h .0, within, length-drop at (take end s), length-take end s), (k .0, λ _. k)))
@@ -136,8 +136,8 @@ module _ (u : List ℕ) where
   joining-gives (not why) h = h
 
   -- one key too many is blamed where its number was drawn
-  numbered-gives : (d : Drawn State (ℕ × ℕ)) → Gives u (Byte u) Stands d → Gives u Any Stands (numbered u d)
-  unfolding numbered Gives Blames
+  numbered-gives : (d : Drawn State (ℕ × ℕ)) → Gives u (Byte u) Stands d → Gives u Any Stands (keyByNumber u d)
+  unfolding keyByNumber Gives Blames
   numbered-gives (got a s) h =
       chosen (Gives u Any Stands) (ltb (a .0) (length (s .keys))) (tt, h .1)
       (chosen (Gives u Any Stands) (ltb (length (s .keys)) maxKeys) (joining-gives (textIn u s) (text-gives s (h .1))) (inl (h .0)))

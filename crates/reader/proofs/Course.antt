@@ -10,7 +10,7 @@ use Rattle.numbers.specs.declared.Refusal.{Refusal}
 use Rattle.block.specs.declared.Block.{Block}
 use Rattle.block.specs.Row.{noBlock}
 use Rattle.table.specs.Rows.{clearedFrom, filledFrom}
-use Rattle.grammar.specs.Course.{Run, Course, item, over, stopped, fit, items, ending}
+use Rattle.grammar.specs.Course.{Run, Course, thing, over, stopped, fit, things, ending}
 use Rattle.decoder.specs.States.{State, movedTo}
 use Rattle.cells.specs.Cells.{stateIn}
 use Rattle.reader.specs.declared.Filled.{Filled}
@@ -31,38 +31,38 @@ onLast (refused why) d r = r why
 
 ending-last : {X : Type 0} (c : Course Block) (d : ℕ → X) (r : Refusal → X) → ending c d r ≡ onLast (last c) d r
 unfolding ending
-ending-last (item a p c) d r = ending-last c d r
+ending-last (thing a p c) d r = ending-last c d r
 ending-last (over a s) d r = refl
 ending-last (stopped why) d r = refl
 
 -- ---- so many rows: the blocks and the end, each known apart
 module _ (N : ℕ) (c : Course Block) where
-  filled-by : (bs : List Block) (l : Last) → items (fit N c) ≡ bs → last (fit N c) ≡ l → filledOf N c ≡ onLast l (λ s. Rows (length bs) s) (λ why. Refused why)
+  filled-by : (bs : List Block) (l : Last) → things (fit N c) ≡ bs → last (fit N c) ≡ l → filledOf N c ≡ onLast l (λ s. Rows (length bs) s) (λ why. Refused why)
   unfolding filledOf
-  filled-by bs l e h = ending-last (fit N c) (λ s. Rows (length (items (fit N c))) s) (λ why. Refused why) ∙ ap (λ (k : Last). onLast k (λ s. Rows (length (items (fit N c))) s) (λ why. Refused why)) h ∙ ap (λ (ws : List Block). onLast l (λ s. Rows (length ws) s) (λ why. Refused why)) e
+  filled-by bs l e h = ending-last (fit N c) (λ s. Rows (length (things (fit N c))) s) (λ why. Refused why) ∙ ap (λ (k : Last). onLast k (λ s. Rows (length (things (fit N c))) s) (λ why. Refused why)) h ∙ ap (λ (ws : List Block). onLast l (λ s. Rows (length ws) s) (λ why. Refused why)) e
 
-  rows-by : (bs : List Block) (l : Last) → items (fit N c) ≡ bs → last (fit N c) ≡ l → rowsOf N c ≡ onLast l (λ s. bs ++ replicate (N - length bs) noBlock) (λ why. replicate N noBlock)
+  rows-by : (bs : List Block) (l : Last) → things (fit N c) ≡ bs → last (fit N c) ≡ l → rowsOf N c ≡ onLast l (λ s. bs ++ replicate (N - length bs) noBlock) (λ why. replicate N noBlock)
   unfolding rowsOf
   rows-by bs l e h =
-      ending-last (fit N c) (λ s. items (fit N c) ++ replicate (N - length (items (fit N c))) noBlock) (λ why. replicate N noBlock)
-      ∙ ap (λ (k : Last). onLast k (λ s. items (fit N c) ++ replicate (N - length (items (fit N c))) noBlock) (λ why. replicate N noBlock)) h
+      ending-last (fit N c) (λ s. things (fit N c) ++ replicate (N - length (things (fit N c))) noBlock) (λ why. replicate N noBlock)
+      ∙ ap (λ (k : Last). onLast k (λ s. things (fit N c) ++ replicate (N - length (things (fit N c))) noBlock) (λ why. replicate N noBlock)) h
       ∙ ap (λ (ws : List Block). onLast l (λ s. ws ++ replicate (N - length ws) noBlock) (λ why. replicate N noBlock)) e
 
 -- ---- one thing more
-items-more : (k : ℕ) (b : Block) (p : ℕ) (c : Course Block) → items (fit (suc k) (item b p c)) ≡ b ∷ items (fit k c)
-unfolding fit items
+items-more : (k : ℕ) (b : Block) (p : ℕ) (c : Course Block) → things (fit (suc k) (thing b p c)) ≡ b ∷ things (fit k c)
+unfolding fit things
 items-more k b p c = refl
 
-last-more : (k : ℕ) (b : Block) (p : ℕ) (c : Course Block) → last (fit (suc k) (item b p c)) ≡ last (fit k c)
+last-more : (k : ℕ) (b : Block) (p : ℕ) (c : Course Block) → last (fit (suc k) (thing b p c)) ≡ last (fit k c)
 unfolding fit ending
 last-more k b p c = refl
 
-last-full : (b : Block) (p : ℕ) (c : Course Block) → last (fit 0 (item b p c)) ≡ refused (record { number = 8; place = p })
+last-full : (b : Block) (p : ℕ) (c : Course Block) → last (fit 0 (thing b p c)) ≡ refused (record { number = 8; place = p })
 unfolding fit ending
 last-full b p c = refl
 
-items-over : (k : ℕ) (a : Unit {0}) (s : ℕ) → _≡_ {A = List Block} (items (fit k (over a s))) []
-unfolding fit items
+items-over : (k : ℕ) (a : Unit {0}) (s : ℕ) → _≡_ {A = List Block} (things (fit k (over a s))) []
+unfolding fit things
 items-over zero a s = refl
 items-over (suc k) a s = refl
 
@@ -78,7 +78,7 @@ last-stopped (suc k) why = refl
 
 -- ---- what is known where a turn begins, with n of N rows filled and c to come: they hold the first blocks of c₀, and c is the rest
 abbrev pub Known : ℕ → Course Block → ℕ → List Block → Course Block → Type 0
-Known N c₀ n rows c = (n ≤ N) × (items (fit N c₀) ≡ take n rows ++ items (fit (N - n) c)) × (last (fit N c₀) ≡ last (fit (N - n) c))
+Known N c₀ n rows c = (n ≤ N) × (things (fit N c₀) ≡ take n rows ++ things (fit (N - n) c)) × (last (fit N c₀) ≡ last (fit (N - n) c))
 
 -- the contract at a way out
 abbrev Ends : ℕ → Course Block → Filled → List Block → Type 0
@@ -86,14 +86,14 @@ Ends N c₀ r rows = (r ≡ filledOf N c₀) × (rows ≡ rowsOf N c₀)
 
 module _ (N : ℕ) (c₀ : Course Block) where
   pub at-first : (rows : List Block) (c : Course Block) → c₀ ≡ c → Known N c₀ 0 rows c
-  at-first rows c e = (omega (arith), ap (λ (x : Course Block). items (fit N x)) e ∙ ap (λ (k : ℕ). items (fit k c)) all, ap (λ (x : Course Block). last (fit N x)) e ∙ ap (λ (k : ℕ). last (fit k c)) all)
+  at-first rows c e = (omega (arith), ap (λ (x : Course Block). things (fit N x)) e ∙ ap (λ (k : ℕ). things (fit k c)) all, ap (λ (x : Course Block). last (fit N x)) e ∙ ap (λ (k : ℕ). last (fit k c)) all)
     where
       all : N ≡ N - 0
       all = omega (arith)
 
   refuses : (rows : List Block) (why : Refusal) → length rows ≡ N → last (fit N c₀) ≡ refused why → Ends N c₀ (Refused why) (clearedFrom 0 rows)
   unfolding clearedFrom filledFrom
-  refuses rows why size h = (sym (filled-by N c₀ (items (fit N c₀)) (refused why) refl h), ap (λ (k : ℕ). replicate k noBlock) all ∙ sym (rows-by N c₀ (items (fit N c₀)) (refused why) refl h))
+  refuses rows why size h = (sym (filled-by N c₀ (things (fit N c₀)) (refused why) refl h), ap (λ (k : ℕ). replicate k noBlock) all ∙ sym (rows-by N c₀ (things (fit N c₀)) (refused why) refl h))
     where
       all : length rows - 0 ≡ N
       all = omega (arith, size)
@@ -103,15 +103,15 @@ module _ (N : ℕ) (c₀ : Course Block) where
 
   module _ (n : ℕ) (rows : List Block) (c : Course Block) (known : Known N c₀ n rows c) where
     pub passed : (rest : Course Block) → c ≡ rest → Known N c₀ n rows rest
-    passed rest e = (known .0, known .1 ∙ ap (λ (x : Course Block). take n rows ++ items (fit (N - n) x)) e, known .2 ∙ ap (λ (x : Course Block). last (fit (N - n) x)) e)
+    passed rest e = (known .0, known .1 ∙ ap (λ (x : Course Block). take n rows ++ things (fit (N - n) x)) e, known .2 ∙ ap (λ (x : Course Block). last (fit (N - n) x)) e)
 
     module _ (size : length rows ≡ N) where
-      pub kept : (b : Block) (p : ℕ) (rest : Course Block) → c ≡ item b p rest → n < N → Known N c₀ (n + 1) (set rows n b) rest
+      pub kept : (b : Block) (p : ℕ) (rest : Course Block) → c ≡ thing b p rest → n < N → Known N c₀ (n + 1) (set rows n b) rest
       kept b p rest e l = (
         omega (arith, l),
-        passed (item b p rest) e .1 ∙ ap (λ (k : ℕ). take n rows ++ items (fit k (item b p rest))) less ∙ ap (λ (bs : List Block). take n rows ++ bs) (items-more (N - (n + 1)) b p rest) ∙ sym (append-assoc (take n rows) (b ∷ []) (items (fit (N - (n + 1)) rest)))
-            ∙ ap (λ (bs : List Block). bs ++ items (fit (N - (n + 1)) rest)) (sym one-more),
-        passed (item b p rest) e .2 ∙ ap (λ (k : ℕ). last (fit k (item b p rest))) less ∙ last-more (N - (n + 1)) b p rest,
+        passed (thing b p rest) e .1 ∙ ap (λ (k : ℕ). take n rows ++ things (fit k (thing b p rest))) less ∙ ap (λ (bs : List Block). take n rows ++ bs) (items-more (N - (n + 1)) b p rest) ∙ sym (append-assoc (take n rows) (b ∷ []) (things (fit (N - (n + 1)) rest)))
+            ∙ ap (λ (bs : List Block). bs ++ things (fit (N - (n + 1)) rest)) (sym one-more),
+        passed (thing b p rest) e .2 ∙ ap (λ (k : ℕ). last (fit k (thing b p rest))) less ∙ last-more (N - (n + 1)) b p rest,
       )
         where
           less : N - n ≡ suc (N - (n + 1))
@@ -120,8 +120,8 @@ module _ (N : ℕ) (c₀ : Course Block) where
           one-more : take (n + 1) (set rows n b) ≡ take n rows ++ (b ∷ [])
           one-more = ap (λ (k : ℕ). take k (set rows n b)) (add-one n) ∙ take-suc-set rows n b (omega (arith, l, size))
 
-      pub on-full : (b : Block) (p : ℕ) (rest : Course Block) → c ≡ item b p rest → N ≤ n → Ends N c₀ (Refused (record { number = 8; place = p })) (clearedFrom 0 rows)
-      on-full b p rest e l = refuses rows (record { number = 8; place = p }) size (passed (item b p rest) e .2 ∙ ap (λ (k : ℕ). last (fit k (item b p rest))) none-left ∙ last-full b p rest)
+      pub on-full : (b : Block) (p : ℕ) (rest : Course Block) → c ≡ thing b p rest → N ≤ n → Ends N c₀ (Refused (record { number = 8; place = p })) (clearedFrom 0 rows)
+      on-full b p rest e l = refuses rows (record { number = 8; place = p }) size (passed (thing b p rest) e .2 ∙ ap (λ (k : ℕ). last (fit k (thing b p rest))) none-left ∙ last-full b p rest)
         where
           none-left : N - n ≡ 0
           none-left = omega (arith, l)
@@ -136,7 +136,7 @@ module _ (N : ℕ) (c₀ : Course Block) where
         ap (λ (k : ℕ). take n rows ++ replicate (k - n) noBlock) size ∙ sym (rows-by N c₀ (take n rows) (done s) blocks end ∙ ap (λ (k : ℕ). take n rows ++ replicate (N - k) noBlock) taken),
       )
         where
-          blocks : items (fit N c₀) ≡ take n rows
+          blocks : things (fit N c₀) ≡ take n rows
           blocks = passed (over tt s) e .1 ∙ ap (λ (bs : List Block). take n rows ++ bs) (items-over (N - n) tt s) ∙ append-nil (take n rows)
 
           end : last (fit N c₀) ≡ done s
@@ -169,17 +169,17 @@ module _ (N : ℕ) (c₀ : Run State Block (Unit {0})) where
     pub onward-passed : (rest : Run State Block (Unit {0})) → c ≡ rest → Onward n rest
     onward-passed rest e v h = on v (subst (λ (x : Run State Block (Unit {0})). Stands (fit (N - n) x) v) (sym e) h)
 
-    module _ (b : Block) (p : ℕ) (rest : Run State Block (Unit {0})) (e : c ≡ item b p rest) where
+    module _ (b : Block) (p : ℕ) (rest : Run State Block (Unit {0})) (e : c ≡ thing b p rest) where
       pub onward-kept : n < N → Onward (n + 1) rest
       unfolding fit Stands
-      onward-kept l v h = onward-passed (item b p rest) e v (subst (λ (k : ℕ). Stands (fit k (item b p rest)) v) less h)
+      onward-kept l v h = onward-passed (thing b p rest) e v (subst (λ (k : ℕ). Stands (fit k (thing b p rest)) v) less h)
         where
           less : suc (N - (n + 1)) ≡ N - n
           less = omega (arith, l)
 
       pub stands-full : N ≤ n → (v : List ℕ) → Stands (fit N c₀) v
       unfolding fit Stands
-      stands-full l v = onward-passed (item b p rest) e v (subst (λ (k : ℕ). Stands (fit k (item b p rest)) v) none-left tt)
+      stands-full l v = onward-passed (thing b p rest) e v (subst (λ (k : ℕ). Stands (fit k (thing b p rest)) v) none-left tt)
         where
           none-left : 0 ≡ N - n
           none-left = omega (arith, l)

@@ -8,7 +8,7 @@ use lib.Seq.{slice, drop-length}
 use denote.Ref.{RefT, now}
 use Rattle.numbers.specs.declared.Refusal.{Refusal}
 use Rattle.numbers.specs.declared.Signed.the-variants.{Wrong}
-use Rattle.numbers.specs.Number.{none, readSigned, speltSigned, minusOf, placed, withSign}
+use Rattle.numbers.specs.Number.{none, readSigned, speltSigned, minusOf, answerAt, withSign}
 use Rattle.columns.specs.declared.number.Place as number-place
 use Rattle.columns.specs.declared.number.Answer as number-answer
 use Rattle.columns.specs.declared.number.Answer.the-variants as number
@@ -149,11 +149,11 @@ texts-read (suc k) s p = text-turn k s p (strings.nextText (now s) p) refl (text
 -- ---- a column whose opening was refused
 
 signed-end : (s : List ℕ) → readSigned s (length s) ≡ Wrong (record { number = 1; place = length s })
-unfolding readSigned speltSigned minusOf placed withSign
+unfolding readSigned speltSigned minusOf answerAt withSign
 signed-end s = rw (drop-length s)
 
 shut-step : (s : List ℕ) → stepOf s (Text (shut s)) ≡ record { place = Text (shut s); answer = refused (record { number = 1; place = length s }) }
-unfolding stepOf textStep strings.nextText strings.drawn nextNumber begun
+unfolding stepOf textStep strings.nextText strings.unitsDrawn nextNumber begun
 shut-step s = rw (signed-end s)
 
 -- every read of its reader says 1, at the column's end

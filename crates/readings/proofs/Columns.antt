@@ -126,21 +126,21 @@ text-opens s at = go (readUnsigned s at) refl
         chosen (Opens s) (ltb (length s - f) n) (λ _. tt)
         (λ l. chosen (Opens s) (wellFormed (slice f (f + n) s)) (λ _. (omega arith, omega (arith, ltb-false (length s - f) n l, read-ends s at n f e))) (λ _. tt))
 
-text-taken : (s : List ℕ) (at end u : ℕ) (rest : number-place.Place) → at ≤ end → end ≤ length s → rest .last ≡ u → TextHeld s (strings.taken s at end u rest)
-unfolding strings.taken strings.ending
+text-taken : (s : List ℕ) (at end u : ℕ) (rest : number-place.Place) → at ≤ end → end ≤ length s → rest .last ≡ u → TextHeld s (strings.unitsTaken s at end u rest)
+unfolding strings.unitsTaken strings.textEnding
 text-taken s at end u rest l f h = go (takeUnits 7 u (slice at end s)) refl
   where
-    go : (r : Taken) → takeUnits 7 u (slice at end s) ≡ r → TextHeld s (strings.ending at end rest r)
+    go : (r : Taken) → takeUnits 7 u (slice at end s) ≡ r → TextHeld s (strings.textEnding at end rest r)
     go (units.Took b) e =
         let c = cut-at 7 u (b .0) at end s l f e in
         (record { lies = omega (arith, c .within); formed = c .front; units = c .units ∙ sym h }, (c .within, f))
     go (units.Refused why) e = tt
 
 pub text-held : (s : List ℕ) (c : string-place.Place) → Within s c → TextHeld s (strings.nextText s c)
-unfolding strings.nextText strings.drawn
+unfolding strings.nextText strings.unitsDrawn
 text-held s c w = go (numbers.nextNumber s (c .units)) (number-held s (c .units))
   where
-    go : (r : number-answer.Answer) → ValueHeld r → TextHeld s (strings.drawn s (c .at) (c .end) r)
+    go : (r : number-answer.Answer) → ValueHeld r → TextHeld s (strings.unitsDrawn s (c .at) (c .end) r)
     go (number.Next u rest) h = text-taken s (c .at) (c .end) u rest (w .0) (w .1) (h .1)
     go (number.Bad why) h = tt
 

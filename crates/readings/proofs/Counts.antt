@@ -6,7 +6,7 @@ use native.Mathlib.Omega.{arith}
 use lib.ListN.{length}
 use Rattle.numbers.specs.Limits.{maxClients, maxBlocks}
 use Rattle.block.specs.declared.Block.{Block}
-use Rattle.grammar.specs.Course.{items}
+use Rattle.grammar.specs.Course.{things}
 use Rattle.decoder.specs.Update.{blocksOf}
 use Rattle.readings.specs.Sound.{owner}
 use Rattle.readings.specs.Groups.{groups}
@@ -32,7 +32,7 @@ count-holds form u =
       block = λ n seen room k client clock b bs new sound c t h. omega arith;
     }
 
-pub blocks-count : (form : ℕ) (u : List ℕ) → length (items (blocksOf form u)) ≤ maxBlocks
+pub blocks-count : (form : ℕ) (u : List ℕ) → length (things (blocksOf form u)) ≤ maxBlocks
 blocks-count form u = blocks-by form u Counted CountedPart (count-holds form u) .holds
 
 -- ---- groups: one a section at most
@@ -57,7 +57,7 @@ group-holds form u =
       block = λ n seen room k client clock b bs new sound c t h. (h .1 b c, λ d e. omega (arith, same-length owner d b bs (e ∙ sym c), h .1 b c));
     }
 
-pub blocks-groups : (form : ℕ) (u : List ℕ) → length (groups owner (items (blocksOf form u))) ≤ maxClients
+pub blocks-groups : (form : ℕ) (u : List ℕ) → length (groups owner (things (blocksOf form u))) ≤ maxClients
 blocks-groups form u =
     let all = blocks-by form u Grouped GroupedPart (group-holds form u) in
     omega (arith, all .holds, all .fits)

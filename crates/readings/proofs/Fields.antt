@@ -40,10 +40,10 @@ use Rattle.string.specs.String.{openText, nextText}
 use Rattle.string.proofs.Texts.{read-ends}
 use Rattle.grammar.specs.Grammar as grammar
 use Rattle.grammar.specs.Grammar.{Number, Field, Answer}
-use Rattle.grammar.specs.Course.{Drawn, got, not, Run, item, over, stopped, run}
-use Rattle.decoder.specs.Line.{bounded, upTo, varAt, numberOf, soMany, bytesAt, checked, wordOf, spanned, valuesAt, line}
+use Rattle.grammar.specs.Course.{Drawn, got, not, Run, thing, over, stopped, run}
+use Rattle.decoder.specs.Line.{bounded, upTo, varAt, numberBy, soMany, bytesAt, checked, wordOf, spanned, valuesAt, line}
 use Rattle.decoder.specs.States.{maxKeys, Numbers, Differences, Bytes, State, withText}
-use Rattle.decoder.specs.Columned.{numberDrawn, fromNumbers, differenceDrawn, fromDifferences, byteDrawn, fromBytes, textDrawn, onto, numberIn, textIn, joining, numbered, keyIn, columned}
+use Rattle.decoder.specs.Columned.{numberDrawn, fromNumbers, differenceDrawn, fromDifferences, byteDrawn, fromBytes, textDrawn, onto, numberIn, textIn, joining, keyByNumber, keyIn, columned}
 use Rattle.decoder.specs.Opening.{heads, withOpened, textOpened, onHeads, openedOf}
 use Rattle.readings.specs.Sound.{bytesIn, All}
 use Rattle.readings.specs.SoundInner.{Lies, AreValues}
@@ -176,8 +176,8 @@ module _ (u : List ℕ) where
   value-gives false blame at = as-value (valuesAt u blame 1 at) (values-give blame 1 at)
 
   module _ (form : ℕ) where
-    number-gives : (n : Number) (at : ℕ) → Gives (Good u (eqb form 1) (grammar.number n)) Any (numberOf form u n at)
-    unfolding numberOf Good GoodNumber
+    number-gives : (n : Number) (at : ℕ) → Gives (Good u (eqb form 1) (grammar.number n)) Any (numberBy form u n at)
+    unfolding numberBy Good GoodNumber
     number-gives (grammar.upTo most) at = up-to-gives most at
     number-gives grammar.client at = up-to-gives maxValue at
     number-gives grammar.leftClock at = up-to-gives maxClock at
@@ -275,8 +275,8 @@ module _ (u : List ℕ) where
       (w, (h .1 .0, all-more (Word u) (s .keys) (a .0) (h .1 .1) w))
   joining-gives (not why) h = tt
 
-  numbered-gives : (d : Drawn State (ℕ × ℕ)) → Gives Any Inside d → Gives (Word u) Inside (numbered u d)
-  unfolding numbered Gives
+  numbered-gives : (d : Drawn State (ℕ × ℕ)) → Gives Any Inside d → Gives (Word u) Inside (keyByNumber u d)
+  unfolding keyByNumber Gives
   numbered-gives (got a s) h =
       chosen (Gives (Word u) Inside) (ltb (a .0) (length (s .keys)))
       (λ l. (all-at (Word u) (s .keys) (a .0) noPart (h .1 .1) (ltb-true (a .0) (length (s .keys)) l), h .1))
@@ -311,6 +311,6 @@ module _ (u : List ℕ) where
   opened-gives = go (run (line 2 u) heads 0)
     where
       go : (c : Run ℕ _ _) → Gives Any Inside (onHeads u c)
-      go (item e p c) = go c
+      go (thing e p c) = go c
       go (over ps at) = text-opened _ tt
       go (stopped why) = tt

@@ -12,7 +12,7 @@ use Rattle.numbers.specs.Number.{pick}
 use Rattle.numbers.specs.Limits.{maxClock, maxValue, maxClients}
 use Rattle.grammar.specs.Grammar.{Grammar, emit, stop}
 use Rattle.grammar.specs.GrammarInner.{_>>=_}
-use Rattle.grammar.specs.Course.{fit, items}
+use Rattle.grammar.specs.Course.{fit, things}
 use Rattle.grammar.specs.Deletes as grammar
 use Rattle.decoder.specs.Line.{line}
 use Rattle.decoder.specs.Update.{deleteSet}
@@ -78,15 +78,15 @@ module _ (u : List ℕ) (one : Bool) where
     ranges-keep rest (suc k) end =
         (none (client ∷ []) n, λ c _. (none (client ∷ []) n, λ l _. ended (c .0) (c .1) (l .0) _ (ranges-keep rest k (c .0 + l .0))))
 
-  clients-keep : (n : ℕ) → Keeps (Announced [] n) (grammar.clients n)
-  unfolding walks.Keeps _>>=_ grammar.clients Good GoodNumber
+  clients-keep : (n : ℕ) → Keeps (Announced [] n) (grammar.deletedClients n)
+  unfolding walks.Keeps _>>=_ grammar.deletedClients Good GoodNumber
   clients-keep zero = none [] 0
   clients-keep (suc n) = (
     none [] (suc n),
     λ c most. (
       none [] (suc n),
       λ k _.
-          walks.keeps-map (Good u one) _ _ (grammar.ranges (k .0) (c .0) 0 >>= λ _. grammar.clients n)
+          walks.keeps-map (Good u one) _ _ (grammar.ranges (k .0) (c .0) 0 >>= λ _. grammar.deletedClients n)
           (λ rs a. record { names = c .0 ∷ a .names; few = omega (arith, a .few); each = a .each }) (ranges-keep (c .0) n most _ (clients-keep n) (k .0) 0),
     ),
   )
@@ -95,11 +95,11 @@ module _ (u : List ℕ) (one : Bool) where
   unfolding walks.Keeps _>>=_ grammar.allRanges Good GoodNumber
   all-keep = (
     none [] maxClients,
-    λ n l. walks.keeps-map (Good u one) _ _ (grammar.clients (n .0))
+    λ n l. walks.keeps-map (Good u one) _ _ (grammar.deletedClients (n .0))
         (λ rs a. record { names = a .names; few = omega (arith, a .few); each = a .each }) (clients-keep (n .0)),
   )
 
-set-announced : (form : ℕ) (u : List ℕ) (at : ℕ) → Announced [] maxClients (items (deleteSet form u at))
+set-announced : (form : ℕ) (u : List ℕ) (at : ℕ) → Announced [] maxClients (things (deleteSet form u at))
 unfolding deleteSet
 set-announced form u at = walks.kept-has (Good u (eqb form 1)) (λ (e : ℕ). Unit {0}) (line form u) (line-faithful u form) (Announced [] maxClients) grammar.allRanges (all-keep u (eqb form 1)) at tt
 
@@ -124,12 +124,12 @@ module _ (form : ℕ) (u : List ℕ) (at n : ℕ) where
   names = set-announced form u at .names
 
   abbrev found : List Range
-  found = items (fit n (deleteSet form u at))
+  found = things (fit n (deleteSet form u at))
 
   fit-known : All (Known names) found
   fit-known = fit-all (Known names) n (deleteSet form u at) (set-announced form u at .each)
 
-  pub fit-fine : All Fine (items (fit n (deleteSet form u at)))
+  pub fit-fine : All Fine (things (fit n (deleteSet form u at)))
   fit-fine = all-map (Known names) Fine (λ r x. x .0) found fit-known
 
   normal-known : All (Known names) (normal found)
@@ -183,7 +183,7 @@ groups-named cs ((r ∷ g) ∷ gs) h k = (k .0 .0 .1, groups-named cs gs (h .2) 
 
 -- the normal form, for any rows
 module _ (form : ℕ) (u : List ℕ) (at n : ℕ) where
-  pub range-clients : length (groups (λ (r : Range). r .client) (normal (items (fit n (deleteSet form u at))))) ≤ maxClients
+  pub range-clients : length (groups (λ (r : Range). r .client) (normal (things (fit n (deleteSet form u at))))) ≤ maxClients
   range-clients =
       let rs : List Range = normal (found form u at n) in
       let gs : List (List Range) = groups clientIn rs in

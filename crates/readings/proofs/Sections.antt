@@ -13,13 +13,13 @@ use Rattle.numbers.specs.Limits.{maxValue, maxClock, maxClients, maxBlocks}
 use Rattle.block.specs.declared.Block.{Block}
 use Rattle.grammar.specs.Grammar.{Grammar, stop}
 use Rattle.grammar.specs.GrammarInner.{_>>=_}
-use Rattle.grammar.specs.Course.{Drawn, got, not, Run, item, over, stopped, onDrawn, run, items}
+use Rattle.grammar.specs.Course.{Drawn, got, not, Run, thing, over, stopped, onDrawn, run, things}
 use Rattle.grammar.specs.Blocks as grammar
 use Rattle.decoder.specs.Line.{line}
 use Rattle.decoder.specs.States.{State}
 use Rattle.decoder.specs.Columned.{columned}
 use Rattle.decoder.specs.Opening.{openedOf}
-use Rattle.decoder.specs.Update.{placed, inColumns, blocksOf}
+use Rattle.decoder.specs.Update.{restPlaces, inColumns, blocksOf}
 use Rattle.readings.specs.SoundInner.{Sound, Valued}
 use Rattle.readings.proofs.Walks as walks
 use Rattle.readings.proofs.Walks.{Gives}
@@ -48,9 +48,9 @@ pub record Holds (form : ℕ) (u : List ℕ) (Whole : OfSections) (Part : OfPart
       → b .client ≡ client → b .clock ≡ clock → Part n seen room k client (clock + b .length .0) bs → Part n seen room (suc k) client clock (b ∷ bs)
 
 -- the place alone is other
-items-placed : (c : Run State Block (Unit {0})) → items (placed c) ≡ items c
-unfolding items placed
-items-placed (item e p c) = ap (λ (l : List Block). e ∷ l) (items-placed c)
+items-placed : (c : Run State Block (Unit {0})) → things (restPlaces c) ≡ things c
+unfolding things restPlaces
+items-placed (thing e p c) = ap (λ (l : List Block). e ∷ l) (items-placed c)
 items-placed (over a s) = refl
 items-placed (stopped why) = refl
 
@@ -68,8 +68,8 @@ module _ (form : ℕ) (u : List ℕ) (Whole : OfSections) (Part : OfPart) (hold 
 
     ended : (k clock : ℕ) (b : Block) (at : ℕ) → Body form u client clock most b → Keeps (Here k (clock + b .length .0)) (from k (clock + b .length .0))
         → Keeps (Here (suc k) clock)
-        (pick (ltb maxClock (clock + b .length .0)) (stop 3 at) (grammar.kept b at (grammar.blocks k client (clock + b .length .0))) >>= then)
-    unfolding walks.Keeps _>>=_ grammar.kept
+        (pick (ltb maxClock (clock + b .length .0)) (stop 3 at) (grammar.unlessDropped b at (grammar.blocks k client (clock + b .length .0))) >>= then)
+    unfolding walks.Keeps _>>=_ grammar.unlessDropped
     ended k clock b at h on =
         let end : ℕ = clock + b .length .0 in
         let R : Grammar Block (Unit {0}) → Type 0 = λ x. Keeps (Here (suc k) clock) (x >>= then) in
@@ -122,23 +122,23 @@ module _ (form : ℕ) (u : List ℕ) (Whole : OfSections) (Part : OfPart) (hold 
     λ n l. walks.keeps-map (Good u (eqb form 1)) _ _ (grammar.sections (n .0) [] maxBlocks) (λ bs h. record { count = n .0; fits = l; holds = h }) (sections-keep (n .0) [] maxBlocks),
   )
 
-  in-columns : eqb form 1 ≡ false → AllBlocks (items (inColumns u))
-  unfolding inColumns onDrawn items Gives
+  in-columns : eqb form 1 ≡ false → AllBlocks (things (inColumns u))
+  unfolding inColumns onDrawn things Gives
   in-columns e = go (openedOf u) (opened-gives u)
     where
-      go : (d : Drawn State (Unit {0})) → Gives (λ x. Unit {0}) (Inside u) d → AllBlocks (items (onDrawn d (λ x s. run (columned u) grammar.allBlocks s)))
+      go : (d : Drawn State (Unit {0})) → Gives (λ x. Unit {0}) (Inside u) d → AllBlocks (things (onDrawn d (λ x s. run (columned u) grammar.allBlocks s)))
       go (got x s) h =
           walks.kept-has (Good u (eqb form 1)) (Inside u) (columned u)
           (subst (λ (one : Bool). walks.Faithful (Good u one) (Inside u) (columned u)) (sym e) (columned-faithful u)) AllBlocks grammar.allBlocks all-keep s (h .1)
       go (not why) h = no-blocks
 
-  in-line : eqb form 1 ≡ true → AllBlocks (items (run (line 1 u) grammar.allBlocks 0))
+  in-line : eqb form 1 ≡ true → AllBlocks (things (run (line 1 u) grammar.allBlocks 0))
   in-line e =
       walks.kept-has (Good u (eqb form 1)) (λ (at : ℕ). Unit {0}) (line 1 u)
       (subst (λ (one : Bool). walks.Faithful (Good u one) (λ (at : ℕ). Unit {0}) (line 1 u)) (sym e) (line-faithful u 1)) AllBlocks grammar.allBlocks all-keep 0 tt
 
-  pub blocks-by : AllBlocks (items (blocksOf form u))
+  pub blocks-by : AllBlocks (things (blocksOf form u))
   unfolding blocksOf
   blocks-by =
-      chosen (λ (c : Run ℕ Block (Unit {0})). AllBlocks (items c)) (eqb form 1) in-line
+      chosen (λ (c : Run ℕ Block (Unit {0})). AllBlocks (things c)) (eqb form 1) in-line
       (λ e. subst AllBlocks (sym (items-placed (inColumns u))) (in-columns e))

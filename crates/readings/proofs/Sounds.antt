@@ -2,7 +2,7 @@
 use Prim.Native.Nat.{ℕ}
 use mathlib.Core.List.{List}
 use Rattle.block.specs.declared.Block.{Block}
-use Rattle.grammar.specs.Course.{items}
+use Rattle.grammar.specs.Course.{things}
 use Rattle.decoder.specs.Update.{blocksOf}
 use Rattle.readings.specs.Sound.{All}
 use Rattle.readings.specs.SoundInner.{Sound, Valued}
@@ -30,11 +30,11 @@ module _ (form : ℕ) (u : List ℕ) where
         block = λ n seen room k client clock b bs new has c t h. (has, h);
       }
 
-  all-has : All Has (items (blocksOf form u))
+  all-has : All Has (things (blocksOf form u))
   all-has = blocks-by form u Whole Part hold .holds
 
-  pub blocks-sound : All (Sound u) (items (blocksOf form u))
-  blocks-sound = all-map Has (Sound u) (λ b h. h .0) (items (blocksOf form u)) all-has
+  pub blocks-sound : All (Sound u) (things (blocksOf form u))
+  blocks-sound = all-map Has (Sound u) (λ b h. h .0) (things (blocksOf form u)) all-has
 
-  pub blocks-valued : All (Valued form u) (items (blocksOf form u))
-  blocks-valued = all-map Has (Valued form u) (λ b h. h .1) (items (blocksOf form u)) all-has
+  pub blocks-valued : All (Valued form u) (things (blocksOf form u))
+  blocks-valued = all-map Has (Valued form u) (λ b h. h .1) (things (blocksOf form u)) all-has

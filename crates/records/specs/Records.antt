@@ -67,12 +67,12 @@ unfoldable pub piecesTokens : List ℕ → List Piece → List Token
 piecesTokens u [] = []
 piecesTokens u (p ∷ ps) = blockTokens u (cutRow u p) ++ piecesTokens u ps
 
-unfoldable pub startOf : List Piece → ℕ
-startOf [] = 0
-startOf (p ∷ ps) = p .row .clock + p .from
+unfoldable pub sectionStart : List Piece → ℕ
+sectionStart [] = 0
+sectionStart (p ∷ ps) = p .row .clock + p .from
 
 unfoldable pub sectionTokens : List ℕ → Section → List Token
-sectionTokens u s = var (length (s .pieces)) ∷ (client (s .client) ∷ (var (startOf (s .pieces)) ∷ piecesTokens u (s .pieces)))
+sectionTokens u s = var (length (s .pieces)) ∷ (client (s .client) ∷ (var (sectionStart (s .pieces)) ∷ piecesTokens u (s .pieces)))
 
 unfoldable pub sectionsTokens : List ℕ → List Section → List Token
 sectionsTokens u [] = []

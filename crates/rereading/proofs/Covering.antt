@@ -11,7 +11,7 @@ use borrow.Author.Tests.{eqb-true}
 use Rattle.numbers.specs.Number.{pick}
 use Rattle.numbers.specs.Limits.{maxUpdate}
 use Rattle.block.specs.declared.Block.{Block}
-use Rattle.grammar.specs.Course.{items}
+use Rattle.grammar.specs.Course.{things}
 use Rattle.decoder.specs.Update.{blocksOf}
 use Rattle.updates.specs.Promises.{Reading, reading}
 use Rattle.readings.specs.Sound.{linked}
@@ -157,7 +157,7 @@ module _ (form : ℕ) (u v : List ℕ) (to m n room : ℕ) where
       let h = done form u v to m n room z in
       let a = all-read form u m n (h .read) in
       let again = reread-there form u v to m n room z small .blocks in
-      let same : d .reading .blocks ≡ items (blocksOf form u) = ap (λ (r : Reading). r .blocks) (h .source) ∙ a .blocks in
+      let same : d .reading .blocks ≡ things (blocksOf form u) = ap (λ (r : Reading). r .blocks) (h .source) ∙ a .blocks in
       let keeps = diff-keeps (entriesIn v) (d .reading .blocks) (subst Ordered (sym same) (blocks-ordered form u)) c k in
       let ss = keptBy v (d .reading) in
       record {

@@ -14,7 +14,7 @@ use Rattle.tokens.specs.Bytes.{near}
 use Rattle.kept.specs.Cut.{anyTorn}
 use Rattle.updates.specs.Promises.{Reading, reading}
 use Rattle.writing.specs.Diff.{diffTokens, diffBytes, diffWhy, turnedFormat}
-use Rattle.diffs.specs.Promises.{Diffed, refusedWith, whyNot, kept, against, afterReading, diffOf}
+use Rattle.diffs.specs.Promises.{Diffed, refusedWith, whyNot, diffed, against, afterReading, diffOf}
 use Rattle.rereading.specs.Vectors.{entriesIn}
 use Rattle.rereading.specs.Again.{keptBy}
 use Rattle.rereading.specs.Doable.{Doable}
@@ -48,8 +48,8 @@ module _ (form : ℕ) (u v : List ℕ) (to m n room : ℕ) where
     unfolding diffWhy
     why-none = rw (h .keys, h .untorn, h .formats, h .close)
 
-    kept-made : kept u (entriesIn v) form to room R ≡ made
-    unfolding kept whyNot
+    kept-made : diffed u (entriesIn v) form to room R ≡ made
+    unfolding diffed whyNot
     kept-made =
         rw (verdict-done (diffWhy form to u (entriesIn v) (R .blocks) (R .ranges)) room (diffBytes to u (entriesIn v) (R .blocks) (R .ranges)) why-none (h .fits))
 

@@ -10,14 +10,14 @@ use lib.ListN.{length}
 use borrow.Author.Tests.{eqb-true, eqb-false, leb-true}
 use Rattle.numbers.specs.Number.{pick, none, nowhere}
 use Rattle.numbers.specs.Output.{verdict}
-use Rattle.grammar.specs.Course.{Course, item, over, stopped, ending}
+use Rattle.grammar.specs.Course.{Course, thing, over, stopped, ending}
 use Rattle.vector.specs.Vector.{Entry, vectorOf}
 use Rattle.updates.specs.Promises.{Reading, known, reading}
 use Rattle.grammar.specs.Numbered.{Stops}
 use Rattle.agreement.specs.Numbered.{Low}
 use Rattle.agreement.proofs.Vectors.{vector-numbered}
 use Rattle.writing.specs.Diff.{diffBytes, diffWhy}
-use Rattle.diffs.specs.Promises.{Diffed, refusedWith, whyNot, kept, against, afterReading, diffOf}
+use Rattle.diffs.specs.Promises.{Diffed, refusedWith, whyNot, diffed, against, afterReading, diffOf}
 use Rattle.rereading.specs.Vectors.{Reads, entriesIn}
 use Rattle.rereading.proofs.Elsewhere.{vector-read}
 
@@ -27,7 +27,7 @@ read-whole : (c : Course Entry) (d : Diffed) → Stops Low c
     → ending c (λ s. d) (λ why. refusedWith (nowhere (why .number))) .refusal .number ≡ 0
     → ending c (λ s. true) (λ why. false) ≡ true
 unfolding ending Stops
-read-whole (item e p c) d h z = read-whole c d h z
+read-whole (thing e p c) d h z = read-whole c d h z
 read-whole (over x s) d h z = refl
 read-whole (stopped why) d h z = absurd (omega (arith, h .0, z))
 
@@ -69,8 +69,8 @@ module _ (u v : List ℕ) (form to room : ℕ) (r : Reading) where
     fits : length (diffBytes to u (entriesIn v) (r .blocks) (r .ranges)) ≤ room
     same : d ≡ record { refusal = none; bytes = diffBytes to u (entriesIn v) (r .blocks) (r .ranges); reading = r }
 
-  made : kept u (entriesIn v) form to room r .refusal .number ≡ 0 → Made (kept u (entriesIn v) form to room r)
-  unfolding kept whyNot
+  made : diffed u (entriesIn v) form to room r .refusal .number ≡ 0 → Made (diffed u (entriesIn v) form to room r)
+  unfolding diffed whyNot
   made z = go (eqb (whyNot u (entriesIn v) form to room r) 0) refl z
     where
       go : (x : Bool) → eqb (whyNot u (entriesIn v) form to room r) 0 ≡ x
@@ -89,7 +89,7 @@ module _ (u v : List ℕ) (form to room : ℕ) (r : Reading) where
 
   reads-then : against u (vectorOf v) form to room r .refusal .number ≡ 0 → Reads v
   unfolding against
-  reads-then z = read-whole (vectorOf v) (kept u (entriesIn v) form to room r) (vector-numbered v) z
+  reads-then z = read-whole (vectorOf v) (diffed u (entriesIn v) form to room r) (vector-numbered v) z
 
   made-after : afterReading u (vectorOf v) form to room r .refusal .number ≡ 0 → MadeAfter (afterReading u (vectorOf v) form to room r)
   unfolding afterReading

@@ -8,13 +8,13 @@ use native.Mathlib.Omega.{arith}
 use Rattle.numbers.specs.declared.Refusal.{Refusal}
 use Rattle.numbers.specs.Number.{pick, nowhere}
 use Rattle.block.specs.declared.Block.{Block}
-use Rattle.grammar.specs.Course.{Course, item, over, stopped, ending}
+use Rattle.grammar.specs.Course.{Course, thing, over, stopped, ending}
 use Rattle.vector.specs.Vector.{Entry, vectorOf}
 use Rattle.updates.specs.Promises.{Reading, known, reading}
 use Rattle.kept.specs.Kept.{remote, sectionsOf}
 use Rattle.kept.proofs.SectionsRemote.{same-remote}
 use Rattle.writing.specs.Diff.{diffTokens, diffBytes, diffWhy}
-use Rattle.diffs.specs.Promises.{Diffed, refusedWith, whyNot, kept, against, afterReading, diffOf}
+use Rattle.diffs.specs.Promises.{Diffed, refusedWith, whyNot, diffed, against, afterReading, diffOf}
 use Rattle.rereading.specs.Vectors.{Reads, entriesIn, clocksFor, DifferElsewhere, SameRemote}
 
 -- ---- of a vector that reads, the entries count
@@ -22,17 +22,17 @@ use Rattle.rereading.specs.Vectors.{Reads, entriesIn, clocksFor, DifferE
 pub ends-well : {A X : Type 0} (c : Course A) → ending c (λ s. true) (λ why. false) ≡ true → (x : X) (refused : Refusal → X)
     → ending c (λ s. x) refused ≡ x
 unfolding ending
-ends-well (item a p c) e x refused = ends-well c e x refused
+ends-well (thing a p c) e x refused = ends-well c e x refused
 ends-well (over y s) e x refused = refl
 ends-well (stopped why) e x refused = absurd (omega (arith, ap (λ (t : Bool). pick {A = ℕ} t 1 0) e))
 
 module _ (u : List ℕ) (form to room : ℕ) (r : Reading) where
-  pub vector-read : (v : List ℕ) → Reads v → against u (vectorOf v) form to room r ≡ kept u (entriesIn v) form to room r
+  pub vector-read : (v : List ℕ) → Reads v → against u (vectorOf v) form to room r ≡ diffed u (entriesIn v) form to room r
   unfolding against
-  vector-read v e = ends-well (vectorOf v) e (kept u (entriesIn v) form to room r) (λ why. refusedWith (nowhere (why .number)))
+  vector-read v e = ends-well (vectorOf v) e (diffed u (entriesIn v) form to room r) (λ why. refusedWith (nowhere (why .number)))
 
-  kept-same : (es fs : List Entry) → sectionsOf es (r .blocks) ≡ sectionsOf fs (r .blocks) → kept u es form to room r ≡ kept u fs form to room r
-  unfolding kept whyNot diffWhy diffBytes diffTokens
+  kept-same : (es fs : List Entry) → sectionsOf es (r .blocks) ≡ sectionsOf fs (r .blocks) → diffed u es form to room r ≡ diffed u fs form to room r
+  unfolding diffed whyNot diffWhy diffBytes diffTokens
   kept-same es fs e = rw e
 
   same-after : (v w : List ℕ) → Reads v → Reads w → SameRemote v w (r .blocks)

@@ -8,13 +8,13 @@ use native.Mathlib.Omega.{arith}
 use lib.Dec.{eqb}
 use lib.ListN.{length}
 use borrow.Author.Tests.{le-leb}
-use Rattle.numbers.specs.Number.{pick, nowhere, none, spelt, after, placed, readUnsigned}
+use Rattle.numbers.specs.Number.{pick, nowhere, none, spelt, lowPart, answerAt, readUnsigned}
 use Rattle.numbers.specs.Output.{verdict}
 use Rattle.runs.specs.Runs.{spellable}
 use Rattle.grammar.specs.Grammar as grammar
 use Rattle.grammar.specs.GrammarInner as grammar-inner
-use Rattle.grammar.specs.Course.{onDrawn, run, items}
-use Rattle.decoder.specs.Line.{numberAt, varAt, bounded, upTo, numberOf, line}
+use Rattle.grammar.specs.Course.{onDrawn, run, things}
+use Rattle.decoder.specs.Line.{numberAt, varAt, bounded, upTo, numberBy, line}
 use Rattle.vector.specs.Vector.{Entry, entries, aVector, vectorOf}
 use Rattle.ranges.specs.Ranges.{Range}
 use Rattle.updates.specs.Promises.{known, reading}
@@ -30,7 +30,7 @@ use Rattle.kept.proofs.SectionsRemote.{nothing-kept, against-nothing}
 use Rattle.records.specs.Records.{sectionsTokens, deleteTokens, updateTokens}
 use Rattle.records.proofs.Deletes.{deletes-plain, deletes-taken}
 use Rattle.writing.specs.Diff.{diffTokens, diffBytes, diffWhy, turnedFormat}
-use Rattle.diffs.specs.Promises.{refusedWith, whyNot, kept, against, afterReading, diffOf, emptyVector}
+use Rattle.diffs.specs.Promises.{refusedWith, whyNot, diffed, against, afterReading, diffOf, emptyVector}
 use Rattle.rereading.specs.Vectors.{Reads, entriesIn, HasAll}
 use Rattle.rereading.proofs.Elsewhere.{vector-read}
 use Rattle.rereading.proofs.Done.{done}
@@ -115,8 +115,8 @@ module _ (form : ℕ) (u : List ℕ) (to m n room : ℕ) where
       )
 
   has-kept : (v : List ℕ) → HasAll v (reading form u m n .blocks) → length bytes ≤ room
-      → kept u (entriesIn v) form to room (reading form u m n) ≡ record { refusal = none; bytes = bytes; reading = reading form u m n }
-  unfolding kept diffBytes diffTokens updateTokens sectionsTokens
+      → diffed u (entriesIn v) form to room (reading form u m n) ≡ record { refusal = none; bytes = bytes; reading = reading form u m n }
+  unfolding diffed diffBytes diffTokens updateTokens sectionsTokens
   has-kept v h fits = rw (has-why v h fits, nothing-kept (entriesIn v) (reading form u m n .blocks) h)
 
   pub has-all-made : (v : List ℕ) → known to ≡ true → reading form u m n .refusal .number ≡ 0 → Reads v
@@ -134,7 +134,7 @@ module _ (form : ℕ) (u : List ℕ) (to m n room : ℕ) where
   -- ---- nothing: every block, but for a client's leading Skips and leading blocks that end at 0
 
   no-entries : entriesIn emptyVector ≡ []
-  unfolding vectorOf aVector entries grammar-inner._>>=_ run onDrawn line numberOf upTo varAt numberAt bounded items readUnsigned placed spelt after
+  unfolding vectorOf aVector entries grammar-inner._>>=_ run onDrawn line numberBy upTo varAt numberAt bounded things readUnsigned answerAt spelt lowPart
   no-entries = refl
 
   pub against-empty : diffOf form u emptyVector to m n room .refusal .number ≡ 0

@@ -11,11 +11,11 @@ use borrow.Author.Tests.{eqb-true, ne-eqb}
 use Rattle.numbers.specs.Number.{pick, none}
 use Rattle.numbers.specs.Limits.{maxUpdate}
 use Rattle.block.specs.declared.Block.{Block}
-use Rattle.grammar.specs.Course.{items}
+use Rattle.grammar.specs.Course.{things}
 use Rattle.ranges.specs.Ranges.{Range}
 use Rattle.decoder.specs.Update.{blocksOf}
 use Rattle.agreement.proofs.Readings.{read-on}
-use Rattle.leftover.specs.Leftover.{left}
+use Rattle.leftover.specs.Leftover.{unreadOf}
 use Rattle.leftover.specs.LeftoverInner.{Spent}
 use Rattle.updates.specs.Promises.{Reading, refused, withRanges, withBlocks, known, reading}
 use Rattle.readings.specs.Sound.{All}
@@ -77,9 +77,9 @@ clean-sections u (s ∷ ss) e = go (tornPieces u (s .pieces)) refl e (clean-sect
 -- ---- what is written of sections and ranges is read again
 
 record Found (to : ℕ) (u d : List ℕ) (ss : List Section) (rs : List Range) (r : Reading) : Type 0 where
-  same : r ≡ record { refusal = none; blocks = items (blocksOf to d); ranges = rs }
-  alike : AllAlike d (items (blocksOf to d)) u (sectionsRead u ss)
-  spent : Spent (left to d)
+  same : r ≡ record { refusal = none; blocks = things (blocksOf to d); ranges = rs }
+  alike : AllAlike d (things (blocksOf to d)) u (sectionsRead u ss)
+  spent : Spent (unreadOf to d)
 
 module _ (to : ℕ) (u : List ℕ) (ss : List Section) (rs : List Range) (k : Kept to u ss) (l : KeptRanges rs) where
   abbrev ts : List Token
@@ -165,12 +165,12 @@ module _ (form : ℕ) (u v : List ℕ) (to m n room : ℕ) where
   -- ---- and no byte of it stays unread
 
   pub reread-whole : diffOf form u v to m n room .refusal .number ≡ 0 → length (diffOf form u v to m n room .bytes) ≤ maxUpdate
-      → Spent (left to (diffOf form u v to m n room .bytes))
+      → Spent (unreadOf to (diffOf form u v to m n room .bytes))
   reread-whole z small =
       let h = done form u v to m n room z in
       let a = all-read form u m n (h .read) in
       let rows : pieceCount (keptBy v R) ≤ m = omega (arith, sections-count (entriesIn v) (R .blocks), a .rows) in
-      subst (λ (x : List ℕ). Spent (left to x)) (sym (h .bytes))
+      subst (λ (x : List ℕ). Spent (unreadOf to x)) (sym (h .bytes))
       (from-reading h a (subst (λ (x : List ℕ). length x ≤ maxUpdate) (h .bytes) small) m n rows (a .range-rows) .spent)
 
   -- in form 2 it begins with 0

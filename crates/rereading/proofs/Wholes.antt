@@ -9,7 +9,7 @@ use borrow.Author.Tests.{le-ltb}
 use Rattle.numbers.specs.Number.{none}
 use Rattle.numbers.specs.Limits.{maxUpdate}
 use Rattle.block.specs.declared.Block.{Block}
-use Rattle.grammar.specs.Course.{Course, fit, items}
+use Rattle.grammar.specs.Course.{Course, fit, things}
 use Rattle.ranges.specs.Ranges.{normal}
 use Rattle.ranges.proofs.Theory.{normal-length}
 use Rattle.decoder.specs.Update.{blocksOf, deleteSet}
@@ -23,10 +23,10 @@ use Rattle.agreement.proofs.Readings.{read-on}
 
 pub record AllRead (form : ℕ) (u : List ℕ) (r : Reading) (m n : ℕ) : Type 0 where
   pub short : length u ≤ maxUpdate
-  pub blocks : r .blocks ≡ items (blocksOf form u)
+  pub blocks : r .blocks ≡ things (blocksOf form u)
   pub rows : length (r .blocks) ≤ m
   pub middle : ℕ
-  pub ranges : r .ranges ≡ normal (items (fit n (deleteSet form u middle)))
+  pub ranges : r .ranges ≡ normal (things (fit n (deleteSet form u middle)))
   pub range-rows : length (r .ranges) ≤ n
 
 -- a known form, and bytes within the limit: nothing is refused before they are read
@@ -40,11 +40,11 @@ module _ (form : ℕ) (u : List ℕ) (m n : ℕ) where
 
   whole-at : early form u ≡ 0 → (w : Whole form u m n)
       → reading form u m n
-      ≡ record { refusal = none; blocks = items (fit m (blocksOf form u)); ranges = normal (items (fit n (deleteSet form u (w .middle)))) }
+      ≡ record { refusal = none; blocks = things (fit m (blocksOf form u)); ranges = normal (things (fit n (deleteSet form u (w .middle)))) }
   unfolding withBlocks withRanges
   whole-at e w =
       read-on form u m n e
-      ∙ ending-at c (λ s. withRanges (items c) (fit n (deleteSet form u s))) _ (w .middle) (w .blocks)
+      ∙ ending-at c (λ s. withRanges (things c) (fit n (deleteSet form u s))) _ (w .middle) (w .blocks)
       ∙ ending-at (fit n (deleteSet form u (w .middle))) _ _ (w .last) (w .ranges)
 
   pub all-read : reading form u m n .refusal .number ≡ 0 → AllRead form u (reading form u m n) m n
@@ -61,7 +61,7 @@ module _ (form : ℕ) (u : List ℕ) (m n : ℕ) where
         range-rows = omega (
           arith,
           ap (λ (r : Reading). length (r .ranges)) same,
-          normal-length (items (fit n (deleteSet form u (w .middle)))),
+          normal-length (things (fit n (deleteSet form u (w .middle)))),
           fit-count n (deleteSet form u (w .middle)),
         );
       }

@@ -6,7 +6,7 @@ use mathlib.Core.List.{List, [], _∷_}
 use lib.Dec.{eqb}
 use Rattle.numbers.specs.Number.{pick}
 use Rattle.block.specs.declared.Block.{Block}
-use Rattle.grammar.specs.Course.{items, ending}
+use Rattle.grammar.specs.Course.{things, ending}
 use Rattle.vector.specs.Vector.{Entry, vectorOf}
 use Rattle.readings.specs.Sound.{All}
 use Rattle.kept.specs.Kept.{remote}
@@ -16,7 +16,7 @@ abbrev pub Reads : List ℕ → Type 0
 Reads v = ending (vectorOf v) (λ s. true) (λ why. false) ≡ true
 
 abbrev pub entriesIn : List ℕ → List Entry
-entriesIn v = items (vectorOf v)
+entriesIn v = things (vectorOf v)
 
 -- the clocks of a client's entries: a vector that reads has one at most
 unfoldable pub clocksFor : ℕ → List Entry → List ℕ

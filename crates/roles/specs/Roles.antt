@@ -118,8 +118,8 @@ lengthened r n q =
     }
 
 -- nothing more of this block is drawn, and it has so many clocks
-abbrev pub lasting : ℕ → Plan → Plan
-lasting n q = lengthened Ended n q
+abbrev pub endedWith : ℕ → Plan → Plan
+endedWith n q = lengthened Ended n q
 
 -- ---- what an info byte announces
 
@@ -149,41 +149,41 @@ toParent v q = pick (eqb v 1) (goTo ParentName q) (goTo ParentClient q)
 
 -- a type number too high ends the plan: it is refused
 unfoldable pub toNode : ℕ → Plan → Plan
-toNode v q = pick (ltb maxType v) (goTo Over q) (pick (isNamed v) (goTo NodeName q) (lasting 1 q))
+toNode v q = pick (ltb maxType v) (goTo Over q) (pick (isNamed v) (goTo NodeName q) (endedWith 1 q))
 
 -- ---- behind a draw: v is the number drawn, or a text's units, and p the place that it is blamed at
 
-unfoldable pub behind : Role → Plan → ℕ → ℕ → Plan
-behind Sections q v p = sectioned v q
-behind Blocks q v p = announced v q
-behind Client q v p = goTo FirstClock q
-behind FirstClock q v p = headed v q
-behind Info q v p = informed (infoRole v) v p q
-behind SkipLength q v p = lasting v q
-behind GcLength q v p = lasting v q
-behind LeftClient q v p = goTo LeftClock q
-behind LeftClock q v p = toRight q
-behind RightClient q v p = goTo RightClock q
-behind RightClock q v p = toContent q
-behind ParentInfo q v p = toParent v q
-behind ParentName q v p = toKey q
-behind ParentClient q v p = goTo ParentClock q
-behind ParentClock q v p = toKey q
-behind Key q v p = toContent q
-behind DeletedLength q v p = lasting v q
-behind Binary q v p = lasting 1 q
-behind Text q v p = lasting v q
-behind MarkKey q v p = goTo MarkValue q
-behind MarkValue q v p = lasting 1 q
-behind TypeNumber q v p = toNode v q
-behind NodeName q v p = lasting 1 q
-behind ListLength q v p = lengthened ListValues v q
-behind ListValues q v p = goTo Ended q
-behind Ended q v p = q
-behind Over q v p = q
+unfoldable pub planAfter : Role → Plan → ℕ → ℕ → Plan
+planAfter Sections q v p = sectioned v q
+planAfter Blocks q v p = announced v q
+planAfter Client q v p = goTo FirstClock q
+planAfter FirstClock q v p = headed v q
+planAfter Info q v p = informed (infoRole v) v p q
+planAfter SkipLength q v p = endedWith v q
+planAfter GcLength q v p = endedWith v q
+planAfter LeftClient q v p = goTo LeftClock q
+planAfter LeftClock q v p = toRight q
+planAfter RightClient q v p = goTo RightClock q
+planAfter RightClock q v p = toContent q
+planAfter ParentInfo q v p = toParent v q
+planAfter ParentName q v p = toKey q
+planAfter ParentClient q v p = goTo ParentClock q
+planAfter ParentClock q v p = toKey q
+planAfter Key q v p = toContent q
+planAfter DeletedLength q v p = endedWith v q
+planAfter Binary q v p = endedWith 1 q
+planAfter Text q v p = endedWith v q
+planAfter MarkKey q v p = goTo MarkValue q
+planAfter MarkValue q v p = endedWith 1 q
+planAfter TypeNumber q v p = toNode v q
+planAfter NodeName q v p = endedWith 1 q
+planAfter ListLength q v p = lengthened ListValues v q
+planAfter ListValues q v p = goTo Ended q
+planAfter Ended q v p = q
+planAfter Over q v p = q
 
 unfoldable pub after : Plan → ℕ → ℕ → Plan
-after q v p = behind (q .role) q v p
+after q v p = planAfter (q .role) q v p
 
 -- ---- what is told of a role
 
@@ -229,5 +229,5 @@ isEnded q = eqb (codeOf (q .role)) 0
 -- ---- from one block to the next
 
 -- what is drawn next, where a block has ended
-unfoldable pub settled : Plan → Plan
-settled q = pick (isEnded q) (onward q) q
+unfoldable pub movedOn : Plan → Plan
+movedOn q = pick (isEnded q) (onward q) q

@@ -13,14 +13,14 @@ use Rattle.numbers.specs.Number.{pick}
 use Rattle.numbers.proofs.Output.{sets-append}
 use Rattle.runs.specs.declared.Column.{Column}
 use Rattle.runs.specs.declared.writer.Writer.{Writer}
-use Rattle.runs.specs.Runs.{Coding, coding, over, opened, column, within, overFits, storable, spellable, why}
+use Rattle.runs.specs.Runs.{Coding, coding, runsOn, runsAfter, column, within, overFits, storable, spellable, why}
 use Rattle.runs.specs.Writer.{fresh, ends, keyAfter, emitted, finished, moved, pushed, Sound, Judge, unjudged, runFits, lastFitsIn, overLimit, goesOn, judged, sentence}
 use Rattle.runs.proofs.Writing.{key-most}
 
 -- what a state has yet to write, if `rest` is what comes
 unfoldable pub ahead : Coding → ℕ → ℕ → ℕ → List ℕ → List ℕ
-ahead c p k zero rest = opened c p rest
-ahead c p k (suc n) rest = over c p k n rest
+ahead c p k zero rest = runsAfter c p rest
+ahead c p k (suc n) rest = runsOn c p k n rest
 
 -- the last value, or p
 unfoldable pub lastOf : ℕ → List ℕ → ℕ
@@ -91,7 +91,7 @@ module _ (w : Writer) (v : ℕ) where
   pub ahead-push : (rest : List ℕ)
       → ahead (coding (w .column)) (w .last) (w .key) (w .count) (v ∷ rest)
       ≡ emitted w v ++ ahead (coding (w .column)) (pushed w v .last) (pushed w v .key) (pushed w v .count) rest
-  unfolding pushed moved emitted ends ahead over opened keyAfter
+  unfolding pushed moved emitted ends ahead runsOn runsAfter keyAfter
   ahead-push rest = go (w .count)
     where
       go : (n : ℕ) → ahead (coding (w .column)) (w .last) (w .key) n (v ∷ rest)
@@ -101,14 +101,14 @@ module _ (w : Writer) (v : ℕ) where
       go (suc n) = at (eqb (coding (w .column) .keyOf (w .last) v) (w .key)) refl
         where
           at : (b : Bool) → eqb (coding (w .column) .keyOf (w .last) v) (w .key) ≡ b
-              → pick b (over (coding (w .column)) v (w .key) (n + 1) rest) (coding (w .column) .spell (w .key) n ++ over (coding (w .column)) v (coding (w .column) .keyOf (w .last) v) 0 rest)
+              → pick b (runsOn (coding (w .column)) v (w .key) (n + 1) rest) (coding (w .column) .spell (w .key) n ++ runsOn (coding (w .column)) v (coding (w .column) .keyOf (w .last) v) 0 rest)
               ≡ pick (pick (eqb (suc n) 0) false (pick b false true)) (coding (w .column) .spell (w .key) (suc n - 1)) []
               ++ ahead (coding (w .column)) v (coding (w .column) .keyOf (w .last) v) (pick (pick (eqb (suc n) 0) false (pick b false true)) 1 (suc n + 1)) rest
           at true e = rw (eqb-true (coding (w .column) .keyOf (w .last) v) (w .key) e, ne-eqb (suc n) 0 (omega arith), suc-add)
           at false e = let less : suc n - 1 ≡ n = omega arith in rw (less, ne-eqb (suc n) 0 (omega arith))
 
 pub ahead-end : (w : Writer) → ahead (coding (w .column)) (w .last) (w .key) (w .count) [] ≡ finished w
-unfolding finished ahead over opened
+unfolding finished ahead runsOn runsAfter
 ahead-end w = go (w .count)
   where
     go : (n : ℕ) → ahead (coding (w .column)) (w .last) (w .key) n [] ≡ pick (eqb n 0) [] (coding (w .column) .final (w .key) (n - 1))

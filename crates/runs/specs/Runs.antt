@@ -25,17 +25,17 @@ pub record Coding : Type 0 where
 -- ---- the bytes
 
 -- of a key k that stood n + 1 times so far, the last time for the value p, and of the values that follow
-unfoldable pub over : Coding → ℕ → ℕ → ℕ → List ℕ → List ℕ
-over c p k n [] = c .final k n
-over c p k n (v ∷ vs) = pick (eqb (c .keyOf p v) k) (over c v k (n + 1) vs) (c .spell k n ++ over c v (c .keyOf p v) 0 vs)
+unfoldable pub runsOn : Coding → ℕ → ℕ → ℕ → List ℕ → List ℕ
+runsOn c p k n [] = c .final k n
+runsOn c p k n (v ∷ vs) = pick (eqb (c .keyOf p v) k) (runsOn c v k (n + 1) vs) (c .spell k n ++ runsOn c v (c .keyOf p v) 0 vs)
 
 -- where no run is under way, after the value p
-unfoldable pub opened : Coding → ℕ → List ℕ → List ℕ
-opened c p [] = []
-opened c p (v ∷ vs) = over c v (c .keyOf p v) 0 vs
+unfoldable pub runsAfter : Coding → ℕ → List ℕ → List ℕ
+runsAfter c p [] = []
+runsAfter c p (v ∷ vs) = runsOn c v (c .keyOf p v) 0 vs
 
 unfoldable pub column : Coding → List ℕ → List ℕ
-column c vs = opened c 0 vs
+column c vs = runsAfter c 0 vs
 
 -- ---- the refusals
 

@@ -10,7 +10,7 @@ use Rattle.numbers.specs.Number.{pick}
 use Rattle.numbers.specs.Output.{written, put}
 use Rattle.runs.specs.declared.Column.{Column}
 use Rattle.runs.specs.declared.writer.Writer.{Writer}
-use Rattle.runs.specs.Runs.{coding, over, column}
+use Rattle.runs.specs.Runs.{coding, runsOn, column}
 use Rattle.runs.specs.RunsInner.{keyMost}
 
 abbrev pub fresh : Column → ℕ → Writer

@@ -9,21 +9,21 @@ use lib.ListN.{length}
 use Rattle.numbers.specs.Number.{pick, nowhere}
 use Rattle.numbers.specs.Output.{padded}
 use Rattle.block.specs.declared.Block.{Block}
-use Rattle.grammar.specs.Course.{Course, item, over, stopped, fit, items, ending}
+use Rattle.grammar.specs.Course.{Course, thing, over, stopped, fit, things, ending}
 use Rattle.ranges.specs.Ranges.{Range, normal}
 use Rattle.ranges.specs.Table.{flat}
 use Rattle.decoder.specs.Update.{deleteSet}
 use Rattle.sorting.specs.Steps.{start, after, Sorts}
 use Rattle.sorting.specs.Sorted.{steps, numbersBy, countsIn, pendingIn}
-use Rattle.sorting.specs.Slow.{slow, slowly as slowRun, slowOutcome}
+use Rattle.sorting.specs.Slow.{slow, slowSteps as slowRun, slowOutcome}
 use Rattle.sorting.specs.Held.{ruleHeld, heldIn, owners}
-use Rattle.updates.specs.Promises.{Reading, reading, rowsOf, wordsOf}
+use Rattle.updates.specs.Promises.{Reading, reading, tableOf, rangeWords}
 use Rattle.sort_answers.specs.Answers.{Room, whyNot}
 use Rattle.held_answers.specs.declared.SortedHeld.{SortedHeld}
 use Rattle.held_answers.specs.Answers.{SortHeld, refusedWith, answered}
 use Rattle.held_swept.specs.HeldSlowly.{slowOrderHeld, slowCountsHeld, slowPendingHeld}
 use Rattle.held_swept.proofs.Same.{held-slowly, same-counts, same-pending, same-steps}
-use Rattle.held_sorts.specs.Promises.{lent, quickly, whole, whySort, fitting, against, afterReading, sortHeldBy, sortHeldOf, SortUpdateHeld}
+use Rattle.held_sorts.specs.Promises.{lent, quickly, sortedAll, whySort, fitting, against, afterReading, sortHeldBy, sortHeldOf, SortUpdateHeld}
 use Rattle.held_sorts.proofs.Demand.{after-done}
 use Rattle.slow_held_sorts.specs.Promises.{slowly, slowSortHeldOf, SortHeldSlowly}
 
@@ -34,24 +34,24 @@ pub record Swept (r : Reading) (c : Course Range) (s : SortHeld) : Type 0 where
   -- both were read whole, and the held ids stand as they were given, in normal form
   pub read : (r .refusal .number ≡ 0) × (ending c (λ _. true) (λ _. false) ≡ true)
   pub reading : s .reading ≡ r
-  pub held : s .held ≡ normal (items c)
+  pub held : s .held ≡ normal (things c)
   -- the client of each step: an allowed run, carried to its end, and the run of sweeps
   pub run : List ℕ
-  pub sorts : Sorts (steps ruleHeld (r .blocks)) (heldIn (normal (items c))) run
-  pub sweeps : run ≡ slow (steps ruleHeld (r .blocks)) (owners (r .blocks)) (start (heldIn (normal (items c))))
+  pub sorts : Sorts (steps ruleHeld (r .blocks)) (heldIn (normal (things c))) run
+  pub sweeps : run ≡ slow (steps ruleHeld (r .blocks)) (owners (r .blocks)) (start (heldIn (normal (things c))))
   -- the numbers of the blocks that it takes, and the reports on where it ends
-  pub order : s .order ≡ numbersBy ruleHeld (r .blocks) (start (heldIn (normal (items c)))) run
-  pub counts : s .counts ≡ countsIn (r .blocks) (after (steps ruleHeld (r .blocks)) (start (heldIn (normal (items c)))) run) (owners (r .blocks))
-  pub pending : s .pending ≡ pendingIn ruleHeld (r .blocks) (after (steps ruleHeld (r .blocks)) (start (heldIn (normal (items c)))) run) (owners (r .blocks))
+  pub order : s .order ≡ numbersBy ruleHeld (r .blocks) (start (heldIn (normal (things c)))) run
+  pub counts : s .counts ≡ countsIn (r .blocks) (after (steps ruleHeld (r .blocks)) (start (heldIn (normal (things c)))) run) (owners (r .blocks))
+  pub pending : s .pending ≡ pendingIn ruleHeld (r .blocks) (after (steps ruleHeld (r .blocks)) (start (heldIn (normal (things c)))) run) (owners (r .blocks))
 
-whole-swept : (r : Reading) (c : Course Range) → r .refusal .number ≡ 0 → ending c (λ _. true) (λ _. false) ≡ true → Swept r c (whole slowly (normal (items c)) r)
-unfolding whole slowOutcome slowOrderHeld slowCountsHeld slowPendingHeld slowRun
+whole-swept : (r : Reading) (c : Course Range) → r .refusal .number ≡ 0 → ending c (λ _. true) (λ _. false) ≡ true → Swept r c (sortedAll slowly (normal (things c)) r)
+unfolding sortedAll slowOutcome slowOrderHeld slowCountsHeld slowPendingHeld slowRun
 whole-swept r c z ends = record {
   read = (z, ends);
   reading = refl;
   held = refl;
-  run = slow (steps ruleHeld (r .blocks)) (owners (r .blocks)) (start (heldIn (normal (items c))));
-  sorts = held-slowly (r .blocks) (normal (items c));
+  run = slow (steps ruleHeld (r .blocks)) (owners (r .blocks)) (start (heldIn (normal (things c))));
+  sorts = held-slowly (r .blocks) (normal (things c));
   sweeps = refl;
   order = refl;
   counts = refl;
@@ -83,8 +83,8 @@ alike-pick : (x : Bool) (s t r q : SortHeld) → Alike s t → Alike r q → Ali
 alike-pick true s t r q a b = a
 alike-pick false s t r q a b = b
 
-whole-alike : (rs : List Range) (r : Reading) → Alike (whole slowly rs r) (whole quickly rs r)
-unfolding whole
+whole-alike : (rs : List Range) (r : Reading) → Alike (sortedAll slowly rs r) (sortedAll quickly rs r)
+unfolding sortedAll
 whole-alike rs r = record {
   refusal = refl;
   steps = same-steps (r .blocks) rs;
@@ -109,14 +109,14 @@ module _ (m : Room) where
   ending-alike : (c : Course Range) (s t : SortHeld) → Alike s t
       → Alike (ending c (λ _. s) (λ why. refusedWith (nowhere (why .number)))) (ending c (λ _. t) (λ why. refusedWith (nowhere (why .number))))
   unfolding ending
-  ending-alike (item r p c) s t a = ending-alike c s t a
+  ending-alike (thing r p c) s t a = ending-alike c s t a
   ending-alike (over x e) s t a = a
   ending-alike (stopped why) s t a = same (refusedWith (nowhere (why .number)))
 
   reading-alike : (c : Course Range) (r : Reading) → Alike (afterReading slowly m c r) (afterReading quickly m c r)
   unfolding afterReading against
   reading-alike c r =
-      alike-pick (eqb (r .refusal .number) 0) _ _ _ _ (ending-alike c _ _ (fitting-alike _ _ (whole-alike (normal (items c)) r))) (same (refusedWith (r .refusal)))
+      alike-pick (eqb (r .refusal .number) 0) _ _ _ _ (ending-alike c _ _ (fitting-alike _ _ (whole-alike (normal (things c)) r))) (same (refusedWith (r .refusal)))
 
 sorts-alike : (form : ℕ) (u v : List ℕ) (blockRows rangeRows heldRows : ℕ) (m : Room)
     → Alike (slowSortHeldOf form u v blockRows rangeRows heldRows m) (sortHeldOf form u v blockRows rangeRows heldRows m)
@@ -136,8 +136,8 @@ pub same-reports : (form : ℕ) (u v : List ℕ) (rows : List Block) (ranges giv
 same-reports form u v rows ranges given order counts pending r s rows₁ rows₂ ranges₁ ranges₂ given₁ given₂ order₁ order₂ counts₁ counts₂ pending₁ pending₂ a b =
     let e = sorts-alike form u v (length rows) (length ranges / 3) (length given / 3) (lent order counts pending) in (
       a .0 ∙ answers-alike _ _ e ∙ sym (b .0),
-      a .1 ∙ ap (rowsOf (length rows)) (e .reading) ∙ sym (b .1),
-      a .2 ∙ ap (wordsOf (length ranges)) (e .reading) ∙ sym (b .2),
+      a .1 ∙ ap (tableOf (length rows)) (e .reading) ∙ sym (b .1),
+      a .2 ∙ ap (rangeWords (length ranges)) (e .reading) ∙ sym (b .2),
       a .3 ∙ ap (λ (x : List Range). padded (length given) (flat x)) (e .held) ∙ sym (b .3),
       a .5 ∙ ap (padded (length counts)) (e .counts) ∙ sym (b .5),
       a .6 ∙ ap (padded (length pending)) (e .pending) ∙ sym (b .6),

@@ -10,7 +10,7 @@ use Rattle.numbers.specs.declared.Refusal.{Refusal}
 use Rattle.numbers.specs.Number.{pick}
 use Rattle.numbers.specs.Output.{padded}
 use Rattle.block.specs.declared.Block.{Block}
-use Rattle.grammar.specs.Course.{Course, items, ending}
+use Rattle.grammar.specs.Course.{Course, things, ending}
 use Rattle.vector.specs.declared.Entries.the-variants.{Read, Refused}
 use Rattle.vector.specs.Vector.{Entry, clientsIn}
 use Rattle.vector.specs.VectorInner.{clocksIn, kept}
@@ -119,8 +119,8 @@ module _ (rule : ℕ) (c : Course Entry) (rows : List Block) (blocks : ℕ) (ord
     unfolding sweptRead
     exit-read =
         let r = was-read c m e in
-        leaves _ _ (ap (λ (v : List Entry). by names v) (r .entries k l) ∙ ap (λ (ns : List ℕ). by ns (items c)) (r .clients k)
-        ∙ sym (r .ends-so (λ (s : ℕ). by (clientsIn (items c)) (items c)) (λ why. unswept (why .number) order counts reaches pending)))
+        leaves _ _ (ap (λ (v : List Entry). by names v) (r .entries k l) ∙ ap (λ (ns : List ℕ). by ns (things c)) (r .clients k)
+        ∙ sym (r .ends-so (λ (s : ℕ). by (clientsIn (things c)) (things c)) (λ why. unswept (why .number) order counts reaches pending)))
 
   pub exit-refused : (why : Refusal) → vector-inner.entriesOf c ≡ Refused why
       → Leaves (sweptRead rule c rows blocks order counts reaches pending) (noSorting (why .number)) order counts reaches pending

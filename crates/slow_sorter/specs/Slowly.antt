@@ -6,7 +6,7 @@ use mathlib.Core.List.{List}
 use lib.ListN.{length, replicate}
 use Rattle.block.specs.declared.Block.{Block}
 use Rattle.vector.specs.Vector.{Entry}
-use Rattle.grammar.specs.Course.{Course, items, ending}
+use Rattle.grammar.specs.Course.{Course, things, ending}
 use Rattle.slots.specs.Slots.{Slot}
 use Rattle.reports.specs.Reports.{reachesFrom, fitted}
 use Rattle.sorter.specs.declared.Sorting.{Sorting}
@@ -58,4 +58,4 @@ unswept number order counts reaches pending = record { sorting = noSorting numbe
 
 unfoldable pub sweptRead : ℕ → Course Entry → List Block → ℕ → List ℕ → List ℕ → List ℕ → List ℕ → Left
 sweptRead rule c rows blocks order counts reaches pending =
-    ending c (λ s. sweptOn rule (slotsIn rows blocks c) rows (items c) order counts reaches pending) (λ why. unswept (why .number) order counts reaches pending)
+    ending c (λ s. sweptOn rule (slotsIn rows blocks c) rows (things c) order counts reaches pending) (λ why. unswept (why .number) order counts reaches pending)

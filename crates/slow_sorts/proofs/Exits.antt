@@ -8,7 +8,7 @@ use lib.Dec.{eqb}
 use lib.ListN.{length, take, replicate, length-replicate, getD-replicate}
 use Rattle.numbers.specs.Number.{pick}
 use Rattle.block.specs.declared.Block.{Block}
-use Rattle.grammar.specs.Course.{items}
+use Rattle.grammar.specs.Course.{things}
 use Rattle.vector.specs.Vector.{Entry, clientsIn, vectorOf}
 use Rattle.kept.proofs.Vectors.{whyVector, by-number}
 use Rattle.slots.specs.Slots.{Slot, slot}
@@ -19,7 +19,7 @@ use Rattle.sorting.specs.Named.{ruleOf}
 use Rattle.sorting.specs.Slow.{slowOrderOf, slowCountsOf, slowReachesOf, slowPendingOf}
 use Rattle.sorter.specs.declared.Sorting.{Sorting}
 use Rattle.sorter.specs.Sorter.{slotsFor, maxReaches, reachesAt, cleared, noSorting}
-use Rattle.updates.specs.Promises.{Reading, reading, rowsOf}
+use Rattle.updates.specs.Promises.{Reading, reading, tableOf}
 use Rattle.updates.proofs.Read.{rows-length, rows-back}
 use Rattle.slow_sorter.specs.Slowly.{sortingBy, Left, boardOn, reportsOn, sweptOn, unswept, sweptRead}
 use Rattle.swept.specs.Swept.{Swept}
@@ -78,25 +78,25 @@ module _ (rule form : ℕ) (u v : List ℕ) (rows₀ : List Block) (ranges₀ or
   R = reading form u M (N / 3)
 
   abbrev es : List Entry
-  es = items (vectorOf v)
+  es = things (vectorOf v)
 
   abbrev bs : List Block
   bs = R .blocks
 
   abbrev L : Left
-  L = sweptRead rule (vectorOf v) (rowsOf M R) (length bs) order₀ counts₀ reaches₀ pending₀
+  L = sweptRead rule (vectorOf v) (tableOf M R) (length bs) order₀ counts₀ reaches₀ pending₀
 
   abbrev w : ℕ
   w = whyVector v
 
   read-is : L ≡ pick (eqb w 0)
-      (left rule u bs es (read-fair form u v M (N / 3)) (rowsOf M R) (rows-back form u M N) (omega (arith, short, rows-length form u M N)) order₀ counts₀ reaches₀ pending₀)
+      (left rule u bs es (read-fair form u v M (N / 3)) (tableOf M R) (rows-back form u M N) (omega (arith, short, rows-length form u M N)) order₀ counts₀ reaches₀ pending₀)
       (unswept w order₀ counts₀ reaches₀ pending₀)
   unfolding sweptRead
   read-is =
       rw (
         rows-back form u M N,
-        left-is rule u bs es (read-fair form u v M (N / 3)) (rowsOf M R) (rows-back form u M N) (omega (arith, short, rows-length form u M N)) order₀ counts₀ reaches₀ pending₀,
+        left-is rule u bs es (read-fair form u v M (N / 3)) (tableOf M R) (rows-back form u M N) (omega (arith, short, rows-length form u M N)) order₀ counts₀ reaches₀ pending₀,
       )
       (by-number v _ (λ n. unswept n order₀ counts₀ reaches₀ pending₀))
 

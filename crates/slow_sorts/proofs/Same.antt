@@ -11,23 +11,23 @@ use borrow.Author.Tests.{eqb-true, eqb-false}
 use Rattle.numbers.specs.Number.{pick, nowhere}
 use Rattle.numbers.specs.Output.{padded}
 use Rattle.block.specs.declared.Block.{Block}
-use Rattle.grammar.specs.Course.{Course, items, ending}
+use Rattle.grammar.specs.Course.{Course, things, ending}
 use Rattle.vector.specs.Vector.{Entry, vectorOf}
 use Rattle.kept.specs.Kept.{remote}
 use Rattle.kept.proofs.Vectors.{whyVector}
 use Rattle.sorting.specs.Steps.{start, Sorts}
 use Rattle.sorting.specs.Rules.{Rule}
 use Rattle.sorting.specs.Named.{asksOf, ruleOf}
-use Rattle.sorting.specs.Sorted.{clients, steps, numbersBy, countsIn, reachesIn, pendingIn}
-use Rattle.sorting.specs.Slow.{slow, slowly as slowRun, slowOutcome, slowOrderOf, slowCountsOf, slowReachesOf, slowPendingOf}
+use Rattle.sorting.specs.Sorted.{allClients, steps, numbersBy, countsIn, reachesIn, pendingIn}
+use Rattle.sorting.specs.Slow.{slow, slowSteps as slowRun, slowOutcome, slowOrderOf, slowCountsOf, slowReachesOf, slowPendingOf}
 use Rattle.sorting.proofs.Rules.{RuleMonotone, reaches-mono}
 use Rattle.sorting.proofs.Clients.{clients-blocks}
 use Rattle.sorting.proofs.Slow.{slow-sorted, same-counts, same-reaches, same-pending, same-steps}
-use Rattle.updates.specs.Promises.{Reading, reading, rowsOf, wordsOf}
+use Rattle.updates.specs.Promises.{Reading, reading, tableOf, rangeWords}
 use Rattle.sort_answers.specs.declared.Sorted.{Sorted}
 use Rattle.sort_answers.specs.Answers.{isRule, Sort, refusedWith, Room, whyNot, answered}
-use Rattle.sorts.specs.Promises.{lent, quickly, whole, whySort, fitting, against, afterReading, sortBy, sortOf, SortUpdate}
-use Rattle.sorts.specs.Demand.{endOf}
+use Rattle.sorts.specs.Promises.{lent, quickly, sortedAll, whySort, fitting, against, afterReading, sortBy, sortOf, SortUpdate}
+use Rattle.sorts.specs.Demand.{endState}
 use Rattle.sorts.proofs.Demand.{against-is, after-done}
 use Rattle.slow_sorts.specs.Promises.{slowly, slowSortOf, SortSlowly}
 
@@ -40,25 +40,25 @@ pub record Swept (R : Rule ℕ) (r : Reading) (c : Course Entry) (s : Sort) : Ty
   pub reading : s .reading ≡ r
   -- the client of each step: an allowed run, carried to its end, and the run of sweeps
   pub run : List ℕ
-  pub sorts : Sorts (steps R (r .blocks)) (remote (items c)) run
-  pub sweeps : run ≡ slow (steps R (r .blocks)) (clients (r .blocks) (items c)) (start (remote (items c)))
+  pub sorts : Sorts (steps R (r .blocks)) (remote (things c)) run
+  pub sweeps : run ≡ slow (steps R (r .blocks)) (allClients (r .blocks) (things c)) (start (remote (things c)))
   -- the numbers of the blocks that it takes, and the reports on where it ends
-  pub order : s .order ≡ numbersBy R (r .blocks) (start (remote (items c))) run
-  pub counts : s .counts ≡ countsIn (r .blocks) (endOf R r c run) (clients (r .blocks) (items c))
-  pub reaches : s .reaches ≡ reachesIn (endOf R r c run) (clients (r .blocks) (items c))
-  pub pending : s .pending ≡ pendingIn R (r .blocks) (endOf R r c run) (clients (r .blocks) (items c))
+  pub order : s .order ≡ numbersBy R (r .blocks) (start (remote (things c))) run
+  pub counts : s .counts ≡ countsIn (r .blocks) (endState R r c run) (allClients (r .blocks) (things c))
+  pub reaches : s .reaches ≡ reachesIn (endState R r c run) (allClients (r .blocks) (things c))
+  pub pending : s .pending ≡ pendingIn R (r .blocks) (endState R r c run) (allClients (r .blocks) (things c))
 
 whole-swept : (R : Rule ℕ) → RuleMonotone R → (r : Reading) (c : List ℕ) → r .refusal .number ≡ 0 → ending (vectorOf c) (λ _. true) (λ _. false) ≡ true
-    → Swept R r (vectorOf c) (whole slowly R (items (vectorOf c)) r)
-unfolding whole slowOutcome slowOrderOf slowCountsOf slowReachesOf slowPendingOf slowRun
+    → Swept R r (vectorOf c) (sortedAll slowly R (things (vectorOf c)) r)
+unfolding sortedAll slowOutcome slowOrderOf slowCountsOf slowReachesOf slowPendingOf slowRun
 whole-swept R mono r c z ends =
     let bs = r .blocks in
-    let v = items (vectorOf c) in
+    let v = things (vectorOf c) in
     record {
       read = (z, ends);
       reading = refl;
-      run = slow (steps R bs) (clients bs v) (start (remote v));
-      sorts = slow-sorted R mono bs (clients bs v) (clients-blocks bs v) (remote v);
+      run = slow (steps R bs) (allClients bs v) (start (remote v));
+      sorts = slow-sorted R mono bs (allClients bs v) (clients-blocks bs v) (remote v);
       sweeps = refl;
       order = refl;
       counts = refl;
@@ -101,10 +101,10 @@ alike-pick false s t r q a b = b
 
 module _ (R : Rule ℕ) (mono : RuleMonotone R) (m : Room) (v : List ℕ) (r : Reading) where
   abbrev es : List Entry
-  es = items (vectorOf v)
+  es = things (vectorOf v)
 
-  whole-alike : Alike (whole slowly R es r) (whole quickly R es r)
-  unfolding whole
+  whole-alike : Alike (sortedAll slowly R es r) (sortedAll quickly R es r)
+  unfolding sortedAll
   whole-alike = record {
     refusal = refl;
     steps = same-steps R mono (r .blocks) es;
@@ -154,8 +154,8 @@ pub same-reports : (rule form : ℕ) (u v : List ℕ) (rows : List Block) (range
 same-reports rule form u v rows ranges order counts reaches pending r s rows₁ rows₂ ranges₁ ranges₂ order₁ order₂ counts₁ counts₂ reaches₁ reaches₂ pending₁ pending₂ a b =
     let e = sorts-alike rule form u v (length rows) (length ranges / 3) (lent order counts reaches pending) in (
       a .0 ∙ answers-alike _ _ e ∙ sym (b .0),
-      a .1 ∙ ap (rowsOf (length rows)) (e .reading) ∙ sym (b .1),
-      a .2 ∙ ap (wordsOf (length ranges)) (e .reading) ∙ sym (b .2),
+      a .1 ∙ ap (tableOf (length rows)) (e .reading) ∙ sym (b .1),
+      a .2 ∙ ap (rangeWords (length ranges)) (e .reading) ∙ sym (b .2),
       a .4 ∙ ap (padded (length counts)) (e .counts) ∙ sym (b .4),
       a .5 ∙ ap (padded (length reaches)) (e .reaches) ∙ sym (b .5),
       a .6 ∙ ap (padded (length pending)) (e .pending) ∙ sym (b .6),

@@ -7,7 +7,7 @@ use lib.ListN.{length, take, replicate, length-replicate}
 use Rattle.numbers.specs.declared.Refusal.{Refusal}
 use Rattle.numbers.specs.Output.{padded}
 use Rattle.block.specs.declared.Block.{Block}
-use Rattle.grammar.specs.Course.{Course, items, ending}
+use Rattle.grammar.specs.Course.{Course, things, ending}
 use Rattle.vector.specs.declared.Entries.the-variants.{Read, Refused}
 use Rattle.vector.specs.Vector.{Entry, clientsIn}
 use Rattle.vector.specs.VectorInner.{clocksIn, kept}
@@ -150,11 +150,11 @@ module _ (rule : ℕ) (c : Course Entry) (rows : List Block) (blocks : ℕ) (ord
     abbrev entries : List Entry
     entries = entriesOf m (padded k (clientsIn (kept c))) (padded l (clocksIn (kept c)))
 
-    by-read : {X : Type 0} (f : List ℕ → List Entry → X) (g : Refusal → X) → f names entries ≡ ending c (λ s. f (clientsIn (items c)) (items c)) g
+    by-read : {X : Type 0} (f : List ℕ → List Entry → X) (g : Refusal → X) → f names entries ≡ ending c (λ s. f (clientsIn (things c)) (things c)) g
     by-read f g =
         let r = was-read c m e in
-        ap (λ (v : List Entry). f names v) (r .entries k l) ∙ ap (λ (ns : List ℕ). f ns (items c)) (r .clients k)
-        ∙ sym (r .ends-so (λ (s : ℕ). f (clientsIn (items c)) (items c)) g)
+        ap (λ (v : List Entry). f names v) (r .entries k l) ∙ ap (λ (ns : List ℕ). f ns (things c)) (r .clients k)
+        ∙ sym (r .ends-so (λ (s : ℕ). f (clientsIn (things c)) (things c)) g)
 
     pub names-fit : m ≤ length (padded k (clientsIn (kept c)))
     names-fit = was-read c m e .room k

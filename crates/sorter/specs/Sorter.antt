@@ -6,7 +6,7 @@ use lib.ListN.{length, take, replicate}
 use Rattle.numbers.specs.Limits.{maxClients}
 use Rattle.block.specs.declared.Block.{Block}
 use Rattle.vector.specs.Vector.{Entry, clientsIn}
-use Rattle.grammar.specs.Course.{Course, items, ending}
+use Rattle.grammar.specs.Course.{Course, things, ending}
 use Rattle.slots.specs.declared.Noted.{Noted}
 use Rattle.slots.specs.Slots.{Slot, notedIn, notedAt, notedAll, namedAll}
 use Rattle.picker.specs.declared.Look.{Look}
@@ -82,19 +82,19 @@ noSorting n = record { number = n; steps = 0; counts = 0; reaches = 0; pending =
 -- ---- against a vector: where it is refused nothing is written
 
 abbrev pub slotsIn : List Block → ℕ → Course Entry → List Slot
-slotsIn rows blocks c = slotsFor maxReaches (take blocks rows) (clientsIn (items c))
+slotsIn rows blocks c = slotsFor maxReaches (take blocks rows) (clientsIn (things c))
 
 unfoldable pub sortingRead : ℕ → Course Entry → List Block → ℕ → List ℕ → Sorting
-sortingRead rule c rows blocks order = ending c (λ s. sortingOn rule (slotsIn rows blocks c) rows blocks (items c) order) (λ why. noSorting (why .number))
+sortingRead rule c rows blocks order = ending c (λ s. sortingOn rule (slotsIn rows blocks c) rows blocks (things c) order) (λ why. noSorting (why .number))
 
 unfoldable pub orderRead : ℕ → Course Entry → List Block → ℕ → List ℕ → List ℕ
-orderRead rule c rows blocks order = ending c (λ s. orderOn rule (slotsIn rows blocks c) rows blocks (items c) order) (λ why. order)
+orderRead rule c rows blocks order = ending c (λ s. orderOn rule (slotsIn rows blocks c) rows blocks (things c) order) (λ why. order)
 
 unfoldable pub countsRead : ℕ → Course Entry → List Block → ℕ → List ℕ → List ℕ → List ℕ
-countsRead rule c rows blocks order w = ending c (λ s. fitted (length w) (countsOn rule (slotsIn rows blocks c) rows blocks (items c) order)) (λ why. w)
+countsRead rule c rows blocks order w = ending c (λ s. fitted (length w) (countsOn rule (slotsIn rows blocks c) rows blocks (things c) order)) (λ why. w)
 
 unfoldable pub reachesRead : ℕ → Course Entry → List Block → ℕ → List ℕ → List ℕ → List ℕ
-reachesRead rule c rows blocks order w = ending c (λ s. fitted (length w) (reachesOn rule (slotsIn rows blocks c) rows blocks (items c) order)) (λ why. w)
+reachesRead rule c rows blocks order w = ending c (λ s. fitted (length w) (reachesOn rule (slotsIn rows blocks c) rows blocks (things c) order)) (λ why. w)
 
 unfoldable pub pendingRead : ℕ → Course Entry → List Block → ℕ → List ℕ → List ℕ → List ℕ
-pendingRead rule c rows blocks order w = ending c (λ s. fitted (length w) (pendingOn rule (slotsIn rows blocks c) rows blocks (items c) order)) (λ why. w)
+pendingRead rule c rows blocks order w = ending c (λ s. fitted (length w) (pendingOn rule (slotsIn rows blocks c) rows blocks (things c) order)) (λ why. w)

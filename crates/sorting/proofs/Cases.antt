@@ -11,16 +11,16 @@ use Rattle.block.specs.Rows.{leftIs, plain, withLeft, withRight, withParent}
 use Rattle.vector.specs.Vector.{Entry, entry}
 use Rattle.kept.specs.Kept.{remote}
 use Rattle.sorting.specs.Steps.{can, step, after}
-use Rattle.sorting.specs.Quick.{left, best, quick, order as choices}
+use Rattle.sorting.specs.Quick.{remaining, best, quick, chosen as choices}
 use Rattle.sorting.specs.Rules.{queue, deps, others, unmet, waits, system, report, byReaches}
 use Rattle.sorting.specs.Rule28.{asks28}
-use Rattle.sorting.specs.Rule13.{before, asks13}
+use Rattle.sorting.specs.Rule13.{idBefore, asks13}
 use Rattle.ranges.specs.Ranges.{Range}
 use Rattle.ranges.specs.Table.{range}
-use Rattle.sorting.specs.Held.{within, ruleHeld, heldIn, orderHeld, countsHeld, pendingHeld}
+use Rattle.sorting.specs.Held.{inRange, ruleHeld, heldIn, orderHeld, countsHeld, pendingHeld}
 use Rattle.sorting.specs.Named.{asksOf, ruleOf}
-use Rattle.sorting.specs.Sorted.{insert, insertAll, clients, order, outcome, numbersFrom, numbersBy, orderOf}
-use Rattle.sorting.specs.Slow.{lowestFirst, fronts, drain, sweep, sweeps, slow, slowly, slowOrderOf}
+use Rattle.sorting.specs.Sorted.{insert, insertAll, allClients, order, outcome, blockNumbersFrom, numbersBy, orderOf}
+use Rattle.sorting.specs.Slow.{lowestFirst, fronts, drain, sweep, sweeps, slow, slowSteps, slowOrderOf}
 use Rattle.sorting.specs.Sorted.{countsIn, countsOf, reachesIn, reachesOf, pendingIn, pendingOf}
 
 -- a block of some kind, clock and length, perhaps with a left id
@@ -57,7 +57,7 @@ CasesMN rule =
     × (sort rule (after-id 5 9 2 ∷ []) (entry 9 3 ∷ []) ≡ answer (0 ∷ []) (5 ∷ 1 ∷ []) (9 ∷ 3 ∷ 5 ∷ 1 ∷ []) [])
 
 cases-M-and-N : CasesMN 28 × CasesMN 13
-unfolding sort answer block binary after-id orderOf countsOf reachesOf pendingOf countsIn reachesIn pendingIn numbersBy numbersFrom outcome order clients insert insertAll quick choices best left can step after system queue deps others asksOf asks28 asks13 before byReaches waits unmet report remote
+unfolding sort answer block binary after-id orderOf countsOf reachesOf pendingOf countsIn reachesIn pendingIn numbersBy blockNumbersFrom outcome order allClients insert insertAll quick choices best remaining can step after system queue deps others asksOf asks28 asks13 idBefore byReaches waits unmet report remote
 cases-M-and-N = ((refl, refl, refl, refl, refl), (refl, refl, refl, refl, refl))
 
 -- a GC of length 0, a Skip, and a binary block behind a gap
@@ -79,14 +79,14 @@ behind-a-gap : (sort 13 (gc 3 ∷ []) [] ≡ answer [] (5 ∷ 0 ∷ []) (5 ∷ 0
     × (sort 13 (late false noId ∷ []) (entry 5 2 ∷ []) ≡ answer (0 ∷ []) (5 ∷ 1 ∷ []) (5 ∷ 3 ∷ []) [])
     × (sort 13 (late false noId ∷ []) (entry 5 1 ∷ []) ≡ answer [] (5 ∷ 0 ∷ []) (5 ∷ 1 ∷ []) (5 ∷ 5 ∷ 1 ∷ []))
     × (sort 13 (late true (record { client = 9; clock = 0 }) ∷ []) [] ≡ answer [] (5 ∷ 0 ∷ []) (5 ∷ 0 ∷ []) (5 ∷ 9 ∷ 0 ∷ []))
-unfolding gc skip late sort answer block orderOf countsOf reachesOf pendingOf countsIn reachesIn pendingIn numbersBy numbersFrom outcome order clients insert insertAll quick choices best left can step after system queue deps others asksOf asks28 asks13 before byReaches waits unmet report remote
+unfolding gc skip late sort answer block orderOf countsOf reachesOf pendingOf countsIn reachesIn pendingIn numbersBy blockNumbersFrom outcome order allClients insert insertAll quick choices best remaining can step after system queue deps others asksOf asks28 asks13 idBefore byReaches waits unmet report remote
 behind-a-gap = (refl, refl, refl, refl, refl, refl, refl)
 
 -- W-211: the slow order takes the lowest client first and all of its fronts that are ready, and sweeps again for what another client has made ready
 lowest-first : (slowOrderOf (ruleOf 28) (binary 9 ∷ gc 0 ∷ gc 1 ∷ []) [] ≡ 1 ∷ 2 ∷ 0 ∷ []) × (orderOf (ruleOf 28) (binary 9 ∷ gc 0 ∷ gc 1 ∷ []) [] ≡ 0 ∷ 1 ∷ 2 ∷ [])
     × (slowOrderOf (ruleOf 13) (after-id 5 9 0 ∷ late false noId ∷ binary 9 ∷ []) [] ≡ 2 ∷ 0 ∷ [])
     × (slowOrderOf (ruleOf 28) (after-id 5 9 0 ∷ late false noId ∷ binary 9 ∷ []) [] ≡ 2 ∷ 0 ∷ 1 ∷ [])
-unfolding gc late block binary after-id orderOf slowOrderOf slowly slow sweeps sweep drain fronts lowestFirst numbersBy numbersFrom order clients insert insertAll quick choices best left can step after system queue deps others asksOf asks28 asks13 before byReaches waits unmet remote
+unfolding gc late block binary after-id orderOf slowOrderOf slowSteps slow sweeps sweep drain fronts lowestFirst numbersBy blockNumbersFrom order allClients insert insertAll quick choices best remaining can step after system queue deps others asksOf asks28 asks13 idBefore byReaches waits unmet remote
 lowest-first = (refl, refl, refl, refl)
 
 -- ---- held ids
@@ -115,5 +115,5 @@ held-ids : (held (gapped ++ (after-id 5 9 1 ∷ [])) [] ≡ answer (0 ∷ 1 ∷ 
     × (held (late true (record { client = 5; clock = 7 }) ∷ []) [] ≡ answer (0 ∷ []) (5 ∷ 1 ∷ []) [] [])
     × (held (both-ids 4 ∷ []) (range 8 1 1 ∷ []) ≡ answer [] (5 ∷ 0 ∷ []) [] (5 ∷ 9 ∷ 4 ∷ []))
     × (held (both-ids 4 ∷ []) (range 9 4 1 ∷ []) ≡ answer [] (5 ∷ 0 ∷ []) [] (5 ∷ 8 ∷ 1 ∷ []))
-unfolding held gapped both-ids late sort answer block after-id orderHeld countsHeld pendingHeld heldIn within ruleHeld orderOf countsOf reachesOf pendingOf countsIn reachesIn pendingIn numbersBy numbersFrom outcome order clients insert insertAll quick choices best left can step after system queue deps others asksOf asks28 asks13 before byReaches waits unmet report remote
+unfolding held gapped both-ids late sort answer block after-id orderHeld countsHeld pendingHeld heldIn inRange ruleHeld orderOf countsOf reachesOf pendingOf countsIn reachesIn pendingIn numbersBy blockNumbersFrom outcome order allClients insert insertAll quick choices best remaining can step after system queue deps others asksOf asks28 asks13 idBefore byReaches waits unmet report remote
 held-ids = (refl, refl, refl, refl, refl, refl, refl, refl, refl)

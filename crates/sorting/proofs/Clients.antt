@@ -14,7 +14,7 @@ use Rattle.vector.specs.Vector.{Entry, clientsIn}
 use Rattle.readings.specs.Sound.{owner}
 use Rattle.sorting.specs.Quick.{Listed}
 use Rattle.sorting.specs.Rules.{queue}
-use Rattle.sorting.specs.Sorted.{insert, insertAll, clients}
+use Rattle.sorting.specs.Sorted.{insert, insertAll, allClients}
 use Rattle.sorting.proofs.Rules.{listed, has-some}
 
 -- where c goes: after a higher client, nowhere if it is there, else before
@@ -73,16 +73,16 @@ insertAll-only (c ∷ cs) e ds l = go (insertAll-only cs e (insert c ds) l)
     go (inl m) = inl (inr m)
     go (inr m) = elim (insert-only c e ds m) [ inl p ↦ inl (inl p) | inr k ↦ inr k ]
 
-pub clients-blocks : (bs : List Block) (v : List Entry) (c : ℕ) → 0 < length (queue bs c) → Listed c (clients bs v)
-unfolding clients
+pub clients-blocks : (bs : List Block) (v : List Entry) (c : ℕ) → 0 < length (queue bs c) → Listed c (allClients bs v)
+unfolding allClients
 clients-blocks bs v c h = insertAll-keeps (clientsIn v) c (insertAll (map owner bs) []) (insertAll-adds (map owner bs) c [] (listed bs c h))
 
-pub clients-vector : (bs : List Block) (v : List Entry) (c : ℕ) → Listed c (clientsIn v) → Listed c (clients bs v)
-unfolding clients
+pub clients-vector : (bs : List Block) (v : List Entry) (c : ℕ) → Listed c (clientsIn v) → Listed c (allClients bs v)
+unfolding allClients
 clients-vector bs v c l = insertAll-adds (clientsIn v) c (insertAll (map owner bs) []) l
 
-pub clients-only : (bs : List Block) (v : List Entry) (c : ℕ) → Listed c (clients bs v) → (0 < length (queue bs c)) ⊎ Listed c (clientsIn v)
-unfolding clients
+pub clients-only : (bs : List Block) (v : List Entry) (c : ℕ) → Listed c (allClients bs v) → (0 < length (queue bs c)) ⊎ Listed c (clientsIn v)
+unfolding allClients
 clients-only bs v c l = go (insertAll-only (clientsIn v) c (insertAll (map owner bs) []) l)
   where
     go : Listed c (clientsIn v) ⊎ Listed c (insertAll (map owner bs) []) → (0 < length (queue bs c)) ⊎ Listed c (clientsIn v)
@@ -115,6 +115,6 @@ unfolding insertAll
 insertAll-falls [] ds f = f
 insertAll-falls (c ∷ cs) ds f = insertAll-falls cs (insert c ds) (insert-falls c ds f)
 
-pub clients-fall : (bs : List Block) (v : List Entry) → Falls (clients bs v)
-unfolding clients
+pub clients-fall : (bs : List Block) (v : List Entry) → Falls (allClients bs v)
+unfolding allClients
 clients-fall bs v = insertAll-falls (clientsIn v) (insertAll (map owner bs) []) (insertAll-falls (map owner bs) [] tt)

@@ -20,7 +20,7 @@ use Rattle.sorting.specs.Steps.{State, start, step, after, Ends, Highest
 use Rattle.sorting.specs.Rules.{queue, isSkip, deps, others, waits, free, system, report}
 use Rattle.sorting.specs.Rule28.{asks28}
 use Rattle.sorting.specs.Sorted.{steps, order}
-use Rattle.sorting.specs.Held.{within, ruleHeld, heldIn, owners}
+use Rattle.sorting.specs.Held.{inRange, ruleHeld, heldIn, owners}
 use Rattle.sorting.proofs.Outcome.{both, pair, Moved, step-taken}
 use Rattle.sorting.proofs.Rules.{RuleMonotone, unmet-is, report-waits, others-are, others-free}
 use Rattle.sorting.proofs.Clients.{clients-blocks}
@@ -65,7 +65,7 @@ reported-held q s c d p = waits-held (s .known) c _ d (report-waits ruleHeld q s
 
 -- block k of a queue holds the id
 unfoldable pub holdsAt : List Block → ℕ → Id → Bool
-holdsAt q k d = pick (isSkip (getD q k noBlock)) false (within (d .client) (getD q k noBlock .clock) (getD q k noBlock .length .0) d)
+holdsAt q k d = pick (isSkip (getD q k noBlock)) false (inRange (d .client) (getD q k noBlock .clock) (getD q k noBlock .length .0) d)
 
 -- one of its first n blocks does
 unfoldable pub told : List Block → ℕ → Id → Bool
@@ -96,11 +96,11 @@ module _ (bs : List Block) (s : State Id) (c : ℕ) (d : Id) where
   unfolding step system ruleHeld holdsAt
   step-tells p =
       let b = getD (queue bs c) (s .taken c) noBlock in
-      fact-more (s .known d) (isSkip b) (within c (b .clock) (b .length .0) d)
-      ∙ ap (λ (x : ℕ). ltb 0 (s .known d) || pick (isSkip b) false (within x (b .clock) (b .length .0) d)) (sym p)
+      fact-more (s .known d) (isSkip b) (inRange c (b .clock) (b .length .0) d)
+      ∙ ap (λ (x : ℕ). ltb 0 (s .known d) || pick (isSkip b) false (inRange x (b .clock) (b .length .0) d)) (sym p)
 
   step-silent : d .client ≢ c → step (steps ruleHeld bs) s c .known d ≡ s .known d
-  unfolding step system ruleHeld within
+  unfolding step system ruleHeld inRange
   step-silent ne = rw (ne-eqb (d .client) c ne) (go (isSkip (getD (queue bs c) (s .taken c) noBlock)))
     where
       go : (x : Bool) → max (s .known d) (pick x 0 0) ≡ s .known d
@@ -138,8 +138,8 @@ module _ (bs : List Block) (κ : Id → ℕ) where
 
 -- ---- what ranges hold, as ids of a delete set
 
-pub within-is : (c clock n : ℕ) (d : Id) → T (within c clock n d) ↔ Hit (record { client = c; clock = clock; len = n }) (d .client) (d .clock)
-unfolding within
+pub within-is : (c clock n : ℕ) (d : Id) → T (inRange c clock n d) ↔ Hit (record { client = c; clock = clock; len = n }) (d .client) (d .clock)
+unfolding inRange
 within-is c clock n d = (
   (λ t. let e = both (eqb (d .client) c) _ t in
       let f = both (leb clock (d .clock)) _ (e .1) in
@@ -151,9 +151,9 @@ within-is c clock n d = (
 pub ranges-hold : (rs : List Range) (d : Id) → (0 < heldIn rs d) ↔ Deleted rs (d .client) (d .clock)
 unfolding heldIn
 ranges-hold [] d = ((λ h. absurd (omega arith)), (λ h. absurd h))
-ranges-hold (r ∷ rs) d = go (within (r .client) (r .clock) (r .len) d) refl (ranges-hold rs d)
+ranges-hold (r ∷ rs) d = go (inRange (r .client) (r .clock) (r .len) d) refl (ranges-hold rs d)
   where
-    go : (x : Bool) → within (r .client) (r .clock) (r .len) d ≡ x → ((0 < heldIn rs d) ↔ Deleted rs (d .client) (d .clock))
+    go : (x : Bool) → inRange (r .client) (r .clock) (r .len) d ≡ x → ((0 < heldIn rs d) ↔ Deleted rs (d .client) (d .clock))
         → (0 < pick x 1 (heldIn rs d)) ↔ (Hit r (d .client) (d .clock) ⊎ Deleted rs (d .client) (d .clock))
     go true e rec = ((λ h. inl (within-is (r .client) (r .clock) (r .len) d .0 (rw e tt))), (λ h. omega arith))
     go false e rec = (

@@ -20,8 +20,8 @@ use Rattle.sorting.specs.Quick.{Listed}
 use Rattle.sorting.specs.Rules.{queue, isSkip, Rule, unmet, waits, free, system, below, byReaches}
 use Rattle.sorting.specs.Rule28.{asks28}
 use Rattle.sorting.specs.Rule28Inner.{rule28}
-use Rattle.sorting.specs.Sorted.{clients, steps, order, outcome, numbersFrom, numbersBy, countsIn, outcomeOf, orderOf}
-use Rattle.sorting.specs.Held.{within, ruleHeld, owners}
+use Rattle.sorting.specs.Sorted.{allClients, steps, order, outcome, blockNumbersFrom, numbersBy, countsIn, outcomeOf, orderOf}
+use Rattle.sorting.specs.Held.{inRange, ruleHeld, owners}
 use Rattle.sorting.proofs.Outcome.{Moved, step-taken}
 use Rattle.sorting.proofs.Rules.{RuleMonotone, reaches-mono}
 use Rattle.sorting.proofs.Clients.{clients-blocks}
@@ -39,12 +39,12 @@ any-clients R mono bs cs ds in-cs in-ds κ =
 -- ---- the same taken counts give the same numbers and reports
 
 module _ {A B : Type 0} (R : Rule A) (Q : Rule B) where
-  pub numbers-same : (bs ds : List Block) → ((c : ℕ) → numbersFrom 0 bs c ≡ numbersFrom 0 ds c) → (s : State A) (u : State B)
+  pub numbers-same : (bs ds : List Block) → ((c : ℕ) → blockNumbersFrom 0 bs c ≡ blockNumbersFrom 0 ds c) → (s : State A) (u : State B)
       → ((c : ℕ) → s .taken c ≡ u .taken c) → (cs : List ℕ) → numbersBy R bs s cs ≡ numbersBy Q ds u cs
   unfolding numbersBy
   numbers-same bs ds n s u t [] = refl
   numbers-same bs ds n s u t (c ∷ cs) =
-      rw (n c, t c) (ap (λ (ns : List ℕ). getD (numbersFrom 0 ds c) (u .taken c) 0 ∷ ns)
+      rw (n c, t c) (ap (λ (ns : List ℕ). getD (blockNumbersFrom 0 ds c) (u .taken c) 0 ∷ ns)
       (numbers-same bs ds n (step (steps R bs) s c) (step (steps Q ds) u c) (λ d. go d (step-taken (steps R bs) s c d) (step-taken (steps Q ds) u c d)) cs))
     where
       go : (d : ℕ) → Moved (steps R bs) s c d → Moved (steps Q ds) u c d → step (steps R bs) s c .taken d ≡ step (steps Q ds) u c .taken d
@@ -110,7 +110,7 @@ module _ (bs : List Block) where
 
   level-step : (s : State ℕ) (u : State Id) → Level s u → (c : ℕ) → T (can (steps rule28 bs) s c) → Gapless bs s c
       → Level (step (steps rule28 bs) s c) (step (steps ruleHeld bs) u c)
-  unfolding step system byReaches ruleHeld within
+  unfolding step system byReaches ruleHeld inRange
   level-step s u l c t gap = record {
     taken = λ d. rw (l .taken d) refl;
     held = λ d. rw (← (l .taken c)) (lift-same (d .clock) (u .known d) (s .known (d .client)) (front bs s c .clock)
@@ -126,24 +126,24 @@ module _ (bs : List Block) where
   level = record { size = λ c. refl; taken = λ s u l. l .taken; same = level-can; goes = level-step }
 
   module _ (v : List Entry) (held : Id → ℕ) (below-clocks : (d : Id) → ltb 0 (held d) ≡ ltb (d .clock) (remote v (d .client)))
-      (gapless : Along (steps rule28 bs) (Gapless bs) (start (remote v)) (order rule28 bs (clients bs v) (remote v))) where
-    matched : Matched level (start (remote v)) (start held) (order rule28 bs (clients bs v) (remote v)) (order ruleHeld bs (clients bs v) held)
+      (gapless : Along (steps rule28 bs) (Gapless bs) (start (remote v)) (order rule28 bs (allClients bs v) (remote v))) where
+    matched : Matched level (start (remote v)) (start held) (order rule28 bs (allClients bs v) (remote v)) (order ruleHeld bs (allClients bs v) held)
     unfolding order
-    matched = quick-same level (clients bs v) (start (remote v)) (start held) (record { taken = λ c. refl; held = below-clocks }) gapless
+    matched = quick-same level (allClients bs v) (start (remote v)) (start held) (record { taken = λ c. refl; held = below-clocks }) gapless
 
-    same-order : order rule28 bs (clients bs v) (remote v) ≡ order ruleHeld bs (owners bs) held
-    same-order = matched .one ∙ any-clients ruleHeld held-mono bs (clients bs v) (owners bs) (clients-blocks bs v) (clients-blocks bs []) held
+    same-order : order rule28 bs (allClients bs v) (remote v) ≡ order ruleHeld bs (owners bs) held
+    same-order = matched .one ∙ any-clients ruleHeld held-mono bs (allClients bs v) (owners bs) (clients-blocks bs v) (clients-blocks bs []) held
 
     -- W-206: both take the same blocks in the same order, and as many of each client
     pub same-taken : orderOf rule28 bs v ≡ numbersBy ruleHeld bs (start held) (order ruleHeld bs (owners bs) held)
     unfolding orderOf
-    same-taken = numbers-same rule28 ruleHeld bs bs (λ c. refl) (start (remote v)) (start held) (λ c. refl) (order rule28 bs (clients bs v) (remote v))
+    same-taken = numbers-same rule28 ruleHeld bs bs (λ c. refl) (start (remote v)) (start held) (λ c. refl) (order rule28 bs (allClients bs v) (remote v))
         ∙ ap (numbersBy ruleHeld bs (start held)) same-order
 
     pub same-counts : (cs : List ℕ) → countsIn bs (outcomeOf rule28 bs v) cs ≡ countsIn bs (outcome ruleHeld bs (owners bs) held) cs
     unfolding outcome
-    same-counts cs = counts-same rule28 ruleHeld bs bs (λ c. refl) (after (steps rule28 bs) (start (remote v)) (order rule28 bs (clients bs v) (remote v)))
+    same-counts cs = counts-same rule28 ruleHeld bs bs (λ c. refl) (after (steps rule28 bs) (start (remote v)) (order rule28 bs (allClients bs v) (remote v)))
         (after (steps ruleHeld bs) (start held) (order ruleHeld bs (owners bs) held))
         (λ c. matched .ends .taken c
         ∙ ap (λ (ds : List ℕ). after (steps ruleHeld bs) (start held) ds .taken c)
-        (any-clients ruleHeld held-mono bs (clients bs v) (owners bs) (clients-blocks bs v) (clients-blocks bs []) held)) cs
+        (any-clients ruleHeld held-mono bs (allClients bs v) (owners bs) (clients-blocks bs v) (clients-blocks bs []) held)) cs

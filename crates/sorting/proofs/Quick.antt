@@ -11,7 +11,7 @@ use lib.ListN.{length}
 use Rattle.numbers.specs.Number.{pick}
 use Rattle.sorting.specs.Steps.{System, State, start, can, step, after, Run, Stuck, Ends, Highest, Sorts}
 use Rattle.sorting.specs.StepsInner.{Monotone}
-use Rattle.sorting.specs.Quick.{Listed, next, higher, order, left, best, quick}
+use Rattle.sorting.specs.Quick.{Listed, onChoice, higher, chosen, remaining, best, quick}
 use Rattle.sorting.proofs.Outcome.{can-fits, step-own, step-up, one-order, sorts}
 
 module _ {A : Type 0} (S : System A) where
@@ -40,48 +40,48 @@ module _ {A : Type 0} (S : System A) where
   highest-more s [] c g h = (h, tt)
   highest-more s (d ∷ cs) c g h = (g .0, highest-more (step S s d) cs c (g .1) h)
 
-  left-step : (s : State A) (c : ℕ) (cs : List ℕ) → left S (step S s c) cs ≤ left S s cs
-  unfolding left
+  left-step : (s : State A) (c : ℕ) (cs : List ℕ) → remaining S (step S s c) cs ≤ remaining S s cs
+  unfolding remaining
   left-step s c [] = omega arith
   left-step s c (d ∷ cs) = omega (arith, left-step s c cs, step-up S s c d)
 
-  left-less : (s : State A) (c : ℕ) (cs : List ℕ) → T (can S s c) → Listed c cs → left S (step S s c) cs < left S s cs
-  unfolding left
+  left-less : (s : State A) (c : ℕ) (cs : List ℕ) → T (can S s c) → Listed c cs → remaining S (step S s c) cs < remaining S s cs
+  unfolding remaining
   left-less s c [] t l = absurd l
   left-less s c (d ∷ cs) t (inl e) =
       rw (← e) (omega (arith, left-step s c cs, step-own S s c, can-fits S s c t))
   left-less s c (d ∷ cs) t (inr l) = omega (arith, left-less s c cs t l, step-up S s c d)
 
   module _ (clients : List ℕ) (listed : (c : ℕ) → 0 < S .size c → Listed c clients) where
-    pub less : (s : State A) (c : ℕ) → T (can S s c) → left S (step S s c) clients < left S s clients
+    pub less : (s : State A) (c : ℕ) → T (can S s c) → remaining S (step S s c) clients < remaining S s clients
     less s c t = left-less s c clients t (listed c (omega (arith, can-fits S s c t)))
 
     -- a run has no more steps than there are blocks left
-    pub left-run : (s : State A) (cs : List ℕ) → Run S s cs → left S (after S s cs) clients + length cs ≤ left S s clients
+    pub left-run : (s : State A) (cs : List ℕ) → Run S s cs → remaining S (after S s cs) clients + length cs ≤ remaining S s clients
     unfolding Run after
     left-run s [] r = omega arith
     left-run s (c ∷ cs) r = omega (arith, less s c (r .0), left-run (step S s c) cs (r .1))
 
     -- a choice of steps that may be made gives a run, and goes on until there is no choice
     module _ (choose : State A → Option ℕ) (sound : (s : State A) (c : ℕ) → choose s ≡ some c → T (can S s c)) where
-      order-run : (f : ℕ) (s : State A) → Run S s (order S choose f s)
-      unfolding Run order
+      order-run : (f : ℕ) (s : State A) → Run S s (chosen S choose f s)
+      unfolding Run chosen
       order-run zero s = tt
       order-run (suc f) s = go (choose s) refl (λ c. order-run f (step S s c))
         where
-          go : (o : Option ℕ) → choose s ≡ o → ((c : ℕ) → Run S (step S s c) (order S choose f (step S s c)))
-              → Run S s (next o (λ c. order S choose f (step S s c)))
+          go : (o : Option ℕ) → choose s ≡ o → ((c : ℕ) → Run S (step S s c) (chosen S choose f (step S s c)))
+              → Run S s (onChoice o (λ c. chosen S choose f (step S s c)))
           go none e rec = tt
           go (some c) e rec = (sound s c e, rec c)
 
-      order-end : (f : ℕ) (s : State A) → left S s clients < f → choose (after S s (order S choose f s)) ≡ none
-      unfolding after order
+      order-end : (f : ℕ) (s : State A) → remaining S s clients < f → choose (after S s (chosen S choose f s)) ≡ none
+      unfolding after chosen
       order-end zero s h = absurd (omega arith)
       order-end (suc f) s h = go (choose s) refl (λ c. order-end f (step S s c))
         where
           go : (o : Option ℕ) → choose s ≡ o
-              → ((c : ℕ) → left S (step S s c) clients < f → choose (after S (step S s c) (order S choose f (step S s c))) ≡ none)
-              → choose (after S s (next o (λ c. order S choose f (step S s c)))) ≡ none
+              → ((c : ℕ) → remaining S (step S s c) clients < f → choose (after S (step S s c) (chosen S choose f (step S s c))) ≡ none)
+              → choose (after S s (onChoice o (λ c. chosen S choose f (step S s c)))) ≡ none
           go none e rec = e
           go (some c) e rec = rec c (omega (arith, less s c (sound s c e)))
 
@@ -124,8 +124,8 @@ module _ {A : Type 0} (S : System A) where
     pub quick-ends : (s : State A) → Ends S s (quick S clients s)
     unfolding quick
     quick-ends s =
-        let f = suc (left S s clients) in
-        let t = after S s (order S (best S clients) f s) in
+        let f = suc (remaining S s clients) in
+        let t = after S s (chosen S (best S clients) f s) in
         record {
           run = order-run clients listed (best S clients) (best-sound clients) f s;
           end = no-listed t (subst (Best t clients) (order-end clients listed (best S clients) (best-sound clients) f s (omega arith))
@@ -134,16 +134,16 @@ module _ {A : Type 0} (S : System A) where
 
     -- each step takes the highest client whose front is ready
     pub quick-highest : (s : State A) → Highest S s (quick S clients s)
-    unfolding quick Highest order
-    quick-highest s = go (suc (left S s clients)) s
+    unfolding quick Highest chosen
+    quick-highest s = go (suc (remaining S s clients)) s
       where
         step-by-step : (f : ℕ) (s : State A) (o : Option ℕ) → Best s clients o
-            → ((c : ℕ) → Highest S (step S s c) (order S (best S clients) f (step S s c)))
-            → Highest S s (next o (λ c. order S (best S clients) f (step S s c)))
+            → ((c : ℕ) → Highest S (step S s c) (chosen S (best S clients) f (step S s c)))
+            → Highest S s (onChoice o (λ c. chosen S (best S clients) f (step S s c)))
         step-by-step f s none B rec = tt
         step-by-step f s (some c) B rec = ((λ d t. B .1 d (listed d (omega (arith, can-fits S s d t))) t), rec c)
 
-        go : (f : ℕ) (s : State A) → Highest S s (order S (best S clients) f s)
+        go : (f : ℕ) (s : State A) → Highest S s (chosen S (best S clients) f s)
         go zero s = tt
         go (suc f) s = step-by-step f s (best S clients s) (best-is clients s) (λ c. go f (step S s c))
 

@@ -13,10 +13,10 @@ use Rattle.block.specs.declared.Block.{Block}
 use Rattle.vector.specs.Vector.{Entry}
 use Rattle.kept.specs.Kept.{remote}
 use Rattle.sorting.specs.Steps.{System, State, start, can, step, after, Run, Stuck, Ends, Sorts}
-use Rattle.sorting.specs.Quick.{Listed, left}
+use Rattle.sorting.specs.Quick.{Listed, remaining}
 use Rattle.sorting.specs.Rules.{queue, Rule, system}
-use Rattle.sorting.specs.Sorted.{clients, steps, order, outcome, outcomeOf, numbersBy, orderOf, countsIn, countsOf, reachesIn, reachesOf, pendingIn, pendingOf}
-use Rattle.sorting.specs.Slow.{lowestFirst, again, fronts, drain, sweep, sweeps, slow, slowly, slowOutcome, slowOutcomeOf}
+use Rattle.sorting.specs.Sorted.{allClients, steps, order, outcome, outcomeOf, numbersBy, orderOf, countsIn, countsOf, reachesIn, reachesOf, pendingIn, pendingOf}
+use Rattle.sorting.specs.Slow.{lowestFirst, again, fronts, drain, sweep, sweeps, slow, slowSteps, slowOutcome, slowOutcomeOf}
 use Rattle.sorting.specs.Slow.{slowOrderOf, slowCountsOf, slowReachesOf, slowPendingOf}
 use Rattle.sorting.proofs.Outcome.{can-fits, step-own, Moved, step-taken, sorts}
 use Rattle.sorting.proofs.Quick.{run-append, after-append, left-run, no-listed}
@@ -108,13 +108,13 @@ module _ {A : Type 0} (S : System A) where
         go (inr w) = w .1
 
     -- clients below c
-    left-below : (d : ℕ) (cs : List ℕ) → Below d cs → Falls cs → d ≤ c → left S (step S s c) cs ≡ left S s cs
-    unfolding left
+    left-below : (d : ℕ) (cs : List ℕ) → Below d cs → Falls cs → d ≤ c → remaining S (step S s c) cs ≡ remaining S s cs
+    unfolding remaining
     left-below d [] b f h = refl
     left-below d (x ∷ cs) b f h = λ i. (S .size x - taken-other x (λ e. omega arith) i) + left-below x cs (f .0) (f .1) (omega arith) i
 
-    left-one : (cs : List ℕ) → Falls cs → T (can S s c) → Listed c cs → suc (left S (step S s c) cs) ≡ left S s cs
-    unfolding left
+    left-one : (cs : List ℕ) → Falls cs → T (can S s c) → Listed c cs → suc (remaining S (step S s c) cs) ≡ remaining S s cs
+    unfolding remaining
     left-one [] f t l = absurd l
     left-one (x ∷ cs) f t (inl p) =
         rw (← p) (omega (arith, step-own S s c, can-fits S s c t, left-below x cs (f .0) (f .1) (omega arith)))
@@ -131,7 +131,7 @@ module _ {A : Type 0} (S : System A) where
             higher y (z ∷ cs) h b f (inr l) e = higher z cs (omega arith) (f .0) (f .1) l e
 
   module _ (clients : List ℕ) (listed : (c : ℕ) → 0 < S .size c → Listed c clients) where
-    pub run-length : Falls clients → (s : State A) (cs : List ℕ) → Run S s cs → left S (after S s cs) clients + length cs ≡ left S s clients
+    pub run-length : Falls clients → (s : State A) (cs : List ℕ) → Run S s cs → remaining S (after S s cs) clients + length cs ≡ remaining S s clients
     unfolding Run after
     run-length f s [] r = omega arith
     run-length f s (c ∷ cs) r =
@@ -139,13 +139,13 @@ module _ {A : Type 0} (S : System A) where
 
     -- ---- the sweeps end
 
-    sweeps-stuck : (k : ℕ) (s : State A) → left S s clients < k → Stuck S (after S s (sweeps S k (lowestFirst clients) s))
+    sweeps-stuck : (k : ℕ) (s : State A) → remaining S s clients < k → Stuck S (after S s (sweeps S k (lowestFirst clients) s))
     unfolding sweeps after
     sweeps-stuck zero s h = absurd (omega arith)
     sweeps-stuck (suc k) s h = go (sweep S s (lowestFirst clients)) refl (sweep-run s (lowestFirst clients)) (λ d. sweeps-stuck k (after S s d))
       where
         go : (d : List ℕ) → sweep S s (lowestFirst clients) ≡ d → Run S s d
-            → ((d : List ℕ) → left S (after S s d) clients < k → Stuck S (after S (after S s d) (sweeps S k (lowestFirst clients) (after S s d))))
+            → ((d : List ℕ) → remaining S (after S s d) clients < k → Stuck S (after S (after S s d) (sweeps S k (lowestFirst clients) (after S s d))))
             → Stuck S (after S s (again d (λ d. sweeps S k (lowestFirst clients) (after S s d))))
         go [] e r rec = no-listed S clients listed s (λ c l. sweep-none s (lowestFirst clients) e c (lowest-listed c clients l))
         go (x ∷ d) e r rec =
@@ -155,8 +155,8 @@ module _ {A : Type 0} (S : System A) where
     pub slow-ends : (s : State A) → Ends S s (slow S clients s)
     unfolding slow
     slow-ends s = record {
-      run = sweeps-run (suc (left S s clients)) (lowestFirst clients) s;
-      end = sweeps-stuck (suc (left S s clients)) s (omega arith);
+      run = sweeps-run (suc (remaining S s clients)) (lowestFirst clients) s;
+      end = sweeps-stuck (suc (remaining S s clients)) s (omega arith);
     }
 
 -- ---- W-211: an update's blocks, sorted slowly by any rule under which more knowledge holds nothing back
@@ -168,43 +168,43 @@ module _ {A : Type 0} (R : Rule A) (mono : RuleMonotone R) (bs : List Block) (cs
   some-of = all
 
   -- Demand 3 of the slow order: an allowed run, carried to its end, of the one outcome
-  pub slow-sorted : Sorts (steps R bs) κ (slowly R bs cs κ)
-  unfolding slowly
+  pub slow-sorted : Sorts (steps R bs) κ (slowSteps R bs cs κ)
+  unfolding slowSteps
   slow-sorted = sorts (steps R bs) (system-monotone R (queue bs) mono) κ (slow (steps R bs) cs (start κ)) (slow-ends (steps R bs) cs some-of (start κ))
 
   -- the state that the order of highest clients ends in
   pub same-outcome : slowOutcome R bs cs κ ≡ outcome R bs cs κ
   unfolding slowOutcome outcome
-  same-outcome = sorted R mono bs cs all κ .same (slowly R bs cs κ) (slow-sorted .ends)
+  same-outcome = sorted R mono bs cs all κ .same (slowSteps R bs cs κ) (slow-sorted .ends)
 
   -- in as many steps
-  pub same-length : Falls cs → length (slowly R bs cs κ) ≡ length (order R bs cs κ)
+  pub same-length : Falls cs → length (slowSteps R bs cs κ) ≡ length (order R bs cs κ)
   unfolding slowOutcome outcome
   same-length f =
-      let s = run-length (steps R bs) cs some-of f (start κ) (slowly R bs cs κ) (slow-sorted .ends .run) in
+      let s = run-length (steps R bs) cs some-of f (start κ) (slowSteps R bs cs κ) (slow-sorted .ends .run) in
       let q = run-length (steps R bs) cs some-of f (start κ) (order R bs cs κ) (sorted R mono bs cs all κ .ends .run) in
-      omega (arith, s, q, ap (λ t. left (steps R bs) t cs) same-outcome)
+      omega (arith, s, q, ap (λ t. remaining (steps R bs) t cs) same-outcome)
 
 -- against a state vector, by a rule by reaches
 module _ (R : Rule ℕ) (mono : RuleMonotone R) (bs : List Block) (v : List Entry) where
   same-state : slowOutcomeOf R bs v ≡ outcomeOf R bs v
-  same-state = same-outcome R mono bs (clients bs v) (clients-blocks bs v) (remote v)
+  same-state = same-outcome R mono bs (allClients bs v) (clients-blocks bs v) (remote v)
 
   pub same-counts : slowCountsOf R bs v ≡ countsOf R bs v
   unfolding slowCountsOf countsOf
-  same-counts = ap (λ (s : State ℕ). countsIn bs s (clients bs v)) same-state
+  same-counts = ap (λ (s : State ℕ). countsIn bs s (allClients bs v)) same-state
 
   pub same-reaches : slowReachesOf R bs v ≡ reachesOf R bs v
   unfolding slowReachesOf reachesOf
-  same-reaches = ap (λ (s : State ℕ). reachesIn s (clients bs v)) same-state
+  same-reaches = ap (λ (s : State ℕ). reachesIn s (allClients bs v)) same-state
 
   pub same-pending : slowPendingOf R bs v ≡ pendingOf R bs v
   unfolding slowPendingOf pendingOf
-  same-pending = ap (λ (s : State ℕ). pendingIn R bs s (clients bs v)) same-state
+  same-pending = ap (λ (s : State ℕ). pendingIn R bs s (allClients bs v)) same-state
 
   pub same-steps : length (slowOrderOf R bs v) ≡ length (orderOf R bs v)
   unfolding slowOrderOf orderOf
   same-steps =
-      numbersBy-length R bs (start (remote v)) (slowly R bs (clients bs v) (remote v))
-      ∙ same-length R mono bs (clients bs v) (clients-blocks bs v) (remote v) (clients-fall bs v)
-      ∙ sym (numbersBy-length R bs (start (remote v)) (order R bs (clients bs v) (remote v)))
+      numbersBy-length R bs (start (remote v)) (slowSteps R bs (allClients bs v) (remote v))
+      ∙ same-length R mono bs (allClients bs v) (clients-blocks bs v) (remote v) (clients-fall bs v)
+      ∙ sym (numbersBy-length R bs (start (remote v)) (order R bs (allClients bs v) (remote v)))

@@ -13,7 +13,7 @@ use Rattle.readings.specs.Groups.{Distinct}
 use Rattle.sorting.specs.Steps.{State, start, step, Run, Ends, Takes, Sorts}
 use Rattle.sorting.specs.Quick.{Listed}
 use Rattle.sorting.specs.Rules.{queue, Rule, system}
-use Rattle.sorting.specs.Sorted.{clients, steps, order, numbersFrom, numbersBy, Taking, orderOf}
+use Rattle.sorting.specs.Sorted.{allClients, steps, order, blockNumbersFrom, numbersBy, Taking, orderOf}
 use Rattle.sorting.proofs.Outcome.{can-fits, step-own, takes-below, more-takes}
 use Rattle.sorting.proofs.Rules.{RuleMonotone, system-monotone}
 use Rattle.sorting.proofs.Clients.{clients-blocks}
@@ -31,7 +31,7 @@ module _ {A : Type 0} (R : Rule A) (bs : List Block) where
   unfolding Run system
   fits s c cs r = can-fits (steps R bs) s c (r .0)
 
-  pub takes-number : (s : State A) (cs : List ℕ) (c k : ℕ) → Takes (steps R bs) s cs c k → Listed (getD (numbersFrom 0 bs c) k 0) (numbersBy R bs s cs)
+  pub takes-number : (s : State A) (cs : List ℕ) (c k : ℕ) → Takes (steps R bs) s cs c k → Listed (getD (blockNumbersFrom 0 bs c) k 0) (numbersBy R bs s cs)
   unfolding Takes numbersBy
   takes-number s [] c k t = absurd t
   takes-number s (d ∷ cs) c k (inl w) = inl (rw (w .1, w .0))
@@ -43,7 +43,7 @@ module _ {A : Type 0} (R : Rule A) (bs : List Block) where
     pub k : ℕ
     pub takes : Takes (steps R bs) s cs c k
     pub inside : k < length (queue bs c)
-    pub is : n ≡ getD (numbersFrom 0 bs c) k 0
+    pub is : n ≡ getD (blockNumbersFrom 0 bs c) k 0
 
   pub number-takes : (s : State A) (cs : List ℕ) (n : ℕ) → Run (steps R bs) s cs → Listed n (numbersBy R bs s cs) → Taken s cs n
   unfolding Takes Run numbersBy
@@ -59,7 +59,7 @@ module _ {A : Type 0} (R : Rule A) (bs : List Block) where
 
   -- what a step takes, no later step takes
   not-again : (s : State A) (d : ℕ) (cs : List ℕ) → Run (steps R bs) s (d ∷ cs) → (n : ℕ) → Listed n (numbersBy R bs (step (steps R bs) s d) cs)
-      → n ≡ getD (numbersFrom 0 bs d) (s .taken d) 0 → ⊥
+      → n ≡ getD (blockNumbersFrom 0 bs d) (s .taken d) 0 → ⊥
   unfolding Run
   not-again s d cs r n l e =
       let w = number-takes (step (steps R bs) s d) cs n (r .1) l in
@@ -96,24 +96,24 @@ module _ {A : Type 0} (R : Rule A) (mono : RuleMonotone R) (bs : List Block) (κ
 -- ---- against a state vector, by a rule by reaches
 
 module _ (R : Rule ℕ) (mono : RuleMonotone R) (bs : List Block) (v : List Entry) where
-  pub sorts : Sorts (steps R bs) (remote v) (order R bs (clients bs v) (remote v))
-  sorts = sorted R mono bs (clients bs v) (clients-blocks bs v) (remote v)
+  pub sorts : Sorts (steps R bs) (remote v) (order R bs (allClients bs v) (remote v))
+  sorts = sorted R mono bs (allClients bs v) (clients-blocks bs v) (remote v)
 
   -- a number stands in the order exactly when some allowed order takes its block
   pub taken : (n : ℕ) → Listed n (orderOf R bs v) ↔ Taking R bs (remote v) n
   unfolding orderOf
-  taken = whole-takes R mono bs (remote v) (order R bs (clients bs v) (remote v)) (sorts .ends)
+  taken = whole-takes R mono bs (remote v) (order R bs (allClients bs v) (remote v)) (sorts .ends)
 
   pub untaken : (n : ℕ) → (Listed n (orderOf R bs v) → ⊥)
       ↔ ((cs : List ℕ) → Run (steps R bs) (start (remote v)) cs → Listed n (numbersBy R bs (start (remote v)) cs) → ⊥)
   unfolding orderOf
-  untaken = whole-leaves R mono bs (remote v) (order R bs (clients bs v) (remote v)) (sorts .ends)
+  untaken = whole-leaves R mono bs (remote v) (order R bs (allClients bs v) (remote v)) (sorts .ends)
 
   -- each number stands there once, and each is a block's
   pub taken-once : Distinct (orderOf R bs v)
   unfolding orderOf
-  taken-once = numbers-once R bs (start (remote v)) (order R bs (clients bs v) (remote v)) (sorts .ends .run)
+  taken-once = numbers-once R bs (start (remote v)) (order R bs (allClients bs v) (remote v)) (sorts .ends .run)
 
   pub taken-below : All (λ n. n < length bs) (orderOf R bs v)
   unfolding orderOf
-  taken-below = numbers-below R bs (start (remote v)) (order R bs (clients bs v) (remote v)) (sorts .ends .run)
+  taken-below = numbers-below R bs (start (remote v)) (order R bs (allClients bs v) (remote v)) (sorts .ends .run)

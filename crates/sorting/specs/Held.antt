@@ -11,30 +11,30 @@ use Rattle.ranges.specs.Ranges.{Range}
 use Rattle.sorting.specs.Steps.{State, start}
 use Rattle.sorting.specs.Rules.{Rule}
 use Rattle.sorting.specs.Rule28.{asks28}
-use Rattle.sorting.specs.Sorted.{clients, order, outcome, numbersBy, countsIn, pendingIn}
+use Rattle.sorting.specs.Sorted.{allClients, order, outcome, numbersBy, countsIn, pendingIn}
 
 -- the id is one of so many of client c from a clock on
-unfoldable pub within : ℕ → ℕ → ℕ → Id → Bool
-within c clock n d = eqb (d .client) c && (leb clock (d .clock) && ltb (d .clock) (clock + n))
+unfoldable pub inRange : ℕ → ℕ → ℕ → Id → Bool
+inRange c clock n d = eqb (d .client) c && (leb clock (d .clock) && ltb (d .clock) (clock + n))
 
 -- a block of client c holds its ids; a block of length 0 holds none (and of a Skip nothing is made known: `system`)
 unfoldable pub ruleHeld : Rule Id
 ruleHeld = record {
   asks = asks28;
   met = λ held d. ltb 0 (held d);
-  tells = λ c b d. pick (within c (b .clock) (b .length .0) d) 1 0;
+  tells = λ c b d. pick (inRange c (b .clock) (b .length .0) d) 1 0;
   says = λ held d. d .clock;
 }
 
 -- what ranges hold
 unfoldable pub heldIn : List Range → Id → ℕ
 heldIn [] d = 0
-heldIn (r ∷ rs) d = pick (within (r .client) (r .clock) (r .len) d) 1 (heldIn rs d)
+heldIn (r ∷ rs) d = pick (inRange (r .client) (r .clock) (r .len) d) 1 (heldIn rs d)
 
 -- ---- sorted against held ranges; reported are the clients that have blocks
 
 abbrev pub owners : List Block → List ℕ
-owners bs = clients bs []
+owners bs = allClients bs []
 
 abbrev pub outcomeHeld : List Block → List Range → State Id
 outcomeHeld bs rs = outcome ruleHeld bs (owners bs) (heldIn rs)

@@ -13,9 +13,9 @@ abbrev pub Listed : ℕ → List ℕ → Type 0
 Listed c [] = ⊥
 Listed c (d ∷ ds) = (c ≡ d) ⊎ Listed c ds
 
-abbrev pub next : Option ℕ → (ℕ → List ℕ) → List ℕ
-next none go = []
-next (some c) go = c ∷ go c
+abbrev pub onChoice : Option ℕ → (ℕ → List ℕ) → List ℕ
+onChoice none go = []
+onChoice (some c) go = c ∷ go c
 
 abbrev pub higher : Bool → ℕ → Option ℕ → Option ℕ
 higher false c o = o
@@ -24,14 +24,14 @@ higher true c (some d) = some (pick (ltb d c) c d)
 
 module _ {A : Type 0} (S : System A) where
   -- the steps that a choice makes, at most so many
-  unfoldable pub order : (State A → Option ℕ) → ℕ → State A → List ℕ
-  order choose zero s = []
-  order choose (suc f) s = next (choose s) (λ c. order choose f (step S s c))
+  unfoldable pub chosen : (State A → Option ℕ) → ℕ → State A → List ℕ
+  chosen choose zero s = []
+  chosen choose (suc f) s = onChoice (choose s) (λ c. chosen choose f (step S s c))
 
   -- how many blocks of these clients are not taken
-  unfoldable pub left : State A → List ℕ → ℕ
-  left s [] = 0
-  left s (c ∷ cs) = (S .size c - s .taken c) + left s cs
+  unfoldable pub remaining : State A → List ℕ → ℕ
+  remaining s [] = 0
+  remaining s (c ∷ cs) = (S .size c - s .taken c) + remaining s cs
 
   -- the highest client of a list whose front may be taken
   unfoldable pub best : List ℕ → State A → Option ℕ
@@ -39,4 +39,4 @@ module _ {A : Type 0} (S : System A) where
   best (c ∷ cs) s = higher (can S s c) c (best cs s)
 
   unfoldable pub quick : List ℕ → State A → List ℕ
-  quick clients s = order (best clients) (suc (left s clients)) s
+  quick clients s = chosen (best clients) (suc (remaining s clients)) s

@@ -7,9 +7,9 @@ use Rattle.block.specs.declared.Block.{Block}
 use Rattle.sorting.specs.Rules.{deps, others}
 
 -- the id before a clock of client c, if there is one
-unfoldable pub before : ℕ → ℕ → List Id
-before c zero = []
-before c (suc k) = record { client = c; clock = k } ∷ []
+unfoldable pub idBefore : ℕ → ℕ → List Id
+idBefore c zero = []
+idBefore c (suc k) = record { client = c; clock = k } ∷ []
 
 unfoldable pub asks13 : ℕ → Block → List Id
-asks13 c b = others c (deps b) ++ before c (b .clock)
+asks13 c b = others c (deps b) ++ idBefore c (b .clock)

@@ -8,8 +8,8 @@ use Rattle.vector.specs.Vector.{Entry}
 use Rattle.kept.specs.Kept.{remote}
 use Rattle.sorting.specs.Steps.{System, State, start, can, step, after}
 use Rattle.sorting.specs.Rules.{Rule}
-use Rattle.sorting.specs.Quick.{left}
-use Rattle.sorting.specs.Sorted.{clients, steps, numbersBy, countsIn, reachesIn, pendingIn}
+use Rattle.sorting.specs.Quick.{remaining}
+use Rattle.sorting.specs.Sorted.{allClients, steps, numbersBy, countsIn, reachesIn, pendingIn}
 
 -- clients are listed highest first
 unfoldable pub lowestFirst : List ℕ → List ℕ
@@ -43,30 +43,30 @@ module _ {A : Type 0} (S : System A) where
 
   -- a sweep that takes something takes a block
   unfoldable pub slow : List ℕ → State A → List ℕ
-  slow clients s = sweeps (suc (left S s clients)) (lowestFirst clients) s
+  slow clients s = sweeps (suc (remaining S s clients)) (lowestFirst clients) s
 
 -- ---- the blocks of an update, sorted slowly by a rule
 
 -- the client of each step
-unfoldable pub slowly : {A : Type 0} → Rule A → List Block → List ℕ → (A → ℕ) → List ℕ
-slowly R bs cs κ = slow (steps R bs) cs (start κ)
+unfoldable pub slowSteps : {A : Type 0} → Rule A → List Block → List ℕ → (A → ℕ) → List ℕ
+slowSteps R bs cs κ = slow (steps R bs) cs (start κ)
 
 unfoldable pub slowOutcome : {A : Type 0} → Rule A → List Block → List ℕ → (A → ℕ) → State A
-slowOutcome R bs cs κ = after (steps R bs) (start κ) (slowly R bs cs κ)
+slowOutcome R bs cs κ = after (steps R bs) (start κ) (slowSteps R bs cs κ)
 
 -- ---- against a state vector, by a rule by reaches
 
 abbrev pub slowOutcomeOf : Rule ℕ → List Block → List Entry → State ℕ
-slowOutcomeOf R bs v = slowOutcome R bs (clients bs v) (remote v)
+slowOutcomeOf R bs v = slowOutcome R bs (allClients bs v) (remote v)
 
 unfoldable pub slowOrderOf : Rule ℕ → List Block → List Entry → List ℕ
-slowOrderOf R bs v = numbersBy R bs (start (remote v)) (slowly R bs (clients bs v) (remote v))
+slowOrderOf R bs v = numbersBy R bs (start (remote v)) (slowSteps R bs (allClients bs v) (remote v))
 
 unfoldable pub slowCountsOf : Rule ℕ → List Block → List Entry → List ℕ
-slowCountsOf R bs v = countsIn bs (slowOutcomeOf R bs v) (clients bs v)
+slowCountsOf R bs v = countsIn bs (slowOutcomeOf R bs v) (allClients bs v)
 
 unfoldable pub slowReachesOf : Rule ℕ → List Block → List Entry → List ℕ
-slowReachesOf R bs v = reachesIn (slowOutcomeOf R bs v) (clients bs v)
+slowReachesOf R bs v = reachesIn (slowOutcomeOf R bs v) (allClients bs v)
 
 unfoldable pub slowPendingOf : Rule ℕ → List Block → List Entry → List ℕ
-slowPendingOf R bs v = pendingIn R bs (slowOutcomeOf R bs v) (clients bs v)
+slowPendingOf R bs v = pendingIn R bs (slowOutcomeOf R bs v) (allClients bs v)

@@ -25,8 +25,8 @@ unfoldable pub insertAll : List ℕ → List ℕ → List ℕ
 insertAll [] ds = ds
 insertAll (c ∷ cs) ds = insertAll cs (insert c ds)
 
-unfoldable pub clients : List Block → List Entry → List ℕ
-clients bs v = insertAll (clientsIn v) (insertAll (map owner bs) [])
+unfoldable pub allClients : List Block → List Entry → List ℕ
+allClients bs v = insertAll (clientsIn v) (insertAll (map owner bs) [])
 
 -- ---- the steps from what is known at first, of these clients, and where they end
 
@@ -41,14 +41,14 @@ unfoldable pub outcome : {A : Type 0} → Rule A → List Block → List ℕ →
 outcome R bs cs κ = after (steps R bs) (start κ) (order R bs cs κ)
 
 -- the numbers of a client's blocks, the first block of all having the number n
-unfoldable pub numbersFrom : ℕ → List Block → ℕ → List ℕ
-numbersFrom n [] c = []
-numbersFrom n (b ∷ bs) c = pick (eqb (b .client) c) (n ∷ numbersFrom (suc n) bs c) (numbersFrom (suc n) bs c)
+unfoldable pub blockNumbersFrom : ℕ → List Block → ℕ → List ℕ
+blockNumbersFrom n [] c = []
+blockNumbersFrom n (b ∷ bs) c = pick (eqb (b .client) c) (n ∷ blockNumbersFrom (suc n) bs c) (blockNumbersFrom (suc n) bs c)
 
 -- the number of the block that each step takes
 unfoldable pub numbersBy : {A : Type 0} → Rule A → List Block → State A → List ℕ → List ℕ
 numbersBy R bs s [] = []
-numbersBy R bs s (c ∷ cs) = getD (numbersFrom 0 bs c) (s .taken c) 0 ∷ numbersBy R bs (step (steps R bs) s c) cs
+numbersBy R bs s (c ∷ cs) = getD (blockNumbersFrom 0 bs c) (s .taken c) 0 ∷ numbersBy R bs (step (steps R bs) s c) cs
 
 -- an allowed order, carried to its end or not, takes the block of number n
 pub record Taking {A : Type 0} (R : Rule A) (bs : List Block) (κ : A → ℕ) (n : ℕ) : Type 0 where
@@ -80,16 +80,16 @@ pendingIn R bs s (c ∷ cs) = waiting (R .says (s .known)) c (report R (queue bs
 
 -- where its steps end
 abbrev pub outcomeOf : Rule ℕ → List Block → List Entry → State ℕ
-outcomeOf R bs v = outcome R bs (clients bs v) (remote v)
+outcomeOf R bs v = outcome R bs (allClients bs v) (remote v)
 
 unfoldable pub orderOf : Rule ℕ → List Block → List Entry → List ℕ
-orderOf R bs v = numbersBy R bs (start (remote v)) (order R bs (clients bs v) (remote v))
+orderOf R bs v = numbersBy R bs (start (remote v)) (order R bs (allClients bs v) (remote v))
 
 unfoldable pub countsOf : Rule ℕ → List Block → List Entry → List ℕ
-countsOf R bs v = countsIn bs (outcomeOf R bs v) (clients bs v)
+countsOf R bs v = countsIn bs (outcomeOf R bs v) (allClients bs v)
 
 unfoldable pub reachesOf : Rule ℕ → List Block → List Entry → List ℕ
-reachesOf R bs v = reachesIn (outcomeOf R bs v) (clients bs v)
+reachesOf R bs v = reachesIn (outcomeOf R bs v) (allClients bs v)
 
 unfoldable pub pendingOf : Rule ℕ → List Block → List Entry → List ℕ
-pendingOf R bs v = pendingIn R bs (outcomeOf R bs v) (clients bs v)
+pendingOf R bs v = pendingIn R bs (outcomeOf R bs v) (allClients bs v)

@@ -23,7 +23,7 @@ use Rattle.numbers.specs.Output.{padded}
 use Rattle.sort_answers.specs.Answers.{answered, isRule, refusedWith}
 use Rattle.sort_answers.specs.AnswersInner.{answerTo, judged}
 use Rattle.sorter.specs.Sorter.{countsRead, orderRead, pendingRead, reachesRead, sortingRead}
-use Rattle.updates.specs.Promises.{refused, rowsOf, wordsOf}
+use Rattle.updates.specs.Promises.{refused, tableOf, rangeWords}
 use Rattle.vector.specs.Vector.{vectorOf}
 use Rattle.reader.proofs.Sorts.{refusal}
 use Rattle.sorter.proofs.Sorts.{sorting}
@@ -91,7 +91,7 @@ module _ {M : Type 1} (𝓤 : URA M) (H : Heap 𝓤) (A : Atoms 𝓤) (mem : Mem
       said = λ ns r ws. since 𝓤 (λ e. (e, tt));
     }
 
-    pub sorts·refuse! : Triple 𝓤 (C #sorts·refuse) Sorts·refuse → (at-rows : Seat) (rows₀ : List Block) (at-ranges : Seat) (ranges₀ : List ℕ) (at-order : Seat) (order₀ : List ℕ) (at-counts : Seat) (counts₀ : List ℕ) (at-reaches : Seat) (reaches₀ : List ℕ) (at-pending : Seat) (pending₀ : List ℕ) (why₀ : Refusal) (g-why : Has refusal why₀) → Card 𝓤 H A C #sorts·refuse (mut block at-rows rows₀ (rowsOf (length rows₀) (refused why₀)) ∷ mut word at-ranges ranges₀ (wordsOf (length ranges₀) (refused why₀)) ∷ mut word at-order order₀ (padded (length order₀) []) ∷ mut word at-counts counts₀ (padded (length counts₀) []) ∷ mut word at-reaches reaches₀ (padded (length reaches₀) []) ∷ mut word at-pending pending₀ (padded (length pending₀) []) ∷ val refusal why₀ g-why ∷ []) sorted (answered (refusedWith why₀))
+    pub sorts·refuse! : Triple 𝓤 (C #sorts·refuse) Sorts·refuse → (at-rows : Seat) (rows₀ : List Block) (at-ranges : Seat) (ranges₀ : List ℕ) (at-order : Seat) (order₀ : List ℕ) (at-counts : Seat) (counts₀ : List ℕ) (at-reaches : Seat) (reaches₀ : List ℕ) (at-pending : Seat) (pending₀ : List ℕ) (why₀ : Refusal) (g-why : Has refusal why₀) → Card 𝓤 H A C #sorts·refuse (mut block at-rows rows₀ (tableOf (length rows₀) (refused why₀)) ∷ mut word at-ranges ranges₀ (rangeWords (length ranges₀) (refused why₀)) ∷ mut word at-order order₀ (padded (length order₀) []) ∷ mut word at-counts counts₀ (padded (length counts₀) []) ∷ mut word at-reaches reaches₀ (padded (length reaches₀) []) ∷ mut word at-pending pending₀ (padded (length pending₀) []) ∷ val refusal why₀ g-why ∷ []) sorted (answered (refusedWith why₀))
     sorts·refuse! known at-rows rows₀ at-ranges ranges₀ at-order order₀ at-counts counts₀ at-reaches reaches₀ at-pending pending₀ why₀ g-why = record {
       contract = Sorts·refuse;
       known = known;

@@ -12,7 +12,7 @@ use borrow.Author.Tests.{eqb-true, eqb-false}
 use Rattle.numbers.specs.Number.{pick, none, nowhere}
 use Rattle.block.specs.declared.Id.{Id}
 use Rattle.block.specs.declared.Block.{Block}
-use Rattle.grammar.specs.Course.{Course, items, ending}
+use Rattle.grammar.specs.Course.{Course, things, ending}
 use Rattle.vector.specs.Vector.{Entry, vectorOf}
 use Rattle.kept.specs.Kept.{remote}
 use Rattle.kept.proofs.Vectors.{whyVector, by-number}
@@ -21,7 +21,7 @@ use Rattle.sorting.specs.Rules.{queue, Rule, report}
 use Rattle.sorting.specs.Rule28Inner.{rule28}
 use Rattle.sorting.specs.Rule13Inner.{rule13}
 use Rattle.sorting.specs.Named.{asksOf, ruleOf}
-use Rattle.sorting.specs.Sorted.{clients, steps, order, outcome, numbersBy, outcomeOf, orderOf, countsIn, countsOf, reachesIn, reachesOf, pendingIn, pendingOf}
+use Rattle.sorting.specs.Sorted.{allClients, steps, order, outcome, numbersBy, outcomeOf, orderOf, countsIn, countsOf, reachesIn, reachesOf, pendingIn, pendingOf}
 use Rattle.sorting.proofs.Rules.{RuleMonotone, reaches-mono}
 use Rattle.sorting.proofs.Rule28.{reported-28}
 use Rattle.sorting.proofs.Rule13.{Behind, reported-13}
@@ -31,14 +31,14 @@ use Rattle.sorting.proofs.Taken.{whole-takes, whole-leaves, numbers-once, numbe
 use Rattle.sorting.specs.Quick.{Listed}
 use Rattle.updates.specs.Promises.{Reading, reading}
 use Rattle.sort_answers.specs.Answers.{isRule, Sort, refusedWith, Room}
-use Rattle.sorts.specs.Promises.{Finder, quickly, whole, whySort, fitting, against, afterReading, sortBy, sortOf}
-use Rattle.sorts.specs.Demand.{endOf, Demanded, Demand3}
+use Rattle.sorts.specs.Promises.{Finder, quickly, sortedAll, whySort, fitting, against, afterReading, sortBy, sortOf}
+use Rattle.sorts.specs.Demand.{endState, Demanded, Demand3}
 
 -- ---- what 0 says
 
 module _ (F : Finder) (R : Rule ℕ) (m : Room) (v : List ℕ) (r : Reading) where
   abbrev es : List Entry
-  es = items (vectorOf v)
+  es = things (vectorOf v)
 
   fitting-done : (s : Sort) → fitting m s .refusal .number ≡ 0 → fitting m s ≡ s
   unfolding fitting
@@ -49,31 +49,31 @@ module _ (F : Finder) (R : Rule ℕ) (m : Room) (v : List ℕ) (r : Reading) whe
       go true e h = refl
       go false e h = absurd (eqb-false (whySort m s) 0 e h)
 
-  pub against-is : against F R m (vectorOf v) r ≡ pick (eqb (whyVector v) 0) (fitting m (whole F R es r)) (refusedWith (nowhere (whyVector v)))
+  pub against-is : against F R m (vectorOf v) r ≡ pick (eqb (whyVector v) 0) (fitting m (sortedAll F R es r)) (refusedWith (nowhere (whyVector v)))
   unfolding against
-  against-is = by-number v (fitting m (whole F R es r)) (λ n. refusedWith (nowhere n))
+  against-is = by-number v (fitting m (sortedAll F R es r)) (λ n. refusedWith (nowhere n))
 
   ends-is : ending (vectorOf v) (λ _. true) (λ _. false) ≡ pick (eqb (whyVector v) 0) true false
   ends-is = by-number v true (λ _. false)
 
   against-done : against F R m (vectorOf v) r .refusal .number ≡ 0
-      → (ending (vectorOf v) (λ _. true) (λ _. false) ≡ true) × (against F R m (vectorOf v) r ≡ whole F R es r)
+      → (ending (vectorOf v) (λ _. true) (λ _. false) ≡ true) × (against F R m (vectorOf v) r ≡ sortedAll F R es r)
   against-done h = rw (against-is, ends-is) (go (eqb (whyVector v) 0) refl (subst (λ (s : Sort). s .refusal .number ≡ 0) against-is h))
     where
-      go : (x : Bool) → eqb (whyVector v) 0 ≡ x → pick x (fitting m (whole F R es r)) (refusedWith (nowhere (whyVector v))) .refusal .number ≡ 0
-          → (pick x true false ≡ true) × (pick x (fitting m (whole F R es r)) (refusedWith (nowhere (whyVector v))) ≡ whole F R es r)
-      go true e h = (refl, fitting-done (whole F R es r) h)
+      go : (x : Bool) → eqb (whyVector v) 0 ≡ x → pick x (fitting m (sortedAll F R es r)) (refusedWith (nowhere (whyVector v))) .refusal .number ≡ 0
+          → (pick x true false ≡ true) × (pick x (fitting m (sortedAll F R es r)) (refusedWith (nowhere (whyVector v))) ≡ sortedAll F R es r)
+      go true e h = (refl, fitting-done (sortedAll F R es r) h)
       go false e h = absurd (eqb-false (whyVector v) 0 e h)
 
   pub after-done : afterReading F R m (vectorOf v) r .refusal .number ≡ 0
-      → (r .refusal .number ≡ 0) × (ending (vectorOf v) (λ _. true) (λ _. false) ≡ true) × (afterReading F R m (vectorOf v) r ≡ whole F R es r)
+      → (r .refusal .number ≡ 0) × (ending (vectorOf v) (λ _. true) (λ _. false) ≡ true) × (afterReading F R m (vectorOf v) r ≡ sortedAll F R es r)
   unfolding afterReading
   after-done h = go (eqb (r .refusal .number) 0) refl h
     where
       go : (x : Bool) → eqb (r .refusal .number) 0 ≡ x → pick x (against F R m (vectorOf v) r) (refusedWith (r .refusal)) .refusal .number ≡ 0
           → (r .refusal .number ≡ 0)
           × (ending (vectorOf v) (λ _. true) (λ _. false) ≡ true)
-          × (pick x (against F R m (vectorOf v) r) (refusedWith (r .refusal)) ≡ whole F R es r)
+          × (pick x (against F R m (vectorOf v) r) (refusedWith (r .refusal)) ≡ sortedAll F R es r)
       go true e h = (eqb-true (r .refusal .number) 0 e, against-done h .0, against-done h .1)
       go false e h = absurd (eqb-false (r .refusal .number) 0 e h)
 
@@ -111,16 +111,16 @@ module _ {A : Type 0} (R : Rule A) (mono : RuleMonotone R) (bs : List Block) (κ
 
 module _ (R : Rule ℕ) (mono : RuleMonotone R) where
   whole-demanded : (r : Reading) (c : List ℕ) → r .refusal .number ≡ 0 → ending (vectorOf c) (λ _. true) (λ _. false) ≡ true
-      → Demand3 R r (vectorOf c) (whole quickly R (items (vectorOf c)) r)
-  unfolding whole outcome orderOf countsOf reachesOf pendingOf
+      → Demand3 R r (vectorOf c) (sortedAll quickly R (things (vectorOf c)) r)
+  unfolding sortedAll outcome orderOf countsOf reachesOf pendingOf
   whole-demanded r c z ends =
       let bs = r .blocks in
-      let v = items (vectorOf c) in
+      let v = things (vectorOf c) in
       record {
         read = (z, ends);
         reading = refl;
-        demanded = demanded R mono bs (remote v) (clients bs v) (clients-blocks bs v);
-        reaches = same R mono bs (remote v) (clients bs v) (clients-blocks bs v) (λ (s : State ℕ). reachesIn s (clients bs v));
+        demanded = demanded R mono bs (remote v) (allClients bs v) (clients-blocks bs v);
+        reaches = same R mono bs (remote v) (allClients bs v) (clients-blocks bs v) (λ (s : State ℕ). reachesIn s (allClients bs v));
       }
 
 -- ---- the rule that is named
@@ -145,18 +145,18 @@ demand-3 rule form u v blockRows rangeRows m h = go (isRule rule) h
 
 module _ (r : Reading) (c : Course Entry) (s : Sort) (k : ℕ) where
   -- by rule 28: something of another client that is not below that client's reach
-  pub waits-28 : (p : Demand3 rule28 r c s) → endOf rule28 r c (p .demanded .run) .taken k < length (queue (r .blocks) k)
-      → (d : Id) × (report rule28 (queue (r .blocks)) (endOf rule28 r c (p .demanded .run)) k ≡ some d)
-      × (d .client ≢ k) × (endOf rule28 r c (p .demanded .run) .known (d .client) ≤ d .clock)
+  pub waits-28 : (p : Demand3 rule28 r c s) → endState rule28 r c (p .demanded .run) .taken k < length (queue (r .blocks) k)
+      → (d : Id) × (report rule28 (queue (r .blocks)) (endState rule28 r c (p .demanded .run)) k ≡ some d)
+      × (d .client ≢ k) × (endState rule28 r c (p .demanded .run) .known (d .client) ≤ d .clock)
   waits-28 p h =
       let (d, is, _) = p .demanded .waits k h in
-      let (other, above) = reported-28 (queue (r .blocks)) (endOf rule28 r c (p .demanded .run)) k d is in
+      let (other, above) = reported-28 (queue (r .blocks)) (endState rule28 r c (p .demanded .run)) k d is in
       (d, is, other, above)
 
   -- by rule 13: what rule 28 waits for; or that waits for nothing, and the block lies behind a gap: its own client's reach is below its clock
-  pub waits-13 : (p : Demand3 rule13 r c s) → endOf rule13 r c (p .demanded .run) .taken k < length (queue (r .blocks) k)
-      → (d : Id) × (report rule13 (queue (r .blocks)) (endOf rule13 r c (p .demanded .run)) k ≡ some d)
-      × Behind (endOf rule13 r c (p .demanded .run) .known) k (front (r .blocks) (endOf rule13 r c (p .demanded .run)) k) d
+  pub waits-13 : (p : Demand3 rule13 r c s) → endState rule13 r c (p .demanded .run) .taken k < length (queue (r .blocks) k)
+      → (d : Id) × (report rule13 (queue (r .blocks)) (endState rule13 r c (p .demanded .run)) k ≡ some d)
+      × Behind (endState rule13 r c (p .demanded .run) .known) k (front (r .blocks) (endState rule13 r c (p .demanded .run)) k) d
   waits-13 p h =
       let (d, is, _) = p .demanded .waits k h in
-      (d, is, reported-13 (queue (r .blocks)) (endOf rule13 r c (p .demanded .run)) k d is)
+      (d, is, reported-13 (queue (r .blocks)) (endState rule13 r c (p .demanded .run)) k d is)

@@ -38,7 +38,7 @@ use Prim.Native.Nat.{_/_}
 use Rattle.numbers.specs.Output.{padded}
 use Rattle.sort_answers.specs.Answers.{answered, refusedWith}
 use Rattle.sort_answers.specs.AnswersInner.{answerTo, judged}
-use Rattle.updates.specs.Promises.{answer, reading, refused, rowsOf, wordsOf}
+use Rattle.updates.specs.Promises.{answer, reading, refused, tableOf, rangeWords}
 use Rattle.reader.proofs.Sorts.{refusal, refusal-has}
 use Rattle.sorter.proofs.Sorts.{sorting}
 use Rattle.sorts.proofs.Sorts.{sorted}
@@ -185,10 +185,10 @@ module _ (κs : Lfts 8) (qs : Shares 8) (a : Args f.signature κs)
 
   -- the sorter's arguments: what it leaves in the words is O, C, P and Q
   abbrev pub handed : Has word rows-read → List ℕ → List ℕ → List ℕ → List ℕ → List Arg
-  handed g O C P Q = val byte rule₀ (are .0) ∷ pass byte at-vector vector₀ ∷ read block at-rows (rowsOf (length rows₀) (reading form₀ update₀ (length rows₀) (length ranges₀ / 3))) ∷ val word rows-read g ∷ mut word at-order order₀ O ∷ mut word at-counts counts₀ C ∷ mut word at-reaches reaches₀ P ∷ mut word at-pending pending₀ Q ∷ []
+  handed g O C P Q = val byte rule₀ (are .0) ∷ pass byte at-vector vector₀ ∷ read block at-rows (tableOf (length rows₀) (reading form₀ update₀ (length rows₀) (length ranges₀ / 3))) ∷ val word rows-read g ∷ mut word at-order order₀ O ∷ mut word at-counts counts₀ C ∷ mut word at-reaches reaches₀ P ∷ mut word at-pending pending₀ Q ∷ []
 
   module _ {M : Type 1} (𝓤 : URA M) (H : Heap 𝓤) (A : Atoms 𝓤) (W : Given 𝓤 H A) (mem : Memory → SProp 𝓤) (run : Routine → Fun 𝓤) (𝓣 : Tables 𝓤 H) (known-sort-answers·is-rule : Triple 𝓤 (𝓣 .C #sort-answers·is-rule) (Sort-answers·is-rule 𝓤 H A mem run)) (known-sorts·refuse : Triple 𝓤 (𝓣 .C #sorts·refuse) (Sorts·refuse 𝓤 H A mem run)) (known-updates·read-update : Triple 𝓤 (𝓣 .C #updates·read-update) (Updates·read-update 𝓤 H A mem run)) (known-sort-answers·judge : Triple 𝓤 (𝓣 .C #sort-answers·judge) (Sort-answers·judge 𝓤 H A mem run)) (known-sort-answers·done : Triple 𝓤 (𝓣 .C #sort-answers·done) (Sort-answers·done 𝓤 H A mem run))
-      (F : Finder) (s : Name) (S : Sorting) (O C P Q : List ℕ) (card : (g : Has word rows-read) → rows-read ≤ length (rowsOf (length rows₀) (reading form₀ update₀ (length rows₀) (length ranges₀ / 3))) → Card 𝓤 H A (𝓣 .C) s (handed g O C P Q) sorting S)
+      (F : Finder) (s : Name) (S : Sorting) (O C P Q : List ℕ) (card : (g : Has word rows-read) → rows-read ≤ length (tableOf (length rows₀) (reading form₀ update₀ (length rows₀) (length ranges₀ / 3))) → Card 𝓤 H A (𝓣 .C) s (handed g O C P Q) sorting S)
       (gives : length rows₀ ≤ noRow → Gives F rule₀ form₀ update₀ vector₀ rows₀ ranges₀ order₀ counts₀ reaches₀ pending₀ S O C P Q)
       (Post : Val → SProp 𝓤) (exits : (r : Sorted) (rows₁ : List Block) (ranges₁ order₁ counts₁ reaches₁ pending₁ : List ℕ) → Has sorted r → Right F r rows₁ ranges₁ order₁ counts₁ reaches₁ pending₁ → ent 𝓤 (sem 𝓤 H A (refs (hs rows₁ ranges₁ order₁ counts₁ reaches₁ pending₁))) (Post (sorted .val r))) where
     pub walk : ent 𝓤 (onEntry 𝓤 H A f.signature κs qs a at-entry) (WpFn 𝓤 H (𝓣 .C) (𝓣 .Λ) (fn s) (vals (ps rows₀ ranges₀ order₀ counts₀ reaches₀ pending₀)) Post)
@@ -234,7 +234,7 @@ module _ (κs : Lfts 8) (qs : Shares 8) (a : Args f.signature κs)
         calls-by ! (fmOf 𝓤 H (W .laws) 𝓣) (2 ∷ 3 ∷ 4 ∷ 5 ∷ 6 ∷ 7 ∷ []) (hs rows₀ ranges₀ order₀ counts₀ reaches₀ pending₀) (sorts·refuse! 𝓤 H A mem run (𝓣 .C) known-sorts·refuse at-rows rows₀ at-ranges ranges₀ at-order order₀ at-counts counts₀ at-reaches reaches₀ at-pending pending₀ (record { number = 12; place = 0 }) (refusal-has 12 (refl, lit< tt) 0 (refl, lit< tt))) refl (λ P. and-then ! (load ! (from ! (stop !)) (look ! 109 refl)) (and-then ! (load ! (from ! (stop !)) (look ! 105 refl)) (and-then ! (load ! (from ! (stop !)) (look ! 101 refl)) (and-then ! (load ! (from ! (stop !)) (look ! 97 refl)) (and-then ! (load ! (from ! (stop !)) (look ! 93 refl)) (and-then ! (load ! (from ! (stop !)) (look ! 89 refl)) (and-then ! (load ! (from ! (stop !)) (look ! 87 refl)) (no-more !)))))))) (λ g₃.
         land ! (from ! (stop !)) (init ! 143 refl (g₃ .1 .0)) $
         return-on ! Post refl (look ! 143 refl) $
-        free-all ! (_ ∷ []) En (has _ ∷ has _ ∷ has _ ∷ has _ ∷ has _ ∷ has _ ∷ has _ ∷ has _ ∷ has _ ∷ has _ ∷ has _ ∷ bare ∷ bare ∷ bare ∷ has _ ∷ has _ ∷ has _ ∷ has _ ∷ has _ ∷ has _ ∷ has _ ∷ has _ ∷ has _ ∷ has _ ∷ has _ ∷ has _ ∷ has _ ∷ has _ ∷ has _ ∷ []) [] $ by ! (exits (answered (refusedWith (record { number = 12; place = 0 }))) (rowsOf (length rows₀) (refused (record { number = 12; place = 0 }))) (wordsOf (length ranges₀) (refused (record { number = 12; place = 0 }))) (padded (length order₀) []) (padded (length counts₀) []) (padded (length reaches₀) []) (padded (length pending₀) []) (g₃ .0) (exit-unknown F rule₀ form₀ update₀ vector₀ rows₀ ranges₀ order₀ counts₀ reaches₀ pending₀ (not-true _ y₂)))))
+        free-all ! (_ ∷ []) En (has _ ∷ has _ ∷ has _ ∷ has _ ∷ has _ ∷ has _ ∷ has _ ∷ has _ ∷ has _ ∷ has _ ∷ has _ ∷ bare ∷ bare ∷ bare ∷ has _ ∷ has _ ∷ has _ ∷ has _ ∷ has _ ∷ has _ ∷ has _ ∷ has _ ∷ has _ ∷ has _ ∷ has _ ∷ has _ ∷ has _ ∷ has _ ∷ has _ ∷ []) [] $ by ! (exits (answered (refusedWith (record { number = 12; place = 0 }))) (tableOf (length rows₀) (refused (record { number = 12; place = 0 }))) (rangeWords (length ranges₀) (refused (record { number = 12; place = 0 }))) (padded (length order₀) []) (padded (length counts₀) []) (padded (length reaches₀) []) (padded (length pending₀) []) (g₃ .0) (exit-unknown F rule₀ form₀ update₀ vector₀ rows₀ ranges₀ order₀ counts₀ reaches₀ pending₀ (not-true _ y₂)))))
         (λ y₂.
         skip-on ! $
         assigns ! (addr ! (from ! (fld ! refl (hop ! (look-in ! 133 (sub ! 0 refl (whole !))) (stop !))))) (from ! (stop !)) (init ! 85 refl (tt, tt)) $
@@ -271,10 +271,10 @@ module _ (κs : Lfts 8) (qs : Shares 8) (a : Args f.signature κs)
         flat ! $
         assigns ! (agg ! (and-then ! (load ! (from ! (stop !)) (look ! 57 refl)) (and-then ! (load ! (from ! (fld ! refl (stop !))) (look-in ! 123 (sub ! 1 refl (whole !)))) (no-more !)))) (from ! (stop !)) (init ! 55 refl (tt, (tt, (record { fits = are .1 .1 .1 .1 .1 .1 .1 .1 .1 .0 .0 .1 .0 }, tt)))) $
         flat ! $
-        calls-by ! (fmOf 𝓤 H (W .laws) 𝓣) (2 ∷ 3 ∷ 4 ∷ 5 ∷ 6 ∷ 7 ∷ []) (hs (rowsOf (length rows₀) (reading form₀ update₀ (length rows₀) (length ranges₀ / 3))) (wordsOf (length ranges₀) (reading form₀ update₀ (length rows₀) (length ranges₀ / 3))) order₀ counts₀ reaches₀ pending₀) (sorts·refuse! 𝓤 H A mem run (𝓣 .C) known-sorts·refuse at-rows (rowsOf (length rows₀) (reading form₀ update₀ (length rows₀) (length ranges₀ / 3))) at-ranges (wordsOf (length ranges₀) (reading form₀ update₀ (length rows₀) (length ranges₀ / 3))) at-order order₀ at-counts counts₀ at-reaches reaches₀ at-pending pending₀ ((answer (reading form₀ update₀ (length rows₀) (length ranges₀ / 3))) .refusal) (update-refusal (answer (reading form₀ update₀ (length rows₀) (length ranges₀ / 3))) (g₄ .0))) refl (λ P. and-then ! (load ! (from ! (stop !)) (look ! 75 refl)) (and-then ! (load ! (from ! (stop !)) (look ! 71 refl)) (and-then ! (load ! (from ! (stop !)) (look ! 67 refl)) (and-then ! (load ! (from ! (stop !)) (look ! 63 refl)) (and-then ! (load ! (from ! (stop !)) (look ! 59 refl)) (and-then ! (load ! (from ! (stop !)) (look ! 55 refl)) (and-then ! (load ! (from ! (fld ! refl (stop !))) (look-in ! 121 (sub ! 0 refl (whole !)))) (no-more !)))))))) (λ g₆.
+        calls-by ! (fmOf 𝓤 H (W .laws) 𝓣) (2 ∷ 3 ∷ 4 ∷ 5 ∷ 6 ∷ 7 ∷ []) (hs (tableOf (length rows₀) (reading form₀ update₀ (length rows₀) (length ranges₀ / 3))) (rangeWords (length ranges₀) (reading form₀ update₀ (length rows₀) (length ranges₀ / 3))) order₀ counts₀ reaches₀ pending₀) (sorts·refuse! 𝓤 H A mem run (𝓣 .C) known-sorts·refuse at-rows (tableOf (length rows₀) (reading form₀ update₀ (length rows₀) (length ranges₀ / 3))) at-ranges (rangeWords (length ranges₀) (reading form₀ update₀ (length rows₀) (length ranges₀ / 3))) at-order order₀ at-counts counts₀ at-reaches reaches₀ at-pending pending₀ ((answer (reading form₀ update₀ (length rows₀) (length ranges₀ / 3))) .refusal) (update-refusal (answer (reading form₀ update₀ (length rows₀) (length ranges₀ / 3))) (g₄ .0))) refl (λ P. and-then ! (load ! (from ! (stop !)) (look ! 75 refl)) (and-then ! (load ! (from ! (stop !)) (look ! 71 refl)) (and-then ! (load ! (from ! (stop !)) (look ! 67 refl)) (and-then ! (load ! (from ! (stop !)) (look ! 63 refl)) (and-then ! (load ! (from ! (stop !)) (look ! 59 refl)) (and-then ! (load ! (from ! (stop !)) (look ! 55 refl)) (and-then ! (load ! (from ! (fld ! refl (stop !))) (look-in ! 121 (sub ! 0 refl (whole !)))) (no-more !)))))))) (λ g₆.
         land ! (from ! (stop !)) (init ! 143 refl (g₆ .1 .0)) $
         return-on ! Post refl (look ! 143 refl) $
-        free-all ! (_ ∷ []) En (has _ ∷ has _ ∷ has _ ∷ has _ ∷ has _ ∷ has _ ∷ has _ ∷ has _ ∷ has _ ∷ has _ ∷ has _ ∷ has _ ∷ bare ∷ bare ∷ has _ ∷ has _ ∷ bare ∷ bare ∷ bare ∷ bare ∷ bare ∷ bare ∷ bare ∷ bare ∷ bare ∷ bare ∷ bare ∷ bare ∷ bare ∷ has _ ∷ has _ ∷ has _ ∷ has _ ∷ has _ ∷ has _ ∷ has _ ∷ has _ ∷ has _ ∷ has _ ∷ has _ ∷ has _ ∷ has _ ∷ has _ ∷ has _ ∷ has _ ∷ []) [] $ by ! (exits (answered (refusedWith ((answer (reading form₀ update₀ (length rows₀) (length ranges₀ / 3))) .refusal))) (rowsOf (length (rowsOf (length rows₀) (reading form₀ update₀ (length rows₀) (length ranges₀ / 3)))) (refused ((answer (reading form₀ update₀ (length rows₀) (length ranges₀ / 3))) .refusal))) (wordsOf (length (wordsOf (length ranges₀) (reading form₀ update₀ (length rows₀) (length ranges₀ / 3)))) (refused ((answer (reading form₀ update₀ (length rows₀) (length ranges₀ / 3))) .refusal))) (padded (length order₀) []) (padded (length counts₀) []) (padded (length reaches₀) []) (padded (length pending₀) []) (g₆ .0) (exit-unread F rule₀ form₀ update₀ vector₀ rows₀ ranges₀ order₀ counts₀ reaches₀ pending₀ (not-false _ y₂) (eqb-false _ 0 (not-true _ y₅))))))
+        free-all ! (_ ∷ []) En (has _ ∷ has _ ∷ has _ ∷ has _ ∷ has _ ∷ has _ ∷ has _ ∷ has _ ∷ has _ ∷ has _ ∷ has _ ∷ has _ ∷ bare ∷ bare ∷ has _ ∷ has _ ∷ bare ∷ bare ∷ bare ∷ bare ∷ bare ∷ bare ∷ bare ∷ bare ∷ bare ∷ bare ∷ bare ∷ bare ∷ bare ∷ has _ ∷ has _ ∷ has _ ∷ has _ ∷ has _ ∷ has _ ∷ has _ ∷ has _ ∷ has _ ∷ has _ ∷ has _ ∷ has _ ∷ has _ ∷ has _ ∷ has _ ∷ has _ ∷ []) [] $ by ! (exits (answered (refusedWith ((answer (reading form₀ update₀ (length rows₀) (length ranges₀ / 3))) .refusal))) (tableOf (length (tableOf (length rows₀) (reading form₀ update₀ (length rows₀) (length ranges₀ / 3)))) (refused ((answer (reading form₀ update₀ (length rows₀) (length ranges₀ / 3))) .refusal))) (rangeWords (length (rangeWords (length ranges₀) (reading form₀ update₀ (length rows₀) (length ranges₀ / 3)))) (refused ((answer (reading form₀ update₀ (length rows₀) (length ranges₀ / 3))) .refusal))) (padded (length order₀) []) (padded (length counts₀) []) (padded (length reaches₀) []) (padded (length pending₀) []) (g₆ .0) (exit-unread F rule₀ form₀ update₀ vector₀ rows₀ ranges₀ order₀ counts₀ reaches₀ pending₀ (not-false _ y₂) (eqb-false _ 0 (not-true _ y₅))))))
         (λ y₅.
         skip-on ! $
         assigns ! (addr ! (from ! (fld ! refl (hop ! (look-in ! 133 (sub ! 0 refl (whole !))) (stop !))))) (from ! (stop !)) (init ! 53 refl (tt, tt)) $
@@ -287,13 +287,13 @@ module _ (κs : Lfts 8) (qs : Shares 8) (a : Args f.signature κs)
         assigns ! (agg ! (and-then ! (load ! (from ! (stop !)) (look ! 41 refl)) (and-then ! (load ! (from ! (fld ! refl (stop !))) (look-in ! 125 (sub ! 1 refl (whole !)))) (no-more !)))) (from ! (stop !)) (init ! 39 refl (tt, (tt, (record { fits = are .1 .1 .1 .1 .1 .1 .1 .1 .0 .0 .1 .0 }, tt)))) $
         assigns ! (addr ! (from ! (fld ! refl (hop ! (look-in ! 123 (sub ! 0 refl (whole !))) (stop !))))) (from ! (stop !)) (init ! 37 refl (tt, tt)) $
         assigns ! (agg ! (and-then ! (load ! (from ! (stop !)) (look ! 37 refl)) (and-then ! (load ! (from ! (fld ! refl (stop !))) (look-in ! 123 (sub ! 1 refl (whole !)))) (no-more !)))) (from ! (stop !)) (init ! 35 refl (tt, (tt, (record { fits = are .1 .1 .1 .1 .1 .1 .1 .1 .1 .0 .0 .1 .0 }, tt)))) $
-        calls-by ! (fmOf 𝓤 H (W .laws) 𝓣) (1 ∷ 2 ∷ 4 ∷ 5 ∷ 6 ∷ 7 ∷ []) (hs (rowsOf (length rows₀) (reading form₀ update₀ (length rows₀) (length ranges₀ / 3))) (wordsOf (length ranges₀) (reading form₀ update₀ (length rows₀) (length ranges₀ / 3))) order₀ counts₀ reaches₀ pending₀) (card (update-blocks (answer (reading form₀ update₀ (length rows₀) (length ranges₀ / 3))) (g₄ .0)) (omega (arith, rows-fit form₀ update₀ (length rows₀) (length ranges₀), rows-length form₀ update₀ (length rows₀) (length ranges₀)))) refl (λ P. and-then ! (load ! (from ! (stop !)) (look ! 141 refl)) (and-then ! (load ! (from ! (stop !)) (look ! 135 refl)) (and-then ! (load ! (from ! (stop !)) (look ! 51 refl)) (and-then ! (load ! (from ! (fld ! refl (stop !))) (look-in ! 121 (sub ! 1 refl (whole !)))) (and-then ! (load ! (from ! (stop !)) (look ! 47 refl)) (and-then ! (load ! (from ! (stop !)) (look ! 43 refl)) (and-then ! (load ! (from ! (stop !)) (look ! 39 refl)) (and-then ! (load ! (from ! (stop !)) (look ! 35 refl)) (no-more !))))))))) (λ g₇.
+        calls-by ! (fmOf 𝓤 H (W .laws) 𝓣) (1 ∷ 2 ∷ 4 ∷ 5 ∷ 6 ∷ 7 ∷ []) (hs (tableOf (length rows₀) (reading form₀ update₀ (length rows₀) (length ranges₀ / 3))) (rangeWords (length ranges₀) (reading form₀ update₀ (length rows₀) (length ranges₀ / 3))) order₀ counts₀ reaches₀ pending₀) (card (update-blocks (answer (reading form₀ update₀ (length rows₀) (length ranges₀ / 3))) (g₄ .0)) (omega (arith, rows-fit form₀ update₀ (length rows₀) (length ranges₀), rows-length form₀ update₀ (length rows₀) (length ranges₀)))) refl (λ P. and-then ! (load ! (from ! (stop !)) (look ! 141 refl)) (and-then ! (load ! (from ! (stop !)) (look ! 135 refl)) (and-then ! (load ! (from ! (stop !)) (look ! 51 refl)) (and-then ! (load ! (from ! (fld ! refl (stop !))) (look-in ! 121 (sub ! 1 refl (whole !)))) (and-then ! (load ! (from ! (stop !)) (look ! 47 refl)) (and-then ! (load ! (from ! (stop !)) (look ! 43 refl)) (and-then ! (load ! (from ! (stop !)) (look ! 39 refl)) (and-then ! (load ! (from ! (stop !)) (look ! 35 refl)) (no-more !))))))))) (λ g₇.
         land ! (from ! (stop !)) (init ! 119 refl (g₇ .1 .0)) $
         assigns ! (of-opd ! (load ! (from ! (fld ! refl (stop !))) (look-in ! 129 (sub ! 1 refl (whole !))))) (from ! (stop !)) (init ! 33 refl (tt, record { fits = are .1 .1 .1 .1 .1 .1 .0 .0 .1 .0 })) $
         assigns ! (of-opd ! (load ! (from ! (fld ! refl (stop !))) (look-in ! 127 (sub ! 1 refl (whole !))))) (from ! (stop !)) (init ! 31 refl (tt, record { fits = are .1 .1 .1 .1 .1 .1 .1 .0 .0 .1 .0 })) $
         assigns ! (of-opd ! (load ! (from ! (fld ! refl (stop !))) (look-in ! 125 (sub ! 1 refl (whole !))))) (from ! (stop !)) (init ! 29 refl (tt, record { fits = are .1 .1 .1 .1 .1 .1 .1 .1 .0 .0 .1 .0 })) $
         assigns ! (of-opd ! (load ! (from ! (fld ! refl (stop !))) (look-in ! 123 (sub ! 1 refl (whole !))))) (from ! (stop !)) (init ! 27 refl (tt, record { fits = are .1 .1 .1 .1 .1 .1 .1 .1 .1 .0 .0 .1 .0 })) $
-        calls-by ! (fmOf 𝓤 H (W .laws) 𝓣) ([]) (hs (rowsOf (length rows₀) (reading form₀ update₀ (length rows₀) (length ranges₀ / 3))) (wordsOf (length ranges₀) (reading form₀ update₀ (length rows₀) (length ranges₀ / 3))) O C P Q) (sort-answers·judge! 𝓤 H A mem run (𝓣 .C) known-sort-answers·judge S (g₇ .0) (at-order .count) (refl, are .1 .1 .1 .1 .1 .1 .0 .0 .1 .0) (at-counts .count) (refl, are .1 .1 .1 .1 .1 .1 .1 .0 .0 .1 .0) (at-reaches .count) (refl, are .1 .1 .1 .1 .1 .1 .1 .1 .0 .0 .1 .0) (at-pending .count) (refl, are .1 .1 .1 .1 .1 .1 .1 .1 .1 .0 .0 .1 .0)) refl (λ P. and-then ! (load ! (from ! (stop !)) (look ! 119 refl)) (and-then ! (load ! (from ! (stop !)) (look ! 33 refl)) (and-then ! (load ! (from ! (stop !)) (look ! 31 refl)) (and-then ! (load ! (from ! (stop !)) (look ! 29 refl)) (and-then ! (load ! (from ! (stop !)) (look ! 27 refl)) (no-more !)))))) (λ g₈.
+        calls-by ! (fmOf 𝓤 H (W .laws) 𝓣) ([]) (hs (tableOf (length rows₀) (reading form₀ update₀ (length rows₀) (length ranges₀ / 3))) (rangeWords (length ranges₀) (reading form₀ update₀ (length rows₀) (length ranges₀ / 3))) O C P Q) (sort-answers·judge! 𝓤 H A mem run (𝓣 .C) known-sort-answers·judge S (g₇ .0) (at-order .count) (refl, are .1 .1 .1 .1 .1 .1 .0 .0 .1 .0) (at-counts .count) (refl, are .1 .1 .1 .1 .1 .1 .1 .0 .0 .1 .0) (at-reaches .count) (refl, are .1 .1 .1 .1 .1 .1 .1 .1 .0 .0 .1 .0) (at-pending .count) (refl, are .1 .1 .1 .1 .1 .1 .1 .1 .1 .0 .0 .1 .0)) refl (λ P. and-then ! (load ! (from ! (stop !)) (look ! 119 refl)) (and-then ! (load ! (from ! (stop !)) (look ! 33 refl)) (and-then ! (load ! (from ! (stop !)) (look ! 31 refl)) (and-then ! (load ! (from ! (stop !)) (look ! 29 refl)) (and-then ! (load ! (from ! (stop !)) (look ! 27 refl)) (no-more !)))))) (λ g₈.
         land ! (from ! (stop !)) (init ! 117 refl (g₈ .1 .0)) $
         assigns ! (bin ! (load ! (from ! (stop !)) (look ! 117 refl)) (lit ! tt) tt) (from ! (stop !)) (store ! 113 refl (tt, tt)) $
         tests ! (load ! (from ! (stop !)) (look ! 113 refl))  -- not (eqb (judged S (at-order .count) (at-counts .count) (at-reaches .count) (at-pending .count)) 0)
@@ -325,13 +325,13 @@ module _ (κs : Lfts 8) (qs : Shares 8) (a : Args f.signature κs)
         flat ! $
         assigns ! (agg ! (and-then ! (load ! (from ! (stop !)) (look ! 117 refl)) (and-then ! (lit ! tt) (no-more !)))) (from ! (stop !)) (init ! 1 refl (refusal .lawful M 𝓤 H A W .typed (record { number = judged S (at-order .count) (at-counts .count) (at-reaches .count) (at-pending .count); place = 0 }) _ (refusal-has (judged S (at-order .count) (at-counts .count) (at-reaches .count) (at-pending .count)) (g₈ .0) 0 (refl, lit< tt)) .0)) $
         flat ! $
-        calls-by ! (fmOf 𝓤 H (W .laws) 𝓣) (2 ∷ 3 ∷ 4 ∷ 5 ∷ 6 ∷ 7 ∷ []) (hs (rowsOf (length rows₀) (reading form₀ update₀ (length rows₀) (length ranges₀ / 3))) (wordsOf (length ranges₀) (reading form₀ update₀ (length rows₀) (length ranges₀ / 3))) O C P Q) (sorts·refuse! 𝓤 H A mem run (𝓣 .C) known-sorts·refuse at-rows (rowsOf (length rows₀) (reading form₀ update₀ (length rows₀) (length ranges₀ / 3))) at-ranges (wordsOf (length ranges₀) (reading form₀ update₀ (length rows₀) (length ranges₀ / 3))) at-order O at-counts C at-reaches P at-pending Q (record { number = judged S (at-order .count) (at-counts .count) (at-reaches .count) (at-pending .count); place = 0 }) (refusal-has (judged S (at-order .count) (at-counts .count) (at-reaches .count) (at-pending .count)) (g₈ .0) 0 (refl, lit< tt))) refl (λ P. and-then ! (load ! (from ! (stop !)) (look ! 23 refl)) (and-then ! (load ! (from ! (stop !)) (look ! 19 refl)) (and-then ! (load ! (from ! (stop !)) (look ! 15 refl)) (and-then ! (load ! (from ! (stop !)) (look ! 11 refl)) (and-then ! (load ! (from ! (stop !)) (look ! 7 refl)) (and-then ! (load ! (from ! (stop !)) (look ! 3 refl)) (and-then ! (load ! (from ! (stop !)) (look ! 1 refl)) (no-more !)))))))) (λ g₁₀.
+        calls-by ! (fmOf 𝓤 H (W .laws) 𝓣) (2 ∷ 3 ∷ 4 ∷ 5 ∷ 6 ∷ 7 ∷ []) (hs (tableOf (length rows₀) (reading form₀ update₀ (length rows₀) (length ranges₀ / 3))) (rangeWords (length ranges₀) (reading form₀ update₀ (length rows₀) (length ranges₀ / 3))) O C P Q) (sorts·refuse! 𝓤 H A mem run (𝓣 .C) known-sorts·refuse at-rows (tableOf (length rows₀) (reading form₀ update₀ (length rows₀) (length ranges₀ / 3))) at-ranges (rangeWords (length ranges₀) (reading form₀ update₀ (length rows₀) (length ranges₀ / 3))) at-order O at-counts C at-reaches P at-pending Q (record { number = judged S (at-order .count) (at-counts .count) (at-reaches .count) (at-pending .count); place = 0 }) (refusal-has (judged S (at-order .count) (at-counts .count) (at-reaches .count) (at-pending .count)) (g₈ .0) 0 (refl, lit< tt))) refl (λ P. and-then ! (load ! (from ! (stop !)) (look ! 23 refl)) (and-then ! (load ! (from ! (stop !)) (look ! 19 refl)) (and-then ! (load ! (from ! (stop !)) (look ! 15 refl)) (and-then ! (load ! (from ! (stop !)) (look ! 11 refl)) (and-then ! (load ! (from ! (stop !)) (look ! 7 refl)) (and-then ! (load ! (from ! (stop !)) (look ! 3 refl)) (and-then ! (load ! (from ! (stop !)) (look ! 1 refl)) (no-more !)))))))) (λ g₁₀.
         land ! (from ! (stop !)) (init ! 143 refl (g₁₀ .1 .0)) $
         return-on ! Post refl (look ! 143 refl) $
-        free-all ! (_ ∷ []) En (has _ ∷ has _ ∷ has _ ∷ has _ ∷ has _ ∷ has _ ∷ has _ ∷ has _ ∷ has _ ∷ has _ ∷ has _ ∷ has _ ∷ has _ ∷ has _ ∷ has _ ∷ has _ ∷ bare ∷ bare ∷ bare ∷ bare ∷ bare ∷ bare ∷ bare ∷ bare ∷ bare ∷ bare ∷ bare ∷ bare ∷ bare ∷ has _ ∷ has _ ∷ has _ ∷ has _ ∷ bare ∷ bare ∷ bare ∷ bare ∷ bare ∷ bare ∷ bare ∷ bare ∷ bare ∷ bare ∷ bare ∷ bare ∷ has _ ∷ has _ ∷ has _ ∷ has _ ∷ has _ ∷ has _ ∷ has _ ∷ has _ ∷ has _ ∷ has _ ∷ has _ ∷ has _ ∷ has _ ∷ has _ ∷ has _ ∷ has _ ∷ has _ ∷ has _ ∷ has _ ∷ has _ ∷ has _ ∷ has _ ∷ has _ ∷ has _ ∷ has _ ∷ has _ ∷ has _ ∷ []) [] $ by ! (exits (answered (refusedWith (record { number = judged S (at-order .count) (at-counts .count) (at-reaches .count) (at-pending .count); place = 0 }))) (rowsOf (length (rowsOf (length rows₀) (reading form₀ update₀ (length rows₀) (length ranges₀ / 3)))) (refused (record { number = judged S (at-order .count) (at-counts .count) (at-reaches .count) (at-pending .count); place = 0 }))) (wordsOf (length (wordsOf (length ranges₀) (reading form₀ update₀ (length rows₀) (length ranges₀ / 3)))) (refused (record { number = judged S (at-order .count) (at-counts .count) (at-reaches .count) (at-pending .count); place = 0 }))) (padded (length O) []) (padded (length C) []) (padded (length P) []) (padded (length Q) []) (g₁₀ .0) (exit-refused F rule₀ form₀ update₀ vector₀ rows₀ ranges₀ order₀ counts₀ reaches₀ pending₀ (not-false _ y₂) (eqb-true _ 0 (not-false _ y₅)) (gives (omega (arith, sz .0, are .1 .1 .1 .1 .0 .0 .1 .0))) (at-order .count) (at-counts .count) (at-reaches .count) (at-pending .count) (sz .1 .1 .0) (sz .1 .1 .1 .0) (sz .1 .1 .1 .1 .0) (sz .1 .1 .1 .1 .1 .0) (eqb-false _ 0 (not-true _ y₉))))))
+        free-all ! (_ ∷ []) En (has _ ∷ has _ ∷ has _ ∷ has _ ∷ has _ ∷ has _ ∷ has _ ∷ has _ ∷ has _ ∷ has _ ∷ has _ ∷ has _ ∷ has _ ∷ has _ ∷ has _ ∷ has _ ∷ bare ∷ bare ∷ bare ∷ bare ∷ bare ∷ bare ∷ bare ∷ bare ∷ bare ∷ bare ∷ bare ∷ bare ∷ bare ∷ has _ ∷ has _ ∷ has _ ∷ has _ ∷ bare ∷ bare ∷ bare ∷ bare ∷ bare ∷ bare ∷ bare ∷ bare ∷ bare ∷ bare ∷ bare ∷ bare ∷ has _ ∷ has _ ∷ has _ ∷ has _ ∷ has _ ∷ has _ ∷ has _ ∷ has _ ∷ has _ ∷ has _ ∷ has _ ∷ has _ ∷ has _ ∷ has _ ∷ has _ ∷ has _ ∷ has _ ∷ has _ ∷ has _ ∷ has _ ∷ has _ ∷ has _ ∷ has _ ∷ has _ ∷ has _ ∷ has _ ∷ has _ ∷ []) [] $ by ! (exits (answered (refusedWith (record { number = judged S (at-order .count) (at-counts .count) (at-reaches .count) (at-pending .count); place = 0 }))) (tableOf (length (tableOf (length rows₀) (reading form₀ update₀ (length rows₀) (length ranges₀ / 3)))) (refused (record { number = judged S (at-order .count) (at-counts .count) (at-reaches .count) (at-pending .count); place = 0 }))) (rangeWords (length (rangeWords (length ranges₀) (reading form₀ update₀ (length rows₀) (length ranges₀ / 3)))) (refused (record { number = judged S (at-order .count) (at-counts .count) (at-reaches .count) (at-pending .count); place = 0 }))) (padded (length O) []) (padded (length C) []) (padded (length P) []) (padded (length Q) []) (g₁₀ .0) (exit-refused F rule₀ form₀ update₀ vector₀ rows₀ ranges₀ order₀ counts₀ reaches₀ pending₀ (not-false _ y₂) (eqb-true _ 0 (not-false _ y₅)) (gives (omega (arith, sz .0, are .1 .1 .1 .1 .0 .0 .1 .0))) (at-order .count) (at-counts .count) (at-reaches .count) (at-pending .count) (sz .1 .1 .0) (sz .1 .1 .1 .0) (sz .1 .1 .1 .1 .0) (sz .1 .1 .1 .1 .1 .0) (eqb-false _ 0 (not-true _ y₉))))))
         (λ y₉.
         skip-on ! $
-        calls-by ! (fmOf 𝓤 H (W .laws) 𝓣) ([]) (hs (rowsOf (length rows₀) (reading form₀ update₀ (length rows₀) (length ranges₀ / 3))) (wordsOf (length ranges₀) (reading form₀ update₀ (length rows₀) (length ranges₀ / 3))) O C P Q) (sort-answers·done! 𝓤 H A mem run (𝓣 .C) known-sort-answers·done (answer (reading form₀ update₀ (length rows₀) (length ranges₀ / 3))) (g₄ .0) S (g₇ .0)) refl (λ P. and-then ! (load ! (from ! (stop !)) (look ! 121 refl)) (and-then ! (load ! (from ! (stop !)) (look ! 119 refl)) (no-more !))) (λ g₁₁.
+        calls-by ! (fmOf 𝓤 H (W .laws) 𝓣) ([]) (hs (tableOf (length rows₀) (reading form₀ update₀ (length rows₀) (length ranges₀ / 3))) (rangeWords (length ranges₀) (reading form₀ update₀ (length rows₀) (length ranges₀ / 3))) O C P Q) (sort-answers·done! 𝓤 H A mem run (𝓣 .C) known-sort-answers·done (answer (reading form₀ update₀ (length rows₀) (length ranges₀ / 3))) (g₄ .0) S (g₇ .0)) refl (λ P. and-then ! (load ! (from ! (stop !)) (look ! 121 refl)) (and-then ! (load ! (from ! (stop !)) (look ! 119 refl)) (no-more !))) (λ g₁₁.
         land ! (from ! (stop !)) (init ! 143 refl (g₁₁ .1 .0)) $
         returns-within ! Post refl (look ! 143 refl) $
-        free-all ! (_ ∷ []) En (has _ ∷ has _ ∷ has _ ∷ has _ ∷ has _ ∷ has _ ∷ has _ ∷ has _ ∷ has _ ∷ has _ ∷ has _ ∷ has _ ∷ has _ ∷ has _ ∷ has _ ∷ has _ ∷ bare ∷ bare ∷ bare ∷ bare ∷ bare ∷ bare ∷ bare ∷ bare ∷ bare ∷ bare ∷ bare ∷ bare ∷ bare ∷ has _ ∷ has _ ∷ has _ ∷ has _ ∷ bare ∷ bare ∷ bare ∷ bare ∷ bare ∷ bare ∷ bare ∷ bare ∷ bare ∷ bare ∷ bare ∷ bare ∷ has _ ∷ has _ ∷ has _ ∷ has _ ∷ has _ ∷ has _ ∷ has _ ∷ has _ ∷ has _ ∷ has _ ∷ has _ ∷ has _ ∷ has _ ∷ has _ ∷ []) [] $ by ! (exits (answerTo (answer (reading form₀ update₀ (length rows₀) (length ranges₀ / 3))) S) (rowsOf (length rows₀) (reading form₀ update₀ (length rows₀) (length ranges₀ / 3))) (wordsOf (length ranges₀) (reading form₀ update₀ (length rows₀) (length ranges₀ / 3))) O C P Q (g₁₁ .0) (exit-done F rule₀ form₀ update₀ vector₀ rows₀ ranges₀ order₀ counts₀ reaches₀ pending₀ (not-false _ y₂) (eqb-true _ 0 (not-false _ y₅)) (gives (omega (arith, sz .0, are .1 .1 .1 .1 .0 .0 .1 .0))) (at-order .count) (at-counts .count) (at-reaches .count) (at-pending .count) (sz .1 .1 .0) (sz .1 .1 .1 .0) (sz .1 .1 .1 .1 .0) (sz .1 .1 .1 .1 .1 .0) (eqb-true _ 0 (not-false _ y₉))))))))))))))
+        free-all ! (_ ∷ []) En (has _ ∷ has _ ∷ has _ ∷ has _ ∷ has _ ∷ has _ ∷ has _ ∷ has _ ∷ has _ ∷ has _ ∷ has _ ∷ has _ ∷ has _ ∷ has _ ∷ has _ ∷ has _ ∷ bare ∷ bare ∷ bare ∷ bare ∷ bare ∷ bare ∷ bare ∷ bare ∷ bare ∷ bare ∷ bare ∷ bare ∷ bare ∷ has _ ∷ has _ ∷ has _ ∷ has _ ∷ bare ∷ bare ∷ bare ∷ bare ∷ bare ∷ bare ∷ bare ∷ bare ∷ bare ∷ bare ∷ bare ∷ bare ∷ has _ ∷ has _ ∷ has _ ∷ has _ ∷ has _ ∷ has _ ∷ has _ ∷ has _ ∷ has _ ∷ has _ ∷ has _ ∷ has _ ∷ has _ ∷ has _ ∷ []) [] $ by ! (exits (answerTo (answer (reading form₀ update₀ (length rows₀) (length ranges₀ / 3))) S) (tableOf (length rows₀) (reading form₀ update₀ (length rows₀) (length ranges₀ / 3))) (rangeWords (length ranges₀) (reading form₀ update₀ (length rows₀) (length ranges₀ / 3))) O C P Q (g₁₁ .0) (exit-done F rule₀ form₀ update₀ vector₀ rows₀ ranges₀ order₀ counts₀ reaches₀ pending₀ (not-false _ y₂) (eqb-true _ 0 (not-false _ y₅)) (gives (omega (arith, sz .0, are .1 .1 .1 .1 .0 .0 .1 .0))) (at-order .count) (at-counts .count) (at-reaches .count) (at-pending .count) (sz .1 .1 .0) (sz .1 .1 .1 .0) (sz .1 .1 .1 .1 .0) (sz .1 .1 .1 .1 .1 .0) (eqb-true _ 0 (not-false _ y₉))))))))))))))

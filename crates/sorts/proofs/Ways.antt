@@ -11,7 +11,7 @@ use Rattle.numbers.specs.declared.Refusal.{Refusal}
 use Rattle.numbers.specs.Number.{pick, nowhere}
 use Rattle.numbers.specs.Output.{padded}
 use Rattle.block.specs.declared.Block.{Block}
-use Rattle.grammar.specs.Course.{items}
+use Rattle.grammar.specs.Course.{things}
 use Rattle.vector.specs.Vector.{Entry, vectorOf}
 use Rattle.kept.proofs.Vectors.{whyVector, by-number}
 use Rattle.reports.specs.Reports.{fitted}
@@ -19,11 +19,11 @@ use Rattle.reports.proofs.Fitted.{fitted-padded, fitted-length}
 use Rattle.sorting.specs.Named.{ruleOf}
 use Rattle.sorter.specs.declared.Sorting.{Sorting}
 use Rattle.sorter.specs.Sorter.{noSorting}
-use Rattle.updates.specs.Promises.{Reading, refused, reading, answer, rowsOf, wordsOf}
+use Rattle.updates.specs.Promises.{Reading, refused, reading, answer, tableOf, rangeWords}
 use Rattle.updates.proofs.Read.{rows-length, words-length}
 use Rattle.sort_answers.specs.declared.Sorted.{Sorted}
 use Rattle.sort_answers.specs.Answers.{isRule, Sort, refusedWith, Room, whyNot}
-use Rattle.sorts.specs.Promises.{lent, Found, Finder, whole, whySort, fitting, against, afterReading, sortBy, Leaves}
+use Rattle.sorts.specs.Promises.{lent, Found, Finder, sortedAll, whySort, fitting, against, afterReading, sortBy, Leaves}
 use Rattle.sort_answers.specs.Answers.{answered}
 use Rattle.sort_answers.specs.AnswersInner.{judged, answerTo}
 
@@ -60,7 +60,7 @@ module _ (F : Finder) (rule form : ℕ) (u v : List ℕ) (rows₀ : List Block) 
   R = reading form u M (N / 3)
 
   abbrev es : List Entry
-  es = items (vectorOf v)
+  es = things (vectorOf v)
 
   abbrev s : Sort
   s = sortBy F rule form u v M (N / 3) room
@@ -72,12 +72,12 @@ module _ (F : Finder) (rule form : ℕ) (u v : List ℕ) (rows₀ : List Block) 
   -- a refusal leaves nothing
   by-refusal : (why : Refusal) (m k : ℕ) (order counts reaches pending : List ℕ) → s ≡ refusedWith why → m ≡ M → k ≡ N
       → length order ≡ length order₀ → length counts ≡ length counts₀ → length reaches ≡ length reaches₀ → length pending ≡ length pending₀
-      → Right (answered (refusedWith why)) (rowsOf m (refused why)) (wordsOf k (refused why)) (padded (length order) []) (padded (length counts) [])
+      → Right (answered (refusedWith why)) (tableOf m (refused why)) (rangeWords k (refused why)) (padded (length order) []) (padded (length counts) [])
       (padded (length reaches) []) (padded (length pending) [])
   by-refusal why m k order counts reaches pending e p q a b c d = (
     ap answered (sym e),
-    ap (λ (x : ℕ). rowsOf x (refused why)) p ∙ ap (λ (x : Sort). rowsOf M (x .reading)) (sym e),
-    ap (λ (x : ℕ). wordsOf x (refused why)) q ∙ ap (λ (x : Sort). wordsOf N (x .reading)) (sym e),
+    ap (λ (x : ℕ). tableOf x (refused why)) p ∙ ap (λ (x : Sort). tableOf M (x .reading)) (sym e),
+    ap (λ (x : ℕ). rangeWords x (refused why)) q ∙ ap (λ (x : Sort). rangeWords N (x .reading)) (sym e),
     ap (λ (x : ℕ). padded x []) a ∙ ap (λ (x : Sort). padded (length order₀) (x .order)) (sym e),
     ap (λ (x : ℕ). padded x []) b ∙ ap (λ (x : Sort). padded (length counts₀) (x .counts)) (sym e),
     ap (λ (x : ℕ). padded x []) c ∙ ap (λ (x : Sort). padded (length reaches₀) (x .reaches)) (sym e),
@@ -86,7 +86,7 @@ module _ (F : Finder) (rule form : ℕ) (u v : List ℕ) (rows₀ : List Block) 
 
   -- the rule is unknown
   pub exit-unknown : isRule rule ≡ false
-      → Right (answered (refusedWith (nowhere 12))) (rowsOf M (refused (nowhere 12))) (wordsOf N (refused (nowhere 12))) (padded (length order₀) [])
+      → Right (answered (refusedWith (nowhere 12))) (tableOf M (refused (nowhere 12))) (rangeWords N (refused (nowhere 12))) (padded (length order₀) [])
       (padded (length counts₀) []) (padded (length reaches₀) []) (padded (length pending₀) [])
   unfolding sortBy
   exit-unknown e =
@@ -105,7 +105,7 @@ module _ (F : Finder) (rule form : ℕ) (u v : List ℕ) (rows₀ : List Block) 
   w = whyVector v
 
   abbrev last : ℕ
-  last = whySort room (whole F (ruleOf rule) es R)
+  last = whySort room (sortedAll F (ruleOf rule) es R)
 
   abbrev all : ℕ
   all = pick (eqb w 0) last w
@@ -135,27 +135,27 @@ module _ (F : Finder) (rule form : ℕ) (u v : List ℕ) (rows₀ : List Block) 
     known-rule = ap (λ (x : Bool). pick x (afterReading F (ruleOf rule) room (vectorOf v) R) (refusedWith (nowhere 12))) named
 
     pub exit-unread : (R .refusal .number ≡ 0 → ⊥)
-        → Right (answered (refusedWith (R .refusal))) (rowsOf (length (rowsOf M R)) (refused (R .refusal))) (wordsOf (length (wordsOf N R)) (refused (R .refusal)))
+        → Right (answered (refusedWith (R .refusal))) (tableOf (length (tableOf M R)) (refused (R .refusal))) (rangeWords (length (rangeWords N R)) (refused (R .refusal)))
         (padded (length order₀) []) (padded (length counts₀) []) (padded (length reaches₀) []) (padded (length pending₀) [])
     unfolding afterReading
     exit-unread z =
-        by-refusal (R .refusal) (length (rowsOf M R)) (length (wordsOf N R)) order₀ counts₀ reaches₀ pending₀
+        by-refusal (R .refusal) (length (tableOf M R)) (length (rangeWords N R)) order₀ counts₀ reaches₀ pending₀
         (known-rule ∙ ap (λ (x : Bool). pick x (against F (ruleOf rule) room (vectorOf v) R) (refusedWith (R .refusal))) (ne-eqb (R .refusal .number) 0 z))
         (rows-length form u M N) (words-length form u M N) refl refl refl refl
 
     -- ---- the update was read
 
     module _ (z : R .refusal .number ≡ 0) {S : Sorting} {O C P Q : List ℕ} (g : Gives S O C P Q) where
-      sort-at : s ≡ pick (eqb all 0) (whole F (ruleOf rule) es R) (refusedWith (nowhere all))
+      sort-at : s ≡ pick (eqb all 0) (sortedAll F (ruleOf rule) es R) (refusedWith (nowhere all))
       unfolding afterReading against fitting
       sort-at =
           known-rule
           ∙ ap (λ (x : Bool). pick x (against F (ruleOf rule) room (vectorOf v) R) (refusedWith (R .refusal))) (eq-eqb (R .refusal .number) 0 z)
-          ∙ by-number v (pick (eqb last 0) (whole F (ruleOf rule) es R) (refusedWith (nowhere last))) (λ n. refusedWith (nowhere n)) ∙ go (eqb w 0) refl
+          ∙ by-number v (pick (eqb last 0) (sortedAll F (ruleOf rule) es R) (refusedWith (nowhere last))) (λ n. refusedWith (nowhere n)) ∙ go (eqb w 0) refl
         where
           go : (x : Bool) → eqb w 0 ≡ x
-              → pick x (pick (eqb last 0) (whole F (ruleOf rule) es R) (refusedWith (nowhere last))) (refusedWith (nowhere w))
-              ≡ pick (eqb (pick x last w) 0) (whole F (ruleOf rule) es R) (refusedWith (nowhere (pick x last w)))
+              → pick x (pick (eqb last 0) (sortedAll F (ruleOf rule) es R) (refusedWith (nowhere last))) (refusedWith (nowhere w))
+              ≡ pick (eqb (pick x last w) 0) (sortedAll F (ruleOf rule) es R) (refusedWith (nowhere (pick x last w)))
           go true e = refl
           go false e = rw e refl
 
@@ -175,7 +175,7 @@ module _ (F : Finder) (rule form : ℕ) (u v : List ℕ) (rows₀ : List Block) 
         why = judged S order counts reaches pending
 
         why-at : why ≡ all
-        unfolding judged whySort whole
+        unfolding judged whySort sortedAll
         why-at = rw (← a, ← b, ← c, ← d, (g .sorting)) (go (eqb w 0) refl)
           where
             go : (x : Bool) → eqb w 0 ≡ x
@@ -184,21 +184,21 @@ module _ (F : Finder) (rule form : ℕ) (u v : List ℕ) (rows₀ : List Block) 
             go false e = rw e refl
 
         pub exit-refused : (why ≡ 0 → ⊥)
-            → Right (answered (refusedWith (nowhere why))) (rowsOf (length (rowsOf M R)) (refused (nowhere why)))
-            (wordsOf (length (wordsOf N R)) (refused (nowhere why))) (padded (length O) []) (padded (length C) []) (padded (length P) []) (padded (length Q) [])
+            → Right (answered (refusedWith (nowhere why))) (tableOf (length (tableOf M R)) (refused (nowhere why)))
+            (rangeWords (length (rangeWords N R)) (refused (nowhere why))) (padded (length O) []) (padded (length C) []) (padded (length P) []) (padded (length Q) [])
         exit-refused h =
-            by-refusal (nowhere why) (length (rowsOf M R)) (length (wordsOf N R)) O C P Q
-            (sort-at ∙ ap (λ (x : Bool). pick x (whole F (ruleOf rule) es R) (refusedWith (nowhere all))) (ne-eqb all 0 (λ e. h (why-at ∙ e)))
+            by-refusal (nowhere why) (length (tableOf M R)) (length (rangeWords N R)) O C P Q
+            (sort-at ∙ ap (λ (x : Bool). pick x (sortedAll F (ruleOf rule) es R) (refusedWith (nowhere all))) (ne-eqb all 0 (λ e. h (why-at ∙ e)))
             ∙ ap (λ (n : ℕ). refusedWith (nowhere n)) (sym why-at))
             (rows-length form u M N) (words-length form u M N) (same-size O _ order₀ (g .order)) (same-size C _ counts₀ (g .counts))
             (same-size P _ reaches₀ (g .reaches)) (same-size Q _ pending₀ (g .pending))
 
-        pub exit-done : why ≡ 0 → Right (answerTo (answer R) S) (rowsOf M R) (wordsOf N R) O C P Q
-        unfolding answerTo answer answered whole whySort
+        pub exit-done : why ≡ 0 → Right (answerTo (answer R) S) (tableOf M R) (rangeWords N R) O C P Q
+        unfolding answerTo answer answered sortedAll whySort
         exit-done h = (
           ap (answerTo (answer R)) ((g .sorting) ∙ ap (λ (x : Bool). pick x made (noSorting w)) read) ∙ ap answered (sym done-is),
-          ap (λ (x : Sort). rowsOf M (x .reading)) (sym done-is),
-          ap (λ (x : Sort). wordsOf N (x .reading)) (sym done-is),
+          ap (λ (x : Sort). tableOf M (x .reading)) (sym done-is),
+          ap (λ (x : Sort). rangeWords N (x .reading)) (sym done-is),
           stands O (found .order) order₀ (g .order) (fits .0) ∙ ap (λ (x : Sort). padded (length order₀) (x .order)) (sym done-is),
           stands C (found .counts) counts₀ (g .counts) (fits .1) ∙ ap (λ (x : Sort). padded (length counts₀) (x .counts)) (sym done-is),
           stands P (found .reaches) reaches₀ (g .reaches) (fits .2) ∙ ap (λ (x : Sort). padded (length reaches₀) (x .reaches)) (sym done-is),
@@ -221,8 +221,8 @@ module _ (F : Finder) (rule form : ℕ) (u v : List ℕ) (rows₀ : List Block) 
             fits : Fits room (length (found .order)) (length (found .counts)) (length (found .reaches)) (length (found .pending))
             fits = all-fit room (length (found .order)) (length (found .counts)) (length (found .reaches)) (length (found .pending)) (both .1)
 
-            done-is : s ≡ whole F (ruleOf rule) es R
-            done-is = sort-at ∙ ap (λ (x : Bool). pick x (whole F (ruleOf rule) es R) (refusedWith (nowhere all))) (eq-eqb all 0 fine)
+            done-is : s ≡ sortedAll F (ruleOf rule) es R
+            done-is = sort-at ∙ ap (λ (x : Bool). pick x (sortedAll F (ruleOf rule) es R) (refusedWith (nowhere all))) (eq-eqb all 0 fine)
 
             stands : (l ws before : List ℕ) → l ≡ pick (eqb w 0) (fitted (length before) ws) before → length ws ≤ length before → l ≡ padded (length before) ws
             stands l ws before e f = e ∙ ap (λ (x : Bool). pick x (fitted (length before) ws) before) read ∙ fitted-padded (length before) ws f

@@ -8,7 +8,7 @@ use mathlib.Core.List.{List}
 use mathlib.Core.Option.{some}
 use lib.ListN.{length}
 use Rattle.block.specs.declared.Id.{Id}
-use Rattle.grammar.specs.Course.{Course, items, ending}
+use Rattle.grammar.specs.Course.{Course, things, ending}
 use Rattle.vector.specs.Vector.{Entry}
 use Rattle.kept.specs.Kept.{remote}
 use Rattle.readings.specs.Sound.{All}
@@ -16,7 +16,7 @@ use Rattle.readings.specs.Groups.{Distinct}
 use Rattle.sorting.specs.Steps.{State, start, after, Run, Ends, Highest, Sorts}
 use Rattle.sorting.specs.Quick.{Listed}
 use Rattle.sorting.specs.Rules.{queue, Rule, report}
-use Rattle.sorting.specs.Sorted.{clients, steps, numbersBy, Taking, countsIn, reachesIn, pendingIn}
+use Rattle.sorting.specs.Sorted.{allClients, steps, numbersBy, Taking, countsIn, reachesIn, pendingIn}
 use Rattle.updates.specs.Promises.{Reading}
 use Rattle.sort_answers.specs.Answers.{Sort}
 use Rattle.block.specs.declared.Block.{Block}
@@ -50,17 +50,17 @@ pub record Demanded {A : Type 0} (R : Rule A) (bs : List Block) (κ : A → ℕ)
 
 -- each step is allowed, and after the last none is possible
 abbrev pub Whole : Rule ℕ → Reading → Course Entry → List ℕ → Type 0
-Whole R r c cs = Ends (steps R (r .blocks)) (start (remote (items c))) cs
+Whole R r c cs = Ends (steps R (r .blocks)) (start (remote (things c))) cs
 
 -- where it ends
-abbrev pub endOf : Rule ℕ → Reading → Course Entry → List ℕ → State ℕ
-endOf R r c cs = after (steps R (r .blocks)) (start (remote (items c))) cs
+abbrev pub endState : Rule ℕ → Reading → Course Entry → List ℕ → State ℕ
+endState R r c cs = after (steps R (r .blocks)) (start (remote (things c))) cs
 
 -- the sort s of r against c by R
 pub record Demand3 (R : Rule ℕ) (r : Reading) (c : Course Entry) (s : Sort) : Type 0 where
   -- both were read whole
   pub read : (r .refusal .number ≡ 0) × (ending c (λ _. true) (λ _. false) ≡ true)
   pub reading : s .reading ≡ r
-  pub demanded : Demanded R (r .blocks) (remote (items c)) (clients (r .blocks) (items c)) (s .order) (s .counts) (s .pending)
+  pub demanded : Demanded R (r .blocks) (remote (things c)) (allClients (r .blocks) (things c)) (s .order) (s .counts) (s .pending)
   -- the reaches, on the end of every whole run
-  pub reaches : (cs : List ℕ) → Whole R r c cs → s .reaches ≡ reachesIn (endOf R r c cs) (clients (r .blocks) (items c))
+  pub reaches : (cs : List ℕ) → Whole R r c cs → s .reaches ≡ reachesIn (endState R r c cs) (allClients (r .blocks) (things c))

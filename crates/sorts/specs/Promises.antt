@@ -7,9 +7,9 @@ use lib.ListN.{length}
 use Rattle.numbers.specs.Number.{pick, none, nowhere}
 use Rattle.numbers.specs.Output.{padded}
 use Rattle.block.specs.declared.Block.{Block}
-use Rattle.grammar.specs.Course.{Course, items, ending}
+use Rattle.grammar.specs.Course.{Course, things, ending}
 use Rattle.vector.specs.Vector.{Entry, vectorOf}
-use Rattle.updates.specs.Promises.{Reading, reading, rowsOf, wordsOf}
+use Rattle.updates.specs.Promises.{Reading, reading, tableOf, rangeWords}
 use Rattle.sorting.specs.Rules.{Rule}
 use Rattle.sorting.specs.Named.{ruleOf}
 use Rattle.sorting.specs.Sorted.{orderOf, countsOf, reachesOf, pendingOf}
@@ -36,8 +36,8 @@ abbrev pub quickly : Finder
 quickly R bs v = record { order = orderOf R bs v; counts = countsOf R bs v; reaches = reachesOf R bs v; pending = pendingOf R bs v }
 
 -- what was read, sorted against the entries of a vector
-unfoldable pub whole : Finder → Rule ℕ → List Entry → Reading → Sort
-whole F R v r =
+unfoldable pub sortedAll : Finder → Rule ℕ → List Entry → Reading → Sort
+sortedAll F R v r =
     record {
       refusal = none;
       order = F R (r .blocks) v .order;
@@ -56,7 +56,7 @@ fitting m s = pick (eqb (whySort m s) 0) s (refusedWith (nowhere (whySort m s)))
 
 -- the vector is read after the update, and its refusal blames no byte
 unfoldable pub against : Finder → Rule ℕ → Room → Course Entry → Reading → Sort
-against F R m c r = ending c (λ s. fitting m (whole F R (items c) r)) (λ why. refusedWith (nowhere (why .number)))
+against F R m c r = ending c (λ s. fitting m (sortedAll F R (things c) r)) (λ why. refusedWith (nowhere (why .number)))
 
 unfoldable pub afterReading : Finder → Rule ℕ → Room → Course Entry → Reading → Sort
 afterReading F R m c r = pick (eqb (r .refusal .number) 0) (against F R m c r) (refusedWith (r .refusal))
@@ -75,8 +75,8 @@ sortOf = sortBy quickly
 abbrev pub Leaves : Sort → List Block → List ℕ → List ℕ → List ℕ → List ℕ → List ℕ → Sorted → List Block → List ℕ → List ℕ → List ℕ → List ℕ → List ℕ → Type 0
 Leaves s rows ranges order counts reaches pending r rows₁ ranges₁ order₁ counts₁ reaches₁ pending₁ =
     (r ≡ answered s)
-    × (rows₁ ≡ rowsOf (length rows) (s .reading))
-    × (ranges₁ ≡ wordsOf (length ranges) (s .reading))
+    × (rows₁ ≡ tableOf (length rows) (s .reading))
+    × (ranges₁ ≡ rangeWords (length ranges) (s .reading))
     × (order₁ ≡ padded (length order) (s .order))
     × (counts₁ ≡ padded (length counts) (s .counts))
     × (reaches₁ ≡ padded (length reaches) (s .reaches))

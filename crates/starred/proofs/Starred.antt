@@ -4,7 +4,7 @@ use mathlib.Core.Path.{_≡_, refl, ap, _∙_}
 use mathlib.Core.List.{[], _∷_}
 use Rattle.numbers.specs.Number as spelling
 use Rattle.numbers.specs.Words as words
-use Rattle.numbers.specs.Number.{spelt, placed, readUnsigned, readSigned, speltSigned, minusOf, withSign, spell, unsigned}
+use Rattle.numbers.specs.Number.{spelt, answerAt, readUnsigned, readSigned, speltSigned, minusOf, withSign, spell, unsigned}
 use Rattle.string.specs.String as string
 use Rattle.string.specs.StringInner as string-inner
 use Rattle.string.specs.String.{openText}
@@ -57,14 +57,14 @@ Updates n m =
     × (reading 1 updateM3 (suc (suc n)) m ≡ blocksRead (after-id 5 9 8 ∷ after-id 9 5 16 ∷ []))
 
 updates : (n m : ℕ) → Updates n m
-unfolding words.among ranges.normal promises.withRanges promises.withBlocks promises.known promises.early promises.reading utf8.charsFrom utf8.chars utf8.widths utf8.unitsOf utf8.lead utf8.next utf8.width utf8.after utf8.settled utf8.wellFormed utf8.gain utf8.takeFrom utf8.takeUnits spelling.after spelt placed readUnsigned readSigned speltSigned minusOf withSign number.drawn number.counted number.begun number.nextNumber byte.counted byte.begun byte.nextByte string.opened string.openText string.ending string.taken string.drawn string.nextText utf8.ended line.numberAt line.varAt line.bounded line.upTo line.byteAt line.restored line.deleteAt line.numberOf line.soMany line.bytesAt line.checked line.line grammar-inner._>>=_ course.onDrawn course.run course.fit course.items course.ending blocks.anId blocks.left blocks.right blocks.parentAfter blocks.parent blocks.key blocks.place blocks.deleted blocks.binary blocks.string blocks.content blocks.contentOf blocks.anItem blocks.bare blocks.body blocks.block blocks.dropped blocks.kept blocks.blocks blocks.sections blocks.allBlocks deletes.ranges deletes.clients deletes.allRanges columned.numberDrawn columned.differenceDrawn columned.byteDrawn columned.textDrawn columned.onto columned.numberIn columned.columned opening.cut opening.heads opening.withOpened opening.textOpened opening.onHeads opening.openedOf update.placed update.inColumns update.blocksOf update.deleteSet
+unfolding words.among ranges.normal promises.withRanges promises.withBlocks promises.known promises.early promises.reading utf8.charsFrom utf8.chars utf8.widths utf8.unitsOf utf8.lead utf8.next utf8.width utf8.after utf8.settled utf8.wellFormed utf8.gain utf8.takeFrom utf8.takeUnits spelling.lowPart spelt answerAt readUnsigned readSigned speltSigned minusOf withSign number.drawn number.counted number.begun number.nextNumber byte.counted byte.begun byte.nextByte string.opened string.openText string.textEnding string.unitsTaken string.unitsDrawn string.nextText utf8.ended line.numberAt line.varAt line.bounded line.upTo line.byteAt line.restored line.deleteAt line.numberBy line.soMany line.bytesAt line.checked line.line grammar-inner._>>=_ course.onDrawn course.run course.fit course.things course.ending blocks.anId blocks.left blocks.right blocks.parentAfter blocks.parent blocks.key blocks.place blocks.deleted blocks.binary blocks.string blocks.content blocks.contentOf blocks.anItem blocks.bare blocks.body blocks.block blocks.dropped blocks.unlessDropped blocks.blocks blocks.sections blocks.allBlocks deletes.ranges deletes.deletedClients deletes.allRanges columned.numberDrawn columned.differenceDrawn columned.byteDrawn columned.textDrawn columned.onto columned.numberIn columned.columned opening.cut opening.heads opening.withOpened opening.textOpened opening.onHeads opening.openedOf update.restPlaces update.inColumns update.blocksOf update.deleteSet
 updates zero zero = (refl, refl, refl, refl, refl, refl, refl)
 updates zero (suc m) = (refl, refl, refl, refl, refl, refl, refl)
 updates (suc n) zero = (refl, refl, refl, refl, refl, refl, refl)
 updates (suc n) (suc m) = (refl, refl, refl, refl, refl, refl, refl)
 
 lists : (listed (1 ∷ updateA) ≡ emptyText) × (listed (2 ∷ updateB) ≡ emptyText) × (listed (1 ∷ updateC) ≡ oneText 49) × (listed (2 ∷ updateD) ≡ oneText 50)
-unfolding listings.same listings.isEmpty listings.linesOf listings.listedReading listings.listedUpdate listings.listedParts listings.listed listing.number listing.named listing.kindName listing.blockLine listing.blockLines listing.rangeLine listing.rangeLines listing.header listing.endLine listing.listing listing.emptyLine listing.refusedLine digits decimal
+unfolding listings.same listings.isEmpty listings.linesOf listings.listedReading listings.listedUpdate listings.listedParts listings.listed listing.numberThen listing.named listing.kindName listing.blockLine listing.blockLines listing.rangeLine listing.rangeLines listing.header listing.endLine listing.listing listing.emptyLine listing.refusedLine digits decimal
 lists = (
   refl,
   refl,
@@ -79,7 +79,7 @@ against r = afterReading quickly (ruleOf 28) (record { order = 2; counts = 4; re
 sorting : (against (blocksRead (after-id 5 9 8 ∷ in-parent 9 15 17 ∷ [])) ≡ sorted (1 ∷ 0 ∷ []) (9 ∷ 1 ∷ 5 ∷ 1 ∷ []) (9 ∷ 1 ∷ 5 ∷ 1 ∷ []) [] (after-id 5 9 8 ∷ in-parent 9 15 17 ∷ []))
     × (against (blocksRead (after-id 5 9 8 ∷ [])) ≡ sorted [] (5 ∷ 0 ∷ []) (5 ∷ 0 ∷ []) (5 ∷ 9 ∷ 0 ∷ []) (after-id 5 9 8 ∷ []))
     × (against (blocksRead (after-id 5 9 8 ∷ after-id 9 5 16 ∷ [])) ≡ sorted [] (9 ∷ 0 ∷ 5 ∷ 0 ∷ []) (9 ∷ 0 ∷ 5 ∷ 0 ∷ []) (9 ∷ 5 ∷ 0 ∷ 5 ∷ 9 ∷ 0 ∷ []) (after-id 5 9 8 ∷ after-id 9 5 16 ∷ []))
-unfolding sort-answers.whyNot sort-promises.whole sort-promises.whySort sort-promises.fitting sort-promises.against sort-promises.afterReading vector.holds vector.entries vector.aVector vector.vectorOf spelling.after spelt placed readUnsigned remote outcomes.insert outcomes.insertAll outcomes.clients outcomes.order outcomes.outcome outcomes.numbersFrom outcomes.numbersBy outcomes.orderOf outcomes.countsIn outcomes.countsOf outcomes.reachesIn outcomes.reachesOf outcomes.pendingIn outcomes.pendingOf quick.order quick.left quick.best quick.quick steps.can steps.step steps.after rules.queue rules.deps rules.others rules.system rules.unmet rules.waits rules.report rules.byReaches rule28.asks28 asksOf line.numberAt line.varAt line.bounded line.upTo line.byteAt line.restored line.deleteAt line.numberOf line.soMany line.bytesAt line.checked line.line grammar-inner._>>=_ course.onDrawn course.run course.items course.ending
+unfolding sort-answers.whyNot sort-promises.sortedAll sort-promises.whySort sort-promises.fitting sort-promises.against sort-promises.afterReading vector.holds vector.entries vector.aVector vector.vectorOf spelling.lowPart spelt answerAt readUnsigned remote outcomes.insert outcomes.insertAll outcomes.allClients outcomes.order outcomes.outcome outcomes.blockNumbersFrom outcomes.numbersBy outcomes.orderOf outcomes.countsIn outcomes.countsOf outcomes.reachesIn outcomes.reachesOf outcomes.pendingIn outcomes.pendingOf quick.chosen quick.remaining quick.best quick.quick steps.can steps.step steps.after rules.queue rules.deps rules.others rules.system rules.unmet rules.waits rules.report rules.byReaches rule28.asks28 asksOf line.numberAt line.varAt line.bounded line.upTo line.byteAt line.restored line.deleteAt line.numberBy line.soMany line.bytesAt line.checked line.line grammar-inner._>>=_ course.onDrawn course.run course.things course.ending
 sorting = (refl, refl, refl)
 
 sorts-M : (n m : ℕ) → (sorts updateM1 n m ≡ sorted (1 ∷ 0 ∷ []) (9 ∷ 1 ∷ 5 ∷ 1 ∷ []) (9 ∷ 1 ∷ 5 ∷ 1 ∷ []) [] (after-id 5 9 8 ∷ in-parent 9 15 17 ∷ []))
@@ -93,7 +93,7 @@ sorts-M n m = (
 )
 
 pub starred : Starred
-unfolding spelling.after spelt placed readUnsigned readSigned speltSigned minusOf withSign spell unsigned number.drawn number.counted number.begun number.nextNumber difference.drawn difference.outside difference.keyRead difference.counted difference.begun difference.nextDifference byte.counted byte.begun byte.nextByte byte-run.runBytes runs.over runs.opened runs.column runs.coding runs.why runs.within runs.overFits runs.storable runs.spellable runs.fitsLessOne andThen reads numberDraw differenceDraw byteDraw lead next width gain takeFrom takeUnits after settled wellFormed string.opened string.openText string.ending string.taken string.drawn string.nextText string-inner.andThen string-inner.readTexts firstOf
+unfolding spelling.lowPart spelt answerAt readUnsigned readSigned speltSigned minusOf withSign spell unsigned number.drawn number.counted number.begun number.nextNumber difference.drawn difference.outside difference.keyRead difference.counted difference.begun difference.nextDifference byte.counted byte.begun byte.nextByte byte-run.runBytes runs.runsOn runs.runsAfter runs.column runs.coding runs.why runs.within runs.overFits runs.storable runs.spellable runs.fitsLessOne andThen reads numberDraw differenceDraw byteDraw lead next width gain takeFrom takeUnits after settled wellFormed string.opened string.openText string.textEnding string.unitsTaken string.unitsDrawn string.nextText string-inner.andThen string-inner.readTexts firstOf
 starred = record {
   A = λ n m. updates n m .0;
   B = λ n m. updates n m .1;

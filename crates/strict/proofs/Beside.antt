@@ -11,11 +11,11 @@ use lib.ListN.{length}
 use borrow.Author.Tests.{eqb-true, eqb-false, ltb-true, ltb-false, ne-eqb, le-ltb}
 use Rattle.numbers.specs.Number.{pick, none, nowhere}
 use Rattle.numbers.specs.Limits.{maxUpdate}
-use Rattle.grammar.specs.Course.{Course, item, over, stopped, fit, ending}
+use Rattle.grammar.specs.Course.{Course, thing, over, stopped, fit, ending}
 use Rattle.grammar.specs.Numbered as grammar
 use Rattle.decoder.specs.Update.{blocksOf, deleteSet}
 use Rattle.ranges.specs.Ranges.{Range}
-use Rattle.leftover.specs.Leftover.{left, lowest, lowestLeft}
+use Rattle.leftover.specs.Leftover.{unreadOf, lowest, lowestLeft}
 use Rattle.leftover.specs.LeftoverInner.{Among}
 use Rattle.leftover.proofs.Lowest.{none-below, lowest-among}
 use Rattle.updates.specs.Promises.{Reading, refused, withRanges, withBlocks, known, early, reading}
@@ -30,7 +30,7 @@ use Rattle.strict.specs.Promises.{flagged, beforehand, explained, strict
 
 followed : {E : Type 0} (c : Course E) (f : ℕ → Reading) → Stops c → ((s : ℕ) → f s .refusal .number ≤ 12) → ending c f (λ why. refused why) .refusal .number ≤ 12
 unfolding ending grammar.Stops
-followed (item e p c) f h q = followed c f h q
+followed (thing e p c) f h q = followed c f h q
 followed (over a s) f h q = q s
 followed (stopped why) f h q = omega (arith, h .1)
 
@@ -103,7 +103,7 @@ module _ (form : ℕ) (u : List ℕ) (m n : ℕ) where
     pub flag-zero : flagged form u ≡ false
     pub whole : reading form u m n .refusal ≡ none
     -- no byte of the update stays unread
-    pub every : (p : ℕ) → p < length u → Among p (left form u) → ⊥
+    pub every : (p : ℕ) → p < length u → Among p (unreadOf form u) → ⊥
 
   done-by : (r : Reading) → Goes form u m n r → strictly form u m n ≡ r → r .refusal .number ≡ 0 → Done
   unfolding lowestLeft
@@ -111,7 +111,7 @@ module _ (form : ℕ) (u : List ℕ) (m n : ℕ) where
   done-by r (refuses some q) s z = absurd (some (sym (ap (λ (x : Reading). x .refusal .number) q) ∙ z))
   done-by r (leaves f e l q) s z = absurd (omega (arith, ap (λ (x : Reading). x .refusal .number) q, z))
   done-by r (reads f e l q) s z =
-      record { same = s ∙ q; flag-zero = f; whole = no-refusal form u m n e; every = λ p h a. omega (arith, l, h, none-below (length u) (left form u) p a) }
+      record { same = s ∙ q; flag-zero = f; whole = no-refusal form u m n e; every = λ p h a. omega (arith, l, h, none-below (length u) (unreadOf form u) p a) }
 
   pub done : strictly form u m n .refusal .number ≡ 0 → Done
   done z = done-by (strictly form u m n) goes refl z
@@ -126,8 +126,8 @@ module _ (form : ℕ) (u : List ℕ) (m n : ℕ) where
   pub record Unread (place : ℕ) : Type 0 where
     pub today : reading form u m n .refusal ≡ none
     pub inside : place < length u
-    pub unread : Among place (left form u)
-    pub lowest : (p : ℕ) → Among p (left form u) → place ≤ p
+    pub unread : Among place (unreadOf form u)
+    pub lowest : (p : ℕ) → Among p (unreadOf form u) → place ≤ p
 
   unread-by : (r : Reading) → Goes form u m n r → r .refusal .number ≡ 15 → Unread (r .refusal .place)
   unfolding lowestLeft
@@ -138,8 +138,8 @@ module _ (form : ℕ) (u : List ℕ) (m n : ℕ) where
       record {
         today = no-refusal form u m n e;
         inside = omega (arith, at, l);
-        unread = subst (λ (p : ℕ). Among p (left form u)) (sym at) (⊎-elim (λ (s : lowestLeft form u ≡ length u). absurd (omega (arith, s, l))) (λ a. a) (lowest-among (length u) (left form u)));
-        lowest = λ p a. omega (arith, at, none-below (length u) (left form u) p a);
+        unread = subst (λ (p : ℕ). Among p (unreadOf form u)) (sym at) (⊎-elim (λ (s : lowestLeft form u ≡ length u). absurd (omega (arith, s, l))) (λ a. a) (lowest-among (length u) (unreadOf form u)));
+        lowest = λ p a. omega (arith, at, none-below (length u) (unreadOf form u) p a);
       }
   unread-by r (reads f e l q) z = absurd (omega (arith, ap (λ (x : Reading). x .refusal .number) q, z, e))
 

@@ -22,7 +22,7 @@ use Rattle.cells.specs.Cells.{Small, stateIn}
 use Rattle.numbers.specs.Number.{pick}
 use Rattle.leftover.specs.Leftover as leftover
 use Rattle.strict.specs.Promises.{beforehand, strictly, ReadStrictly}
-use Rattle.updates.specs.Promises.{answer, refused, rowsOf, wordsOf}
+use Rattle.updates.specs.Promises.{answer, refused, tableOf, rangeWords}
 use Rattle.reader.proofs.Sorts.{refusal}
 use Rattle.table.proofs.Sorts.{block}
 use Rattle.updates.proofs.Sorts.{update}
@@ -68,7 +68,7 @@ module _ {M : Type 1} (𝓤 : URA M) (H : Heap 𝓤) (A : Atoms 𝓤) (mem : Mem
       said = λ ns r ws. since 𝓤 (λ e. (e, tt));
     }
 
-    pub strict·refuse! : Triple 𝓤 (C #strict·refuse) Strict·refuse → (at-rows : Seat) (rows₀ : List Block) (at-ranges : Seat) (ranges₀ : List ℕ) (why₀ : Refusal) (g-why : Has refusal why₀) → Card 𝓤 H A C #strict·refuse (mut block at-rows rows₀ (rowsOf (length rows₀) (refused why₀)) ∷ mut word at-ranges ranges₀ (wordsOf (length ranges₀) (refused why₀)) ∷ val refusal why₀ g-why ∷ []) update (answer (refused why₀))
+    pub strict·refuse! : Triple 𝓤 (C #strict·refuse) Strict·refuse → (at-rows : Seat) (rows₀ : List Block) (at-ranges : Seat) (ranges₀ : List ℕ) (why₀ : Refusal) (g-why : Has refusal why₀) → Card 𝓤 H A C #strict·refuse (mut block at-rows rows₀ (tableOf (length rows₀) (refused why₀)) ∷ mut word at-ranges ranges₀ (rangeWords (length ranges₀) (refused why₀)) ∷ val refusal why₀ g-why ∷ []) update (answer (refused why₀))
     strict·refuse! known at-rows rows₀ at-ranges ranges₀ why₀ g-why = record {
       contract = Strict·refuse;
       known = known;
@@ -112,7 +112,7 @@ module _ {M : Type 1} (𝓤 : URA M) (H : Heap 𝓤) (A : Atoms 𝓤) (mem : Mem
       said = λ ns r ws. since 𝓤 (λ e. (e, tt));
     }
 
-    pub strict·read-update-strict! : Triple 𝓤 (C #strict·read-update-strict) Strict·read-update-strict → (form₀ : ℕ) (g-form : Has byte form₀) (at-update : Seat) (update₀ : List ℕ) (at-rows : Seat) (rows₀ : List Block) (at-ranges : Seat) (ranges₀ : List ℕ) → Card 𝓤 H A C #strict·read-update-strict (val byte form₀ g-form ∷ pass byte at-update update₀ ∷ mut block at-rows rows₀ (rowsOf (length rows₀) (strictly form₀ update₀ (length rows₀) (length ranges₀ / 3))) ∷ mut word at-ranges ranges₀ (wordsOf (length ranges₀) (strictly form₀ update₀ (length rows₀) (length ranges₀ / 3))) ∷ []) update (answer (strictly form₀ update₀ (length rows₀) (length ranges₀ / 3)))
+    pub strict·read-update-strict! : Triple 𝓤 (C #strict·read-update-strict) Strict·read-update-strict → (form₀ : ℕ) (g-form : Has byte form₀) (at-update : Seat) (update₀ : List ℕ) (at-rows : Seat) (rows₀ : List Block) (at-ranges : Seat) (ranges₀ : List ℕ) → Card 𝓤 H A C #strict·read-update-strict (val byte form₀ g-form ∷ pass byte at-update update₀ ∷ mut block at-rows rows₀ (tableOf (length rows₀) (strictly form₀ update₀ (length rows₀) (length ranges₀ / 3))) ∷ mut word at-ranges ranges₀ (rangeWords (length ranges₀) (strictly form₀ update₀ (length rows₀) (length ranges₀ / 3))) ∷ []) update (answer (strictly form₀ update₀ (length rows₀) (length ranges₀ / 3)))
     strict·read-update-strict! known form₀ g-form at-update update₀ at-rows rows₀ at-ranges ranges₀ = record {
       contract = Strict·read-update-strict;
       known = known;

@@ -12,18 +12,18 @@ use Rattle.numbers.specs.declared.Refusal.{Refusal}
 use Rattle.numbers.specs.Number.{pick, none, nowhere}
 use Rattle.block.specs.declared.Block.{Block}
 use Rattle.table.specs.Rows.{clearedFrom}
-use Rattle.grammar.specs.Course.{Run, item, over, stopped, Course, fit, ending}
+use Rattle.grammar.specs.Course.{Run, thing, over, stopped, Course, fit, ending}
 use Rattle.grammar.specs.Numbered as numbered
 use Rattle.decoder.specs.States.{State}
-use Rattle.decoder.specs.Update.{placed, inColumns, blocksOf, deleteSet}
-use Rattle.leftover.specs.Leftover.{stretch, columnsAt, columnsLeft, setEnd, left, lower, lowest, lowestLeft}
+use Rattle.decoder.specs.Update.{restPlaces, inColumns, blocksOf, deleteSet}
+use Rattle.leftover.specs.Leftover.{stretch, columnsAt, columnsLeft, setEnd, unreadOf, lower, lowest, lowestLeft}
 use Rattle.cells.specs.Cells.{stateIn}
 use Rattle.deletes.specs.declared.Set.the-variants as set
 use Rattle.deletes.specs.DeleteSet.{taken, setOf, wordsOf as setWords}
 use Rattle.reader.specs.declared.Filled.the-variants as filled
 use Rattle.reader.specs.Reader.{filledOf, rowsOf as filledRows, Stands}
 use Rattle.updates.specs.declared.Update.{Update}
-use Rattle.updates.specs.Promises.{Reading, refused, early, reading, answer, rowsOf, wordsOf}
+use Rattle.updates.specs.Promises.{Reading, refused, early, reading, answer, tableOf, rangeWords}
 use Rattle.updates.proofs.Laws.{Says, on-blocks, on-set, on-ranges}
 use Rattle.agreement.specs.Numbered.{Stops}
 use Rattle.agreement.proofs.Courses.{fit-stops}
@@ -73,19 +73,19 @@ module _ {Y : Type 0} (tell : ℕ → Y) (no : Refusal → Y) (y : Y) where
     -- so ends the run itself
     ends-at : {E X : Type 0} (f : ℕ → X) (g : Refusal → X) (n : ℕ) (c : Course E) → ending (fit n c) tell no ≡ y → ending c f g ≡ f t
     unfolding fit ending
-    ends-at f g zero (item a p c) e = absurd (not _ e)
-    ends-at f g (suc n) (item a p c) e = ends-at f g n c e
+    ends-at f g zero (thing a p c) e = absurd (not _ e)
+    ends-at f g (suc n) (thing a p c) e = ends-at f g n c e
     ends-at f g zero (over a s) e = ap f (told s e)
     ends-at f g (suc n) (over a s) e = ap f (told s e)
     ends-at f g zero (stopped why) e = absurd (not why e)
     ends-at f g (suc n) (stopped why) e = absurd (not why e)
 
     -- and the words stand at its state
-    columns-at : {E : Type 0} (n : ℕ) (c : Run State E (Unit {0})) (v : List ℕ) → ending (fit n (placed c)) tell no ≡ y → Stands (fit n c) v
+    columns-at : {E : Type 0} (n : ℕ) (c : Run State E (Unit {0})) (v : List ℕ) → ending (fit n (restPlaces c)) tell no ≡ y → Stands (fit n c) v
         → ending c columnsAt (λ why. []) ≡ columnsAt (stateIn v)
-    unfolding fit ending placed Stands columnsAt
-    columns-at zero (item a p c) v e h = absurd (not _ e)
-    columns-at (suc n) (item a p c) v e h = columns-at n c v e h
+    unfolding fit ending restPlaces Stands columnsAt
+    columns-at zero (thing a p c) v e h = absurd (not _ e)
+    columns-at (suc n) (thing a p c) v e h = columns-at n c v e h
     columns-at zero (over a s) v e h = ap columnsAt h
     columns-at (suc n) (over a s) v e h = ap columnsAt h
     columns-at zero (stopped why) v e h = absurd (not why e)
@@ -95,7 +95,7 @@ module _ {Y : Type 0} (tell : ℕ → Y) (no : Refusal → Y) (y : Y) where
   refused-by : {E : Type 0} (why : Refusal) → ((s : ℕ) → tell s ≡ y → ⊥) → ((w : Refusal) → no w ≡ y → w ≡ why) → (c : Course E) → Stops c → ending c tell no ≡ y
       → why .number ≢ 0
   unfolding ending numbered.Stops
-  refused-by why never says (item a p c) h e = refused-by why never says c h e
+  refused-by why never says (thing a p c) h e = refused-by why never says c h e
   refused-by why never says (over a s) h e = absurd (never s e)
   refused-by why never says (stopped w) h e = λ z. omega (arith, h .0, ap (λ (x : Refusal). x .number) (says w e), z)
 
@@ -122,7 +122,7 @@ module _ (form : ℕ) (u : List ℕ) (rows : List Block) (words : List ℕ) wher
 
   -- before anything is read
   pub on-first : eqb (beforehand form u) 0 ≡ false
-      → Left (answer (refused (nowhere (beforehand form u)))) (rowsOf N (refused (nowhere (beforehand form u)))) (wordsOf M (refused (nowhere (beforehand form u))))
+      → Left (answer (refused (nowhere (beforehand form u)))) (tableOf N (refused (nowhere (beforehand form u)))) (rangeWords M (refused (nowhere (beforehand form u))))
   unfolding strictly
   on-first y = says-by (refused (nowhere (beforehand form u))) _ _ _ (rw y refl) (refl, refl, refl)
 
@@ -180,7 +180,7 @@ module _ (form : ℕ) (u : List ℕ) (rows : List Block) (words : List ℕ) wher
                 (stands (eqb-false form 1 f))
 
         same : lowestLeft form u ≡ low
-        unfolding lowestLeft lowest left
+        unfolding lowestLeft lowest unreadOf
         same = rw (set-end, columns-left) refl
 
         read : today .refusal .number ≡ 0
@@ -188,13 +188,13 @@ module _ (form : ℕ) (u : List ℕ) (rows : List Block) (words : List ℕ) wher
         read = sym (ap (λ (x : Update). x .refusal .number) (on-ranges form u rows words early-none n at e k t q .0))
 
         pub left-out : ltb low (length u) ≡ true → (i j : ℕ) → i ≡ N → j ≡ M
-            → Left (answer (refused (record { number = 15; place = low }))) (rowsOf i (refused (record { number = 15; place = low })))
-            (wordsOf j (refused (record { number = 15; place = low })))
+            → Left (answer (refused (record { number = 15; place = low }))) (tableOf i (refused (record { number = 15; place = low })))
+            (rangeWords j (refused (record { number = 15; place = low })))
         unfolding explained
         left-out l i j size size′ =
             let why : Refusal = record { number = 15; place = low } in
             says-by (refused why) _ _ _ (on ∙ rw (read, same, l) refl)
-            (refl, ap (λ (k : ℕ). rowsOf k (refused why)) size, ap (λ (k : ℕ). wordsOf k (refused why)) size′)
+            (refl, ap (λ (k : ℕ). tableOf k (refused why)) size, ap (λ (k : ℕ). rangeWords k (refused why)) size′)
 
         pub done : ltb low (length u) ≡ false → Left (record { refusal = none; blocks = n; ranges = k }) (filledRows N (blocksOf form u)) (setWords form u at M)
         unfolding explained

@@ -140,7 +140,7 @@ number-last s c d v e =
 module _ (s : List ℕ) (end : ℕ) (f : end ≤ length s) where
   text-steps : (ts : List (List ℕ)) (at : ℕ) (c : number-place.Place) → Formed ts → at ≤ end → slice at end s ≡ joined ts → GivesNumbers s c (unitsEach ts)
       → GivesTexts s (string.placeAt at end c) ts
-  unfolding joined unitsEach nextText string.drawn string.taken string.ending
+  unfolding joined unitsEach nextText string.unitsDrawn string.unitsTaken string.textEnding
   text-steps [] at c h l e g = (omega (arith, l, ap length e, length-slice at end s f), g)
   text-steps (t ∷ ts) at c h l e g =
       let d : number-place.Place = g .0 in

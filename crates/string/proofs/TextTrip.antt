@@ -27,7 +27,7 @@ use Rattle.columns.specs.Number.{startAt, nextNumber}
 use Rattle.runs.specs.Runs.{columnOf, whyOf}
 use Rattle.columns.specs.Reading as reading
 use Rattle.columns.specs.Reading.{Reading, numberDraw, reads, readNumbers}
-use Rattle.string.specs.String.{placeAt, opened, openText, ending, taken, drawn, nextText, takesMore, takesAll, textHead, textColumn, whyTexts}
+use Rattle.string.specs.String.{placeAt, opened, openText, textEnding, unitsTaken, unitsDrawn, nextText, takesMore, takesAll, textHead, textColumn, whyTexts}
 use Rattle.string.specs.StringInner.{Texts, andThen, readTexts}
 use Rattle.columns.proofs.Back.{atEnd}
 use Rattle.columns.proofs.RoundTrip.{number-back, number-end}
@@ -75,18 +75,18 @@ module _ (s : List ℕ) (end : ℕ) (f : end ≤ length s) where
 
   module _ (k : ℕ) (rec : Cuts k) (at : ℕ) (h : at ≤ end) where
     cuts-took : (u : ℕ) (c : number-place.Place) (t : Taken) → takeUnits 7 u (slice at end s) ≡ t
-        → andThen s (ending at end c t) (λ d. readTexts k s d)
+        → andThen s (textEnding at end c t) (λ d. readTexts k s d)
         ≡ cutOn at (slice at end s) t (λ j. cutAs (at + j) (drop j (slice at end s)) (readNumbers k s c))
-    unfolding andThen ending cutOn
+    unfolding andThen textEnding cutOn
     cuts-took u c (Took b) p =
         let w : at + b .0 ≤ end = cut-at 7 u (b .0) at end s h f p .within in
         rw (rec (at + b .0) c w, slice-front s at end (b .0) w f, slice-rest s at end (b .0))
     cuts-took u c (Refused why) p = refl
 
     cuts-drew : (a : number-answer.Answer)
-        → andThen s (drawn s at end a) (λ d. readTexts k s d)
+        → andThen s (unitsDrawn s at end a) (λ d. readTexts k s d)
         ≡ cutAs at (slice at end s) (reading.andThen (numberDraw a) (λ c. readNumbers k s c))
-    unfolding drawn taken numberDraw reading.andThen andThen cutBy
+    unfolding unitsDrawn unitsTaken numberDraw reading.andThen andThen cutBy
     cuts-drew (number.Next u c) = cuts-took u c (takeUnits 7 u (slice at end s)) refl
     cuts-drew (number.Bad why) = refl
 

@@ -11,7 +11,7 @@ use lib.ListN.{length, take, drop, length-append, drop-of-length-le}
 use lib.Seq.{slice, slice-empty, take-all, length-take-le}
 use borrow.Author.Tests.{eq-eqb, ne-eqb, eqb-true}
 use Rattle.numbers.specs.declared.Read.the-variants.{Number, Refused}
-use Rattle.numbers.specs.Number.{pick, unsigned, readUnsigned, placed}
+use Rattle.numbers.specs.Number.{pick, unsigned, readUnsigned, answerAt}
 use Rattle.numbers.proofs.Laws.{below-or, at-end}
 use Rattle.numbers.proofs.Inside.{Reads, unsigned-inside}
 use Rattle.text.specs.Utf8.{wellFormed, took, takeUnits}
@@ -24,7 +24,7 @@ use Rattle.string.specs.String.{takesAll, textHead, textColumn, whyTexts
 
 -- a number that is read ends within the bytes, wherever it was to begin
 pub read-ends : (s : List ℕ) (at n e : ℕ) → readUnsigned s at ≡ Number n e → e ≤ length s
-unfolding readUnsigned placed
+unfolding readUnsigned answerAt
 read-ends s at n e p = ⊎-elim
     (λ l. subst (Reads s at) p (unsigned-inside s at (omega arith)) .1)
     (λ g.

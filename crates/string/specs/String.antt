@@ -41,19 +41,19 @@ openText s at = opened s (readUnsigned s at)
 -- ---- the next text: its unit length, then its characters
 
 -- where the bytes of the text at `at` end, or that its units run past the texts or end in a pair
-unfoldable pub ending : ℕ → ℕ → number-place.Place → Taken → Answer
-ending at end rest (units.Took b) = Next (record { place = at; bytes = b }) (placeAt (at + b .0) end rest)
-ending at end rest (units.Refused why) = Bad (record { number = why; place = at })
+unfoldable pub textEnding : ℕ → ℕ → number-place.Place → Taken → Answer
+textEnding at end rest (units.Took b) = Next (record { place = at; bytes = b }) (placeAt (at + b .0) end rest)
+textEnding at end rest (units.Refused why) = Bad (record { number = why; place = at })
 
-unfoldable pub taken : List ℕ → ℕ → ℕ → ℕ → number-place.Place → Answer
-taken s at end u rest = ending at end rest (takeUnits 7 u (slice at end s))
+unfoldable pub unitsTaken : List ℕ → ℕ → ℕ → ℕ → number-place.Place → Answer
+unitsTaken s at end u rest = textEnding at end rest (takeUnits 7 u (slice at end s))
 
-unfoldable pub drawn : List ℕ → ℕ → ℕ → number-answer.Answer → Answer
-drawn s at end (number.Next u rest) = taken s at end u rest
-drawn s at end (number.Bad why) = Bad why
+unfoldable pub unitsDrawn : List ℕ → ℕ → ℕ → number-answer.Answer → Answer
+unitsDrawn s at end (number.Next u rest) = unitsTaken s at end u rest
+unitsDrawn s at end (number.Bad why) = Bad why
 
 unfoldable pub nextText : List ℕ → Place → Answer
-nextText s c = drawn s (c .at) (c .end) (nextNumber s (c .units))
+nextText s c = unitsDrawn s (c .at) (c .end) (nextNumber s (c .units))
 
 -- ---- writing
 

@@ -12,7 +12,7 @@ ghost use Prim.Native.Nat.{_+_, _≤_};
 ghost use lib.ListN.{length};
 ghost use lib.Seq.{slice};
 ghost use Rattle.text.specs.Utf8.{takeUnits};
-ghost use Rattle.string.specs.String.{openText, taken, nextText};
+ghost use Rattle.string.specs.String.{openText, unitsTaken, nextText};
 ghost use Rattle.string.specs.StringInner.{TookWithin, whyText};
 
 // The next text's first byte, the end of all texts, and the place of the next unit length.
@@ -76,7 +76,7 @@ pub fn take_text(column: &[u8], at: usize, end: usize, u: u64) -> Taken
 
 // The same, with the place after it.
 fn take(column: &[u8], at: usize, end: usize, u: u64, units: number::Place) -> Answer
-    ensures { λ r. ⌜ r ≡ taken (now (column .entry)) at end u units ⌝ }
+    ensures { λ r. ⌜ r ≡ unitsTaken (now (column .entry)) at end u units ⌝ }
 {
     match take_text(column, at, end, u) {
         Taken::Took(bytes) => {

@@ -29,11 +29,11 @@ use Rattle.gathered.specs.RowsOf.{toldOf}
 use Rattle.gathered.specs.Gathered.{Tells}
 use Rattle.summaries.specs.declared.Summarized.{Summarized}
 use Rattle.summaries.specs.declared.SummaryRows.{SummaryRows}
-use Rattle.summaries.specs.Promises.{Made, bytes, refused, madeOf, fitted, summaryIn, summarized, bytesIn, rowsAnswer}
+use Rattle.summaries.specs.Promises.{Made, bytes, refused, madeOf, fitted, summaryIn, summarized, madeBytes, rowsAnswer}
 
 -- what is made, as an answer r, into the bytes out that are then out₁
 abbrev pub Makes : Made → List ℕ → Summarized → List ℕ → Type 0
-Makes m out r out₁ = (r ≡ summarized m) × (out₁ ≡ padded (length out) (bytesIn m))
+Makes m out r out₁ = (r ≡ summarized m) × (out₁ ≡ padded (length out) (madeBytes m))
 
 pub makes-by : (m was : Made) (out : List ℕ) (r : Summarized) (out₁ : List ℕ) → m ≡ was → Makes was out r out₁ → Makes m out r out₁
 makes-by m was out r out₁ e h = subst (λ (x : Made). Makes x out r out₁) (sym e) h
@@ -51,7 +51,7 @@ module _ (n : ℕ) (w : List ℕ) where
 
     pub written : size ≤ length out → (out₁ out₂ : List ℕ) → length out₁ ≡ length out → Starts (summaryBits one (rowsIn n w)) out₁ → out₂ ≡ take size out₁ ++ replicate (length out₁ - size) 0
         → Makes (fitted (length out) (bytes (summaryOf one (rowsIn n w)))) out (record { refusal = nowhere 0; bytes = size }) out₂
-    unfolding fitted summarized bytesIn summaryOf
+    unfolding fitted summarized madeBytes summaryOf
     written h out₁ out₂ l s c =
         let b = summaryOf one (rowsIn n w) in
         let size' : size ≡ length b = e ∙ sym size-is in

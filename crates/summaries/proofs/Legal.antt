@@ -12,7 +12,7 @@ use Rattle.numbers.specs.Number.{pick}
 use Rattle.numbers.specs.Words.{among}
 use Rattle.numbers.specs.Limits.{maxBlocks}
 use Rattle.block.specs.declared.Block.{Block}
-use Rattle.grammar.specs.Course.{items}
+use Rattle.grammar.specs.Course.{things}
 use Rattle.decoder.specs.Update.{blocksOf}
 use Rattle.readings.specs.Sound.{All}
 use Rattle.readings.specs.SoundInner.{Sound, Follows, Stays, Ordered}
@@ -157,9 +157,9 @@ pub record Legal (rows : List Row) : Type 0 where
   pub order : legal rows ≡ true
   pub few : length rows ≤ 64
 
-pub update-legal : (form : ℕ) (u : List ℕ) → Legal (rowsOf (items (blocksOf form u)))
+pub update-legal : (form : ℕ) (u : List ℕ) → Legal (rowsOf (things (blocksOf form u)))
 update-legal form u =
-    let bs = items (blocksOf form u) in
+    let bs = things (blocksOf form u) in
     record {
       fit = all-fit u bs (blocks-sound form u) (blocks-ordered form u) (blocks-count form u);
       order = all-legal u bs (blocks-sound form u) (blocks-ordered form u) (blocks-count form u);

@@ -42,13 +42,13 @@ unfoldable pub summarized : Made → Summarized
 summarized (bytes b) = record { refusal = none; bytes = length b }
 summarized (refused why) = record { refusal = why; bytes = 0 }
 
-unfoldable pub bytesIn : Made → List ℕ
-bytesIn (bytes b) = b
-bytesIn (refused why) = []
+unfoldable pub madeBytes : Made → List ℕ
+madeBytes (bytes b) = b
+madeBytes (refused why) = []
 
 -- the answer r, and the bytes lent, from `out` to `out₁`
 abbrev pub WriteSummary : ℕ → List ℕ → List ℕ → Summarized → List ℕ → Type 0
-WriteSummary form u out r out₁ = (r ≡ summarized (summaryIn form u (length out))) × (out₁ ≡ padded (length out) (bytesIn (summaryIn form u (length out))))
+WriteSummary form u out r out₁ = (r ≡ summarized (summaryIn form u (length out))) × (out₁ ≡ padded (length out) (madeBytes (summaryIn form u (length out))))
 
 -- ---- read: how many rows, or a refusal, which blames no byte
 

@@ -9,7 +9,7 @@ ghost use lib.ListN.{length, take};
 ghost use Rattle.numbers.specs.Output.{padded};
 ghost use Rattle.summary.specs.Summary.{one, summaryOf};
 ghost use Rattle.summary.specs.WordsInner.{rowsIn};
-ghost use Rattle.summaries.specs.Promises.{bytes, refused, fitted, summarized, bytesIn, WriteSummary, ReadSummary};
+ghost use Rattle.summaries.specs.Promises.{bytes, refused, fitted, summarized, madeBytes, WriteSummary, ReadSummary};
 
 // What a summary that is written says: a refusal, zeros for done, and how many bytes.
 #[repr(C)]
@@ -26,7 +26,7 @@ pub struct SummaryRows {
 }
 
 fn refuse(out: &mut [u8], why: Refusal) -> Summarized
-    ensures { λ r. ⌜ (r ≡ summarized (refused why)) × (now (out .exit) ≡ padded (length (now (out .entry))) (bytesIn (refused why))) ⌝ }
+    ensures { λ r. ⌜ (r ≡ summarized (refused why)) × (now (out .exit) ≡ padded (length (now (out .entry))) (madeBytes (refused why))) ⌝ }
 {
     numbers::clear(out, 0);
     Summarized {
@@ -39,7 +39,7 @@ fn refuse(out: &mut [u8], why: Refusal) -> Summarized
 fn write_rows(out: &mut [u8], rows: &[u64], n: usize) -> Summarized
     requires { ⌜ (4 * n ≤ length (now rows)) × (n ≤ 64) ⌝ }
     ensures { λ r. ⌜ (r ≡ summarized (fitted (length (now (out .entry))) (bytes (summaryOf one (rowsIn n (now (rows .entry)))))))
-        × (now (out .exit) ≡ padded (length (now (out .entry))) (bytesIn (fitted (length (now (out .entry))) (bytes (summaryOf one (rowsIn n (now (rows .entry)))))))) ⌝ }
+        × (now (out .exit) ≡ padded (length (now (out .entry))) (madeBytes (fitted (length (now (out .entry))) (bytes (summaryOf one (rowsIn n (now (rows .entry)))))))) ⌝ }
 {
     let size = summary::size(n);
     if out.len() < size {

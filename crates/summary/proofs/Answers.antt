@@ -11,13 +11,13 @@ use borrow.Author.Tests.{lt-ltb, le-ltb, eq-eqb, ne-eqb}
 use Rattle.numbers.specs.Number.{pick}
 use Rattle.numbers.specs.Output.{padded}
 use Rattle.numbers.proofs.Output.{padded-some}
-use Rattle.bits.specs.Bits.{number, ofBytes}
+use Rattle.bits.specs.Bits.{valueOf, ofBytes}
 use Rattle.bits.proofs.Laws.{length-of-bytes}
 use Rattle.summary.specs.declared.Taken.{Taken}
 use Rattle.summary.specs.declared.Taken.the-variants as taken
 use Rattle.summary.specs.declared.Rows as rows
 use Rattle.summary.specs.declared.Rows.the-variants as rows-are
-use Rattle.summary.specs.Summary.{one, Found, read, refused, filled, rowsAfter, behind, readOf}
+use Rattle.summary.specs.Summary.{one, Found, read, refused, filled, rowsAfter, afterVersion, readOf}
 use Rattle.summary.specs.Words.{wordsOf}
 use Rattle.summary.specs.WordsInner.{All, Took, answerOf, Answers}
 use Rattle.summary.proofs.Taking.{field-got, field-short}
@@ -61,28 +61,28 @@ module _ (room : ℕ) (s : List ℕ) where
   no-byte h = field-short 4 (ofBytes s) _ (omega (arith, length-of-bytes s))
 
   module _ (h : 1 ≤ length s) where
-    versioned : readOf room s ≡ pick (eqb (number 4 (ofBytes s)) 1) (behind one room (drop 4 (ofBytes s))) (refused 16)
+    versioned : readOf room s ≡ pick (eqb (valueOf 4 (ofBytes s)) 1) (afterVersion one room (drop 4 (ofBytes s))) (refused 16)
     unfolding readOf
     versioned = field-got 4 (ofBytes s) _ (omega (arith, length-of-bytes s))
 
-    pub unknown : (number 4 (ofBytes s) ≡ 1 → ⊥) → readOf room s ≡ refused 16
-    unknown e = versioned ∙ rw (ne-eqb (number 4 (ofBytes s)) 1 e)
+    pub unknown : (valueOf 4 (ofBytes s) ≡ 1 → ⊥) → readOf room s ≡ refused 16
+    unknown e = versioned ∙ rw (ne-eqb (valueOf 4 (ofBytes s)) 1 e)
 
-    module _ (e : number 4 (ofBytes s) ≡ 1) where
-      known : readOf room s ≡ behind one room (drop 4 (ofBytes s))
-      known = versioned ∙ rw (eq-eqb (number 4 (ofBytes s)) 1 e)
+    module _ (e : valueOf 4 (ofBytes s) ≡ 1) where
+      known : readOf room s ≡ afterVersion one room (drop 4 (ofBytes s))
+      known = versioned ∙ rw (eq-eqb (valueOf 4 (ofBytes s)) 1 e)
 
       pub no-count : length s < 2 → readOf room s ≡ refused 1
-      unfolding behind
+      unfolding afterVersion
       no-count l = known ∙ field-short 7 (drop 4 (ofBytes s)) _ (simp length-drop (omega (arith, length-of-bytes s)))
 
       module _ (l : 2 ≤ length s) where
-        counted : readOf room s ≡ pick (ltb 64 (number 7 (drop 4 (ofBytes s)))) (refused 3) (rowsAfter (number 7 (drop 4 (ofBytes s))) room [] (drop 11 (ofBytes s)))
-        unfolding behind
+        counted : readOf room s ≡ pick (ltb 64 (valueOf 7 (drop 4 (ofBytes s)))) (refused 3) (rowsAfter (valueOf 7 (drop 4 (ofBytes s))) room [] (drop 11 (ofBytes s)))
+        unfolding afterVersion
         counted = known ∙ field-got 7 (drop 4 (ofBytes s)) _ (simp length-drop (omega (arith, length-of-bytes s))) ∙ rw (drop-drop 7 4 (ofBytes s))
 
-        pub too-many : 64 < number 7 (drop 4 (ofBytes s)) → readOf room s ≡ refused 3
-        too-many m = counted ∙ rw (lt-ltb 64 (number 7 (drop 4 (ofBytes s))) m)
+        pub too-many : 64 < valueOf 7 (drop 4 (ofBytes s)) → readOf room s ≡ refused 3
+        too-many m = counted ∙ rw (lt-ltb 64 (valueOf 7 (drop 4 (ofBytes s))) m)
 
-        pub some-rows : number 7 (drop 4 (ofBytes s)) ≤ 64 → readOf room s ≡ rowsAfter (number 7 (drop 4 (ofBytes s))) room [] (drop 11 (ofBytes s))
-        some-rows m = counted ∙ rw (le-ltb 64 (number 7 (drop 4 (ofBytes s))) m)
+        pub some-rows : valueOf 7 (drop 4 (ofBytes s)) ≤ 64 → readOf room s ≡ rowsAfter (valueOf 7 (drop 4 (ofBytes s))) room [] (drop 11 (ofBytes s))
+        some-rows m = counted ∙ rw (le-ltb 64 (valueOf 7 (drop 4 (ofBytes s))) m)

@@ -16,7 +16,7 @@ use Rattle.bits.proofs.Passing.{cut, slot, pack, in-bits-add, lowest-bits}
 use Rattle.bits.proofs.Places.{adds-none, adds-adds, starts-none}
 use Rattle.summary.specs.Rows.{Row}
 use Rattle.summary.specs.Summary.{one, rowBits, rowsBits, summaryBits}
-use Rattle.summary.specs.Words.{row, wordsIn}
+use Rattle.summary.specs.Words.{summaryRow, wordsIn}
 use Rattle.summary.specs.WordsInner.{rowIn, rowsIn}
 
 -- ---- bits
@@ -122,7 +122,7 @@ summary-starts n w s t u v a b c =
     (all .size, rw length-rows (all .bits [] refl (starts-none s)))
 
 -- a row's words, stored one by one
-pub four-words : (w : List ℕ) (k a b c d : ℕ) → set (set (set (set w k a) (k + 1) b) (k + 2) c) (k + 3) d ≡ sets w k (wordsIn (row a b c d ∷ []))
+pub four-words : (w : List ℕ) (k a b c d : ℕ) → set (set (set (set w k a) (k + 1) b) (k + 2) c) (k + 3) d ≡ sets w k (wordsIn (summaryRow a b c d ∷ []))
 unfolding wordsIn
 four-words w k a b c d =
     let one : k + 1 ≡ suc k = omega arith in

@@ -10,13 +10,13 @@ use lib.Seq.{drop-at}
 use lib.Pow.{areBytes}
 use borrow.Author.Tests.{lt-ltb, le-ltb, ltb-true, ltb-false, eq-eqb, ne-eqb, eqb-true, eqb-false}
 use Rattle.numbers.specs.Number.{pick}
-use Rattle.bits.specs.Bits.{inBits, number, ofBytes, packed}
+use Rattle.bits.specs.Bits.{inBits, valueOf, ofBytes, packed}
 use Rattle.bits.proofs.Laws.{number-none, number-lt, length-in-bits}
 use Rattle.bits.proofs.Inverse.{number-back, bits-back, zeros-are, filling, packed-back, filling-short, length-packed, packed-of, number-zeros}
 use Rattle.summary.specs.Rows.{Row}
 use Rattle.summary.specs.RowsInner.{Fits, AllFit}
-use Rattle.summary.specs.Summary.{Version, one, rowBits, rowsBits, summaryBits, summaryOf, Found, read, refused, field, aRow, legal, filled, rowsAfter, behind, readOf}
-use Rattle.summary.specs.Words.{row}
+use Rattle.summary.specs.Summary.{Version, one, rowBits, rowsBits, summaryBits, summaryOf, Found, read, refused, field, aRow, legal, filled, rowsAfter, afterVersion, readOf}
+use Rattle.summary.specs.Words.{summaryRow}
 use Rattle.summary.proofs.Laws.{length-row-bits}
 use Rattle.summary.proofs.Taking.{field-got}
 
@@ -76,8 +76,8 @@ filling-fills b = rw (lt-ltb (length (filling b)) 8 (filling-short b), number-ze
 
 -- of any version: what stands behind its number
 pub behind-back : (v : Version) (rows : List Row) (room : ℕ) (t : List Bool) → AllFit rows → legal rows ≡ true → length rows ≤ v .most → length rows < 2 ^ v .bits → length rows ≤ room
-    → filled t ≡ true → behind v room (inBits (v .bits) (length rows) ++ (rowsBits rows ++ t)) ≡ read rows
-unfolding behind
+    → filled t ≡ true → afterVersion v room (inBits (v .bits) (length rows) ++ (rowsBits rows ++ t)) ≡ read rows
+unfolding afterVersion
 behind-back v rows room t f g m w h z =
     field-back (v .bits) (length rows) (rowsBits rows ++ t) _ w ∙ rw (le-ltb (v .most) (length rows) m) (rows-back rows room [] t f h ∙ rw (g, z))
 
@@ -94,12 +94,12 @@ read-back rows room f g m h =
 
 -- a field of rows that are read is there, and stands for its number
 field-read : (k : ℕ) (b : List Bool) (then : ℕ → List Bool → Found) (rows : List Row) → field k b then ≡ read rows
-    → (b ≡ inBits k (number k b) ++ drop k b) × (then (number k b) (drop k b) ≡ read rows)
+    → (b ≡ inBits k (valueOf k b) ++ drop k b) × (then (valueOf k b) (drop k b) ≡ read rows)
 unfolding field
 field-read k b then rows e = go (ltb (length b) k) refl e
   where
-    go : (x : Bool) → ltb (length b) k ≡ x → pick x (refused 1) (then (number k b) (drop k b)) ≡ read rows
-        → (b ≡ inBits k (number k b) ++ drop k b) × (then (number k b) (drop k b) ≡ read rows)
+    go : (x : Bool) → ltb (length b) k ≡ x → pick x (refused 1) (then (valueOf k b) (drop k b)) ≡ read rows
+        → (b ≡ inBits k (valueOf k b) ++ drop k b) × (then (valueOf k b) (drop k b) ≡ read rows)
     go true t e = absurd (let z : _≡_ {A = ℕ} 0 1 = cc in omega arith)
     go false t e = (sym (take-append-drop k b) ∙ ap (λ (l : List Bool). l ++ drop k b) (sym (bits-back k b (ltb-false (length b) k t))), e)
 
@@ -122,14 +122,14 @@ row-read b then rows e =
     let b₃ = drop 31 b₂ in
     let s = field-read 16 b₃ _ rows (r .1) in
     let b₄ = drop 16 b₃ in
-    let c₁ = inBits 53 (number 53 b) in
-    let c₂ = inBits 31 (number 31 b₁) in
-    let c₃ = inBits 31 (number 31 b₂) in
-    let c₄ = inBits 16 (number 16 b₃) in
+    let c₁ = inBits 53 (valueOf 53 b) in
+    let c₂ = inBits 31 (valueOf 31 b₁) in
+    let c₃ = inBits 31 (valueOf 31 b₂) in
+    let c₄ = inBits 16 (valueOf 16 b₃) in
     let three : b₂ ≡ (c₃ ++ c₄) ++ b₄ = r .0 ∙ ap (λ (l : List Bool). c₃ ++ l) (s .0) ∙ sym (append-assoc c₃ c₄ b₄) in
     let two : b₁ ≡ (c₂ ++ (c₃ ++ c₄)) ++ b₄ = q .0 ∙ ap (λ (l : List Bool). c₂ ++ l) three ∙ sym (append-assoc c₂ (c₃ ++ c₄) b₄) in
     record {
-      row = row (number 53 b) (number 31 b₁) (number 31 b₂) (number 16 b₃);
+      row = summaryRow (valueOf 53 b) (valueOf 31 b₁) (valueOf 31 b₂) (valueOf 16 b₃);
       rest = b₄;
       fits = record { client = number-lt 53 b; first = number-lt 31 b₁; end = number-lt 31 b₂; blocks = number-lt 16 b₃ };
       bits = p .0 ∙ ap (λ (l : List Bool). c₁ ++ l) two ∙ sym (append-assoc c₁ (c₂ ++ (c₃ ++ c₄)) b₄);
@@ -161,7 +161,7 @@ rows-read zero room seen b rows e = go (legal seen && filled b) refl e
     go true t e =
         let same : seen ≡ rows = cc in
         let p = both-true (legal seen) (filled b) t in
-        let q = both-true (ltb (length b) 8) (eqb (number (length b) b) 0) (p .1) in
+        let q = both-true (ltb (length b) 8) (eqb (valueOf (length b) b) 0) (p .1) in
         record {
           more = [];
           zeros = length b;
@@ -170,7 +170,7 @@ rows-read zero room seen b rows e = go (legal seen && filled b) refl e
           fit = tt;
           lent = omega arith;
           short = ltb-true (length b) 8 (q .0);
-          bits = zeros-are b (eqb-true (number (length b) b) 0 (q .1));
+          bits = zeros-are b (eqb-true (valueOf (length b) b) 0 (q .1));
           order = ap legal (sym same) ∙ p .0;
         }
 rows-read (suc n) room seen b rows e =
@@ -218,23 +218,23 @@ module _ (v : Version) (room : ℕ) (b : List Bool) (rows : List Row) where
     pub short : zeros < 8
     pub bits : b ≡ inBits (v .bits) (length rows) ++ (rowsBits rows ++ replicate zeros false)
 
-  pub behind-read : behind v room b ≡ read rows → Behind
-  unfolding behind
+  pub behind-read : afterVersion v room b ≡ read rows → Behind
+  unfolding afterVersion
   behind-read e =
       let p = field-read (v .bits) b _ rows e in
-      go (ltb (v .most) (number (v .bits) b)) refl (p .0) (p .1)
+      go (ltb (v .most) (valueOf (v .bits) b)) refl (p .0) (p .1)
     where
-      go : (x : Bool) → ltb (v .most) (number (v .bits) b) ≡ x → b ≡ inBits (v .bits) (number (v .bits) b) ++ drop (v .bits) b
-          → pick x (refused 3) (rowsAfter (number (v .bits) b) room [] (drop (v .bits) b)) ≡ read rows → Behind
+      go : (x : Bool) → ltb (v .most) (valueOf (v .bits) b) ≡ x → b ≡ inBits (v .bits) (valueOf (v .bits) b) ++ drop (v .bits) b
+          → pick x (refused 3) (rowsAfter (valueOf (v .bits) b) room [] (drop (v .bits) b)) ≡ read rows → Behind
       go true t d e = absurd (let z : _≡_ {A = ℕ} 0 1 = cc in omega arith)
       go false t d e =
-          let m = rows-read (number (v .bits) b) room [] (drop (v .bits) b) rows e in
-          let n : number (v .bits) b ≡ length rows = sym (m .count) ∙ ap length (sym (m .all)) in
+          let m = rows-read (valueOf (v .bits) b) room [] (drop (v .bits) b) rows e in
+          let n : valueOf (v .bits) b ≡ length rows = sym (m .count) ∙ ap length (sym (m .all)) in
           record {
             zeros = m .zeros;
             fit = subst AllFit (sym (m .all)) (m .fit);
             order = m .order;
-            few = omega (arith, n, ltb-false (v .most) (number (v .bits) b) t);
+            few = omega (arith, n, ltb-false (v .most) (valueOf (v .bits) b) t);
             lent = omega (arith, n, m .lent);
             short = m .short;
             bits = d ∙ ap₂ (λ (k : ℕ) (l : List Bool). inBits (v .bits) k ++ l) n (m .bits ∙ ap (λ (l : List Row). rowsBits l ++ replicate (m .zeros) false) (sym (m .all)));
@@ -244,16 +244,16 @@ pub canonical : (room : ℕ) (s : List ℕ) (rows : List Row) → readOf room s 
 unfolding readOf summaryOf summaryBits
 canonical room s rows e =
     let p = field-read 4 (ofBytes s) _ rows e in
-    go (eqb (number 4 (ofBytes s)) 1) refl (p .0) (p .1)
+    go (eqb (valueOf 4 (ofBytes s)) 1) refl (p .0) (p .1)
   where
-    go : (x : Bool) → eqb (number 4 (ofBytes s)) 1 ≡ x → ofBytes s ≡ inBits 4 (number 4 (ofBytes s)) ++ drop 4 (ofBytes s)
-        → pick x (behind one room (drop 4 (ofBytes s))) (refused 16) ≡ read rows → Canonical room s rows
+    go : (x : Bool) → eqb (valueOf 4 (ofBytes s)) 1 ≡ x → ofBytes s ≡ inBits 4 (valueOf 4 (ofBytes s)) ++ drop 4 (ofBytes s)
+        → pick x (afterVersion one room (drop 4 (ofBytes s))) (refused 16) ≡ read rows → Canonical room s rows
     go false t d e = absurd (let z : _≡_ {A = ℕ} 0 1 = cc in omega arith)
     go true t d e =
         let m = behind-read one room (drop 4 (ofBytes s)) rows e in
         let z = replicate {A = Bool} (m .zeros) false in
         let all : ofBytes s ≡ summaryBits one rows ++ z =
-        d ∙ ap₂ (λ (k : ℕ) (l : List Bool). inBits 4 k ++ l) (eqb-true (number 4 (ofBytes s)) 1 t) (m .bits)
+        d ∙ ap₂ (λ (k : ℕ) (l : List Bool). inBits 4 k ++ l) (eqb-true (valueOf 4 (ofBytes s)) 1 t) (m .bits)
         ∙ ap (λ (l : List Bool). inBits 4 1 ++ l) (sym (append-assoc (inBits 7 (length rows)) (rowsBits rows) z)) ∙ sym (append-assoc (inBits 4 1) (inBits 7 (length rows) ++ rowsBits rows) z) in
         record { fit = m .fit; order = m .order; few = m .few; lent = m .lent; bytes = λ h. packed-of s (summaryBits one rows) (m .zeros) h (m .short) all }
 

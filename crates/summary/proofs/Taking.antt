@@ -11,17 +11,17 @@ use lib.Seq.{sets, drop-drop, length-sets}
 use borrow.Author.Tests.{lt-ltb, le-ltb, ltb-false, eq-eqb, ne-eqb}
 use Rattle.numbers.specs.Number.{pick}
 use Rattle.numbers.proofs.Output.{take-sets}
-use Rattle.bits.specs.Bits.{number, ofBytes}
+use Rattle.bits.specs.Bits.{valueOf, ofBytes}
 use Rattle.bits.proofs.Laws.{length-of-bytes}
 use Rattle.summary.specs.Rows.{Row}
 use Rattle.summary.specs.Summary.{Found, read, refused, field, aRow, inOrder, legal, filled, rowsAfter}
-use Rattle.summary.specs.Words.{row, wordsIn}
+use Rattle.summary.specs.Words.{summaryRow, wordsIn}
 use Rattle.summary.specs.WordsInner.{fine, All}
 use Rattle.summary.proofs.Laws.{length-words, words-append}
 
 -- ---- fields
 
-pub field-got : (k : ℕ) (b : List Bool) (then : ℕ → List Bool → Found) → k ≤ length b → field k b then ≡ then (number k b) (drop k b)
+pub field-got : (k : ℕ) (b : List Bool) (then : ℕ → List Bool → Found) → k ≤ length b → field k b then ≡ then (valueOf k b) (drop k b)
 unfolding field
 field-got k b then h = rw (le-ltb (length b) k h)
 
@@ -30,11 +30,11 @@ unfolding field
 field-short k b then h = rw (lt-ltb (length b) k h)
 
 -- refused, if what follows is
-field-or : (k : ℕ) (b : List Bool) (then : ℕ → List Bool → Found) → (k ≤ length b → then (number k b) (drop k b) ≡ refused 1) → field k b then ≡ refused 1
+field-or : (k : ℕ) (b : List Bool) (then : ℕ → List Bool → Found) → (k ≤ length b → then (valueOf k b) (drop k b) ≡ refused 1) → field k b then ≡ refused 1
 unfolding field
 field-or k b then h = go (ltb (length b) k) refl
   where
-    go : (x : Bool) → ltb (length b) k ≡ x → pick x (refused 1) (then (number k b) (drop k b)) ≡ refused 1
+    go : (x : Bool) → ltb (length b) k ≡ x → pick x (refused 1) (then (valueOf k b) (drop k b)) ≡ refused 1
     go true e = refl
     go false e = h (ltb-false (length b) k e)
 
@@ -42,7 +42,7 @@ field-or k b then h = go (ltb (length b) k) refl
 
 -- the four numbers from bit o on
 abbrev pub rowFrom : ℕ → List Bool → Row
-rowFrom o b = row (number 53 (drop o b)) (number 31 (drop (o + 53) b)) (number 31 (drop (o + 84) b)) (number 16 (drop (o + 115) b))
+rowFrom o b = summaryRow (valueOf 53 (drop o b)) (valueOf 31 (drop (o + 53) b)) (valueOf 31 (drop (o + 84) b)) (valueOf 16 (drop (o + 115) b))
 
 module _ (o : ℕ) (b : List Bool) (then : Row → List Bool → Found) where
   pub row-short : length b - o < 131 → aRow (drop o b) then ≡ refused 1
@@ -95,16 +95,16 @@ order-snoc a (x ∷ xs) r =
 
 -- a row by its three tests
 module _ (above client first end blocks : ℕ) where
-  pub not-below : above ≤ client → false ≡ fine above (row client first end blocks)
+  pub not-below : above ≤ client → false ≡ fine above (summaryRow client first end blocks)
   unfolding fine
   not-below h = rw (le-ltb client above h)
 
   module _ (h : client < above) where
-    pub no-blocks : blocks < 1 → false ≡ fine above (row client first end blocks)
+    pub no-blocks : blocks < 1 → false ≡ fine above (summaryRow client first end blocks)
     unfolding fine
     no-blocks l = rw (lt-ltb client above h, le-ltb 0 blocks (omega arith))
 
-    pub some-blocks : 1 ≤ blocks → leb first end ≡ fine above (row client first end blocks)
+    pub some-blocks : 1 ≤ blocks → leb first end ≡ fine above (summaryRow client first end blocks)
     unfolding fine
     some-blocks l = rw (lt-ltb client above h, lt-ltb 0 blocks (omega arith))
 
@@ -207,12 +207,12 @@ module _ (s : List ℕ) (o : ℕ) where
   unfolding filled
   byte-more h = rw (le-ltb (length (drop o (ofBytes s))) 8 (omega (arith, rest-length, h)))
 
-  pub bits-more : (k : ℕ) → length s ≤ (o + 7) / 8 → o ≤ 8 * length s → k ≡ 8 * ((o + 7) / 8) - o → eqb (number k (drop o (ofBytes s))) 0 ≡ filled (drop o (ofBytes s))
+  pub bits-more : (k : ℕ) → length s ≤ (o + 7) / 8 → o ≤ 8 * length s → k ≡ 8 * ((o + 7) / 8) - o → eqb (valueOf k (drop o (ofBytes s))) 0 ≡ filled (drop o (ofBytes s))
   unfolding filled
   bits-more k h l e =
       let z : k ≡ length (drop o (ofBytes s)) = omega (arith, rest-length) in
       rw (lt-ltb (length (drop o (ofBytes s))) 8 (omega (arith, rest-length)), z)
 
   pub no-bit-more : (k : ℕ) → length s ≤ (o + 7) / 8 → o ≤ 8 * length s → k ≡ 8 * ((o + 7) / 8) - o → k ≡ 0 → true ≡ filled (drop o (ofBytes s))
-  unfolding number
-  no-bit-more k h l e z = ap (λ (j : ℕ). eqb (number j (drop o (ofBytes s))) 0) (sym z) ∙ bits-more k h l e
+  unfolding valueOf
+  no-bit-more k h l e z = ap (λ (j : ℕ). eqb (valueOf j (drop o (ofBytes s))) 0) (sym z) ∙ bits-more k h l e

@@ -5,7 +5,7 @@ use mathlib.Core.List.{List, [], _∷_, _++_}
 use lib.Dec.{ltb, leb, eqb}
 use lib.ListN.{length, drop}
 use Rattle.numbers.specs.Number.{pick}
-use Rattle.bits.specs.Bits.{inBits, number, ofBytes, packed}
+use Rattle.bits.specs.Bits.{inBits, valueOf, ofBytes, packed}
 use Rattle.summary.specs.Rows.{Row}
 
 -- a version: its number, how many bits its row count has, and how many rows at most
@@ -40,7 +40,7 @@ pub data Found : Type 0 where
 
 -- a number of k bits, and the bits behind it; 1 where there are not so many
 unfoldable pub field : ℕ → List Bool → (ℕ → List Bool → Found) → Found
-field k bits then = pick (ltb (length bits) k) (refused 1) (then (number k bits) (drop k bits))
+field k bits then = pick (ltb (length bits) k) (refused 1) (then (valueOf k bits) (drop k bits))
 
 unfoldable pub aRow : List Bool → (Row → List Bool → Found) → Found
 aRow bits then =
@@ -58,7 +58,7 @@ legal rows = inOrder (2 ^ 53) rows
 
 -- what is left behind the last row: zeros, and no whole byte
 unfoldable pub filled : List Bool → Bool
-filled bits = ltb (length bits) 8 && eqb (number (length bits) bits) 0
+filled bits = ltb (length bits) 8 && eqb (valueOf (length bits) bits) 0
 
 -- n rows more, behind those seen, into so many rows lent: 8 where a row is complete and none is left for it; last of all 17
 unfoldable pub rowsAfter : ℕ → ℕ → List Row → List Bool → Found
@@ -66,9 +66,9 @@ rowsAfter zero room seen bits = pick (legal seen && filled bits) (read seen) (re
 rowsAfter (suc n) room seen bits = aRow bits λ row rest. pick (eqb room 0) (refused 8) (rowsAfter n (room - 1) (seen ++ (row ∷ [])) rest)
 
 -- what stands behind the version: the row count, 3 over the limit, and the rows
-unfoldable pub behind : Version → ℕ → List Bool → Found
-behind v room bits = field (v .bits) bits λ n rest. pick (ltb (v .most) n) (refused 3) (rowsAfter n room [] rest)
+unfoldable pub afterVersion : Version → ℕ → List Bool → Found
+afterVersion v room bits = field (v .bits) bits λ n rest. pick (ltb (v .most) n) (refused 3) (rowsAfter n room [] rest)
 
 -- a summary's bytes, into so many rows: 16 for a version that is unknown
 unfoldable pub readOf : ℕ → List ℕ → Found
-readOf room s = field 4 (ofBytes s) λ version rest. pick (eqb version 1) (behind one room rest) (refused 16)
+readOf room s = field 4 (ofBytes s) λ version rest. pick (eqb version 1) (afterVersion one room rest) (refused 16)

@@ -4,8 +4,8 @@ use mathlib.Core.List.{List, [], _∷_}
 use Rattle.summary.specs.Rows.{Row}
 use Rattle.summary.specs.Summary.{Found, read, refused}
 
-abbrev pub row : ℕ → ℕ → ℕ → ℕ → Row
-row c f e n = record { client = c; first = f; end = e; blocks = n }
+abbrev pub summaryRow : ℕ → ℕ → ℕ → ℕ → Row
+summaryRow c f e n = record { client = c; first = f; end = e; blocks = n }
 
 unfoldable pub wordsIn : List Row → List ℕ
 wordsIn [] = []

@@ -14,11 +14,11 @@ use Rattle.summary.specs.declared.Taken.{Taken}
 use Rattle.summary.specs.declared.Taken.the-variants as taken
 use Rattle.summary.specs.declared.Rows as rows
 use Rattle.summary.specs.declared.Rows.the-variants as rows-are
-use Rattle.summary.specs.Words.{row, wordsIn, wordsOf}
+use Rattle.summary.specs.Words.{summaryRow, wordsIn, wordsOf}
 
 -- the first row of words, and the first n
 abbrev pub rowIn : List ℕ → Row
-rowIn w = row (getD w 0 0) (getD w 1 0) (getD w 2 0) (getD w 3 0)
+rowIn w = summaryRow (getD w 0 0) (getD w 1 0) (getD w 2 0) (getD w 3 0)
 
 unfoldable pub rowsIn : ℕ → List ℕ → List Row
 rowsIn zero w = []

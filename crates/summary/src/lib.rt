@@ -1,5 +1,5 @@
-// A summary's bytes: version, row count, then client, first clock, last end and blocks of each row, in bits, the most significant first. Rows stand in
-// words, four a row. 10 20 00 00 00 00 00 05 00 00 00 00 00 00 00 08 00 04 says: client 5 from clock 0 up to 2, in one block.
+// A summary's bytes: version, summaryRow count, then client, first clock, last end and blocks of each summaryRow, in bits, the most significant first. Rows stand in
+// words, four a summaryRow. 10 20 00 00 00 00 00 05 00 00 00 00 00 00 00 08 00 04 says: client 5 from clock 0 up to 2, in one block.
 use numbers::words;
 ghost use mathlib.Core.Path.{_≡_};
 ghost use mathlib.Core.Bool.{_&&_};
@@ -11,7 +11,7 @@ ghost use Rattle.numbers.specs.Output.{padded};
 ghost use Rattle.bits.specs.Bits.{inBits, ofBytes};
 ghost use Rattle.bits.specs.Places.{Adds, Starts};
 ghost use Rattle.summary.specs.Summary.{one, rowBits, rowsBits, summaryBits, refused, filled, rowsAfter, readOf};
-ghost use Rattle.summary.specs.Words.{row, wordsIn, wordsOf};
+ghost use Rattle.summary.specs.Words.{summaryRow, wordsIn, wordsOf};
 ghost use Rattle.summary.specs.WordsInner.{rowIn, rowsIn, fine, Took, answerOf, Answers};
 
 // How many rows at most, and how many words one has.
@@ -21,7 +21,7 @@ pub const WORDS: usize = 4;
 
 const VERSION: u64 = 1;
 
-// Bits of the version, of the row count, of a row's numbers, and of a row.
+// Bits of the version, of the summaryRow count, of a row's numbers, and of a summaryRow.
 const VERSION_BITS: usize = 4;
 
 const COUNT_BITS: usize = 7;
@@ -62,7 +62,7 @@ fn lower(first: u64, end: u64, blocks: u64) -> u64
     (first << 44) + (middle + low)
 }
 
-// The row that begins at word k, behind the bits that end at bit o.
+// The summaryRow that begins at word k, behind the bits that end at bit o.
 fn put_row(out: &mut [u8], o: usize, rows: &[u64], k: usize)
     requires { ⌜ (o + 131 ≤ 8 * length (now out)) × (k + 4 ≤ length (now rows)) × (o ≤ 65536) ⌝ }
     ensures { λ _. ⌜ Adds o (rowBits (rowIn (drop k (now (rows .entry))))) (now (out .entry)) (now (out .exit)) ⌝ }
@@ -114,7 +114,7 @@ fn both(a: bool, b: bool) -> bool
 
 // A client below the one above it, some blocks, a first clock that is not above the last end.
 fn is_fine(above: u64, client: u64, first: u64, end: u64, blocks: u64) -> bool
-    ensures { λ r. ⌜ r ≡ fine above (row client first end blocks) ⌝ }
+    ensures { λ r. ⌜ r ≡ fine above (summaryRow client first end blocks) ⌝ }
 {
     if above <= client {
         return false;
@@ -128,7 +128,7 @@ fn is_fine(above: u64, client: u64, first: u64, end: u64, blocks: u64) -> bool
 // A row's words, from word k on.
 pub fn put_words(rows: &mut [u64], k: usize, client: u64, first: u64, end: u64, blocks: u64)
     requires { ⌜ k + 4 ≤ length (now rows) ⌝ }
-    ensures { λ _. ⌜ now (rows .exit) ≡ sets (now (rows .entry)) k (wordsIn (row client first end blocks ∷ [])) ⌝ }
+    ensures { λ _. ⌜ now (rows .exit) ≡ sets (now (rows .entry)) k (wordsIn (summaryRow client first end blocks ∷ [])) ⌝ }
 {
     rows[k] = client;
     rows[k + 1] = first;
@@ -142,7 +142,7 @@ pub enum Taken {
     Refused(u8),
 }
 
-// n rows from bit 11 on: a row that is cut off is 1, one that has no words is 8.
+// n rows from bit 11 on: a summaryRow that is cut off is 1, one that has no words is 8.
 fn take_rows(s: &[u8], rows: &mut [u64], n: usize) -> Taken
     requires { ⌜ (2 ≤ length (now s)) × (n ≤ 64) ⌝ }
     ensures { λ x. ⌜ (length (now (rows .exit)) ≡ length (now (rows .entry)))

@@ -25,8 +25,8 @@ use Rattle.reports.specs.Reports.{reachesFrom}
 use Rattle.sorting.specs.Steps.{State, start, after, Stuck}
 use Rattle.sorting.specs.Rules.{queue, isSkip, waits, free, system, report, byReaches}
 use Rattle.sorting.specs.Named.{asksOf, ruleOf}
-use Rattle.sorting.specs.Sorted.{clients, steps, countsIn, reachesIn, waiting, pendingIn, numbersBy}
-use Rattle.sorting.specs.Slow.{slow, slowly, slowOutcome, slowOrderOf, slowCountsOf, slowReachesOf, slowPendingOf}
+use Rattle.sorting.specs.Sorted.{allClients, steps, countsIn, reachesIn, waiting, pendingIn, numbersBy}
+use Rattle.sorting.specs.Slow.{slow, slowSteps, slowOutcome, slowOrderOf, slowCountsOf, slowReachesOf, slowPendingOf}
 use Rattle.sorting.proofs.Outcome.{can-intro}
 use Rattle.sorting.proofs.Numbers.{owner-at, numbersBy-length}
 use Rattle.sorting.proofs.Rules.{reaches-mono}
@@ -182,26 +182,26 @@ module _ (rule : ℕ) {bs : List Block} {v : List Entry} {ss : List Slot} {rows 
     numbers = sym (overlaid-none before);
   }
 
-  come : Come rule given (remote v) before (slowly (ruleOf rule) bs (clients bs v) (remote v)) d
-  unfolding slowly
+  come : Come rule given (remote v) before (slowSteps (ruleOf rule) bs (allClients bs v) (remote v)) d
+  unfolding slowSteps
   come = rw (← (given .slotted .names)) (all-come rule given (remote v) before (board reach taken before 0) begun)
 
   -- where they end, and how the board stands to it
   abbrev pub end : State ℕ
-  end = after (steps (ruleOf rule) bs) (start (remote v)) (slowly (ruleOf rule) bs (clients bs v) (remote v))
+  end = after (steps (ruleOf rule) bs) (start (remote v)) (slowSteps (ruleOf rule) bs (allClients bs v) (remote v))
 
   pub ends-at : Stands ss end d
   ends-at = come .stands
 
   stuck : Stuck (steps (ruleOf rule) bs) end
-  stuck = slow-sorted (ruleOf rule) (reaches-mono (asksOf rule)) bs (clients bs v) (clients-blocks bs v) (remote v) .ends .end
+  stuck = slow-sorted (ruleOf rule) (reaches-mono (asksOf rule)) bs (allClients bs v) (clients-blocks bs v) (remote v) .ends .end
 
   pub swept-outcome : Swept rule bs v ss rows before d
   unfolding slowOutcome slowOrderOf slowCountsOf slowReachesOf slowPendingOf
   swept-outcome =
       let st = come .stands in
       record {
-        steps = come .count ∙ sym (numbersBy-length (ruleOf rule) bs (start (remote v)) (slowly (ruleOf rule) bs (clients bs v) (remote v)));
+        steps = come .count ∙ sym (numbersBy-length (ruleOf rule) bs (start (remote v)) (slowSteps (ruleOf rule) bs (allClients bs v) (remote v)));
         order = come .numbers;
         counts =
             counts-each bs end (d .taken) 0 ss (each (Counted bs end (d .taken)) ss (λ i h. (given .slotted .counts i h, st .counts i h)))

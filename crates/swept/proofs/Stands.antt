@@ -21,7 +21,7 @@ use Rattle.picker.specs.Picker.{nowhere, oneMore, lift, pushed}
 use Rattle.sorting.specs.Steps.{State, start, can, step, after}
 use Rattle.sorting.specs.Rules.{queue, isSkip, waits, free, system}
 use Rattle.sorting.specs.Named.{ruleOf}
-use Rattle.sorting.specs.Sorted.{steps, numbersFrom, numbersBy}
+use Rattle.sorting.specs.Sorted.{steps, blockNumbersFrom, numbersBy}
 use Rattle.sorting.proofs.Outcome.{step-own, can-fits}
 use Rattle.sorting.proofs.Quick.{after-more}
 use Rattle.sorting.proofs.Numbers.{owner-at, numbersBy-more, numbersBy-length}
@@ -74,7 +74,7 @@ module _ (rule : ℕ) {bs : List Block} {v : List Entry} {ss : List Slot} {rows 
       pub row-small : rowAt ss d i < length rows
       row-small = omega (arith, row-at, longer, row-below (given .slotted) (given .sortable .ordered) i (s .taken c) small counted)
 
-      pub row-is-number : rowAt ss d i ≡ getD (numbersFrom 0 bs c) (s .taken c) 0
+      pub row-is-number : rowAt ss d i ≡ getD (blockNumbersFrom 0 bs c) (s .taken c) 0
       row-is-number = row-at ∙ row-number (given .slotted) (given .sortable .ordered) i (s .taken c) small counted
 
       pub row-is-front : getD rows (rowAt ss d i) noBlock ≡ front bs s c

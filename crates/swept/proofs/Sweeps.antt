@@ -15,7 +15,7 @@ use Rattle.slots.specs.Slots.{Slot, slot}
 use Rattle.slots.proofs.Ranks.{clientAt}
 use Rattle.slots.proofs.Clients.{clientsOf}
 use Rattle.sorting.specs.Steps.{System, State, start, can, step, after}
-use Rattle.sorting.specs.Quick.{left}
+use Rattle.sorting.specs.Quick.{remaining}
 use Rattle.sorting.specs.Named.{ruleOf}
 use Rattle.sorting.specs.Sorted.{steps}
 use Rattle.sorting.specs.Slow.{lowestFirst, again, fronts, drain, sweep, sweeps, slow}
@@ -42,13 +42,13 @@ down-all (s ∷ ss) = down-more s ss (length ss) ∙ ap (λ (l : List ℕ). l ++
 -- ---- blocks left, in whatever order clients are counted
 
 module _ {A : Type 0} (S : System A) (s : State A) where
-  left-last : (cs : List ℕ) (c : ℕ) → left S s (cs ++ (c ∷ [])) ≡ (S .size c - s .taken c) + left S s cs
-  unfolding left
+  left-last : (cs : List ℕ) (c : ℕ) → remaining S s (cs ++ (c ∷ [])) ≡ (S .size c - s .taken c) + remaining S s cs
+  unfolding remaining
   left-last [] c = refl
   left-last (x ∷ cs) c = omega (arith, left-last cs c)
 
-  left-lowest : (cs : List ℕ) → left S s (lowestFirst cs) ≡ left S s cs
-  unfolding left lowestFirst
+  left-lowest : (cs : List ℕ) → remaining S s (lowestFirst cs) ≡ remaining S s cs
+  unfolding remaining lowestFirst
   left-lowest [] = refl
   left-lowest (c ∷ cs) = left-last (lowestFirst cs) c ∙ ap (λ (n : ℕ). (S .size c - s .taken c) + n) (left-lowest cs)
 
@@ -130,14 +130,14 @@ module _ (rule : ℕ) {bs : List Block} {v : List Entry} {ss : List Slot} {rows 
 
   -- ---- all sweeps
 
-  below-left : (d : Board) (s : State ℕ) → Stands ss s d → (n : ℕ) → n ≤ length ss → leftBelow ss (d .taken) n ≡ left S s (down ss n)
-  unfolding leftBelow left down
+  below-left : (d : Board) (s : State ℕ) → Stands ss s d → (n : ℕ) → n ≤ length ss → leftBelow ss (d .taken) n ≡ remaining S s (down ss n)
+  unfolding leftBelow remaining down
   below-left d s st zero few = refl
   below-left d s st (suc n) few = λ j. left-is rule given st n (omega arith) j + below-left d s st n (omega arith) j
 
   pub all-come : (d : Board) → Comes [] d → Comes (slow S (clientsOf ss) (start κ)) (sweptAll rule ss rows d)
   unfolding slow sweptAll after
   all-come d g =
-      let fuel : leftBelow ss (d .taken) (length ss) ≡ left S (start κ) (clientsOf ss) =
-      below-left d (start κ) (g .stands) (length ss) (omega arith) ∙ ap (left S (start κ)) (down-all ss) ∙ left-lowest S (start κ) (clientsOf ss) in
+      let fuel : leftBelow ss (d .taken) (length ss) ≡ remaining S (start κ) (clientsOf ss) =
+      below-left d (start κ) (g .stands) (length ss) (omega arith) ∙ ap (remaining S (start κ)) (down-all ss) ∙ left-lowest S (start κ) (clientsOf ss) in
       rw (← fuel, ← down-all ss) (sweeps-come (suc (leftBelow ss (d .taken) (length ss))) [] d g)

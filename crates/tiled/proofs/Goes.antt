@@ -23,8 +23,8 @@ use Rattle.anys.proofs.Places.{read-ends}
 use Rattle.grammar.specs.Grammar as grammar
 use Rattle.grammar.specs.Grammar.{Number, Field, Answer}
 use Rattle.grammar.specs.Course.{Drawn, got, not}
-use Rattle.decoder.specs.Line.{numberAt, varAt, bounded, upTo, byteAt, restored, deleteAt, numberOf, soMany, bytesAt, checked, wordOf, spanned, valuesAt, line}
-use Rattle.origins.specs.Origins.{inLine, storedLine, plainLine, lineAt}
+use Rattle.decoder.specs.Line.{numberAt, varAt, bounded, upTo, byteAt, restored, deleteAt, numberBy, soMany, bytesAt, checked, wordOf, spanned, valuesAt, line}
+use Rattle.origins.specs.Origins.{lineStand, storedLine, plainLine, lineAt}
 use Rattle.tiled.specs.Tiles.{Stored, Has}
 
 module _ (form : ℕ) (u : List ℕ) where
@@ -81,8 +81,8 @@ module _ (form : ℕ) (u : List ℕ) where
       go true = up-to-onward maxClock at
       go false = restored-onward by at (varAt u at) (var-onward at)
 
-  number-onward : (n : Number) (at : ℕ) → Onward at (numberOf form u n at)
-  unfolding numberOf
+  number-onward : (n : Number) (at : ℕ) → Onward at (numberBy form u n at)
+  unfolding numberBy
   number-onward grammar.byte at = byte-onward at
   number-onward (grammar.upTo most) at = up-to-onward most at
   number-onward grammar.any at = var-onward at
@@ -162,7 +162,7 @@ module _ (form : ℕ) (u : List ℕ) where
   Goes f at (not why) = Unit {0}
 
   number-goes : (n : Number) (at : ℕ) (d : Drawn ℕ (ℕ × ℕ)) → Onward at d → Goes (grammar.number n) at d
-  unfolding Goes Onward Has lineAt plainLine inLine
+  unfolding Goes Onward Has lineAt plainLine lineStand
   number-goes n at (got a t) h = (h .0, h .1, λ code. (refl, omega (arith, h .0)))
   number-goes n at (not why) h = tt
 
@@ -170,33 +170,33 @@ module _ (form : ℕ) (u : List ℕ) where
   has-stored at t p h = (refl, omega (arith, h .0), h .1)
 
   text-goes : (at : ℕ) (d : Drawn ℕ (Part × Units)) → TextSpanned at d → Goes grammar.text at d
-  unfolding Goes TextSpanned Has lineAt storedLine inLine
+  unfolding Goes TextSpanned Has lineAt storedLine lineStand
   text-goes at (got a t) h = (omega (arith, h .0, h .1), h .2, λ code. has-stored at t (a .0) h)
   text-goes at (not why) h = tt
 
   bytes-goes : (at : ℕ) (d : Drawn ℕ Part) → Spanned at d → Goes grammar.bytes at d
-  unfolding Goes Spanned Has lineAt storedLine inLine
+  unfolding Goes Spanned Has lineAt storedLine lineStand
   bytes-goes at (got p t) h = (omega (arith, h .0, h .1), h .2, λ code. has-stored at t p h)
   bytes-goes at (not why) h = tt
 
   key-goes : (at : ℕ) (d : Drawn ℕ Part) → Spanned at d → Goes grammar.key at d
-  unfolding Goes Spanned Has lineAt storedLine inLine
+  unfolding Goes Spanned Has lineAt storedLine lineStand
   key-goes at (got p t) h = (omega (arith, h .0, h .1), h .2, λ code. has-stored at t p h)
   key-goes at (not why) h = tt
 
   value-goes : (blame at : ℕ) (d : Drawn ℕ Part) → Spanned at d → Goes (grammar.value blame) at d
-  unfolding Goes Spanned Has lineAt storedLine inLine
+  unfolding Goes Spanned Has lineAt storedLine lineStand
   value-goes blame at (got p t) h = (omega (arith, h .0, h .1), h .2, λ code. has-stored at t p h)
   value-goes blame at (not why) h = tt
 
   values-goes : (blame n at : ℕ) (d : Drawn ℕ Part) → Spanned at d → Goes (grammar.values blame n) at d
-  unfolding Goes Spanned Has lineAt storedLine inLine
+  unfolding Goes Spanned Has lineAt storedLine lineStand
   values-goes blame n at (got p t) h = (omega (arith, h .0, h .1), h .2, λ code. has-stored at t p h)
   values-goes blame n at (not why) h = tt
 
   pub goes : (f : Field) (at : ℕ) → at ≤ length u → Goes f at (line form u f at)
   unfolding line
-  goes (grammar.number n) at w = number-goes n at (numberOf form u n at) (number-onward n at)
+  goes (grammar.number n) at w = number-goes n at (numberBy form u n at) (number-onward n at)
   goes grammar.text at w = text-goes at (checked u (bytesAt u at)) (text-spanned at)
   goes grammar.bytes at w = bytes-goes at (bytesAt u at) (bytes-spanned at)
   goes grammar.key at w = key-goes at (wordOf (checked u (bytesAt u at))) (word-spanned at (checked u (bytesAt u at)) (text-spanned at))

@@ -168,13 +168,13 @@ module _ (s : List ℕ) where
   -- ---- texts
 
   text-ending : (c : string-place.Place) (p : number-place.Place) (t : Taken) → Follows (length s) (c .units .from) (c .units .at) (p .from) (p .at)
-      → TextFollows s c (string.ending (c .at) (c .end) p t)
-  unfolding TextFollows string.ending
+      → TextFollows s c (string.textEnding (c .at) (c .end) p t)
+  unfolding TextFollows string.textEnding
   text-ending c p (units.Took b) h = (refl, refl, h)
   text-ending c p (units.Refused why) h = tt
 
-  text-drawn : (c : string-place.Place) (a : number-answer.Answer) → NumberFollows s (c .units) a → TextFollows s c (string.drawn s (c .at) (c .end) a)
-  unfolding TextFollows NumberFollows string.drawn string.taken
+  text-drawn : (c : string-place.Place) (a : number-answer.Answer) → NumberFollows s (c .units) a → TextFollows s c (string.unitsDrawn s (c .at) (c .end) a)
+  unfolding TextFollows NumberFollows string.unitsDrawn string.unitsTaken
   text-drawn c (number-variants.Next n p) h = text-ending c p (takeUnits 7 n (slice (c .at) (c .end) s)) h
   text-drawn c (number-variants.Bad why) h = tt
 

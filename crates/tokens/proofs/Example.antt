@@ -23,5 +23,5 @@ unfolding bytesOf form1 tokens.lane tokens.taken tokens.takenAll tokens.inlined 
 in-form-1 = refl
 
 pub in-form-2 : bytesOf 2 typed ≡ 0 ∷ 0 ∷ 3 ∷ 9 ∷ 71 ∷ 2 ∷ 2 ∷ 1 ∷ 0 ∷ 1 ∷ 2 ∷ 5 ∷ 196 ∷ 0 ∷ 4 ∷ 0 ∷ 132 ∷ 7 ∷ 4 ∷ 122 ∷ 116 ∷ 97 ∷ 98 ∷ 65 ∷ 2 ∷ 1 ∷ 1 ∷ 0 ∷ 0 ∷ 2 ∷ 1 ∷ 0 ∷ 2 ∷ 0 ∷ 0 ∷ []
-unfolding bytesOf form2 numbered tokens.lane tokens.taken tokens.takenAll tokens.inLine tokens.columnIn unsigned spell signed runs.over runs.opened runs.column runs.coding number-run.runBytes byte-run.runBytes difference-run.runBytes difference-run.magnitude difference-run.odd
+unfolding bytesOf form2 numbered tokens.lane tokens.taken tokens.takenAll tokens.inLine tokens.columnIn unsigned spell signed runs.runsOn runs.runsAfter runs.column runs.coding number-run.runBytes byte-run.runBytes difference-run.runBytes difference-run.magnitude difference-run.odd
 in-form-2 = refl

@@ -11,7 +11,7 @@ use Rattle.numbers.proofs.Laws.{unsigned-le}
 use Rattle.runs.specs.declared.Column.{Column}
 use Rattle.runs.specs.declared.Column.the-variants.{Number, Difference, Byte}
 use Rattle.runs.specs.declared.writer.Writer.{Writer}
-use Rattle.runs.specs.Runs.{coding, over, opened, column, columnOf}
+use Rattle.runs.specs.Runs.{coding, runsOn, runsAfter, column, columnOf}
 use Rattle.runs.specs.RunsInner.{signedRun}
 use Rattle.runs.specs.Difference.{zeroKey, magnitude, odd}
 use Rattle.runs.specs.Writer.{ends, keyAfter, emitted}
@@ -54,20 +54,20 @@ emitted-le w v = go (ends (keyAfter w v) w)
     go true = spell-le (w .column) (w .key) (w .count - 1)
     go false = omega arith
 
-over-le : (col : Column) (p k n : ℕ) (vs : List ℕ) → length (over (coding col) p k n vs) ≤ 21 * suc (length vs)
-unfolding over
+over-le : (col : Column) (p k n : ℕ) (vs : List ℕ) → length (runsOn (coding col) p k n vs) ≤ 21 * suc (length vs)
+unfolding runsOn
 over-le col p k n [] = omega (arith, final-le col k n)
 over-le col p k n (v ∷ vs) = go (eqb (coding col .keyOf p v) k) (λ p k n. over-le col p k n vs)
   where
-    go : (b : Bool) → ((p k n : ℕ) → length (over (coding col) p k n vs) ≤ 21 * suc (length vs))
-        → length (pick b (over (coding col) v k (n + 1) vs) (coding col .spell k n ++ over (coding col) v (coding col .keyOf p v) 0 vs)) ≤ 21 * suc (length (v ∷ vs))
+    go : (b : Bool) → ((p k n : ℕ) → length (runsOn (coding col) p k n vs) ≤ 21 * suc (length vs))
+        → length (pick b (runsOn (coding col) v k (n + 1) vs) (coding col .spell k n ++ runsOn (coding col) v (coding col .keyOf p v) 0 vs)) ≤ 21 * suc (length (v ∷ vs))
     go true more = omega (arith, more v k (n + 1))
     go false more =
         let next = coding col .keyOf p v in
-        omega (arith, length-append (coding col .spell k n) (over (coding col) v next 0 vs), spell-le col k n, more v next 0)
+        omega (arith, length-append (coding col .spell k n) (runsOn (coding col) v next 0 vs), spell-le col k n, more v next 0)
 
 pub column-le : (col : Column) (vs : List ℕ) → length (columnOf col vs) ≤ 21 * length vs
-unfolding column opened
+unfolding column runsAfter
 column-le col [] = omega arith
 column-le col (v ∷ vs) = over-le col v (coding col .keyOf 0 v) 0 vs
 

@@ -18,15 +18,15 @@ use Rattle.block.specs.declared.Block as row
 use Rattle.grammar.specs.Grammar as grammar
 use Rattle.grammar.specs.Grammar.{Number, Grammar, ask, stop, draw}
 use Rattle.grammar.specs.GrammarInner.{_>>=_}
-use Rattle.grammar.specs.Course.{Drawn, got, not, Run, item, stopped, onDrawn, run}
-use Rattle.grammar.specs.Blocks.{block, dropped, kept, blocks, sections, allBlocks}
+use Rattle.grammar.specs.Course.{Drawn, got, not, Run, thing, stopped, onDrawn, run}
+use Rattle.grammar.specs.Blocks.{block, dropped, unlessDropped, blocks, sections, allBlocks}
 use Rattle.grammar.proofs.Runs.{andThen, run-bind}
 use Rattle.decoder.specs.Line.{bounded, varAt, upTo, line}
 use Rattle.decoder.specs.States.{State}
 use Rattle.decoder.specs.Columned.{onto}
 use Rattle.decoder.specs.ColumnedInner.{fields}
 use Rattle.decoder.specs.Opening.{openedOf}
-use Rattle.decoder.specs.Update.{placed, inColumns, blocksOf}
+use Rattle.decoder.specs.Update.{restPlaces, inColumns, blocksOf}
 use Rattle.decoder.proofs.Laws.{placed-line, run-columned, fields-up-to}
 use Rattle.cells.specs.declared.Drawn as cells-drawn
 use Rattle.cells.specs.declared.Drawn.the-variants as drawn
@@ -90,7 +90,7 @@ module _ (form : ℕ) (u m w r : List ℕ) (s : Spot) (m₁ w₁ r₁ : List ℕ
   unfolding after Steady
   goes-on t e fine less = record { told = e; steady = (fine, less); small = small; memory = memory; row = row-length }
 
-  pub keeps : (p : ℕ) (t : Spot) → reads form u m w s ≡ item (rowIn r₁) p (reads form u m₁ w₁ t) → Fine m₁ t → Narrow r₁ → left t < left s
+  pub keeps : (p : ℕ) (t : Spot) → reads form u m w s ≡ thing (rowIn r₁) p (reads form u m₁ w₁ t) → Fine m₁ t → Narrow r₁ → left t < left s
       → Stepped form u m w r s m₁ w₁ r₁ (Block p t)
   unfolding after Steady
   keeps p t e fine narrow less = record { told = e; steady = (fine, narrow, less); small = small; memory = memory; row = row-length }
@@ -189,7 +189,7 @@ module _ (form : ℕ) (u m w : List ℕ) (s : Spot) (some : 1 ≤ s .blocks) whe
 
   -- what follows a block
   abbrev next : row.Block × ℕ → Grammar row.Block (Unit {0})
-  next b = pick (ltb maxClock (s .clock + b .0 .length .0)) (stop 3 (b .1)) (kept (b .0) (b .1) (blocks (s .blocks - 1) (s .client) (s .clock + b .0 .length .0)))
+  next b = pick (ltb maxClock (s .clock + b .0 .length .0)) (stop 3 (b .1)) (unlessDropped (b .0) (b .1) (blocks (s .blocks - 1) (s .client) (s .clock + b .0 .length .0)))
 
   at-block : reads form u m w s ≡ andThen (andThen (run (fields form u) (block (s .client) (s .clock)) (stateIn w)) (λ b t. run (fields form u) (next b) t)) Behind
   unfolding reads toCome blocks
@@ -223,16 +223,16 @@ module _ (form : ℕ) (u m w : List ℕ) (s : Spot) (some : 1 ≤ s .blocks) whe
         unfolding reads toCome
         then-comes = sym (run-bind (fields form u) (blocks (s .blocks - 1) (s .client) (s .clock + rowIn q .length .0)) behind (stateIn v))
 
-        short : reads form u m w s ≡ andThen (run (fields form u) (kept (rowIn q) p (blocks (s .blocks - 1) (s .client) (s .clock + rowIn q .length .0))) (stateIn v)) Behind
+        short : reads form u m w s ≡ andThen (run (fields form u) (unlessDropped (rowIn q) p (blocks (s .blocks - 1) (s .client) (s .clock + rowIn q .length .0))) (stateIn v)) Behind
         short = had ∙ rw (le-ltb maxClock (s .clock + rowIn q .length .0) near) refl
 
         pub drops : dropped (rowIn q) ≡ true → reads form u m w s ≡ reads form u m v ended
-        unfolding kept
+        unfolding unlessDropped
         drops d = short ∙ rw d then-comes
 
-        pub has : dropped (rowIn q) ≡ false → reads form u m w s ≡ item (rowIn q) p (reads form u m v ended)
-        unfolding kept run andThen
-        has d = short ∙ rw d (ap (item (rowIn q) p) then-comes)
+        pub has : dropped (rowIn q) ≡ false → reads form u m w s ≡ thing (rowIn q) p (reads form u m v ended)
+        unfolding unlessDropped run andThen
+        has d = short ∙ rw d (ap (thing (rowIn q) p) then-comes)
 
         pub end-fine : Fine m s → Fine m ended
         end-fine fine = record { seen = fine .seen; room = fine .room; blocks = omega (arith, fine .blocks); clock = near }
@@ -267,21 +267,21 @@ module _ (form : ℕ) (u w v : List ℕ) (small : Small v) where
 -- form 1 is read from its first byte on
 pub starts-line : (form : ℕ) (u w v : List ℕ) (x : Begun) → form ≡ 1 → atIn w ≡ 0 → Counted form u w v x → Starts form u v x
 unfolding blocksOf stateIn
-starts-line form u w v x f z c = record { told = λ m. first-byte ∙ ap placed (c .told m); columns = λ m other. absurd (other f); first = c .first; small = c .small }
+starts-line form u w v x f z c = record { told = λ m. first-byte ∙ ap restPlaces (c .told m); columns = λ m other. absurd (other f); first = c .first; small = c .small }
   where
-    first-byte : blocksOf form u ≡ placed (run (fields form u) allBlocks (stateIn w))
+    first-byte : blocksOf form u ≡ restPlaces (run (fields form u) allBlocks (stateIn w))
     first-byte = rw (f) (sym (placed-line u allBlocks (stateIn w) ∙ ap (λ (at : ℕ). run (line 1 u) allBlocks at) z))
 
 module _ (form : ℕ) (u v : List ℕ) (other : form ≢ 1) where
   pub unopened : Small v → openedIn v drawn.Refused ≡ openedOf u → Starts form u v (begun.Refused (whyIn v))
-  unfolding blocksOf inColumns onDrawn placed openedIn begins First
+  unfolding blocksOf inColumns onDrawn restPlaces openedIn begins First
   unopened small e = record { told = λ m. rw (ne-eqb form 1 other, ← e) refl; columns = λ m o. rw (← e) refl; first = λ m l. tt; small = small }
 
   pub starts-columned : (n : ℕ) (w : List ℕ) (x : Begun) → openedIn v (drawn.Number n) ≡ openedOf u → Counted form u v w x → Starts form u w x
   unfolding blocksOf inColumns onDrawn openedIn
   starts-columned n w x e c =
       record {
-        told = λ m. rw (ne-eqb form 1 other) (ap placed (behind-columns ∙ c .told m));
+        told = λ m. rw (ne-eqb form 1 other) (ap restPlaces (behind-columns ∙ c .told m));
         columns = λ m o. behind-columns ∙ c .told m;
         first = c .first;
         small = c .small;

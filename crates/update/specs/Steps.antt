@@ -8,11 +8,11 @@ use Rattle.numbers.specs.Limits.{maxClock, maxBlocks}
 use Rattle.block.specs.declared.Block as row
 use Rattle.grammar.specs.Grammar.{Grammar}
 use Rattle.grammar.specs.GrammarInner.{_>>=_}
-use Rattle.grammar.specs.Course.{Course, Run, item, over, stopped, run}
+use Rattle.grammar.specs.Course.{Course, Run, thing, over, stopped, run}
 use Rattle.grammar.specs.Blocks.{blocks, sections, allBlocks}
 use Rattle.decoder.specs.States.{State, movedTo}
 use Rattle.decoder.specs.ColumnedInner.{fields}
-use Rattle.decoder.specs.Update.{placed, inColumns, blocksOf}
+use Rattle.decoder.specs.Update.{restPlaces, inColumns, blocksOf}
 use Rattle.cells.specs.Cells.{stateIn, Small}
 use Rattle.item.specs.Row.{rowIn, Narrow}
 use Rattle.update.specs.declared.Spot.{Spot}
@@ -30,12 +30,12 @@ unfoldable pub reads : ℕ → List ℕ → List ℕ → List ℕ → Spot → R
 reads form u m w s = run (fields form u) (toCome m s) (stateIn w)
 
 unfoldable pub comes : ℕ → List ℕ → List ℕ → List ℕ → Spot → Course row.Block
-comes form u m w s = placed (reads form u m w s)
+comes form u m w s = restPlaces (reads form u m w s)
 
 -- ---- what a step gives, with the memory m, the words w and the row r that it leaves
 
 unfoldable pub after : ℕ → List ℕ → List ℕ → List ℕ → List ℕ → Step → Run State row.Block (Unit {0})
-after form u m w r (Block p t) = item (rowIn r) p (reads form u m w t)
+after form u m w r (Block p t) = thing (rowIn r) p (reads form u m w t)
 after form u m w r (On t) = reads form u m w t
 after form u m w r (Done at) = over tt (movedTo (stateIn w) at)
 after form u m w r (Refused why) = stopped why
@@ -84,7 +84,7 @@ pub record Counted (form : ℕ) (u w v : List ℕ) (x : Begun) : Type 0 where
 
 -- the beginning, whatever the memory m of 64 words and the words were, to the words w; form 2 also with the state that it ends in
 pub record Starts (form : ℕ) (u w : List ℕ) (x : Begun) : Type 0 where
-  pub told : (m : List ℕ) → blocksOf form u ≡ placed (begins form u m w x)
+  pub told : (m : List ℕ) → blocksOf form u ≡ restPlaces (begins form u m w x)
   pub columns : (m : List ℕ) → form ≢ 1 → inColumns u ≡ begins form u m w x
   pub first : (m : List ℕ) → 64 ≤ length m → First m x
   pub small : Small w

@@ -20,7 +20,7 @@ use Rattle.numbers.specs.declared.Refusal.{Refusal}
 use Rattle.deletes.specs.DeleteSet.{setOf, wordsOf as setWords}
 use Rattle.reader.specs.Reader.{filledOf, rowsOf as filledRows}
 use Rattle.decoder.specs.Update.{blocksOf}
-use Rattle.updates.specs.Promises.{answer, early, reading, refused, rowsOf, wordsOf}
+use Rattle.updates.specs.Promises.{answer, early, reading, refused, tableOf, rangeWords}
 use Rattle.reader.proofs.Sorts.{refusal, filled}
 use Rattle.table.proofs.Sorts.{block}
 use Rattle.updates.proofs.Sorts.{deletes·set, update}
@@ -127,7 +127,7 @@ module _ {M : Type 1} (𝓤 : URA M) (H : Heap 𝓤) (A : Atoms 𝓤) (mem : Mem
       said = λ ns r ws. since 𝓤 (λ e. (refl, (e, tt)));
     }
 
-    pub updates·read-update! : Triple 𝓤 (C #updates·read-update) Updates·read-update → (form₀ : ℕ) (g-form : Has byte form₀) (at-update : Seat) (update₀ : List ℕ) (at-rows : Seat) (rows₀ : List Block) (at-ranges : Seat) (ranges₀ : List ℕ) → Card 𝓤 H A C #updates·read-update (val byte form₀ g-form ∷ pass byte at-update update₀ ∷ mut block at-rows rows₀ (rowsOf (length rows₀) (reading form₀ update₀ (length rows₀) (length ranges₀ / 3))) ∷ mut word at-ranges ranges₀ (wordsOf (length ranges₀) (reading form₀ update₀ (length rows₀) (length ranges₀ / 3))) ∷ []) update (answer (reading form₀ update₀ (length rows₀) (length ranges₀ / 3)))
+    pub updates·read-update! : Triple 𝓤 (C #updates·read-update) Updates·read-update → (form₀ : ℕ) (g-form : Has byte form₀) (at-update : Seat) (update₀ : List ℕ) (at-rows : Seat) (rows₀ : List Block) (at-ranges : Seat) (ranges₀ : List ℕ) → Card 𝓤 H A C #updates·read-update (val byte form₀ g-form ∷ pass byte at-update update₀ ∷ mut block at-rows rows₀ (tableOf (length rows₀) (reading form₀ update₀ (length rows₀) (length ranges₀ / 3))) ∷ mut word at-ranges ranges₀ (rangeWords (length ranges₀) (reading form₀ update₀ (length rows₀) (length ranges₀ / 3))) ∷ []) update (answer (reading form₀ update₀ (length rows₀) (length ranges₀ / 3)))
     updates·read-update! known form₀ g-form at-update update₀ at-rows rows₀ at-ranges ranges₀ = record {
       contract = Updates·read-update;
       known = known;

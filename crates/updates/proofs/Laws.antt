@@ -14,7 +14,7 @@ use Rattle.numbers.proofs.Output.{padded-none}
 use Rattle.block.specs.declared.Block.{Block}
 use Rattle.block.specs.Row.{noBlock}
 use Rattle.table.specs.Rows.{clearedFrom, filledFrom}
-use Rattle.grammar.specs.Course.{Course, item, over, stopped, fit, items, ending}
+use Rattle.grammar.specs.Course.{Course, thing, over, stopped, fit, things, ending}
 use Rattle.ranges.specs.Ranges.{Range, normal}
 use Rattle.ranges.specs.Table.{flat}
 use Rattle.deletes.specs.declared.Set.the-variants as set
@@ -23,7 +23,7 @@ use Rattle.reader.specs.declared.Filled.the-variants as filled
 use Rattle.reader.specs.Reader.{filledOf, rowsOf as filledRows}
 use Rattle.decoder.specs.Update.{blocksOf, deleteSet}
 use Rattle.updates.specs.declared.Update.{Update}
-use Rattle.updates.specs.Promises.{Reading, refused, withRanges, withBlocks, known, early, reading, answer, rowsOf, wordsOf}
+use Rattle.updates.specs.Promises.{Reading, refused, withRanges, withBlocks, known, early, reading, answer, tableOf, rangeWords}
 
 -- ---- what is refused early
 
@@ -54,56 +54,56 @@ module _ (form : ℕ) (u : List ℕ) where
 module _ {A X : Type 0} (done : ℕ → X) (not : Refusal → X) (m : ℕ) where
   filled-at : (c : Course A) (n : ℕ) (t : ℕ) → ending c (λ s. filled.Rows m s) (λ why. filled.Refused why) ≡ filled.Rows n t → (n ≡ m) × (ending c done not ≡ done t)
   unfolding ending
-  filled-at (item a p c) n t e = filled-at c n t e
+  filled-at (thing a p c) n t e = filled-at c n t e
   filled-at (over x s) n t e = (cc, ap done (cc))
   filled-at (stopped w) n t e = absurd (let z : _≡_ {A = ℕ} 0 1 = cc in omega arith)
 
   filled-not : (c : Course A) (why : Refusal) → ending c (λ s. filled.Rows m s) (λ why. filled.Refused why) ≡ filled.Refused why → ending c done not ≡ not why
   unfolding ending
-  filled-not (item a p c) why e = filled-not c why e
+  filled-not (thing a p c) why e = filled-not c why e
   filled-not (over x s) why e = absurd (let z : _≡_ {A = ℕ} 0 1 = cc in omega arith)
   filled-not (stopped w) why e = ap not (cc)
 
   set-at : (c : Course A) (n : ℕ) (t : ℕ) → ending c (λ s. set.Ranges m s) set.Refused ≡ set.Ranges n t → (n ≡ m) × (ending c done not ≡ done t)
   unfolding ending
-  set-at (item a p c) n t e = set-at c n t e
+  set-at (thing a p c) n t e = set-at c n t e
   set-at (over x s) n t e = (cc, ap done (cc))
   set-at (stopped w) n t e = absurd (let z : _≡_ {A = ℕ} 0 1 = cc in omega arith)
 
   set-not : (c : Course A) (why : Refusal) → ending c (λ s. set.Ranges m s) set.Refused ≡ set.Refused why → ending c done not ≡ not why
   unfolding ending
-  set-not (item a p c) why e = set-not c why e
+  set-not (thing a p c) why e = set-not c why e
   set-not (over x s) why e = absurd (let z : _≡_ {A = ℕ} 0 1 = cc in omega arith)
   set-not (stopped w) why e = ap not (cc)
 
 -- ---- a refusal leaves rows without a block, and zeros
 
-pub rows-none : (rows : List Block) (n : ℕ) (why : Refusal) → length rows ≡ n → clearedFrom 0 rows ≡ rowsOf n (refused why)
-unfolding clearedFrom filledFrom rowsOf
+pub rows-none : (rows : List Block) (n : ℕ) (why : Refusal) → length rows ≡ n → clearedFrom 0 rows ≡ tableOf n (refused why)
+unfolding clearedFrom filledFrom tableOf
 rows-none rows n why size = ap (λ (k : ℕ). replicate (k - 0) noBlock) size
 
-blocks-none : (n : ℕ) (why : Refusal) → replicate n noBlock ≡ rowsOf n (refused why)
-unfolding rowsOf
+blocks-none : (n : ℕ) (why : Refusal) → replicate n noBlock ≡ tableOf n (refused why)
+unfolding tableOf
 blocks-none n why = ap (λ (k : ℕ). replicate k noBlock) all
   where
     all : n ≡ n - 0
     all = omega arith
 
-zeros-none : (n : ℕ) (why : Refusal) → padded n [] ≡ wordsOf n (refused why)
-unfolding wordsOf flat
+zeros-none : (n : ℕ) (why : Refusal) → padded n [] ≡ rangeWords n (refused why)
+unfolding rangeWords flat
 zeros-none n why = refl
 
-pub words-none : (words : List ℕ) (why : Refusal) → take 0 words ++ replicate (length words - 0) 0 ≡ wordsOf (length words) (refused why)
+pub words-none : (words : List ℕ) (why : Refusal) → take 0 words ++ replicate (length words - 0) 0 ≡ rangeWords (length words) (refused why)
 words-none words why = padded-none words ∙ zeros-none (length words) why
 
 -- ---- the ways out, of n rows and of m words
 
 -- what is given and left says this reading
 abbrev pub Says : Reading → ℕ → ℕ → Update → List Block → List ℕ → Type 0
-Says v n m r rows words = (r ≡ answer v) × (rows ≡ rowsOf n v) × (words ≡ wordsOf m v)
+Says v n m r rows words = (r ≡ answer v) × (rows ≡ tableOf n v) × (words ≡ rangeWords m v)
 
 says-by : (v w : Reading) (n m : ℕ) (r : Update) (rows : List Block) (words : List ℕ) → w ≡ v → Says v n m r rows words → Says w n m r rows words
-says-by v w n m r rows words h s = (s .0 ∙ ap answer (sym h), s .1 ∙ ap (rowsOf n) (sym h), s .2 ∙ ap (wordsOf m) (sym h))
+says-by v w n m r rows words h s = (s .0 ∙ ap answer (sym h), s .1 ∙ ap (tableOf n) (sym h), s .2 ∙ ap (rangeWords m) (sym h))
 
 module _ (form : ℕ) (u : List ℕ) (rows : List Block) (words : List ℕ) where
   abbrev N : ℕ
@@ -116,7 +116,7 @@ module _ (form : ℕ) (u : List ℕ) (rows : List Block) (words : List ℕ) wher
   c₀ = fit N (blocksOf form u)
 
   abbrev bs : List Block
-  bs = items c₀
+  bs = things c₀
 
   abbrev here : Reading
   here = reading form u N (M / 3)
@@ -155,27 +155,27 @@ module _ (form : ℕ) (u : List ℕ) (rows : List Block) (words : List ℕ) wher
       c = taken form u s M
 
       abbrev whole : Reading
-      whole = record { refusal = none; blocks = bs; ranges = normal (items c) }
+      whole = record { refusal = none; blocks = bs; ranges = normal (things c) }
 
       pub on-set : (why : Refusal) → setOf form u s M ≡ set.Refused why → length (filledRows N (blocksOf form u)) ≡ N
           → Says here N M (answer (refused why)) (clearedFrom 0 (filledRows N (blocksOf form u))) (setWords form u s M)
       unfolding setOf setWords withRanges
       on-set why q size =
           says-by (refused why) here N M _ _ _
-          (tested true y ∙ begun .1 ∙ set-not (λ t. whole) (λ why. refused why) (length (normal (items c))) c why q) (
+          (tested true y ∙ begun .1 ∙ set-not (λ t. whole) (λ why. refused why) (length (normal (things c))) c why q) (
             refl,
             rows-none (filledRows N (blocksOf form u)) N why size,
-            ap (padded M) (set-not (λ t. flat (normal (items c))) (λ why. []) (length (normal (items c))) c why q) ∙ zeros-none M why,
+            ap (padded M) (set-not (λ t. flat (normal (things c))) (λ why. []) (length (normal (things c))) c why q) ∙ zeros-none M why,
           )
 
       pub on-ranges : (k : ℕ) (t : ℕ) → setOf form u s M ≡ set.Ranges k t
           → Says here N M (record { refusal = none; blocks = n; ranges = k }) (filledRows N (blocksOf form u)) (setWords form u s M)
-      unfolding setOf setWords withRanges filledOf filledRows answer rowsOf wordsOf
+      unfolding setOf setWords withRanges filledOf filledRows answer tableOf rangeWords
       on-ranges k t q =
-          let z = set-at (λ t. whole) (λ why. refused why) (length (normal (items c))) c k t q in
+          let z = set-at (λ t. whole) (λ why. refused why) (length (normal (things c))) c k t q in
           says-by whole here N M _ _ _
           (tested true y ∙ begun .1 ∙ z .1) (
             rw (begun .0, z .0) refl,
             filled-at (λ s. bs ++ replicate (N - length bs) noBlock) (λ why. replicate N noBlock) (length bs) c₀ n s e .1,
-            ap (padded M) (set-at (λ t. flat (normal (items c))) (λ why. []) (length (normal (items c))) c k t q .1),
+            ap (padded M) (set-at (λ t. flat (normal (things c))) (λ why. []) (length (normal (things c))) c k t q .1),
           )

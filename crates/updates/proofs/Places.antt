@@ -13,7 +13,7 @@ use Rattle.numbers.specs.Number.{pick, none, nowhere}
 use Rattle.numbers.specs.Limits.{maxUpdate}
 use Rattle.block.specs.declared.Block.{Block}
 use Rattle.ranges.specs.Ranges.{Range, normal}
-use Rattle.grammar.specs.Course.{Course, item, over, stopped, fit, items, ending}
+use Rattle.grammar.specs.Course.{Course, thing, over, stopped, fit, things, ending}
 use Rattle.decoder.specs.Update.{blocksOf, deleteSet}
 use Rattle.places.specs.Places.{Blames, BlamesIn}
 use Rattle.places.specs.Appended.{Stays}
@@ -30,7 +30,7 @@ Placed u r = (r .refusal ≡ none) ⊎ Blames u (r .refusal)
 ends-placed : {E : Type 0} (u : List ℕ) (c : Course E) (then : ℕ → Reading) → BlamesIn u c → ((s : ℕ) → Placed u (then s))
     → Placed u (ending c then (λ why. refused why))
 unfolding ending BlamesIn
-ends-placed u (item e p c) then b h = ends-placed u c then (b .1) h
+ends-placed u (thing e p c) then b h = ends-placed u c then (b .1) h
 ends-placed u (over a s) then b h = h s
 ends-placed u (stopped why) then b h = inr b
 
@@ -66,7 +66,7 @@ ranges-same : (bs : List Block) (x y : Course Range) → Stays x y → Other (wi
 unfolding withRanges
 ranges-same bs x y h q =
     ending-stays _ _ (λ why. refused why) Other (λ why z. z) x y h
-    (λ same s z. ap (λ (c : Course Range). record { refusal = none; blocks = bs; ranges = normal (items c) }) same) q
+    (λ same s z. ap (λ (c : Course Range). record { refusal = none; blocks = bs; ranges = normal (things c) }) same) q
 
 blocks-same : (form : ℕ) (u w : List ℕ) (m n : ℕ) → Other (withBlocks form u n (fit m (blocksOf form u)))
     → withBlocks form (u ++ w) n (fit m (blocksOf form (u ++ w))) ≡ withBlocks form u n (fit m (blocksOf form u))
@@ -77,9 +77,9 @@ blocks-same form u w m n q =
     let set : ℕ → Course Range = λ at. fit n (deleteSet form u at) in
     let set′ : ℕ → Course Range = λ at. fit n (deleteSet form (u ++ w) at) in
     let set-stays : (at : ℕ) → Stays (set at) (set′ at) = λ at. fit-stays n (deleteSet form u at) (deleteSet form (u ++ w) at) (ranges-stay form u w at) in
-    ending-stays (λ at. withRanges (items x) (set at)) (λ at. withRanges (items y) (set′ at)) (λ why. refused why) Other (λ why z. z) x y
+    ending-stays (λ at. withRanges (things x) (set at)) (λ at. withRanges (things y) (set′ at)) (λ why. refused why) Other (λ why z. z) x y
     (fit-stays m (blocksOf form u) (blocksOf form (u ++ w)) (blocks-stay form u w))
-    (λ same at z. ap (λ (c : Course Block). withRanges (items c) (set′ at)) same ∙ ranges-same (items x) (set at) (set′ at) (set-stays at) z) q
+    (λ same at z. ap (λ (c : Course Block). withRanges (things c) (set′ at)) same ∙ ranges-same (things x) (set at) (set′ at) (set-stays at) z) q
 
 -- within the length limit, what is looked at before reading stays too
 early-same : (form : ℕ) (u w : List ℕ) → length (u ++ w) ≤ maxUpdate → early form (u ++ w) ≡ early form u

@@ -14,7 +14,7 @@ use Rattle.numbers.specs.Limits.{maxUpdate, maxClients, maxBlocks}
 use Rattle.numbers.specs.Output.{padded}
 use Rattle.block.specs.declared.Block.{Block}
 use Rattle.block.specs.Row.{noBlock}
-use Rattle.grammar.specs.Course.{Course, item, over, stopped, fit, items, ending}
+use Rattle.grammar.specs.Course.{Course, thing, over, stopped, fit, things, ending}
 use Rattle.ranges.specs.Ranges.{Range, normal}
 use Rattle.ranges.specs.Table.{flat}
 use Rattle.ranges.specs.TableInner.{rowsFrom}
@@ -28,7 +28,7 @@ use Rattle.readings.proofs.Sounds.{blocks-sound}
 use Rattle.readings.proofs.Orders.{blocks-ordered}
 use Rattle.readings.proofs.Counts.{blocks-count, blocks-groups}
 use Rattle.readings.proofs.Fits.{fit-has, fit-count}
-use Rattle.updates.specs.Promises.{Reading, refused, withRanges, withBlocks, known, early, reading, rowsOf, wordsOf}
+use Rattle.updates.specs.Promises.{Reading, refused, withRanges, withBlocks, known, early, reading, tableOf, rangeWords}
 
 pub length-padded : (n : ℕ) (b : List ℕ) → length b ≤ n → length (padded n b) ≡ n
 unfolding padded
@@ -38,7 +38,7 @@ length-padded n b h = omega (arith, length-append b (replicate (n - length b) 0)
 pub followed : {A : Type 0} (P : Reading → Type 0) (then : ℕ → Reading) → ((why : Refusal) → P (refused why)) → (c : Course A)
     → (ending c (λ s. true) (λ why. false) ≡ true → (s : ℕ) → P (then s)) → P (ending c then (λ why. refused why))
 unfolding ending
-followed P then h (item a p c) k = followed P then h c k
+followed P then h (thing a p c) k = followed P then h c k
 followed P then h (over x s) k = k refl s
 followed P then h (stopped why) k = h why
 
@@ -62,13 +62,13 @@ module _ (form : ℕ) (u : List ℕ) (n m : ℕ) where
   c = fit n (blocksOf form u)
 
   abbrev found : ℕ → List Range
-  found s = normal (items (fit m (deleteSet form u s)))
+  found s = normal (things (fit m (deleteSet form u s)))
 
-  done-good : ending c (λ s. true) (λ why. false) ≡ true → (s : ℕ) → Good u n m (record { refusal = none; blocks = items c; ranges = found s })
+  done-good : ending c (λ s. true) (λ why. false) ≡ true → (s : ℕ) → Good u n m (record { refusal = none; blocks = things c; ranges = found s })
   done-good e s =
       record {
         fits = fit-count n (blocksOf form u);
-        ranges = omega (arith, normal-length (items (fit m (deleteSet form u s))), fit-count m (deleteSet form u s));
+        ranges = omega (arith, normal-length (things (fit m (deleteSet form u s))), fit-count m (deleteSet form u s));
         ordered = fit-has Ordered n (blocksOf form u) e (blocks-ordered form u);
         sound = fit-has (All (Sound u)) n (blocksOf form u) e (blocks-sound form u);
         count = fit-has (λ (bs : List Block). length bs ≤ maxBlocks) n (blocksOf form u) e (blocks-count form u);
@@ -126,19 +126,19 @@ module _ (form : ℕ) (u : List ℕ) (M N : ℕ) where
   pub words-fit : 3 * length (R .ranges) ≤ N
   words-fit = omega (arith, good .ranges)
 
-  pub rows-length : length (rowsOf M R) ≡ M
-  unfolding rowsOf
+  pub rows-length : length (tableOf M R) ≡ M
+  unfolding tableOf
   rows-length =
       omega (arith, rows-fit, length-append (R .blocks) (replicate (M - length (R .blocks)) noBlock), length-replicate (M - length (R .blocks)) noBlock)
 
-  pub words-length : length (wordsOf N R) ≡ N
-  unfolding wordsOf
+  pub words-length : length (rangeWords N R) ≡ N
+  unfolding rangeWords
   words-length = length-padded N (flat (R .ranges)) (omega (arith, words-fit, length-flat (R .ranges)))
 
-  pub rows-back : take (length (R .blocks)) (rowsOf M R) ≡ R .blocks
-  unfolding rowsOf
+  pub rows-back : take (length (R .blocks)) (tableOf M R) ≡ R .blocks
+  unfolding tableOf
   rows-back = take-at (R .blocks) (replicate (M - length (R .blocks)) noBlock) (length (R .blocks)) refl
 
-  pub words-back : rowsFrom (wordsOf N R) 0 (length (R .ranges)) ≡ R .ranges
-  unfolding wordsOf padded
+  pub words-back : rowsFrom (rangeWords N R) 0 (length (R .ranges)) ≡ R .ranges
+  unfolding rangeWords padded
   words-back = rows-flat (R .ranges) (replicate (N - length (flat (R .ranges))) 0)

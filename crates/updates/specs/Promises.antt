@@ -12,7 +12,7 @@ use Rattle.numbers.specs.Limits.{maxUpdate}
 use Rattle.numbers.specs.Output.{padded}
 use Rattle.block.specs.declared.Block.{Block}
 use Rattle.block.specs.Row.{noBlock}
-use Rattle.grammar.specs.Course.{Course, fit, items, ending}
+use Rattle.grammar.specs.Course.{Course, fit, things, ending}
 use Rattle.ranges.specs.Ranges.{Range, normal}
 use Rattle.ranges.specs.Table.{flat}
 use Rattle.decoder.specs.Update.{blocksOf, deleteSet}
@@ -29,10 +29,10 @@ refused why = record { refusal = why; blocks = []; ranges = [] }
 -- ---- reading with so many block rows and so many range rows
 
 unfoldable pub withRanges : List Block → Course Range → Reading
-withRanges bs c = ending c (λ s. record { refusal = none; blocks = bs; ranges = normal (items c) }) (λ why. refused why)
+withRanges bs c = ending c (λ s. record { refusal = none; blocks = bs; ranges = normal (things c) }) (λ why. refused why)
 
 unfoldable pub withBlocks : ℕ → List ℕ → ℕ → Course Block → Reading
-withBlocks form u rows c = ending c (λ at. withRanges (items c) (fit rows (deleteSet form u at))) (λ why. refused why)
+withBlocks form u rows c = ending c (λ at. withRanges (things c) (fit rows (deleteSet form u at))) (λ why. refused why)
 
 unfoldable pub known : ℕ → Bool
 known form = pick (eqb form 1) true (eqb form 2)
@@ -49,15 +49,15 @@ reading form u blockRows rangeRows = pick (eqb (early form u) 0) (withBlocks for
 unfoldable pub answer : Reading → Update
 answer r = record { refusal = r .refusal; blocks = length (r .blocks); ranges = length (r .ranges) }
 
-unfoldable pub rowsOf : ℕ → Reading → List Block
-rowsOf n r = r .blocks ++ replicate (n - length (r .blocks)) noBlock
+unfoldable pub tableOf : ℕ → Reading → List Block
+tableOf n r = r .blocks ++ replicate (n - length (r .blocks)) noBlock
 
-unfoldable pub wordsOf : ℕ → Reading → List ℕ
-wordsOf n r = padded n (flat (r .ranges))
+unfoldable pub rangeWords : ℕ → Reading → List ℕ
+rangeWords n r = padded n (flat (r .ranges))
 
 -- what a reading x leaves: the answer r, with these rows and words at entry and at exit
 abbrev pub Leaves : Reading → List Block → List ℕ → Update → List Block → List ℕ → Type 0
-Leaves x rows words r rows₁ words₁ = (r ≡ answer x) × (rows₁ ≡ rowsOf (length rows) x) × (words₁ ≡ wordsOf (length words) x)
+Leaves x rows words r rows₁ words₁ = (r ≡ answer x) × (rows₁ ≡ tableOf (length rows) x) × (words₁ ≡ rangeWords (length words) x)
 
 abbrev pub ReadUpdate : ℕ → List ℕ → List Block → List ℕ → Update → List Block → List ℕ → Type 0
 ReadUpdate form u rows words = Leaves (reading form u (length rows) (length words / 3)) rows words

@@ -14,22 +14,22 @@ use Rattle.numbers.specs.Limits.{maxClock, maxClients}
 use Rattle.grammar.specs.Grammar as grammar
 use Rattle.grammar.specs.Grammar.{number, stop, ask, emit}
 use Rattle.grammar.specs.GrammarInner.{_>>=_}
-use Rattle.grammar.specs.Course.{Drawn, got, not, Reader, Run, item, over, stopped, onDrawn, run, items}
-use Rattle.decoder.specs.Line.{upTo, line, numberOf}
+use Rattle.grammar.specs.Course.{Drawn, got, not, Reader, Run, thing, over, stopped, onDrawn, run, things}
+use Rattle.decoder.specs.Line.{upTo, line, numberBy}
 use Rattle.vector.specs.Vector.{Entry, entry, clientsIn, holds, entries, aVector, vectorOf}
 use Rattle.vector.proofs.Laws.{bounded-low, clients-more}
 
 -- what holds of every run of entries: after those seen an entry is of a client that has none
 module _ {S : Type 0} (r : Reader S) (P : ℕ → List Entry → Run S Entry (Unit {0}) → Type 0) (at-end : (seen : List Entry) (s : S) → P 0 seen (over tt s))
     (at-stop : (n : ℕ) (seen : List Entry) (why : Refusal) → P n seen (stopped why))
-    (at-item : (n : ℕ) (seen : List Entry) (e : Entry) (p : ℕ) (x : Run S Entry (Unit {0})) → among (e .client) (clientsIn seen) ≡ false → P n (seen ++ (e ∷ [])) x → P (suc n) seen (item e p x)) where
+    (at-item : (n : ℕ) (seen : List Entry) (e : Entry) (p : ℕ) (x : Run S Entry (Unit {0})) → among (e .client) (clientsIn seen) ≡ false → P n (seen ++ (e ∷ [])) x → P (suc n) seen (thing e p x)) where
   each : (n : ℕ) (seen : List Entry) (s : S) → P n seen (run r (entries n seen) s)
   unfolding entries holds _>>=_ run onDrawn
   each zero seen s = at-end seen s
   each (suc n) seen s = with-client (λ seen s. each n seen s) (r (number grammar.client) s)
     where
       with-clock : ((seen : List Entry) (s : S) → P n seen (run r (entries n seen) s)) → (c p : ℕ) → among c (clientsIn seen) ≡ false → (d : Drawn S (ℕ × ℕ))
-          → P (suc n) seen (onDrawn d (λ b u. item (entry c (b .0)) p (run r (entries n (seen ++ (entry c (b .0) ∷ []))) u)))
+          → P (suc n) seen (onDrawn d (λ b u. thing (entry c (b .0)) p (run r (entries n (seen ++ (entry c (b .0) ∷ []))) u)))
       with-clock more c p f (not why) = at-stop (suc n) seen why
       with-clock more c p f (got b u) = at-item n seen (entry c (b .0)) p _ f (more (seen ++ (entry c (b .0) ∷ [])) u)
 
@@ -45,16 +45,16 @@ module _ {S : Type 0} (r : Reader S) (P : ℕ → List Entry → Run S Entry (Un
 
 -- ---- at most 64
 
-few : {S : Type 0} (r : Reader S) (n : ℕ) (seen : List Entry) (s : S) → length (items (run r (entries n seen) s)) ≤ n
-unfolding items
+few : {S : Type 0} (r : Reader S) (n : ℕ) (seen : List Entry) (s : S) → length (things (run r (entries n seen) s)) ≤ n
+unfolding things
 few r n seen s =
-    each r (λ n seen x. length (items x) ≤ n) (λ seen s. omega arith) (λ n seen why. omega arith) (λ n seen e p x f h. omega arith) n seen s
+    each r (λ n seen x. length (things x) ≤ n) (λ seen s. omega arith) (λ n seen why. omega arith) (λ n seen e p x f h. omega arith) n seen s
 
-pub vector-most : (v : List ℕ) → length (items (vectorOf v)) ≤ maxClients
-unfolding vectorOf aVector _>>=_ run onDrawn line numberOf upTo items
+pub vector-most : (v : List ℕ) → length (things (vectorOf v)) ≤ maxClients
+unfolding vectorOf aVector _>>=_ run onDrawn line numberBy upTo things
 vector-most v = go (upTo maxClients v 0) refl
   where
-    go : (d : Drawn ℕ (ℕ × ℕ)) → upTo maxClients v 0 ≡ d → length (items (onDrawn d (λ a t. run (line 1 v) (entries (a .0) []) t))) ≤ maxClients
+    go : (d : Drawn ℕ (ℕ × ℕ)) → upTo maxClients v 0 ≡ d → length (things (onDrawn d (λ a t. run (line 1 v) (entries (a .0) []) t))) ≤ maxClients
     go (not why) e = omega arith
     go (got a t) e = omega (arith, few (line 1 v) (a .0) [] t, bounded-low maxClients _ a t e)
 
@@ -103,15 +103,15 @@ unfolding fresh apart
 fresh-apart seen [] f = refl
 fresh-apart seen (c ∷ cs) f = rw (seen-once c (seen ++ (c ∷ [])) cs (f .1) (among-last c seen)) (fresh-apart (seen ++ (c ∷ [])) cs (f .1))
 
-all-fresh : {S : Type 0} (r : Reader S) (n : ℕ) (seen : List Entry) (s : S) → fresh (clientsIn seen) (clientsIn (items (run r (entries n seen) s)))
-unfolding items fresh
+all-fresh : {S : Type 0} (r : Reader S) (n : ℕ) (seen : List Entry) (s : S) → fresh (clientsIn seen) (clientsIn (things (run r (entries n seen) s)))
+unfolding things fresh
 all-fresh r n seen s =
-    each r (λ n seen x. fresh (clientsIn seen) (clientsIn (items x))) (λ seen s. tt) (λ n seen why. tt) (λ n seen e p x f h. (f, rw clients-more at h)) n seen s
+    each r (λ n seen x. fresh (clientsIn seen) (clientsIn (things x))) (λ seen s. tt) (λ n seen why. tt) (λ n seen e p x f h. (f, rw clients-more at h)) n seen s
 
-pub vector-apart : (v : List ℕ) → apart (clientsIn (items (vectorOf v))) ≡ true
-unfolding vectorOf aVector _>>=_ run onDrawn line numberOf items apart
+pub vector-apart : (v : List ℕ) → apart (clientsIn (things (vectorOf v))) ≡ true
+unfolding vectorOf aVector _>>=_ run onDrawn line numberBy things apart
 vector-apart v = go (upTo maxClients v 0)
   where
-    go : (d : Drawn ℕ (ℕ × ℕ)) → apart (clientsIn (items (onDrawn d (λ a t. run (line 1 v) (entries (a .0) []) t)))) ≡ true
+    go : (d : Drawn ℕ (ℕ × ℕ)) → apart (clientsIn (things (onDrawn d (λ a t. run (line 1 v) (entries (a .0) []) t)))) ≡ true
     go (not why) = refl
-    go (got a t) = fresh-apart [] (clientsIn (items (run (line 1 v) (entries (a .0) []) t))) (all-fresh (line 1 v) (a .0) [] t)
+    go (got a t) = fresh-apart [] (clientsIn (things (run (line 1 v) (entries (a .0) []) t))) (all-fresh (line 1 v) (a .0) [] t)

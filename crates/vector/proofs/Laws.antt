@@ -22,8 +22,8 @@ use Rattle.numbers.specs.Output.{padded}
 use Rattle.numbers.proofs.Output.{padded-some}
 use Rattle.grammar.specs.Grammar.{Grammar}
 use Rattle.grammar.specs.GrammarInner.{_>>=_}
-use Rattle.grammar.specs.Course.{Drawn, got, not, Course, item, over, stopped, onDrawn, run, items, ending}
-use Rattle.decoder.specs.Line.{numberAt, bounded, upTo, numberOf, line}
+use Rattle.grammar.specs.Course.{Drawn, got, not, Course, thing, over, stopped, onDrawn, run, things, ending}
+use Rattle.decoder.specs.Line.{numberAt, bounded, upTo, numberBy, line}
 use Rattle.vector.specs.declared.Entries.{Entries}
 use Rattle.vector.specs.declared.Entries.the-variants.{Read, Refused}
 use Rattle.vector.specs.Vector.{Entry, entry, clientsIn, holds, entries, aVector, vectorOf, wordsIn, refusedVector, vectorAnswer, vectorWords}
@@ -62,21 +62,21 @@ chosen v x y s b false e = ap (λ (b : Bool). run (line 1 v) (pick b x y) s) e
 
 module _ (v : List ℕ) (n : ℕ) (seen : List Entry) (at : ℕ) where
   pub no-client : (why : Refusal) → upTo maxValue v at ≡ not why → more v (suc n) seen at ≡ stopped why
-  unfolding entries _>>=_ run onDrawn line numberOf
+  unfolding entries _>>=_ run onDrawn line numberBy
   no-client why h = rw h refl
 
   module _ (c t : ℕ) (h : upTo maxValue v at ≡ got (c, at) t) where
     pub twice : among c (clientsIn seen) ≡ true → more v (suc n) seen at ≡ stopped (record { number = 4; place = at })
-    unfolding entries holds _>>=_ run onDrawn line numberOf
+    unfolding entries holds _>>=_ run onDrawn line numberBy
     twice s = rw h (chosen v _ _ t _ true s)
 
     pub no-clock : among c (clientsIn seen) ≡ false → (why : Refusal) → upTo maxClock v t ≡ not why → more v (suc n) seen at ≡ stopped why
-    unfolding entries holds _>>=_ run onDrawn line numberOf
+    unfolding entries holds _>>=_ run onDrawn line numberBy
     no-clock s why k = rw h (chosen v _ _ t _ false s ∙ rw k refl)
 
     pub one-more : among c (clientsIn seen) ≡ false → (k e : ℕ) → upTo maxClock v t ≡ got (k, t) e
-        → more v (suc n) seen at ≡ item (entry c k) at (more v n (seen ++ (entry c k ∷ [])) e)
-    unfolding entries holds _>>=_ run onDrawn line numberOf
+        → more v (suc n) seen at ≡ thing (entry c k) at (more v n (seen ++ (entry c k ∷ [])) e)
+    unfolding entries holds _>>=_ run onDrawn line numberBy
     one-more s k e q = rw h (chosen v _ _ t _ false s ∙ rw q refl)
 
 -- ---- what is read, where some are seen already: how many or why not, and all of them or none
@@ -89,20 +89,20 @@ abbrev telling : Entries → List Entry → Told
 telling r es = record { answer = r; all = es }
 
 unfoldable pub told : List Entry → Course Entry → Told
-told seen c = ending c (λ s. telling (Read (length (seen ++ items c))) (seen ++ items c)) (λ why. telling (Refused why) [])
+told seen c = ending c (λ s. telling (Read (length (seen ++ things c))) (seen ++ things c)) (λ why. telling (Refused why) [])
 
-told-item : (seen : List Entry) (e : Entry) (p : ℕ) (c : Course Entry) → told seen (item e p c) ≡ told (seen ++ (e ∷ [])) c
-unfolding told ending items
-told-item seen e p c = ap (λ (es : List Entry). ending c (λ s. telling (Read (length es)) es) (λ why. telling (Refused why) [])) (sym (append-assoc seen (e ∷ []) (items c)))
+told-item : (seen : List Entry) (e : Entry) (p : ℕ) (c : Course Entry) → told seen (thing e p c) ≡ told (seen ++ (e ∷ [])) c
+unfolding told ending things
+told-item seen e p c = ap (λ (es : List Entry). ending c (λ s. telling (Read (length es)) es) (λ why. telling (Refused why) [])) (sym (append-assoc seen (e ∷ []) (things c)))
 
 told-over : (v : List ℕ) (seen : List Entry) (at : ℕ) → told seen (more v 0 seen at) ≡ telling (Read (length seen)) seen
-unfolding told entries run ending items
+unfolding told entries run ending things
 told-over v seen at = rw append-nil
 
 told-apart : (r : Entries) (es : List Entry) (c : Course Entry)
     → ending c (λ s. telling r es) (λ why. telling (Refused why) []) ≡ telling (ending c (λ s. r) (λ why. Refused why)) (ending c (λ s. es) (λ why. []))
 unfolding ending
-told-apart r es (item e p c) = told-apart r es c
+told-apart r es (thing e p c) = told-apart r es c
 told-apart r es (over a s) = refl
 told-apart r es (stopped why) = refl
 
@@ -112,7 +112,7 @@ filled : (v : List ℕ) (r : Entries) (es : List Entry) (xs ys : List ℕ) → t
 unfolding told entriesOf kept
 filled v r es xs ys h few p q =
     let c = vectorOf v in
-    let a : telling (entriesOf c) (kept c) ≡ telling r es = sym (told-apart (Read (length (items c))) (items c) c) ∙ h in
+    let a : telling (entriesOf c) (kept c) ≡ telling r es = sym (told-apart (Read (length (things c))) (things c) c) ∙ h in
     let all : es ≡ kept c = sym (ap (λ (x : Told). x .all) a) in
     record { answer = sym (ap (λ (x : Told). x .answer) a); few = few; clients = p ∙ ap clientsIn all; clocks = q ∙ ap clocksIn all }
 
@@ -128,7 +128,7 @@ clocks-more (x ∷ seen) e = ap (λ (ks : List ℕ). x .clock ∷ ks) (clocks-mo
 
 module _ (v : List ℕ) where
   pub none-read : (why : Refusal) (xs ys : List ℕ) → upTo maxClients v 0 ≡ not why → Filled v (Refused why) xs ys
-  unfolding told vectorOf aVector _>>=_ run onDrawn line numberOf ending
+  unfolding told vectorOf aVector _>>=_ run onDrawn line numberBy ending
   none-read why xs ys h = filled v (Refused why) [] xs ys (rw h refl) (omega arith) refl refl
 
   pub few : (n e : ℕ) → upTo maxClients v 0 ≡ got (n, 0) e → n ≤ maxClients
@@ -146,7 +146,7 @@ pub record ReadTo (v : List ℕ) (n i at : ℕ) (xs ys : List ℕ) : Type 0 wher
   pub same : told [] (vectorOf v) ≡ told seen (more v (n - i) seen at)
 
 pub read-begin : (v : List ℕ) (n e : ℕ) (xs ys : List ℕ) → upTo maxClients v 0 ≡ got (n, 0) e → ReadTo v n 0 e xs ys
-unfolding vectorOf aVector _>>=_ run onDrawn line numberOf
+unfolding vectorOf aVector _>>=_ run onDrawn line numberBy
 read-begin v n e xs ys h = record { seen = []; here = omega arith; size = refl; clients = refl; clocks = refl; same = rw (h, sub-zero) refl }
 
 module _ (v : List ℕ) (n i at : ℕ) (xs ys : List ℕ) (t : ReadTo v n i at xs ys) where
@@ -154,7 +154,7 @@ module _ (v : List ℕ) (n i at : ℕ) (xs ys : List ℕ) (t : ReadTo v n i at x
   left h = let e : n - i ≡ suc (n - (i + 1)) = omega arith in t .same ∙ ap (λ (j : ℕ). told (t .seen) (more v j (t .seen) at)) e
 
   pub read-on : (c k p e : ℕ) → i < n → i < length xs → i < length ys
-      → more v (suc (n - (i + 1))) (t .seen) at ≡ item (entry c k) p (more v (n - (i + 1)) (t .seen ++ (entry c k ∷ [])) e)
+      → more v (suc (n - (i + 1))) (t .seen) at ≡ thing (entry c k) p (more v (n - (i + 1)) (t .seen ++ (entry c k ∷ [])) e)
       → ReadTo v n (i + 1) e (set xs i c) (set ys i k)
   read-on c k p e h lx ly q = record {
     seen = t .seen ++ (entry c k ∷ []);
@@ -227,35 +227,35 @@ cleared e mid xs n m p h l t = rw p (padded-some mid m h ∙ rw (l, t))
 module _ {X : Type 0} (x : X) (f : Refusal → X) (n : ℕ) where
   ends-refused : (c : Course Entry) (why : Refusal) → ending c (λ s. Read n) (λ why. Refused why) ≡ Refused why → ending c (λ s. x) f ≡ f why
   unfolding ending
-  ends-refused (item e p c) why h = ends-refused c why h
+  ends-refused (thing e p c) why h = ends-refused c why h
   ends-refused (over a s) why h = absurd (let z : _≡_ {A = ℕ} 0 1 = cc in omega arith)
   ends-refused (stopped w) why h = cc
 
   ends-read : (c : Course Entry) (m : ℕ) → ending c (λ s. Read n) (λ why. Refused why) ≡ Read m → (m ≡ n) × (ending c (λ s. x) f ≡ x)
   unfolding ending
-  ends-read (item e p c) m h = ends-read c m h
+  ends-read (thing e p c) m h = ends-read c m h
   ends-read (over a s) m h = (cc, refl)
   ends-read (stopped w) m h = absurd (let z : _≡_ {A = ℕ} 0 1 = cc in omega arith)
 
 module _ (c : Course Entry) where
   pub refused-answer : (room : ℕ) (why : Refusal) → entriesOf c ≡ Refused why → (vectorAnswer room c ≡ refusedVector (why .number)) × (vectorWords room c ≡ padded room [])
   unfolding entriesOf vectorAnswer vectorWords
-  refused-answer room why h = (ends-refused _ _ (length (items c)) c why h, ap (padded room) (ends-refused _ _ (length (items c)) c why h))
+  refused-answer room why h = (ends-refused _ _ (length (things c)) c why h, ap (padded room) (ends-refused _ _ (length (things c)) c why h))
 
-  pub read-count : (n : ℕ) → entriesOf c ≡ Read n → (n ≡ length (items c)) × (kept c ≡ items c)
+  pub read-count : (n : ℕ) → entriesOf c ≡ Read n → (n ≡ length (things c)) × (kept c ≡ things c)
   unfolding entriesOf kept
-  read-count n h = ends-read (items c) (λ why. []) (length (items c)) c n h
+  read-count n h = ends-read (things c) (λ why. []) (length (things c)) c n h
 
   pub read-short : (room n : ℕ) → entriesOf c ≡ Read n → room < 2 * n → (vectorAnswer room c ≡ refusedVector 10) × (vectorWords room c ≡ padded room [])
   unfolding entriesOf vectorAnswer vectorWords
   read-short room n h l =
       let m = read-count n h .0 in
-      let t = lt-ltb room (2 * length (items c)) (omega arith) in
-      (ends-read _ _ (length (items c)) c n h .1 ∙ rw t, ap (padded room) (ends-read _ _ (length (items c)) c n h .1 ∙ rw t))
+      let t = lt-ltb room (2 * length (things c)) (omega arith) in
+      (ends-read _ _ (length (things c)) c n h .1 ∙ rw t, ap (padded room) (ends-read _ _ (length (things c)) c n h .1 ∙ rw t))
 
   pub read-done : (room n : ℕ) → entriesOf c ≡ Read n → 2 * n ≤ room → (vectorAnswer room c ≡ record { refusal = none; count = n }) × (vectorWords room c ≡ padded room (wordsIn (kept c)))
   unfolding entriesOf vectorAnswer vectorWords
   read-done room n h l =
       let m = read-count n h in
-      let t = le-ltb room (2 * length (items c)) (omega arith) in
-      (ends-read _ _ (length (items c)) c n h .1 ∙ rw (t, m .0), ap (padded room) (ends-read _ _ (length (items c)) c n h .1 ∙ rw (t, m .1)))
+      let t = le-ltb room (2 * length (things c)) (omega arith) in
+      (ends-read _ _ (length (things c)) c n h .1 ∙ rw (t, m .0), ap (padded room) (ends-read _ _ (length (things c)) c n h .1 ∙ rw (t, m .1)))

@@ -10,7 +10,7 @@ use Rattle.numbers.specs.Limits.{maxClock, maxClients}
 use Rattle.numbers.specs.Output.{padded}
 use Rattle.grammar.specs.Grammar.{client, upTo, number, Grammar, emit, stop, done, draw}
 use Rattle.grammar.specs.GrammarInner.{_>>=_}
-use Rattle.grammar.specs.Course.{Course, run, items, ending}
+use Rattle.grammar.specs.Course.{Course, run, things, ending}
 use Rattle.decoder.specs.Line.{line}
 use Rattle.vector.specs.declared.Vector.{Vector}
 
@@ -55,8 +55,8 @@ refusedVector n = record { refusal = nowhere n; count = 0 }
 
 unfoldable pub vectorAnswer : ℕ → Course Entry → Vector
 vectorAnswer room c =
-    let n = length (items c) in
+    let n = length (things c) in
     ending c (λ s. pick (ltb room (2 * n)) (refusedVector 10) (record { refusal = none; count = n })) (λ why. refusedVector (why .number))
 
 unfoldable pub vectorWords : ℕ → Course Entry → List ℕ
-vectorWords room c = padded room (ending c (λ s. pick (ltb room (2 * length (items c))) [] (wordsIn (items c))) (λ why. []))
+vectorWords room c = padded room (ending c (λ s. pick (ltb room (2 * length (things c))) [] (wordsIn (things c))) (λ why. []))

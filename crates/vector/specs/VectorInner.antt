@@ -6,7 +6,7 @@ use lib.ListN.{length, take}
 use Rattle.numbers.specs.declared.Refusal.{Refusal}
 use Rattle.numbers.specs.Number.{none}
 use Rattle.numbers.specs.Limits.{maxClients}
-use Rattle.grammar.specs.Course.{Course, items, ending}
+use Rattle.grammar.specs.Course.{Course, things, ending}
 use Rattle.vector.specs.declared.Entries.{Entries}
 use Rattle.vector.specs.declared.Entries.the-variants.{Read, Refused}
 use Rattle.vector.specs.Vector.{Entry, clientsIn, vectorOf}
@@ -17,10 +17,10 @@ clocksIn es = map (λ (e : Entry). e .clock) es
 -- ---- what is read of it: all entries or none
 
 unfoldable pub entriesOf : Course Entry → Entries
-entriesOf c = ending c (λ s. Read (length (items c))) (λ why. Refused why)
+entriesOf c = ending c (λ s. Read (length (things c))) (λ why. Refused why)
 
 unfoldable pub kept : Course Entry → List Entry
-kept c = ending c (λ s. items c) (λ why. [])
+kept c = ending c (λ s. things c) (λ why. [])
 
 abbrev pub whyEntries : Entries → Refusal
 whyEntries (Read n) = none

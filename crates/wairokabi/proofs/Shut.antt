@@ -5,22 +5,22 @@ use mathlib.Core.List.{List}
 use lib.ListN.{length}
 use lib.Seq.{drop-length}
 use Rattle.numbers.specs.declared.Signed.the-variants.{Wrong}
-use Rattle.numbers.specs.Number.{readSigned, speltSigned, minusOf, placed, withSign}
+use Rattle.numbers.specs.Number.{readSigned, speltSigned, minusOf, answerAt, withSign}
 use Rattle.columns.specs.Number as number
 use Rattle.string.specs.declared.Opened.{Opened}
 use Rattle.string.specs.declared.Opened.the-variants.{At, Not}
 use Rattle.string.specs.declared.Answer.the-variants.{Bad}
-use Rattle.string.specs.String.{openText, nextText, drawn}
+use Rattle.string.specs.String.{openText, nextText, unitsDrawn}
 use Rattle.wairokabi.specs.declared.TextOpened.{TextOpened}
 use Rattle.wairokabi.specs.declared.TextNext.{TextNext}
 use Rattle.wairokabi.specs.Promises.{shut, openAnswer, OpenText, textAnswer, NextText}
 
 signed-end : (s : List ℕ) → readSigned s (length s) ≡ Wrong (record { number = 1; place = length s })
-unfolding readSigned speltSigned minusOf placed withSign
+unfolding readSigned speltSigned minusOf answerAt withSign
 signed-end s = rw (drop-length s)
 
 shut-next : (s : List ℕ) → nextText s (shut s) ≡ Bad (record { number = 1; place = length s })
-unfolding nextText drawn number.nextNumber number.begun
+unfolding nextText unitsDrawn number.nextNumber number.begun
 shut-next s = rw (signed-end s)
 
 pub stays-refused : (s : List ℕ) (at : ℕ) (o : TextOpened) (r : TextNext) → OpenText s at o → (o .refusal .number ≡ 0 → ⊥) → NextText s (o .place) r

@@ -9,7 +9,7 @@ use lib.Seq.{take-append-seam}
 use borrow.Author.Tests.{eqb-true, eqb-false}
 use Rattle.numbers.specs.declared.Written.{Written}
 use Rattle.numbers.specs.Number.{none}
-use Rattle.numbers.specs.Output.{padded, verdict, kept, written, put}
+use Rattle.numbers.specs.Output.{padded, verdict, unlessRefused, written, put}
 use Rattle.numbers.proofs.Output.{verdict-why}
 use Rattle.columns.specs.Number as number
 use Rattle.columns.specs.Difference as difference
@@ -25,7 +25,7 @@ record Done (why : ℕ) (b : List ℕ) (r : Written) (x : List ℕ) : Type 0 whe
   bytes : take (r .bytes) x ≡ b
 
 done : (why : ℕ) (b lent : List ℕ) (r : Written) (x : List ℕ) → Writes why b lent r x → r .number ≡ 0 → Done why b r x
-unfolding written put kept padded
+unfolding written put unlessRefused padded
 done why b lent r x p z = record { legal = why-none (eqb why 0) refl said; bytes = rw (p .0, p .1, said) (take-append-seam b (replicate (length lent - length b) 0)) }
   where
     said : verdict why (length lent) b ≡ 0

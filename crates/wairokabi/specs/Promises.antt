@@ -69,14 +69,14 @@ ReadSigned s at r = r ≡ signedAnswer (readSigned s at)
 abbrev pub Writes : ℕ → List ℕ → List ℕ → Written → List ℕ → Type 0
 Writes why b lent r x = (r ≡ written why (length lent) b) × (x ≡ put why (length lent) b)
 
-unfoldable pub over : ℕ → ℕ → ℕ
-over limit v = pick (ltb limit v) 3 0
+unfoldable pub whyOver : ℕ → ℕ → ℕ
+whyOver limit v = pick (ltb limit v) 3 0
 
 abbrev pub WriteUnsigned : List ℕ → ℕ → Written → List ℕ → Type 0
-WriteUnsigned lent v r x = Writes (over maxUnsigned v) (unsigned v) lent r x
+WriteUnsigned lent v r x = Writes (whyOver maxUnsigned v) (unsigned v) lent r x
 
 abbrev pub WriteSigned : List ℕ → Bool → ℕ → Written → List ℕ → Type 0
-WriteSigned lent m v r x = Writes (over maxSigned v) (signed m v) lent r x
+WriteSigned lent m v r x = Writes (whyOver maxSigned v) (signed m v) lent r x
 
 -- ---- text
 

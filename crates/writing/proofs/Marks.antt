@@ -29,7 +29,7 @@ use Rattle.tokens.specs.KeysInner.{isKey, keyless}
 use Rattle.tokens.proofs.Keys.{by-key, not-key}
 use Rattle.tokens.proofs.Fitting.{taken-append}
 use Rattle.kept.specs.declared.cursor.Ends.{Ends}
-use Rattle.kept.specs.Kept.{Piece, Section, remote, falls, piece, wholePiece, keepFrom, withPieces, keepEach, place, falling, clientOf, sectionsOf}
+use Rattle.kept.specs.Kept.{Piece, Section, remote, falls, piece, wholePiece, keepFrom, withPieces, keepEach, putSection, falling, clientOf, sectionsOf}
 use Rattle.kept.specs.Cut.{broken, isWhole, front, behind, partOf, cutRow}
 use Rattle.kept.specs.Plan.{Planned, plannedFrom, placed, cutIn, cuts, skipFor, Stop, stop, onward, stopsOf, unplanned, endedWords, endedCount, planAll, planAllWords, sane, partAt, cutAt, restOf}
 use Rattle.kept.proofs.SectionsPlaced.{alone, before, behind as behind-it, into, into-falling}
@@ -346,7 +346,7 @@ module _ (u : List ℕ) (all rows : List Block) (same : take (length all) rows �
       each-one (b .client) (remote v (b .client)) i (b ∷ g) (joined gs) (planEach u v j gs) (keepEach v gs) (sound .0) e (each-plans v j gs (sound .1) on)
 
   -- in their places
-  each-place : (p : Planned) (s : Section) (ps : List Planned) (ss : List Section) → Plans p s → Each ps ss → Each (placed p ps) (place s ss)
+  each-place : (p : Planned) (s : Section) (ps : List Planned) (ss : List Section) → Plans p s → Each ps ss → Each (placed p ps) (putSection s ss)
   unfolding Each
   each-place p s [] [] one h = rw (placed-first p, alone s) (one, tt)
   each-place p s [] (t ∷ ss) one h = absurd h
@@ -356,7 +356,7 @@ module _ (u : List ℕ) (all rows : List Block) (same : take (length all) rows �
       clients-same : ltb (p .client) (q .client) ≡ ltb (s .client) (t .client)
       clients-same = ap₂ ltb (one .client) (h .0 .client)
 
-      go : Each (placed p ps) (place s ss) → (x : Bool) → ltb (s .client) (t .client) ≡ x → Each (placed p (q ∷ ps)) (place s (t ∷ ss))
+      go : Each (placed p ps) (putSection s ss) → (x : Bool) → ltb (s .client) (t .client) ≡ x → Each (placed p (q ∷ ps)) (putSection s (t ∷ ss))
       go on true e = rw (placed-behind p q ps (clients-same ∙ e), behind-it s t ss e) (h .0, on)
       go on false e = rw (placed-before p q ps (clients-same ∙ e), before s t ss e) (one, h)
 
@@ -365,7 +365,7 @@ module _ (u : List ℕ) (all rows : List Block) (same : take (length all) rows �
   each-inserted [] l [] m h k = k
   each-inserted [] l (s ∷ ss) m h k = absurd h
   each-inserted (p ∷ ps) l [] m h k = absurd h
-  each-inserted (p ∷ ps) l (s ∷ ss) m h k = each-inserted ps (placed p l) ss (place s m) (h .1) (each-place p s l m (h .0) k)
+  each-inserted (p ∷ ps) l (s ∷ ss) m h k = each-inserted ps (placed p l) ss (putSection s m) (h .1) (each-place p s l m (h .0) k)
 
   each-keys : (ps : List Planned) (ss : List Section) → Each ps ss → keysIn (written (stopsOf rows ps)) ≡ keysIn (sectionsTokens u ss)
   unfolding Each stopsOf sectionsTokens

@@ -21,7 +21,7 @@ use Rattle.kept.specs.Plan.{Stop, Of, Opens, further, GoesOn, Goes, stopsOf, pl
 use Rattle.kept.proofs.SectionsKept.{sections-sound}
 use Rattle.kept.proofs.SectionsGoes.{row-is, PlanOf, plan-kept}
 use Rattle.kept.proofs.SectionsTorn.{plan-torn}
-use Rattle.records.specs.Records.{blockTokens, piecesTokens, startOf, sectionTokens, sectionsTokens, deleteTokens, updateTokens}
+use Rattle.records.specs.Records.{blockTokens, piecesTokens, sectionStart, sectionTokens, sectionsTokens, deleteTokens, updateTokens}
 use Rattle.records.specs.Stops.{headTokens, rowTokens, stopsTokens}
 use Rattle.records.proofs.Stops.{stopTokens, stops-none, stops-in}
 use Rattle.encoder.specs.Passes.{outcomeOf, outcomeFor, wordsFor, plannedTokens}
@@ -57,8 +57,8 @@ module _ (u : List ℕ) (bs rows : List Block) (same : take (length bs) rows ≡
   -- the first piece of a section
   opened-written : (st : Stop) (sts : List Stop) (ps : List Piece) (c : ℕ) (ss : List Section) → Opens u bs st ps
       → All (λ (b : Block). b .client ≡ c) (rowsOf ps) → written sts ≡ piecesTokens u (further ps) ++ sectionsTokens u ss
-      → written (st ∷ sts) ≡ (var (length ps) ∷ (client c ∷ (var (startOf ps) ∷ piecesTokens u ps))) ++ sectionsTokens u ss
-  unfolding Opens further startOf piecesTokens
+      → written (st ∷ sts) ≡ (var (length ps) ∷ (client c ∷ (var (sectionStart ps) ∷ piecesTokens u ps))) ++ sectionsTokens u ss
+  unfolding Opens further sectionStart piecesTokens
   opened-written st sts [] c ss opens own on = absurd opens
   opened-written st sts (p ∷ ps) c ss opens own on =
       let b = blockTokens u (cutRow u p) in

@@ -31,7 +31,7 @@ use Rattle.kept.specs.KeptInner.{rowsOf, Whole, Pieces, SoundSection}
 use Rattle.kept.specs.Cut.{isWhole, shortened, begunLater, cutRow}
 use Rattle.kept.specs.CutInner.{idBefore}
 use Rattle.kept.proofs.SectionsKept.{sections-sound}
-use Rattle.records.specs.Records.{contentNumber, infoByte, bit, name, leftTokens, rightTokens, parentTokens, keyTokens, placeTokens, mark, formatTokens, typeTokens, markedTokens, contentTokens, blockTokens, piecesTokens, startOf, sectionTokens, sectionsTokens, clockFrom, lengthOf, rangesTokens, clientTokens, ownerOf, deleteTokens, updateTokens}
+use Rattle.records.specs.Records.{contentNumber, infoByte, bit, name, leftTokens, rightTokens, parentTokens, keyTokens, placeTokens, mark, formatTokens, typeTokens, markedTokens, contentTokens, blockTokens, piecesTokens, sectionStart, sectionTokens, sectionsTokens, clockFrom, lengthOf, rangesTokens, clientTokens, ownerOf, deleteTokens, updateTokens}
 
 -- ---- tokens
 
@@ -299,7 +299,7 @@ module _ (u : List ℕ) (few : length u ≤ maxUpdate) where
   section-legal s h =
       var-legal (length (s .pieces)) _
       (more-legal _ _ (client-legal (s .client) (client-fits (s .client) (s .pieces) (h .pieces) (h .client) (h .sound)))
-      (var-legal (startOf (s .pieces)) _ (pieces-legal (s .pieces) (pieces-lie (s .pieces) (h .pieces)) (h .sound))))
+      (var-legal (sectionStart (s .pieces)) _ (pieces-legal (s .pieces) (pieces-lie (s .pieces) (h .pieces)) (h .sound))))
 
   pub sections-legal : (ss : List Section) → All (SoundSection u) ss → Legals (sectionsTokens u ss)
   unfolding sectionsTokens

@@ -10,7 +10,7 @@ use Rattle.numbers.specs.Number.{pick}
 use Rattle.numbers.specs.Output.{padded}
 use Rattle.numbers.specs.OutputInner.{refusal, done}
 use Rattle.block.specs.declared.Block.{Block}
-use Rattle.grammar.specs.Course.{Course, items, ending}
+use Rattle.grammar.specs.Course.{Course, things, ending}
 use Rattle.ranges.specs.Ranges.{Range}
 use Rattle.vector.specs.Vector.{Entry}
 use Rattle.tokens.specs.Tokens.{Token, var}
@@ -92,7 +92,7 @@ keptOut u v from form rows n rs out =
 -- ---- against a vector
 
 unfoldable pub readAnswer : List ℕ → Course Entry → ℕ → ℕ → List Block → ℕ → List Range → ℕ → Written
-readAnswer u c from form rows n rs room = ending c (λ s. keptAnswer u (items c) from form rows n rs room) (λ why. refusal (why .number))
+readAnswer u c from form rows n rs room = ending c (λ s. keptAnswer u (things c) from form rows n rs room) (λ why. refusal (why .number))
 
 unfoldable pub readOut : List ℕ → Course Entry → ℕ → ℕ → List Block → ℕ → List Range → List ℕ → List ℕ
-readOut u c from form rows n rs out = ending c (λ s. keptOut u (items c) from form rows n rs out) (λ why. padded (length out) [])
+readOut u c from form rows n rs out = ending c (λ s. keptOut u (things c) from form rows n rs out) (λ why. padded (length out) [])

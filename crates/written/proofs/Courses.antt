@@ -9,7 +9,7 @@ use Rattle.block.specs.declared.Block.{Block}
 use Rattle.grammar.specs.Grammar as grammar
 use Rattle.grammar.specs.Grammar.{Field, Answer, Grammar, draw}
 use Rattle.grammar.specs.GrammarInner.{_>>=_}
-use Rattle.grammar.specs.Course.{got, Reader, Run, item, over, onDrawn, run, Course, fit, items, ending}
+use Rattle.grammar.specs.Course.{got, Reader, Run, thing, over, onDrawn, run, Course, fit, things, ending}
 use Rattle.grammar.proofs.Runs.{andThen, run-bind}
 use Rattle.draws.specs.Draws.{Lined}
 use Rattle.draws.proofs.Fields.{bounded-in}
@@ -46,7 +46,7 @@ module _ {S A B : Type 0} (R : A → B → Type 0) where
 
   -- left at a place
   pub goes-left : (place : S → ℕ) (leave : Run S A (Unit {0}) → Course A)
-      → ((a : A) (p : ℕ) (c : Run S A (Unit {0})) → leave (item a p c) ≡ item a p (leave c)) → ((s : S) → leave (over tt s) ≡ over tt (place s))
+      → ((a : A) (p : ℕ) (c : Run S A (Unit {0})) → leave (thing a p c) ≡ thing a p (leave c)) → ((s : S) → leave (over tt s) ≡ over tt (place s))
       → (bs : List B) (c : Run S A (Unit {0})) (m : S) → Goes R bs c (over tt m) → Goes R bs (leave c) (over tt (place m))
   unfolding Goes
   goes-left place leave on end [] c m g = ap leave g ∙ end m
@@ -65,14 +65,14 @@ module _ {A B : Type 0} (R : A → B → Type 0) (m : ℕ) where
   unfolding Goes fit
   goes-fit [] n c l g = rw g
   goes-fit (b ∷ bs) zero c l g = absurd (omega arith)
-  goes-fit (b ∷ bs) (suc n) c l g = rw (g .3) (ap (item (g .0) (g .1)) (goes-fit bs n (g .2) (omega arith) (g .5)))
+  goes-fit (b ∷ bs) (suc n) c l g = rw (g .3) (ap (thing (g .0) (g .1)) (goes-fit bs n (g .2) (omega arith) (g .5)))
 
-pub goes-alike : (d u : List ℕ) (m : ℕ) (bs : List Block) (c : Course Block) → Goes (AlikeIn d u) bs c (over tt m) → AllAlike d (items c) u bs
-unfolding Goes items AllAlike
+pub goes-alike : (d u : List ℕ) (m : ℕ) (bs : List Block) (c : Course Block) → Goes (AlikeIn d u) bs c (over tt m) → AllAlike d (things c) u bs
+unfolding Goes things AllAlike
 goes-alike d u m [] c g = rw g tt
 goes-alike d u m (b ∷ bs) c g = rw (g .3) (g .4, goes-alike d u m bs (g .2) (g .5))
 
-pub goes-same : {A : Type 0} (m : ℕ) (bs : List A) (c : Course A) → Goes (λ (a b : A). a ≡ b) bs c (over tt m) → items c ≡ bs
-unfolding Goes items
+pub goes-same : {A : Type 0} (m : ℕ) (bs : List A) (c : Course A) → Goes (λ (a b : A). a ≡ b) bs c (over tt m) → things c ≡ bs
+unfolding Goes things
 goes-same m [] c g = rw g
 goes-same {A} m (b ∷ bs) c g = rw (g .3) (ap₂ (λ (x : A) (l : List A). x ∷ l) (g .4) (goes-same m bs (g .2) (g .5)))

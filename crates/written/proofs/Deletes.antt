@@ -11,10 +11,10 @@ use Rattle.numbers.specs.Number.{pick}
 use Rattle.numbers.specs.Limits.{maxClock, maxClients, maxValue}
 use Rattle.grammar.specs.Grammar as grammar
 use Rattle.grammar.specs.GrammarInner.{_>>=_}
-use Rattle.grammar.specs.Course.{got, Reader, item, over, run}
-use Rattle.grammar.specs.Deletes.{ranges, clients, allRanges}
+use Rattle.grammar.specs.Course.{got, Reader, thing, over, run}
+use Rattle.grammar.specs.Deletes.{ranges, deletedClients, allRanges}
 use Rattle.grammar.proofs.Runs.{run-bind}
-use Rattle.decoder.specs.Line.{varAt, upTo, restored, deleteAt, numberOf, line}
+use Rattle.decoder.specs.Line.{varAt, upTo, restored, deleteAt, numberBy, line}
 use Rattle.decoder.specs.Update.{deleteSet}
 use Rattle.ranges.specs.Ranges.{Range, normal}
 use Rattle.ranges.specs.RangesInner.{Normal}
@@ -44,7 +44,7 @@ module _ {S : Type 0} {form : ℕ} {r : Reader S} {place : S → ℕ} {d : List 
   Next s v p m = r (grammar.number grammar.any) s ≡ got (v, p) m
 
   any-read : (s m : S) (v p : ℕ) → Next s v p m → varAt d (place s) ≡ got (v, p) (place m)
-  unfolding line numberOf
+  unfolding line numberBy
   any-read s m v p e = lined .any v p s m e
 
   within-read : (s m : S) (n v p : ℕ) → Next s v p m → v ≤ n → upTo n d (place s) ≡ got (v, p) (place m)
@@ -70,12 +70,12 @@ module _ {S : Type 0} {form : ℕ} {r : Reader S} {place : S → ℕ} {d : List 
       at : ℕ
       on : S
       is : run (line form d) (ranges (suc k) client end) (place s)
-          ≡ item (range client (x .clock) (x .len)) at (run (line form d) (ranges k client (x .clock + x .len)) (place on))
+          ≡ thing (range client (x .clock) (x .len)) at (run (line form d) (ranges k client (x .clock + x .len)) (place on))
       drawn : rest on
 
     range-read : (k end : ℕ) (x : Range) (xs : List Range) (s m : S) → Fine x → end ≤ x .clock → Draws r d s (rangesTokens form end (x ∷ xs)) m
         → One k end x s (λ (t : S). Draws r d t (rangesTokens form (x .clock + x .len) xs) m)
-    unfolding rangesTokens clockFrom lengthOf ranges Draws line numberOf run
+    unfolding rangesTokens clockFrom lengthOf ranges Draws line numberBy run
     range-read k end x xs s m fine l h =
         let a = h .3 in
         let clock = restored-read s (h .1) end (x .clock) (h .0) l (omega (arith, fine .end)) (h .2) in
@@ -110,18 +110,18 @@ module _ {S : Type 0} {form : ℕ} {r : Reader S} {place : S → ℕ} {d : List 
 
   -- ---- client after client
 
-  clients-end : (s m : S) → Draws r d s (clientTokens form []) m → Goes Is [] (run (line form d) (clients 0) (place s)) (over tt (place m))
-  unfolding clientTokens clients Draws run Goes
+  clients-end : (s m : S) → Draws r d s (clientTokens form []) m → Goes Is [] (run (line form d) (deletedClients 0) (place s)) (over tt (place m))
+  unfolding clientTokens deletedClients Draws run Goes
   clients-end s m h = ap (λ (t : S). over tt (place t)) h
 
   record Head (n : ℕ) (x : Range) (xs : List Range) (s : S) (rest : S → Type 0) : Type 0 where
     from : S
-    is : run (line form d) (clients (suc n)) (place s) ≡ run (line form d) (ranges (length (x ∷ xs)) (x .client) 0 >>= λ _. clients n) (place from)
+    is : run (line form d) (deletedClients (suc n)) (place s) ≡ run (line form d) (ranges (length (x ∷ xs)) (x .client) 0 >>= λ _. deletedClients n) (place from)
     drawn : rest from
 
   head-read : (n : ℕ) (x : Range) (xs : List Range) (gs : List (List Range)) (s m : S) → Fine x → Draws r d s (clientTokens form ((x ∷ xs) ∷ gs)) m
       → Head n x xs s (λ (t : S). Draws r d t (rangesTokens form 0 (x ∷ xs) ++ clientTokens form gs) m)
-  unfolding clientTokens clients Draws line numberOf
+  unfolding clientTokens deletedClients Draws line numberBy
   head-read n x xs gs s m fine h =
       let a = h .3 in
       record {
@@ -134,7 +134,7 @@ module _ {S : Type 0} {form : ℕ} {r : Reader S} {place : S → ℕ} {d : List 
       }
 
   clients-read : (gs : List (List Range)) (s m : S) → Grouped gs → All (All Fine) gs → Draws r d s (clientTokens form gs) m
-      → Goes Is (joined gs) (run (line form d) (clients (length gs)) (place s)) (over tt (place m))
+      → Goes Is (joined gs) (run (line form d) (deletedClients (length gs)) (place s)) (over tt (place m))
   unfolding joined
   clients-read [] s m g fine h = clients-end s m h
   clients-read ([] ∷ gs) s m g fine h = absurd g
@@ -145,13 +145,13 @@ module _ {S : Type 0} {form : ℕ} {r : Reader S} {place : S → ℕ} {d : List 
       let here = ranges-read (x .client) (x ∷ xs) 0 0 (head .from) t (g .0) (omega arith) (fine .0) (two .first) in
       let there = clients-read gs t m (g .2) (fine .1) (two .then) in
       goes-from Is _ _ _ _ (head .is ∙ run-bind (line form d) _ _ (place (head .from)))
-      (goes-then Is (x ∷ xs) (joined gs) _ (over tt (place m)) (place t) (λ _ y. run (line form d) (clients (length gs)) y) here there)
+      (goes-then Is (x ∷ xs) (joined gs) _ (over tt (place m)) (place t) (λ _ y. run (line form d) (deletedClients (length gs)) y) here there)
 
   -- ---- all of it
 
   pub deletes-read : (rs : List Range) (s t : S) → KeptRanges rs → Draws r d s (deleteTokens form rs) t
       → Goes (λ (a b : Range). a ≡ b) rs (deleteSet form d (place s)) (over tt (place t))
-  unfolding deleteTokens deleteSet allRanges Draws line numberOf
+  unfolding deleteTokens deleteSet allRanges Draws line numberBy
   deletes-read rs s t kept h =
       let gs : List (List Range) = groups ownerOf rs in
       let goes = clients-read gs (h .1) t (grouped rs (kept .normal)) (groups-all ownerOf Fine rs (kept .fine)) (h .3) in

@@ -9,7 +9,7 @@ use lib.Dec.{eqb}
 use borrow.Author.Tests.{eqb-true, eqb-false}
 use Rattle.numbers.specs.Number.{pick}
 use Rattle.block.specs.declared.Block.{Block}
-use Rattle.grammar.specs.Course.{fit, items}
+use Rattle.grammar.specs.Course.{fit, things}
 use Rattle.decoder.specs.Update.{blocksOf, deleteSet}
 use Rattle.vector.specs.Vector.{Entry}
 use Rattle.ranges.specs.Ranges.{normal}
@@ -78,10 +78,10 @@ module _ (form : ℕ) (u : List ℕ) where
 
 -- ---- of an update, against any vector, to be written in the form `to`
 
-pub kept-sections : (form to : ℕ) (u : List ℕ) (v : List Entry) → Clean u (sectionsOf v (items (blocksOf form u)))
-    → pick (eqb form to) false (anyFormat (sectionsOf v (items (blocksOf form u)))) ≡ false → Kept to u (sectionsOf v (items (blocksOf form u)))
+pub kept-sections : (form to : ℕ) (u : List ℕ) (v : List Entry) → Clean u (sectionsOf v (things (blocksOf form u)))
+    → pick (eqb form to) false (anyFormat (sectionsOf v (things (blocksOf form u)))) ≡ false → Kept to u (sectionsOf v (things (blocksOf form u)))
 kept-sections form to u v clean same =
-    let bs = items (blocksOf form u) in
+    let bs = things (blocksOf form u) in
     let ordered = blocks-ordered form u in
     record {
       count = omega (arith, sections-length v bs, blocks-groups form u);
@@ -91,10 +91,10 @@ kept-sections form to u v clean same =
     }
 
 -- and its delete ranges, from a place on, with so many rows
-pub kept-ranges : (form : ℕ) (u : List ℕ) (at n : ℕ) → KeptRanges (normal (items (fit n (deleteSet form u at))))
+pub kept-ranges : (form : ℕ) (u : List ℕ) (at n : ℕ) → KeptRanges (normal (things (fit n (deleteSet form u at))))
 kept-ranges form u at n =
     record {
-      normal = normal-is (items (fit n (deleteSet form u at))) .0;
-      fine = normal-fine (items (fit n (deleteSet form u at))) (fit-fine form u at n);
+      normal = normal-is (things (fit n (deleteSet form u at))) .0;
+      fine = normal-fine (things (fit n (deleteSet form u at))) (fit-fine form u at n);
       clients = range-clients form u at n;
     }

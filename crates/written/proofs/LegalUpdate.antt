@@ -18,7 +18,7 @@ use Rattle.draws.specs.Draws.{most, isField, Legal, AllLegal}
 use Rattle.kept.specs.Kept.{Piece, Section}
 use Rattle.kept.specs.KeptInner.{pieceCount}
 use Rattle.kept.specs.Cut.{cutRow}
-use Rattle.records.specs.Records.{blockTokens, piecesTokens, startOf, sectionTokens, sectionsTokens, clockFrom, lengthOf, rangesTokens, clientTokens, ownerOf, deleteTokens, updateTokens}
+use Rattle.records.specs.Records.{blockTokens, piecesTokens, sectionStart, sectionTokens, sectionsTokens, clockFrom, lengthOf, rangesTokens, clientTokens, ownerOf, deleteTokens, updateTokens}
 use Rattle.written.specs.Kept.{KeptPiece, KeptSection, Kept, KeptRanges}
 use Rattle.written.proofs.Cuts.{cut-out}
 use Rattle.written.proofs.Sections.{start-fits}
@@ -52,7 +52,7 @@ module _ (form : ℕ) (u : List ℕ) (few : length u ≤ maxUpdate) where
   section-legal s k l =
       var-legal form (length (s .pieces)) _ (omega arith)
       (client-legal form (s .client) _ (client-fits (s .client) (s .pieces) (k .some) (k .each) (k .client))
-      (var-legal form (startOf (s .pieces)) _ (omega (arith, start-fits form u (s .pieces) (k .each))) (pieces-legal (s .pieces) (k .each))))
+      (var-legal form (sectionStart (s .pieces)) _ (omega (arith, start-fits form u (s .pieces) (k .each))) (pieces-legal (s .pieces) (k .each))))
 
   sections-legal : (ss : List Section) → All (KeptSection form u) ss → pieceCount ss ≤ maxBlocks → AllLegal form (sectionsTokens u ss)
   unfolding sectionsTokens pieceCount

@@ -12,8 +12,8 @@ use Rattle.numbers.specs.Limits.{maxClock}
 use Rattle.text.specs.declared.Units.{Units}
 use Rattle.block.specs.declared.Block.{Block}
 use Rattle.block.specs.Kinds.{isItem}
-use Rattle.grammar.specs.Course.{Reader, item, over, run}
-use Rattle.grammar.specs.Blocks.{block, dropped, kept, blocks}
+use Rattle.grammar.specs.Course.{Reader, thing, over, run}
+use Rattle.grammar.specs.Blocks.{block, dropped, unlessDropped, blocks}
 use Rattle.readings.specs.Sound.{linked, All}
 use Rattle.readings.specs.SoundInner.{Sound}
 use Rattle.readings.proofs.Columns.{chosen}
@@ -21,7 +21,7 @@ use Rattle.draws.specs.Draws.{Draws, Lined}
 use Rattle.draws.proofs.Splits.{split}
 use Rattle.kept.specs.Kept.{Piece}
 use Rattle.kept.specs.Cut.{cutRow}
-use Rattle.records.specs.Records.{blockTokens, piecesTokens, startOf}
+use Rattle.records.specs.Records.{blockTokens, piecesTokens, sectionStart}
 use Rattle.written.specs.Written.{reread, Writable, piecesRead, Goes, AlikeIn}
 use Rattle.written.specs.Kept.{KeptPiece, Meets, Joined}
 use Rattle.written.proofs.Courses.{then-on}
@@ -65,16 +65,16 @@ unfolding Joined Meets Runs
 later-runs p [] h = tt
 later-runs p (q ∷ ps) h = (h .0, later-runs q ps (h .1))
 
-pub runs : (ps : List Piece) → Joined ps → Runs (startOf ps) ps
-unfolding Runs startOf
+pub runs : (ps : List Piece) → Joined ps → Runs (sectionStart ps) ps
+unfolding Runs sectionStart
 runs [] h = tt
 runs (p ∷ ps) h = (refl, later-runs p ps h)
 
 module _ {S : Type 0} {form : ℕ} {r : Reader S} {place : S → ℕ} {d : List ℕ} (lined : Lined form d r place) (u : List ℕ) (client : ℕ) where
   -- one block more
   step : (c : Block) (clock : ℕ) (s t : S) → Writable form u c → c .client ≡ client → c .clock ≡ clock → (k : ℕ) → Draws r d s (blockTokens u c) t
-      → (b : Block) × (p : ℕ) × (run r (blocks (suc k) client clock) s ≡ item b p (run r (blocks k client (clock + c .length .0)) t)) × AlikeIn d u b (reread c)
-  unfolding blocks kept run
+      → (b : Block) × (p : ℕ) × (run r (blocks (suc k) client clock) s ≡ thing b p (run r (blocks k client (clock + c .length .0)) t)) × AlikeIn d u b (reread c)
+  unfolding blocks unlessDropped run
   step c clock s t w e f k h =
       let x = block-read lined u c s t w h in
       let stays = reread-stays c in
@@ -106,7 +106,7 @@ module _ {S : Type 0} {form : ℕ} {r : Reader S} {place : S → ℕ} {d : List 
         one .0,
         one .1,
         run r (blocks (length ps) client (p .row .clock + p .to)) (two .between),
-        one .2 ∙ ap (λ (n : ℕ). item (one .0) (one .1) (run r (blocks (length ps) client n) (two .between))) end,
+        one .2 ∙ ap (λ (n : ℕ). thing (one .0) (one .1) (run r (blocks (length ps) client n) (two .between))) end,
         one .3,
         more,
       )

@@ -8,7 +8,7 @@ use borrow.Author.Tests.{eqb-true}
 use Rattle.numbers.specs.Number.{pick}
 use Rattle.block.specs.declared.Block.{Block}
 use Rattle.block.specs.Kinds.{FORMAT, isFormat}
-use Rattle.grammar.specs.Course.{items}
+use Rattle.grammar.specs.Course.{things}
 use Rattle.decoder.specs.Update.{blocksOf}
 use Rattle.vector.specs.Vector.{Entry}
 use Rattle.readings.specs.Sound.{All}
@@ -89,13 +89,13 @@ module _ (form : ℕ) (u : List ℕ) where
       go false e h more = (pieces-unvalued (s .pieces) e, more h)
 
   -- of an update of a form `from`: no format is kept, or it is the same form
-  pub sections-valued : (from : ℕ) (v : List Entry) → pick (eqb from form) false (anyFormat (sectionsOf v (items (blocksOf from u)))) ≡ false
-      → All (λ (s : Section). All (Valued form u) (rowsOf (s .pieces))) (sectionsOf v (items (blocksOf from u)))
+  pub sections-valued : (from : ℕ) (v : List Entry) → pick (eqb from form) false (anyFormat (sectionsOf v (things (blocksOf from u)))) ≡ false
+      → All (λ (s : Section). All (Valued form u) (rowsOf (s .pieces))) (sectionsOf v (things (blocksOf from u)))
   sections-valued from v h = go (eqb from form) refl h
     where
-      go : (x : Bool) → eqb from form ≡ x → pick x false (anyFormat (sectionsOf v (items (blocksOf from u)))) ≡ false
-          → All (λ (s : Section). All (Valued form u) (rowsOf (s .pieces))) (sectionsOf v (items (blocksOf from u)))
+      go : (x : Bool) → eqb from form ≡ x → pick x false (anyFormat (sectionsOf v (things (blocksOf from u)))) ≡ false
+          → All (λ (s : Section). All (Valued form u) (rowsOf (s .pieces))) (sectionsOf v (things (blocksOf from u)))
       go true e h =
-          sections-rows (Valued form u) v (items (blocksOf from u))
-          (subst (λ (f : ℕ). All (Valued f u) (items (blocksOf from u))) (eqb-true from form e) (blocks-valued from u))
-      go false e h = sections-unvalued (sectionsOf v (items (blocksOf from u))) h
+          sections-rows (Valued form u) v (things (blocksOf from u))
+          (subst (λ (f : ℕ). All (Valued f u) (things (blocksOf from u))) (eqb-true from form e) (blocks-valued from u))
+      go false e h = sections-unvalued (sectionsOf v (things (blocksOf from u))) h

@@ -22,7 +22,7 @@ use Rattle.draws.specs.Draws.{laneField, Draws, Lined}
 use Rattle.draws.proofs.Splits.{split}
 use Rattle.kept.specs.Kept.{Piece, Section}
 use Rattle.kept.specs.KeptInner.{Whole, Inside, pieceCount}
-use Rattle.records.specs.Records.{piecesTokens, startOf, sectionTokens, sectionsTokens}
+use Rattle.records.specs.Records.{piecesTokens, sectionStart, sectionTokens, sectionsTokens}
 use Rattle.written.specs.Written.{piecesRead, sectionsRead, Goes, AlikeIn}
 use Rattle.written.specs.Kept.{KeptPiece, KeptSection, clientIn}
 use Rattle.written.proofs.Courses.{draw-on, within-on, goes-from, goes-then}
@@ -55,8 +55,8 @@ all-new (c ∷ cs) = (refl, all-new cs)
 -- ---- a section
 
 -- its first clock is a clock
-pub start-fits : (form : ℕ) (u : List ℕ) (ps : List Piece) → All (KeptPiece form u) ps → startOf ps ≤ maxClock
-unfolding startOf
+pub start-fits : (form : ℕ) (u : List ℕ) (ps : List Piece) → All (KeptPiece form u) ps → sectionStart ps ≤ maxClock
+unfolding sectionStart
 start-fits form u [] k = omega arith
 start-fits form u (p ∷ ps) k = go (k .0 .ends)
   where
@@ -69,7 +69,7 @@ module _ {S : Type 0} {form : ℕ} {r : Reader S} {place : S → ℕ} {d : List 
   record Head (n : ℕ) (seen : List ℕ) (room : ℕ) (x : Section) (s m : S) : Type 0 where
     from : S
     is : run r (sections (suc n) seen room) s
-        ≡ run r (blocks (length (x .pieces)) (x .client) (startOf (x .pieces)) >>= λ _. sections n (seen ++ (x .client ∷ [])) (room - length (x .pieces))) from
+        ≡ run r (blocks (length (x .pieces)) (x .client) (sectionStart (x .pieces)) >>= λ _. sections n (seen ++ (x .client ∷ [])) (room - length (x .pieces))) from
     drawn : Draws r d from (piecesTokens u (x .pieces)) m
 
   head-read : (n : ℕ) (seen : List ℕ) (room : ℕ) (x : Section) (s m : S) → KeptSection form u x → length (x .pieces) ≤ room → among (x .client) seen ≡ false
@@ -79,12 +79,12 @@ module _ {S : Type 0} {form : ℕ} {r : Reader S} {place : S → ℕ} {d : List 
       let a = h .3 in
       let b = a .3 in
       let count = within-on r lined room (length (x .pieces)) (h .0) s (h .1) (h .2) l in
-      let clock = within-on r lined maxClock (startOf (x .pieces)) (b .0) (a .1) (b .1) (b .2) (start-fits form u (x .pieces) (k .each)) in
+      let clock = within-on r lined maxClock (sectionStart (x .pieces)) (b .0) (a .1) (b .1) (b .2) (start-fits form u (x .pieces) (k .each)) in
       record {
         from = b .1;
         is = draw-on r (grammar.number (grammar.upTo room)) (length (x .pieces), h .0) s (h .1) _ count
             ∙ draw-on r (grammar.number grammar.client) (x .client, a .0) (h .1) (a .1) _ (a .2)
-            ∙ rw new (draw-on r (grammar.number (grammar.upTo maxClock)) (startOf (x .pieces), b .0) (a .1) (b .1) _ clock);
+            ∙ rw new (draw-on r (grammar.number (grammar.upTo maxClock)) (sectionStart (x .pieces), b .0) (a .1) (b .1) _ clock);
         drawn = b .3;
       }
 
@@ -103,7 +103,7 @@ module _ {S : Type 0} {form : ℕ} {r : Reader S} {place : S → ℕ} {d : List 
       let t = two .between in
       let head = head-read (length ss) seen room x s t (k .0) (omega arith) (new .0) (two .first) in
       let on = sections (length ss) (seen ++ (x .client ∷ [])) (room - n) in
-      let here = pieces-read lined u (x .client) (x .pieces) (startOf (x .pieces)) (head .from) t (k .0 .each) (k .0 .client)
+      let here = pieces-read lined u (x .client) (x .pieces) (sectionStart (x .pieces)) (head .from) t (k .0 .each) (k .0 .client)
       (runs (x .pieces) (k .0 .joined)) (head .drawn) in
       let later = still-new (x .client) seen (map clientIn ss) (new .1) (e .0) in
       let there = sections-read ss (seen ++ (x .client ∷ [])) (room - n) t m (k .1) (e .1) later (omega arith) (two .then) in

@@ -8,12 +8,12 @@ use Rattle.numbers.specs.Limits.{maxClients, maxBlocks}
 use Rattle.numbers.specs.declared.Refusal.{Refusal}
 use Rattle.block.specs.declared.Block.{Block}
 use Rattle.grammar.specs.Grammar as grammar
-use Rattle.grammar.specs.Course.{Course, fit, items, ending}
+use Rattle.grammar.specs.Course.{Course, fit, things, ending}
 use Rattle.grammar.specs.Blocks.{allBlocks}
 use Rattle.decoder.specs.Update.{blocksOf, deleteSet}
 use Rattle.ranges.specs.Ranges.{Range, normal}
 use Rattle.ranges.specs.RangesInner.{Normal}
-use Rattle.leftover.specs.Leftover.{setEnd, left}
+use Rattle.leftover.specs.Leftover.{setEnd, unreadOf}
 use Rattle.leftover.specs.LeftoverInner.{Spent}
 use Rattle.draws.specs.Draws.{Draws, DrawnAgain}
 use Rattle.draws.proofs.Splits.{split}
@@ -64,7 +64,7 @@ module _ (form : ℕ) (d u : List ℕ) (ss : List Section) (rs : List Range) (t 
   bs = blocksOf form d
 
   -- all blocks are there
-  pub records-alike : AllAlike d (items (blocksOf form d)) u (sectionsRead u ss)
+  pub records-alike : AllAlike d (things (blocksOf form d)) u (sectionsRead u ss)
   records-alike = goes-alike d u (reads .between) (sectionsRead u ss) bs (reads .blocks)
 
   -- rows for all pieces take them all
@@ -77,7 +77,7 @@ module _ (form : ℕ) (d u : List ℕ) (ss : List Section) (rs : List Range) (t 
   abbrev ds : Course Range
   ds = deleteSet form d (reads .between)
 
-  pub ranges-same : items (deleteSet form d (reads .between)) ≡ rs
+  pub ranges-same : things (deleteSet form d (reads .between)) ≡ rs
   ranges-same = goes-same t rs ds (reads .ranges)
 
   pub ranges-fit : (n : ℕ) → length rs ≤ n → fit n (deleteSet form d (reads .between)) ≡ deleteSet form d (reads .between)
@@ -87,8 +87,8 @@ module _ (form : ℕ) (d u : List ℕ) (ss : List Section) (rs : List Range) (t 
   ranges-end done refused = goes-ending (λ (a b : Range). a ≡ b) t done refused rs ds (reads .ranges)
 
   -- where the delete set ends the update, no byte of it is left
-  pub nothing-left : t ≡ length d → Spent (left form d)
-  unfolding left setEnd Spent
+  pub nothing-left : t ≡ length d → Spent (unreadOf form d)
+  unfolding unreadOf setEnd Spent
   nothing-left end = (omega (arith, end, set-end), reads .spent)
     where
       set-end : setEnd form d ≡ t
@@ -97,17 +97,17 @@ module _ (form : ℕ) (d u : List ℕ) (ss : List Section) (rs : List Range) (t 
   -- a reading with rows enough, as `reading` of the crate updates has it: `whole` is made of the blocks and of the ranges, `refused` of a refusal
   module _ {X : Type 0} (whole : List Block → List Range → X) (refused : Refusal → X) where
     abbrev pub setRead : List Block → Course Range → X
-    setRead bs c = ending c (λ _. whole bs (normal (items c))) refused
+    setRead bs c = ending c (λ _. whole bs (normal (things c))) refused
 
     abbrev pub updateRead : ℕ → Course Block → X
-    updateRead n c = ending c (λ (m : ℕ). setRead (items c) (fit n (deleteSet form d m))) refused
+    updateRead n c = ending c (λ (m : ℕ). setRead (things c) (fit n (deleteSet form d m))) refused
 
     pub reading-written : (m n : ℕ) → pieceCount ss ≤ m → length rs ≤ n → Normal rs
-        → updateRead n (fit m (blocksOf form d)) ≡ whole (items (blocksOf form d)) rs
+        → updateRead n (fit m (blocksOf form d)) ≡ whole (things (blocksOf form d)) rs
     reading-written m n l k normal-rs =
         ap (updateRead n) (blocks-fit m l)
-        ∙ blocks-end (λ (m : ℕ). setRead (items bs) (fit n (deleteSet form d m))) refused
-        ∙ ap (setRead (items bs)) (ranges-fit n k)
-        ∙ ranges-end (λ _. whole (items bs) (normal (items ds))) refused
-        ∙ ap (λ (l : List Range). whole (items bs) (normal l)) ranges-same
-        ∙ ap (whole (items bs)) (normal-same rs normal-rs)
+        ∙ blocks-end (λ (m : ℕ). setRead (things bs) (fit n (deleteSet form d m))) refused
+        ∙ ap (setRead (things bs)) (ranges-fit n k)
+        ∙ ranges-end (λ _. whole (things bs) (normal (things ds))) refused
+        ∙ ap (λ (l : List Range). whole (things bs) (normal l)) ranges-same
+        ∙ ap (whole (things bs)) (normal-same rs normal-rs)

@@ -2,14 +2,14 @@
 use mathlib.Core.Path.{sym, ap, _∙_}
 use Rattle.numbers.specs.NumberInner.{whyRead}
 use Rattle.anys.specs.declared.Skipped.the-variants.{Refused}
-use Rattle.anys.specs.Any.{counted, bytesAt}
+use Rattle.anys.specs.Any.{onCount, skipLed}
 use Rattle.anys.proofs.Places.{read-ends}
 use borrow.Author.Needs.{needs}
 use Rattle.anys.proofs.skip_buf.Statement.{statement}
 use Rattle.anys.proofs.skip_buf.Tie as tie
 
 returns : tie.Need-returns
-unfolding bytesAt counted
+unfolding skipLed onCount
 returns c =
     let told = c .before .enum-told .given .1 in
     rw (← c .before .before .before .read-unsigned .ensures, told) (ap Refused (c .why-read .ensures ∙ ap whyRead told))
@@ -20,7 +20,7 @@ skip-bytes-requires c κs =
     read-ends (a .update .now) (a .at) _ _ (sym (c .before .before .before .read-unsigned .ensures) ∙ c .before .r .given .1) .1
 
 returns-2 : tie.Need-returns-2
-unfolding bytesAt counted
+unfolding skipLed onCount
 returns-2 c = c .skip-bytes .ensures ∙ rw (← c .before .before .before .before .read-unsigned .ensures, c .before .before .r .given .1)
 
 pub skip-buf-spec : {M : Type 1} → statement M

@@ -4,7 +4,7 @@ use mathlib.Core.Path.{ap, _∙_}
 use native.Mathlib.Omega.{arith}
 use lib.ListN.{drop}
 use borrow.Author.Needs.{needs}
-use Rattle.bits.specs.Bits.{number, ofBytes}
+use Rattle.bits.specs.Bits.{valueOf, ofBytes}
 use Rattle.bits.proofs.Places.{taken, taken-from}
 use Rattle.bits.proofs.get.Statement.{statement}
 use Rattle.bits.proofs.get.Tie as tie
@@ -15,7 +15,7 @@ returns c =
     let o = a .o in
     let k = a .k in
     ap (λ (w : ℕ). w * 2 ^ (o % 8) % 2 ^ 64 / 2 ^ (64 - k)) (c .window .ensures)
-    ∙ taken (ofBytes (drop (o / 8) (a .s .now))) (o % 8) k (search needs) ∙ ap (number k) (taken-from (a .s .now) o)
+    ∙ taken (ofBytes (drop (o / 8) (a .s .now))) (o % 8) k (search needs) ∙ ap (valueOf k) (taken-from (a .s .now) o)
 
 pub get-spec : {M : Type 1} → statement M
 get-spec = tie.close (tie.spec (λ c κs. search needs) (λ c. search needs) (λ c. search needs) (λ c. search needs) returns)

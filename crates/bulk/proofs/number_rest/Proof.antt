@@ -4,20 +4,20 @@ use mathlib.Core.Path.{_≡_, _∙_}
 use native.Mathlib.Omega.{arith}
 use borrow.Author.Needs.{needs}
 use lib.ListN.{drop, getD}
-use Rattle.numbers.specs.Number.{spelt, after, placed}
+use Rattle.numbers.specs.Number.{spelt, lowPart, answerAt}
 use Rattle.numbers.proofs.Laws.{at-end, at-last, turn, at-limit, room, unit-fits, digit-fits}
 use Rattle.bulk.proofs.number_rest.Statement.{statement}
 use Rattle.bulk.proofs.number_rest.Tie as tie
 
 abbrev Inv-loop : tie.InvT-loop
 Inv-loop s first at value i₀ left₀ unit₀ value₀ i left' unit' value' =
-    (after unit' value' (spelt left' i (drop i s)) ≡ after 64 value (spelt 8 at (drop at s))) × (unit' * 2 ^ (7 * left') ≤ 2 ^ 63) × (value' < unit')
+    (lowPart unit' value' (spelt left' i (drop i s)) ≡ lowPart 64 value (spelt 8 at (drop at s))) × (unit' * 2 ^ (7 * left') ≤ 2 ^ 63) × (value' < unit')
 
 abbrev μ-loop : tie.MeasureT-loop
 μ-loop s first at value i₀ left₀ unit₀ value₀ i left' unit' value' = left'
 
 returns : tie.Need-returns Inv-loop μ-loop
-unfolding placed after
+unfolding answerAt lowPart
 returns c = rw (← c .before .before .loop .inv .0, at-end _ _ _ (c .before .loop-test .taken) (c .if1 .taken))
 
 cast-b : tie.Need-cast-b Inv-loop μ-loop
@@ -36,7 +36,7 @@ add-whole c =
     omega (arith, digit-fits (l .unit) (l .left) (l .value) _ some (l .inv .1) (l .inv .2) (c .if2 .taken), unit-fits (l .unit) (l .left) some (l .inv .1))
 
 returns-2 : tie.Need-returns-2 Inv-loop μ-loop
-unfolding placed after
+unfolding answerAt lowPart
 returns-2 c =
     let l = c .before .before .before .before .loop in
     let some = c .before .before .before .loop-test .taken in
@@ -70,7 +70,7 @@ loop-again c =
     )
 
 returns-3 : tie.Need-returns-3 Inv-loop μ-loop
-unfolding placed after
+unfolding answerAt lowPart
 returns-3 c = rw (← c .before .loop .inv .0, at-limit _ _ _ (c .loop-test .left))
 
 pub number-rest-spec : {M : Type 1} → statement M

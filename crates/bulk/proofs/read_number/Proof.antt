@@ -3,13 +3,13 @@ use mathlib.Core.Path.{sym, ap, _∙_}
 use native.Mathlib.Omega.{arith}
 use lib.ListN.{drop-of-length-le}
 use Rattle.numbers.proofs.Laws.{signed-last, signed-more}
-use Rattle.numbers.specs.Number.{readSigned, speltSigned, minusOf, withSign, placed}
+use Rattle.numbers.specs.Number.{readSigned, speltSigned, minusOf, withSign, answerAt}
 use borrow.Author.Needs.{needs}
 use Rattle.bulk.proofs.read_number.Statement.{statement}
 use Rattle.bulk.proofs.read_number.Tie as tie
 
 returns : tie.Need-returns
-unfolding readSigned speltSigned minusOf withSign placed
+unfolding readSigned speltSigned minusOf withSign answerAt
 returns c = rw (drop-of-length-le _ (c .if1 .taken))
 
 cast-b : tie.Need-cast-b

@@ -7,7 +7,7 @@ use denote.Ref.{now}
 use lib.ListN.{length}
 use Rattle.text.specs.declared.Taken.{Taken}
 use Rattle.text.specs.declared.Taken.the-variants as units
-use Rattle.string.specs.String.{ending, taken}
+use Rattle.string.specs.String.{textEnding, unitsTaken}
 use Rattle.string.specs.StringInner.{TookWithin}
 use borrow.Author.Needs.{needs}
 use Rattle.bulk.proofs.take.Statement.{statement}
@@ -17,7 +17,7 @@ add-next : tie.Need-add-next
 add-next c = omega (arith, c .before .is-plain .ensures (c .if1 .taken) .0)
 
 returns : tie.Need-returns
-unfolding taken ending
+unfolding unitsTaken textEnding
 returns c = rw (c .before .is-plain .ensures (c .if1 .taken) .1)
 
 add-next-2 : tie.Need-add-next-2
@@ -30,11 +30,11 @@ add-next-2 c =
     ⊎-elim (λ l. omega (arith, l)) (λ z. omega (arith, z)) w
 
 returns-2 : tie.Need-returns-2
-unfolding taken ending
+unfolding unitsTaken textEnding
 returns-2 c = rw (← c .before .before .before .before .take-text .ensures .0, c .before .before .bytes .given .1)
 
 returns-3 : tie.Need-returns-3
-unfolding taken ending
+unfolding unitsTaken textEnding
 returns-3 c = rw (← c .before .before .before .take-text .ensures .0, c .before .n .given .1)
 
 pub take-spec : {M : Type 1} → statement M

@@ -42,7 +42,7 @@ use Prim.Native.Nat.{_/_}
 use Rattle.diffs.specs.Promises.{answered, diffOf, refusedWith}
 use Rattle.numbers.specs.Output.{padded}
 use Rattle.ranges.specs.TableInner.{rowsFrom}
-use Rattle.updates.specs.Promises.{answer, known, reading, refused, rowsOf, wordsOf}
+use Rattle.updates.specs.Promises.{answer, known, reading, refused, tableOf, rangeWords}
 use Rattle.vector.specs.Vector.{vectorOf}
 use Rattle.writing.specs.Writing.{readAnswer, readOut}
 use Rattle.diffs.proofs.Sorts.{diff, diff-has}
@@ -131,7 +131,7 @@ module _ {M : Type 1} (𝓤 : URA M) (H : Heap 𝓤) (A : Atoms 𝓤) (W : Given
 
   -- the contract
   abbrev Right : Diff → List Block → List ℕ → List ℕ → Type 0
-  Right r rows₁ ranges₁ out₁ = (r ≡ answered (diffOf form₀ update₀ vector₀ to₀ (length rows₀) (length ranges₀ / 3) (length out₀))) × (rows₁ ≡ rowsOf (length rows₀) ((diffOf form₀ update₀ vector₀ to₀ (length rows₀) (length ranges₀ / 3) (length out₀)) .reading)) × (ranges₁ ≡ wordsOf (length ranges₀) ((diffOf form₀ update₀ vector₀ to₀ (length rows₀) (length ranges₀ / 3) (length out₀)) .reading)) × (out₁ ≡ padded (length out₀) ((diffOf form₀ update₀ vector₀ to₀ (length rows₀) (length ranges₀ / 3) (length out₀)) .bytes))
+  Right r rows₁ ranges₁ out₁ = (r ≡ answered (diffOf form₀ update₀ vector₀ to₀ (length rows₀) (length ranges₀ / 3) (length out₀))) × (rows₁ ≡ tableOf (length rows₀) ((diffOf form₀ update₀ vector₀ to₀ (length rows₀) (length ranges₀ / 3) (length out₀)) .reading)) × (ranges₁ ≡ rangeWords (length ranges₀) ((diffOf form₀ update₀ vector₀ to₀ (length rows₀) (length ranges₀ / 3) (length out₀)) .reading)) × (out₁ ≡ padded (length out₀) ((diffOf form₀ update₀ vector₀ to₀ (length rows₀) (length ranges₀ / 3) (length out₀)) .bytes))
 
   exits : (r : Diff) (rows₁ : List Block) (ranges₁ : List ℕ) (out₁ : List ℕ) → Has diff r → Right r rows₁ ranges₁ out₁ → ent 𝓤 (sem 𝓤 H A (refs (hs rows₁ ranges₁ out₁))) (Post (diff .val r))
   exits r rows₁ ranges₁ out₁ g e = leaves 𝓤 H A W (ps rows₁ ranges₁ out₁) (refl, (refl, (refl, tt))) diff r g (Right r rows₁ ranges₁ out₁) e (Post (diff .val r)) (λ fit. ends-at 𝓤 H A f.ended (stays fs) (f.clauses 𝓤 H A mem run) W ((κs, qs, bounds, a, at-entry), tt) (diff .val r) r (ends (ps rows₁ ranges₁ out₁)) fit)
@@ -167,7 +167,7 @@ module _ {M : Type 1} (𝓤 : URA M) (H : Heap 𝓤) (A : Atoms 𝓤) (W : Given
         calls-by ! (fmOf 𝓤 H (W .laws) 𝓣) (2 ∷ 3 ∷ 4 ∷ []) (hs rows₀ ranges₀ out₀) (diffs·refuse! 𝓤 H A mem run (𝓣 .C) known-diffs·refuse at-rows rows₀ at-ranges ranges₀ at-out out₀ (record { number = 12; place = 0 }) (refusal-has 12 (refl, lit< tt) 0 (refl, lit< tt))) refl (λ P. and-then ! (load ! (from ! (stop !)) (look ! 59 refl)) (and-then ! (load ! (from ! (stop !)) (look ! 55 refl)) (and-then ! (load ! (from ! (stop !)) (look ! 51 refl)) (and-then ! (load ! (from ! (stop !)) (look ! 49 refl)) (no-more !))))) (λ g₃.
         land ! (from ! (stop !)) (init ! 85 refl (g₃ .1 .0)) $
         return-on ! Post refl (look ! 85 refl) $
-        free-all ! (_ ∷ []) En (has _ ∷ has _ ∷ has _ ∷ has _ ∷ has _ ∷ has _ ∷ has _ ∷ has _ ∷ bare ∷ bare ∷ has _ ∷ has _ ∷ has _ ∷ has _ ∷ has _ ∷ has _ ∷ has _ ∷ has _ ∷ has _ ∷ []) [] $ by ! (exits (answered (refusedWith (record { number = 12; place = 0 }))) (rowsOf (length rows₀) (refused (record { number = 12; place = 0 }))) (wordsOf (length ranges₀) (refused (record { number = 12; place = 0 }))) (padded (length out₀) []) (g₃ .0) (exit-unknown form₀ update₀ vector₀ to₀ rows₀ ranges₀ out₀ (not-true (known to₀) y₂)))))
+        free-all ! (_ ∷ []) En (has _ ∷ has _ ∷ has _ ∷ has _ ∷ has _ ∷ has _ ∷ has _ ∷ has _ ∷ bare ∷ bare ∷ has _ ∷ has _ ∷ has _ ∷ has _ ∷ has _ ∷ has _ ∷ has _ ∷ has _ ∷ has _ ∷ []) [] $ by ! (exits (answered (refusedWith (record { number = 12; place = 0 }))) (tableOf (length rows₀) (refused (record { number = 12; place = 0 }))) (rangeWords (length ranges₀) (refused (record { number = 12; place = 0 }))) (padded (length out₀) []) (g₃ .0) (exit-unknown form₀ update₀ vector₀ to₀ rows₀ ranges₀ out₀ (not-true (known to₀) y₂)))))
         (λ y₂.
         skip-on ! $
         assigns ! (addr ! (from ! (fld ! refl (hop ! (look-in ! 75 (sub ! 0 refl (whole !))) (stop !))))) (from ! (stop !)) (init ! 47 refl (tt, tt)) $
@@ -192,10 +192,10 @@ module _ {M : Type 1} (𝓤 : URA M) (H : Heap 𝓤) (A : Atoms 𝓤) (W : Given
         flat ! $
         assigns ! (agg ! (and-then ! (load ! (from ! (stop !)) (look ! 31 refl)) (and-then ! (load ! (from ! (fld ! refl (stop !))) (look-in ! 71 (sub ! 1 refl (whole !)))) (no-more !)))) (from ! (stop !)) (init ! 29 refl (tt, (tt, (record { fits = are .1 .1 .1 .1 .1 .1 .0 .0 .1 .0 }, tt)))) $
         flat ! $
-        calls-by ! (fmOf 𝓤 H (W .laws) 𝓣) (2 ∷ 3 ∷ 4 ∷ []) (hs (rowsOf (length rows₀) (reading form₀ update₀ (length rows₀) (length ranges₀ / 3))) (wordsOf (length ranges₀) (reading form₀ update₀ (length rows₀) (length ranges₀ / 3))) out₀) (diffs·refuse! 𝓤 H A mem run (𝓣 .C) known-diffs·refuse at-rows (rowsOf (length rows₀) (reading form₀ update₀ (length rows₀) (length ranges₀ / 3))) at-ranges (wordsOf (length ranges₀) (reading form₀ update₀ (length rows₀) (length ranges₀ / 3))) at-out out₀ ((answer (reading form₀ update₀ (length rows₀) (length ranges₀ / 3))) .refusal) (update-refusal (answer (reading form₀ update₀ (length rows₀) (length ranges₀ / 3))) (g₄ .0))) refl (λ P. and-then ! (load ! (from ! (stop !)) (look ! 37 refl)) (and-then ! (load ! (from ! (stop !)) (look ! 33 refl)) (and-then ! (load ! (from ! (stop !)) (look ! 29 refl)) (and-then ! (load ! (from ! (fld ! refl (stop !))) (look-in ! 69 (sub ! 0 refl (whole !)))) (no-more !))))) (λ g₆.
+        calls-by ! (fmOf 𝓤 H (W .laws) 𝓣) (2 ∷ 3 ∷ 4 ∷ []) (hs (tableOf (length rows₀) (reading form₀ update₀ (length rows₀) (length ranges₀ / 3))) (rangeWords (length ranges₀) (reading form₀ update₀ (length rows₀) (length ranges₀ / 3))) out₀) (diffs·refuse! 𝓤 H A mem run (𝓣 .C) known-diffs·refuse at-rows (tableOf (length rows₀) (reading form₀ update₀ (length rows₀) (length ranges₀ / 3))) at-ranges (rangeWords (length ranges₀) (reading form₀ update₀ (length rows₀) (length ranges₀ / 3))) at-out out₀ ((answer (reading form₀ update₀ (length rows₀) (length ranges₀ / 3))) .refusal) (update-refusal (answer (reading form₀ update₀ (length rows₀) (length ranges₀ / 3))) (g₄ .0))) refl (λ P. and-then ! (load ! (from ! (stop !)) (look ! 37 refl)) (and-then ! (load ! (from ! (stop !)) (look ! 33 refl)) (and-then ! (load ! (from ! (stop !)) (look ! 29 refl)) (and-then ! (load ! (from ! (fld ! refl (stop !))) (look-in ! 69 (sub ! 0 refl (whole !)))) (no-more !))))) (λ g₆.
         land ! (from ! (stop !)) (init ! 85 refl (g₆ .1 .0)) $
         return-on ! Post refl (look ! 85 refl) $
-        free-all ! (_ ∷ []) En (has _ ∷ has _ ∷ has _ ∷ has _ ∷ has _ ∷ has _ ∷ has _ ∷ has _ ∷ has _ ∷ bare ∷ has _ ∷ has _ ∷ bare ∷ bare ∷ bare ∷ bare ∷ bare ∷ bare ∷ bare ∷ has _ ∷ has _ ∷ has _ ∷ has _ ∷ has _ ∷ has _ ∷ has _ ∷ has _ ∷ has _ ∷ has _ ∷ []) [] $ by ! (exits (answered (refusedWith ((answer (reading form₀ update₀ (length rows₀) (length ranges₀ / 3))) .refusal))) (rowsOf (length (rowsOf (length rows₀) (reading form₀ update₀ (length rows₀) (length ranges₀ / 3)))) (refused ((answer (reading form₀ update₀ (length rows₀) (length ranges₀ / 3))) .refusal))) (wordsOf (length (wordsOf (length ranges₀) (reading form₀ update₀ (length rows₀) (length ranges₀ / 3)))) (refused ((answer (reading form₀ update₀ (length rows₀) (length ranges₀ / 3))) .refusal))) (padded (length out₀) []) (g₆ .0) (exit-unread form₀ update₀ vector₀ to₀ rows₀ ranges₀ out₀ (not-false (known to₀) y₂) (eqb-false _ 0 (not-true _ y₅))))))
+        free-all ! (_ ∷ []) En (has _ ∷ has _ ∷ has _ ∷ has _ ∷ has _ ∷ has _ ∷ has _ ∷ has _ ∷ has _ ∷ bare ∷ has _ ∷ has _ ∷ bare ∷ bare ∷ bare ∷ bare ∷ bare ∷ bare ∷ bare ∷ has _ ∷ has _ ∷ has _ ∷ has _ ∷ has _ ∷ has _ ∷ has _ ∷ has _ ∷ has _ ∷ has _ ∷ []) [] $ by ! (exits (answered (refusedWith ((answer (reading form₀ update₀ (length rows₀) (length ranges₀ / 3))) .refusal))) (tableOf (length (tableOf (length rows₀) (reading form₀ update₀ (length rows₀) (length ranges₀ / 3)))) (refused ((answer (reading form₀ update₀ (length rows₀) (length ranges₀ / 3))) .refusal))) (rangeWords (length (rangeWords (length ranges₀) (reading form₀ update₀ (length rows₀) (length ranges₀ / 3)))) (refused ((answer (reading form₀ update₀ (length rows₀) (length ranges₀ / 3))) .refusal))) (padded (length out₀) []) (g₆ .0) (exit-unread form₀ update₀ vector₀ to₀ rows₀ ranges₀ out₀ (not-false (known to₀) y₂) (eqb-false _ 0 (not-true _ y₅))))))
         (λ y₅.
         skip-on ! $
         assigns ! (addr ! (from ! (fld ! refl (hop ! (look-in ! 75 (sub ! 0 refl (whole !))) (stop !))))) (from ! (stop !)) (init ! 27 refl (tt, tt)) $
@@ -204,7 +204,7 @@ module _ {M : Type 1} (𝓤 : URA M) (H : Heap 𝓤) (A : Atoms 𝓤) (W : Given
         assigns ! (agg ! (and-then ! (load ! (from ! (stop !)) (look ! 23 refl)) (and-then ! (load ! (from ! (fld ! refl (stop !))) (look-in ! 73 (sub ! 1 refl (whole !)))) (no-more !)))) (from ! (stop !)) (init ! 21 refl (tt, (tt, (record { fits = are .1 .1 .1 .1 .1 .0 .0 .1 .0 }, tt)))) $
         assigns ! (addr ! (from ! (fld ! refl (hop ! (look-in ! 71 (sub ! 0 refl (whole !))) (stop !))))) (from ! (stop !)) (init ! 19 refl (tt, tt)) $
         assigns ! (agg ! (and-then ! (load ! (from ! (stop !)) (look ! 19 refl)) (and-then ! (load ! (from ! (fld ! refl (stop !))) (look-in ! 71 (sub ! 1 refl (whole !)))) (no-more !)))) (from ! (stop !)) (init ! 17 refl (tt, (tt, (record { fits = are .1 .1 .1 .1 .1 .1 .0 .0 .1 .0 }, tt)))) $
-        calls-by ! (fmOf 𝓤 H (W .laws) 𝓣) (0 ∷ 1 ∷ 2 ∷ 3 ∷ 4 ∷ []) (hs (rowsOf (length rows₀) (reading form₀ update₀ (length rows₀) (length ranges₀ / 3))) (wordsOf (length ranges₀) (reading form₀ update₀ (length rows₀) (length ranges₀ / 3))) out₀) (writing·encode-read-rows-ranges! 𝓤 H A mem run (𝓣 .C) known-writing·encode-read at-update update₀ at-vector vector₀ form₀ (are .0) to₀ (are .1 .1 .1 .0) at-rows (rowsOf (length rows₀) (reading form₀ update₀ (length rows₀) (length ranges₀ / 3))) ((answer (reading form₀ update₀ (length rows₀) (length ranges₀ / 3))) .blocks) (update-blocks (answer (reading form₀ update₀ (length rows₀) (length ranges₀ / 3))) (g₄ .0)) at-ranges (wordsOf (length ranges₀) (reading form₀ update₀ (length rows₀) (length ranges₀ / 3))) ((answer (reading form₀ update₀ (length rows₀) (length ranges₀ / 3))) .ranges) (update-ranges (answer (reading form₀ update₀ (length rows₀) (length ranges₀ / 3))) (g₄ .0)) at-out out₀ (omega (arith, rows-fit form₀ update₀ (length rows₀) (length ranges₀), rows-length form₀ update₀ (length rows₀) (length ranges₀)), omega (arith, words-fit form₀ update₀ (length rows₀) (length ranges₀), words-length form₀ update₀ (length rows₀) (length ranges₀)))) refl (λ P. and-then ! (load ! (from ! (stop !)) (look ! 81 refl)) (and-then ! (load ! (from ! (stop !)) (look ! 79 refl)) (and-then ! (load ! (from ! (stop !)) (look ! 83 refl)) (and-then ! (load ! (from ! (stop !)) (look ! 77 refl)) (and-then ! (load ! (from ! (stop !)) (look ! 25 refl)) (and-then ! (load ! (from ! (fld ! refl (stop !))) (look-in ! 69 (sub ! 1 refl (whole !)))) (and-then ! (load ! (from ! (stop !)) (look ! 21 refl)) (and-then ! (load ! (from ! (fld ! refl (stop !))) (look-in ! 69 (sub ! 2 refl (whole !)))) (and-then ! (load ! (from ! (stop !)) (look ! 17 refl)) (no-more !)))))))))) (λ g₇.
+        calls-by ! (fmOf 𝓤 H (W .laws) 𝓣) (0 ∷ 1 ∷ 2 ∷ 3 ∷ 4 ∷ []) (hs (tableOf (length rows₀) (reading form₀ update₀ (length rows₀) (length ranges₀ / 3))) (rangeWords (length ranges₀) (reading form₀ update₀ (length rows₀) (length ranges₀ / 3))) out₀) (writing·encode-read-rows-ranges! 𝓤 H A mem run (𝓣 .C) known-writing·encode-read at-update update₀ at-vector vector₀ form₀ (are .0) to₀ (are .1 .1 .1 .0) at-rows (tableOf (length rows₀) (reading form₀ update₀ (length rows₀) (length ranges₀ / 3))) ((answer (reading form₀ update₀ (length rows₀) (length ranges₀ / 3))) .blocks) (update-blocks (answer (reading form₀ update₀ (length rows₀) (length ranges₀ / 3))) (g₄ .0)) at-ranges (rangeWords (length ranges₀) (reading form₀ update₀ (length rows₀) (length ranges₀ / 3))) ((answer (reading form₀ update₀ (length rows₀) (length ranges₀ / 3))) .ranges) (update-ranges (answer (reading form₀ update₀ (length rows₀) (length ranges₀ / 3))) (g₄ .0)) at-out out₀ (omega (arith, rows-fit form₀ update₀ (length rows₀) (length ranges₀), rows-length form₀ update₀ (length rows₀) (length ranges₀)), omega (arith, words-fit form₀ update₀ (length rows₀) (length ranges₀), words-length form₀ update₀ (length rows₀) (length ranges₀)))) refl (λ P. and-then ! (load ! (from ! (stop !)) (look ! 81 refl)) (and-then ! (load ! (from ! (stop !)) (look ! 79 refl)) (and-then ! (load ! (from ! (stop !)) (look ! 83 refl)) (and-then ! (load ! (from ! (stop !)) (look ! 77 refl)) (and-then ! (load ! (from ! (stop !)) (look ! 25 refl)) (and-then ! (load ! (from ! (fld ! refl (stop !))) (look-in ! 69 (sub ! 1 refl (whole !)))) (and-then ! (load ! (from ! (stop !)) (look ! 21 refl)) (and-then ! (load ! (from ! (fld ! refl (stop !))) (look-in ! 69 (sub ! 2 refl (whole !)))) (and-then ! (load ! (from ! (stop !)) (look ! 17 refl)) (no-more !)))))))))) (λ g₇.
         land ! (from ! (stop !)) (init ! 67 refl (g₇ .1 .0)) $
         assigns ! (bin ! (load ! (from ! (fld ! refl (stop !))) (look-in ! 67 (sub ! 0 refl (whole !)))) (lit ! tt) tt) (from ! (stop !)) (store ! 63 refl (tt, tt)) $
         tests ! (load ! (from ! (stop !)) (look ! 63 refl))  -- not (eqb ((readAnswer update₀ (vectorOf vector₀) form₀ to₀ (rowsOf (length rows₀) (reading form₀ update₀ (length rows₀) (length ranges₀ / 3))) ((answer (reading form₀ update₀ (length rows₀) (length ranges₀ / 3))) .blocks) (rowsFrom (wordsOf (length ranges₀) (reading form₀ update₀ (length rows₀) (length ranges₀ / 3))) 0 ((answer (reading form₀ update₀ (length rows₀) (length ranges₀ / 3))) .ranges)) (length out₀)) .number) 0)
@@ -222,18 +222,18 @@ module _ {M : Type 1} (𝓤 : URA M) (H : Heap 𝓤) (A : Atoms 𝓤) (W : Given
         flat ! $
         assigns ! (agg ! (and-then ! (load ! (from ! (stop !)) (look ! 7 refl)) (and-then ! (load ! (from ! (fld ! refl (stop !))) (look-in ! 71 (sub ! 1 refl (whole !)))) (no-more !)))) (from ! (stop !)) (init ! 5 refl (tt, (tt, (record { fits = are .1 .1 .1 .1 .1 .1 .0 .0 .1 .0 }, tt)))) $
         flat ! $
-        assigns ! (agg ! (and-then ! (load ! (from ! (fld ! refl (stop !))) (look-in ! 67 (sub ! 0 refl (whole !)))) (and-then ! (lit ! tt) (no-more !)))) (from ! (stop !)) (init ! 3 refl (refusal .lawful M 𝓤 H A W .typed (record { number = (readAnswer update₀ (vectorOf vector₀) form₀ to₀ (rowsOf (length rows₀) (reading form₀ update₀ (length rows₀) (length ranges₀ / 3))) ((answer (reading form₀ update₀ (length rows₀) (length ranges₀ / 3))) .blocks) (rowsFrom (wordsOf (length ranges₀) (reading form₀ update₀ (length rows₀) (length ranges₀ / 3))) 0 ((answer (reading form₀ update₀ (length rows₀) (length ranges₀ / 3))) .ranges)) (length out₀)) .number; place = 0 }) _ (refusal-has ((readAnswer update₀ (vectorOf vector₀) form₀ to₀ (rowsOf (length rows₀) (reading form₀ update₀ (length rows₀) (length ranges₀ / 3))) ((answer (reading form₀ update₀ (length rows₀) (length ranges₀ / 3))) .blocks) (rowsFrom (wordsOf (length ranges₀) (reading form₀ update₀ (length rows₀) (length ranges₀ / 3))) 0 ((answer (reading form₀ update₀ (length rows₀) (length ranges₀ / 3))) .ranges)) (length out₀)) .number) (written-number (readAnswer update₀ (vectorOf vector₀) form₀ to₀ (rowsOf (length rows₀) (reading form₀ update₀ (length rows₀) (length ranges₀ / 3))) ((answer (reading form₀ update₀ (length rows₀) (length ranges₀ / 3))) .blocks) (rowsFrom (wordsOf (length ranges₀) (reading form₀ update₀ (length rows₀) (length ranges₀ / 3))) 0 ((answer (reading form₀ update₀ (length rows₀) (length ranges₀ / 3))) .ranges)) (length out₀)) (g₇ .0)) 0 (refl, lit< tt)) .0)) $
+        assigns ! (agg ! (and-then ! (load ! (from ! (fld ! refl (stop !))) (look-in ! 67 (sub ! 0 refl (whole !)))) (and-then ! (lit ! tt) (no-more !)))) (from ! (stop !)) (init ! 3 refl (refusal .lawful M 𝓤 H A W .typed (record { number = (readAnswer update₀ (vectorOf vector₀) form₀ to₀ (tableOf (length rows₀) (reading form₀ update₀ (length rows₀) (length ranges₀ / 3))) ((answer (reading form₀ update₀ (length rows₀) (length ranges₀ / 3))) .blocks) (rowsFrom (rangeWords (length ranges₀) (reading form₀ update₀ (length rows₀) (length ranges₀ / 3))) 0 ((answer (reading form₀ update₀ (length rows₀) (length ranges₀ / 3))) .ranges)) (length out₀)) .number; place = 0 }) _ (refusal-has ((readAnswer update₀ (vectorOf vector₀) form₀ to₀ (tableOf (length rows₀) (reading form₀ update₀ (length rows₀) (length ranges₀ / 3))) ((answer (reading form₀ update₀ (length rows₀) (length ranges₀ / 3))) .blocks) (rowsFrom (rangeWords (length ranges₀) (reading form₀ update₀ (length rows₀) (length ranges₀ / 3))) 0 ((answer (reading form₀ update₀ (length rows₀) (length ranges₀ / 3))) .ranges)) (length out₀)) .number) (written-number (readAnswer update₀ (vectorOf vector₀) form₀ to₀ (tableOf (length rows₀) (reading form₀ update₀ (length rows₀) (length ranges₀ / 3))) ((answer (reading form₀ update₀ (length rows₀) (length ranges₀ / 3))) .blocks) (rowsFrom (rangeWords (length ranges₀) (reading form₀ update₀ (length rows₀) (length ranges₀ / 3))) 0 ((answer (reading form₀ update₀ (length rows₀) (length ranges₀ / 3))) .ranges)) (length out₀)) (g₇ .0)) 0 (refl, lit< tt)) .0)) $
         flat ! $
-        calls-by ! (fmOf 𝓤 H (W .laws) 𝓣) (2 ∷ 3 ∷ 4 ∷ []) (hs (rowsOf (length rows₀) (reading form₀ update₀ (length rows₀) (length ranges₀ / 3))) (wordsOf (length ranges₀) (reading form₀ update₀ (length rows₀) (length ranges₀ / 3))) (readOut update₀ (vectorOf vector₀) form₀ to₀ (rowsOf (length rows₀) (reading form₀ update₀ (length rows₀) (length ranges₀ / 3))) ((answer (reading form₀ update₀ (length rows₀) (length ranges₀ / 3))) .blocks) (rowsFrom (wordsOf (length ranges₀) (reading form₀ update₀ (length rows₀) (length ranges₀ / 3))) 0 ((answer (reading form₀ update₀ (length rows₀) (length ranges₀ / 3))) .ranges)) out₀)) (diffs·refuse! 𝓤 H A mem run (𝓣 .C) known-diffs·refuse at-rows (rowsOf (length rows₀) (reading form₀ update₀ (length rows₀) (length ranges₀ / 3))) at-ranges (wordsOf (length ranges₀) (reading form₀ update₀ (length rows₀) (length ranges₀ / 3))) at-out (readOut update₀ (vectorOf vector₀) form₀ to₀ (rowsOf (length rows₀) (reading form₀ update₀ (length rows₀) (length ranges₀ / 3))) ((answer (reading form₀ update₀ (length rows₀) (length ranges₀ / 3))) .blocks) (rowsFrom (wordsOf (length ranges₀) (reading form₀ update₀ (length rows₀) (length ranges₀ / 3))) 0 ((answer (reading form₀ update₀ (length rows₀) (length ranges₀ / 3))) .ranges)) out₀) (record { number = (readAnswer update₀ (vectorOf vector₀) form₀ to₀ (rowsOf (length rows₀) (reading form₀ update₀ (length rows₀) (length ranges₀ / 3))) ((answer (reading form₀ update₀ (length rows₀) (length ranges₀ / 3))) .blocks) (rowsFrom (wordsOf (length ranges₀) (reading form₀ update₀ (length rows₀) (length ranges₀ / 3))) 0 ((answer (reading form₀ update₀ (length rows₀) (length ranges₀ / 3))) .ranges)) (length out₀)) .number; place = 0 }) (refusal-has ((readAnswer update₀ (vectorOf vector₀) form₀ to₀ (rowsOf (length rows₀) (reading form₀ update₀ (length rows₀) (length ranges₀ / 3))) ((answer (reading form₀ update₀ (length rows₀) (length ranges₀ / 3))) .blocks) (rowsFrom (wordsOf (length ranges₀) (reading form₀ update₀ (length rows₀) (length ranges₀ / 3))) 0 ((answer (reading form₀ update₀ (length rows₀) (length ranges₀ / 3))) .ranges)) (length out₀)) .number) (written-number (readAnswer update₀ (vectorOf vector₀) form₀ to₀ (rowsOf (length rows₀) (reading form₀ update₀ (length rows₀) (length ranges₀ / 3))) ((answer (reading form₀ update₀ (length rows₀) (length ranges₀ / 3))) .blocks) (rowsFrom (wordsOf (length ranges₀) (reading form₀ update₀ (length rows₀) (length ranges₀ / 3))) 0 ((answer (reading form₀ update₀ (length rows₀) (length ranges₀ / 3))) .ranges)) (length out₀)) (g₇ .0)) 0 (refl, lit< tt))) refl (λ P. and-then ! (load ! (from ! (stop !)) (look ! 13 refl)) (and-then ! (load ! (from ! (stop !)) (look ! 9 refl)) (and-then ! (load ! (from ! (stop !)) (look ! 5 refl)) (and-then ! (load ! (from ! (stop !)) (look ! 3 refl)) (no-more !))))) (λ g₉.
+        calls-by ! (fmOf 𝓤 H (W .laws) 𝓣) (2 ∷ 3 ∷ 4 ∷ []) (hs (tableOf (length rows₀) (reading form₀ update₀ (length rows₀) (length ranges₀ / 3))) (rangeWords (length ranges₀) (reading form₀ update₀ (length rows₀) (length ranges₀ / 3))) (readOut update₀ (vectorOf vector₀) form₀ to₀ (tableOf (length rows₀) (reading form₀ update₀ (length rows₀) (length ranges₀ / 3))) ((answer (reading form₀ update₀ (length rows₀) (length ranges₀ / 3))) .blocks) (rowsFrom (rangeWords (length ranges₀) (reading form₀ update₀ (length rows₀) (length ranges₀ / 3))) 0 ((answer (reading form₀ update₀ (length rows₀) (length ranges₀ / 3))) .ranges)) out₀)) (diffs·refuse! 𝓤 H A mem run (𝓣 .C) known-diffs·refuse at-rows (tableOf (length rows₀) (reading form₀ update₀ (length rows₀) (length ranges₀ / 3))) at-ranges (rangeWords (length ranges₀) (reading form₀ update₀ (length rows₀) (length ranges₀ / 3))) at-out (readOut update₀ (vectorOf vector₀) form₀ to₀ (tableOf (length rows₀) (reading form₀ update₀ (length rows₀) (length ranges₀ / 3))) ((answer (reading form₀ update₀ (length rows₀) (length ranges₀ / 3))) .blocks) (rowsFrom (rangeWords (length ranges₀) (reading form₀ update₀ (length rows₀) (length ranges₀ / 3))) 0 ((answer (reading form₀ update₀ (length rows₀) (length ranges₀ / 3))) .ranges)) out₀) (record { number = (readAnswer update₀ (vectorOf vector₀) form₀ to₀ (tableOf (length rows₀) (reading form₀ update₀ (length rows₀) (length ranges₀ / 3))) ((answer (reading form₀ update₀ (length rows₀) (length ranges₀ / 3))) .blocks) (rowsFrom (rangeWords (length ranges₀) (reading form₀ update₀ (length rows₀) (length ranges₀ / 3))) 0 ((answer (reading form₀ update₀ (length rows₀) (length ranges₀ / 3))) .ranges)) (length out₀)) .number; place = 0 }) (refusal-has ((readAnswer update₀ (vectorOf vector₀) form₀ to₀ (tableOf (length rows₀) (reading form₀ update₀ (length rows₀) (length ranges₀ / 3))) ((answer (reading form₀ update₀ (length rows₀) (length ranges₀ / 3))) .blocks) (rowsFrom (rangeWords (length ranges₀) (reading form₀ update₀ (length rows₀) (length ranges₀ / 3))) 0 ((answer (reading form₀ update₀ (length rows₀) (length ranges₀ / 3))) .ranges)) (length out₀)) .number) (written-number (readAnswer update₀ (vectorOf vector₀) form₀ to₀ (tableOf (length rows₀) (reading form₀ update₀ (length rows₀) (length ranges₀ / 3))) ((answer (reading form₀ update₀ (length rows₀) (length ranges₀ / 3))) .blocks) (rowsFrom (rangeWords (length ranges₀) (reading form₀ update₀ (length rows₀) (length ranges₀ / 3))) 0 ((answer (reading form₀ update₀ (length rows₀) (length ranges₀ / 3))) .ranges)) (length out₀)) (g₇ .0)) 0 (refl, lit< tt))) refl (λ P. and-then ! (load ! (from ! (stop !)) (look ! 13 refl)) (and-then ! (load ! (from ! (stop !)) (look ! 9 refl)) (and-then ! (load ! (from ! (stop !)) (look ! 5 refl)) (and-then ! (load ! (from ! (stop !)) (look ! 3 refl)) (no-more !))))) (λ g₉.
         land ! (from ! (stop !)) (init ! 85 refl (g₉ .1 .0)) $
         return-on ! Post refl (look ! 85 refl) $
-        free-all ! (_ ∷ []) En (has _ ∷ has _ ∷ has _ ∷ has _ ∷ has _ ∷ has _ ∷ has _ ∷ has _ ∷ has _ ∷ has _ ∷ has _ ∷ has _ ∷ bare ∷ bare ∷ bare ∷ bare ∷ bare ∷ bare ∷ bare ∷ has _ ∷ has _ ∷ has _ ∷ has _ ∷ bare ∷ bare ∷ bare ∷ bare ∷ bare ∷ bare ∷ has _ ∷ has _ ∷ has _ ∷ has _ ∷ has _ ∷ has _ ∷ has _ ∷ has _ ∷ has _ ∷ has _ ∷ has _ ∷ has _ ∷ has _ ∷ []) [] $ by ! (exits (answered (refusedWith (record { number = (readAnswer update₀ (vectorOf vector₀) form₀ to₀ (rowsOf (length rows₀) (reading form₀ update₀ (length rows₀) (length ranges₀ / 3))) ((answer (reading form₀ update₀ (length rows₀) (length ranges₀ / 3))) .blocks) (rowsFrom (wordsOf (length ranges₀) (reading form₀ update₀ (length rows₀) (length ranges₀ / 3))) 0 ((answer (reading form₀ update₀ (length rows₀) (length ranges₀ / 3))) .ranges)) (length out₀)) .number; place = 0 }))) (rowsOf (length (rowsOf (length rows₀) (reading form₀ update₀ (length rows₀) (length ranges₀ / 3)))) (refused (record { number = (readAnswer update₀ (vectorOf vector₀) form₀ to₀ (rowsOf (length rows₀) (reading form₀ update₀ (length rows₀) (length ranges₀ / 3))) ((answer (reading form₀ update₀ (length rows₀) (length ranges₀ / 3))) .blocks) (rowsFrom (wordsOf (length ranges₀) (reading form₀ update₀ (length rows₀) (length ranges₀ / 3))) 0 ((answer (reading form₀ update₀ (length rows₀) (length ranges₀ / 3))) .ranges)) (length out₀)) .number; place = 0 }))) (wordsOf (length (wordsOf (length ranges₀) (reading form₀ update₀ (length rows₀) (length ranges₀ / 3)))) (refused (record { number = (readAnswer update₀ (vectorOf vector₀) form₀ to₀ (rowsOf (length rows₀) (reading form₀ update₀ (length rows₀) (length ranges₀ / 3))) ((answer (reading form₀ update₀ (length rows₀) (length ranges₀ / 3))) .blocks) (rowsFrom (wordsOf (length ranges₀) (reading form₀ update₀ (length rows₀) (length ranges₀ / 3))) 0 ((answer (reading form₀ update₀ (length rows₀) (length ranges₀ / 3))) .ranges)) (length out₀)) .number; place = 0 }))) (padded (length (readOut update₀ (vectorOf vector₀) form₀ to₀ (rowsOf (length rows₀) (reading form₀ update₀ (length rows₀) (length ranges₀ / 3))) ((answer (reading form₀ update₀ (length rows₀) (length ranges₀ / 3))) .blocks) (rowsFrom (wordsOf (length ranges₀) (reading form₀ update₀ (length rows₀) (length ranges₀ / 3))) 0 ((answer (reading form₀ update₀ (length rows₀) (length ranges₀ / 3))) .ranges)) out₀)) []) (g₉ .0) (exit-refused form₀ update₀ vector₀ to₀ rows₀ ranges₀ out₀ (not-false (known to₀) y₂) (eqb-true _ 0 (not-false _ y₅)) (eqb-false _ 0 (not-true _ y₈))))))
+        free-all ! (_ ∷ []) En (has _ ∷ has _ ∷ has _ ∷ has _ ∷ has _ ∷ has _ ∷ has _ ∷ has _ ∷ has _ ∷ has _ ∷ has _ ∷ has _ ∷ bare ∷ bare ∷ bare ∷ bare ∷ bare ∷ bare ∷ bare ∷ has _ ∷ has _ ∷ has _ ∷ has _ ∷ bare ∷ bare ∷ bare ∷ bare ∷ bare ∷ bare ∷ has _ ∷ has _ ∷ has _ ∷ has _ ∷ has _ ∷ has _ ∷ has _ ∷ has _ ∷ has _ ∷ has _ ∷ has _ ∷ has _ ∷ has _ ∷ []) [] $ by ! (exits (answered (refusedWith (record { number = (readAnswer update₀ (vectorOf vector₀) form₀ to₀ (tableOf (length rows₀) (reading form₀ update₀ (length rows₀) (length ranges₀ / 3))) ((answer (reading form₀ update₀ (length rows₀) (length ranges₀ / 3))) .blocks) (rowsFrom (rangeWords (length ranges₀) (reading form₀ update₀ (length rows₀) (length ranges₀ / 3))) 0 ((answer (reading form₀ update₀ (length rows₀) (length ranges₀ / 3))) .ranges)) (length out₀)) .number; place = 0 }))) (tableOf (length (tableOf (length rows₀) (reading form₀ update₀ (length rows₀) (length ranges₀ / 3)))) (refused (record { number = (readAnswer update₀ (vectorOf vector₀) form₀ to₀ (tableOf (length rows₀) (reading form₀ update₀ (length rows₀) (length ranges₀ / 3))) ((answer (reading form₀ update₀ (length rows₀) (length ranges₀ / 3))) .blocks) (rowsFrom (rangeWords (length ranges₀) (reading form₀ update₀ (length rows₀) (length ranges₀ / 3))) 0 ((answer (reading form₀ update₀ (length rows₀) (length ranges₀ / 3))) .ranges)) (length out₀)) .number; place = 0 }))) (rangeWords (length (rangeWords (length ranges₀) (reading form₀ update₀ (length rows₀) (length ranges₀ / 3)))) (refused (record { number = (readAnswer update₀ (vectorOf vector₀) form₀ to₀ (tableOf (length rows₀) (reading form₀ update₀ (length rows₀) (length ranges₀ / 3))) ((answer (reading form₀ update₀ (length rows₀) (length ranges₀ / 3))) .blocks) (rowsFrom (rangeWords (length ranges₀) (reading form₀ update₀ (length rows₀) (length ranges₀ / 3))) 0 ((answer (reading form₀ update₀ (length rows₀) (length ranges₀ / 3))) .ranges)) (length out₀)) .number; place = 0 }))) (padded (length (readOut update₀ (vectorOf vector₀) form₀ to₀ (tableOf (length rows₀) (reading form₀ update₀ (length rows₀) (length ranges₀ / 3))) ((answer (reading form₀ update₀ (length rows₀) (length ranges₀ / 3))) .blocks) (rowsFrom (rangeWords (length ranges₀) (reading form₀ update₀ (length rows₀) (length ranges₀ / 3))) 0 ((answer (reading form₀ update₀ (length rows₀) (length ranges₀ / 3))) .ranges)) out₀)) []) (g₉ .0) (exit-refused form₀ update₀ vector₀ to₀ rows₀ ranges₀ out₀ (not-false (known to₀) y₂) (eqb-true _ 0 (not-false _ y₅)) (eqb-false _ 0 (not-true _ y₈))))))
         (λ y₈.
         skip-on ! $
         assigns ! (agg ! (and-then ! (lit ! tt) (and-then ! (lit ! tt) (no-more !)))) (from ! (stop !)) (init ! 1 refl (refusal .lawful M 𝓤 H A W .typed (record { number = 0; place = 0 }) _ (refusal-has 0 (refl, lit< tt) 0 (refl, lit< tt)) .0)) $
-        assigns ! (agg ! (and-then ! (load ! (from ! (stop !)) (look ! 1 refl)) (and-then ! (load ! (from ! (fld ! refl (stop !))) (look-in ! 67 (sub ! 1 refl (whole !)))) (and-then ! (load ! (from ! (fld ! refl (stop !))) (look-in ! 69 (sub ! 1 refl (whole !)))) (and-then ! (load ! (from ! (fld ! refl (stop !))) (look-in ! 69 (sub ! 2 refl (whole !)))) (no-more !)))))) (from ! (stop !)) (init ! 85 refl (diff .lawful M 𝓤 H A W .typed (record { refusal = record { number = 0; place = 0 }; bytes = (readAnswer update₀ (vectorOf vector₀) form₀ to₀ (rowsOf (length rows₀) (reading form₀ update₀ (length rows₀) (length ranges₀ / 3))) ((answer (reading form₀ update₀ (length rows₀) (length ranges₀ / 3))) .blocks) (rowsFrom (wordsOf (length ranges₀) (reading form₀ update₀ (length rows₀) (length ranges₀ / 3))) 0 ((answer (reading form₀ update₀ (length rows₀) (length ranges₀ / 3))) .ranges)) (length out₀)) .bytes; blocks = (answer (reading form₀ update₀ (length rows₀) (length ranges₀ / 3))) .blocks; ranges = (answer (reading form₀ update₀ (length rows₀) (length ranges₀ / 3))) .ranges }) _ (diff-has (record { number = 0; place = 0 }) (refusal-has 0 (refl, lit< tt) 0 (refl, lit< tt)) ((readAnswer update₀ (vectorOf vector₀) form₀ to₀ (rowsOf (length rows₀) (reading form₀ update₀ (length rows₀) (length ranges₀ / 3))) ((answer (reading form₀ update₀ (length rows₀) (length ranges₀ / 3))) .blocks) (rowsFrom (wordsOf (length ranges₀) (reading form₀ update₀ (length rows₀) (length ranges₀ / 3))) 0 ((answer (reading form₀ update₀ (length rows₀) (length ranges₀ / 3))) .ranges)) (length out₀)) .bytes) (written-bytes (readAnswer update₀ (vectorOf vector₀) form₀ to₀ (rowsOf (length rows₀) (reading form₀ update₀ (length rows₀) (length ranges₀ / 3))) ((answer (reading form₀ update₀ (length rows₀) (length ranges₀ / 3))) .blocks) (rowsFrom (wordsOf (length ranges₀) (reading form₀ update₀ (length rows₀) (length ranges₀ / 3))) 0 ((answer (reading form₀ update₀ (length rows₀) (length ranges₀ / 3))) .ranges)) (length out₀)) (g₇ .0)) ((answer (reading form₀ update₀ (length rows₀) (length ranges₀ / 3))) .blocks) (update-blocks (answer (reading form₀ update₀ (length rows₀) (length ranges₀ / 3))) (g₄ .0)) ((answer (reading form₀ update₀ (length rows₀) (length ranges₀ / 3))) .ranges) (update-ranges (answer (reading form₀ update₀ (length rows₀) (length ranges₀ / 3))) (g₄ .0))) .0)) $
+        assigns ! (agg ! (and-then ! (load ! (from ! (stop !)) (look ! 1 refl)) (and-then ! (load ! (from ! (fld ! refl (stop !))) (look-in ! 67 (sub ! 1 refl (whole !)))) (and-then ! (load ! (from ! (fld ! refl (stop !))) (look-in ! 69 (sub ! 1 refl (whole !)))) (and-then ! (load ! (from ! (fld ! refl (stop !))) (look-in ! 69 (sub ! 2 refl (whole !)))) (no-more !)))))) (from ! (stop !)) (init ! 85 refl (diff .lawful M 𝓤 H A W .typed (record { refusal = record { number = 0; place = 0 }; bytes = (readAnswer update₀ (vectorOf vector₀) form₀ to₀ (tableOf (length rows₀) (reading form₀ update₀ (length rows₀) (length ranges₀ / 3))) ((answer (reading form₀ update₀ (length rows₀) (length ranges₀ / 3))) .blocks) (rowsFrom (rangeWords (length ranges₀) (reading form₀ update₀ (length rows₀) (length ranges₀ / 3))) 0 ((answer (reading form₀ update₀ (length rows₀) (length ranges₀ / 3))) .ranges)) (length out₀)) .bytes; blocks = (answer (reading form₀ update₀ (length rows₀) (length ranges₀ / 3))) .blocks; ranges = (answer (reading form₀ update₀ (length rows₀) (length ranges₀ / 3))) .ranges }) _ (diff-has (record { number = 0; place = 0 }) (refusal-has 0 (refl, lit< tt) 0 (refl, lit< tt)) ((readAnswer update₀ (vectorOf vector₀) form₀ to₀ (tableOf (length rows₀) (reading form₀ update₀ (length rows₀) (length ranges₀ / 3))) ((answer (reading form₀ update₀ (length rows₀) (length ranges₀ / 3))) .blocks) (rowsFrom (rangeWords (length ranges₀) (reading form₀ update₀ (length rows₀) (length ranges₀ / 3))) 0 ((answer (reading form₀ update₀ (length rows₀) (length ranges₀ / 3))) .ranges)) (length out₀)) .bytes) (written-bytes (readAnswer update₀ (vectorOf vector₀) form₀ to₀ (tableOf (length rows₀) (reading form₀ update₀ (length rows₀) (length ranges₀ / 3))) ((answer (reading form₀ update₀ (length rows₀) (length ranges₀ / 3))) .blocks) (rowsFrom (rangeWords (length ranges₀) (reading form₀ update₀ (length rows₀) (length ranges₀ / 3))) 0 ((answer (reading form₀ update₀ (length rows₀) (length ranges₀ / 3))) .ranges)) (length out₀)) (g₇ .0)) ((answer (reading form₀ update₀ (length rows₀) (length ranges₀ / 3))) .blocks) (update-blocks (answer (reading form₀ update₀ (length rows₀) (length ranges₀ / 3))) (g₄ .0)) ((answer (reading form₀ update₀ (length rows₀) (length ranges₀ / 3))) .ranges) (update-ranges (answer (reading form₀ update₀ (length rows₀) (length ranges₀ / 3))) (g₄ .0))) .0)) $
         returns-within ! Post refl (look ! 85 refl) $
-        free-all ! (_ ∷ []) En (has _ ∷ has _ ∷ has _ ∷ has _ ∷ has _ ∷ has _ ∷ has _ ∷ has _ ∷ has _ ∷ has _ ∷ has _ ∷ has _ ∷ bare ∷ bare ∷ bare ∷ bare ∷ bare ∷ bare ∷ bare ∷ has _ ∷ has _ ∷ has _ ∷ has _ ∷ bare ∷ bare ∷ bare ∷ bare ∷ bare ∷ bare ∷ has _ ∷ has _ ∷ has _ ∷ has _ ∷ has _ ∷ has _ ∷ bare ∷ bare ∷ bare ∷ bare ∷ bare ∷ bare ∷ bare ∷ has _ ∷ []) [] $ by ! (exits (record { refusal = record { number = 0; place = 0 }; bytes = (readAnswer update₀ (vectorOf vector₀) form₀ to₀ (rowsOf (length rows₀) (reading form₀ update₀ (length rows₀) (length ranges₀ / 3))) ((answer (reading form₀ update₀ (length rows₀) (length ranges₀ / 3))) .blocks) (rowsFrom (wordsOf (length ranges₀) (reading form₀ update₀ (length rows₀) (length ranges₀ / 3))) 0 ((answer (reading form₀ update₀ (length rows₀) (length ranges₀ / 3))) .ranges)) (length out₀)) .bytes; blocks = (answer (reading form₀ update₀ (length rows₀) (length ranges₀ / 3))) .blocks; ranges = (answer (reading form₀ update₀ (length rows₀) (length ranges₀ / 3))) .ranges }) (rowsOf (length rows₀) (reading form₀ update₀ (length rows₀) (length ranges₀ / 3))) (wordsOf (length ranges₀) (reading form₀ update₀ (length rows₀) (length ranges₀ / 3))) (readOut update₀ (vectorOf vector₀) form₀ to₀ (rowsOf (length rows₀) (reading form₀ update₀ (length rows₀) (length ranges₀ / 3))) ((answer (reading form₀ update₀ (length rows₀) (length ranges₀ / 3))) .blocks) (rowsFrom (wordsOf (length ranges₀) (reading form₀ update₀ (length rows₀) (length ranges₀ / 3))) 0 ((answer (reading form₀ update₀ (length rows₀) (length ranges₀ / 3))) .ranges)) out₀) (diff-has (record { number = 0; place = 0 }) (refusal-has 0 (refl, lit< tt) 0 (refl, lit< tt)) ((readAnswer update₀ (vectorOf vector₀) form₀ to₀ (rowsOf (length rows₀) (reading form₀ update₀ (length rows₀) (length ranges₀ / 3))) ((answer (reading form₀ update₀ (length rows₀) (length ranges₀ / 3))) .blocks) (rowsFrom (wordsOf (length ranges₀) (reading form₀ update₀ (length rows₀) (length ranges₀ / 3))) 0 ((answer (reading form₀ update₀ (length rows₀) (length ranges₀ / 3))) .ranges)) (length out₀)) .bytes) (written-bytes (readAnswer update₀ (vectorOf vector₀) form₀ to₀ (rowsOf (length rows₀) (reading form₀ update₀ (length rows₀) (length ranges₀ / 3))) ((answer (reading form₀ update₀ (length rows₀) (length ranges₀ / 3))) .blocks) (rowsFrom (wordsOf (length ranges₀) (reading form₀ update₀ (length rows₀) (length ranges₀ / 3))) 0 ((answer (reading form₀ update₀ (length rows₀) (length ranges₀ / 3))) .ranges)) (length out₀)) (g₇ .0)) ((answer (reading form₀ update₀ (length rows₀) (length ranges₀ / 3))) .blocks) (update-blocks (answer (reading form₀ update₀ (length rows₀) (length ranges₀ / 3))) (g₄ .0)) ((answer (reading form₀ update₀ (length rows₀) (length ranges₀ / 3))) .ranges) (update-ranges (answer (reading form₀ update₀ (length rows₀) (length ranges₀ / 3))) (g₄ .0))) (exit-done form₀ update₀ vector₀ to₀ rows₀ ranges₀ out₀ (not-false (known to₀) y₂) (eqb-true _ 0 (not-false _ y₅)) (eqb-true _ 0 (not-false _ y₈)))))))))))
+        free-all ! (_ ∷ []) En (has _ ∷ has _ ∷ has _ ∷ has _ ∷ has _ ∷ has _ ∷ has _ ∷ has _ ∷ has _ ∷ has _ ∷ has _ ∷ has _ ∷ bare ∷ bare ∷ bare ∷ bare ∷ bare ∷ bare ∷ bare ∷ has _ ∷ has _ ∷ has _ ∷ has _ ∷ bare ∷ bare ∷ bare ∷ bare ∷ bare ∷ bare ∷ has _ ∷ has _ ∷ has _ ∷ has _ ∷ has _ ∷ has _ ∷ bare ∷ bare ∷ bare ∷ bare ∷ bare ∷ bare ∷ bare ∷ has _ ∷ []) [] $ by ! (exits (record { refusal = record { number = 0; place = 0 }; bytes = (readAnswer update₀ (vectorOf vector₀) form₀ to₀ (tableOf (length rows₀) (reading form₀ update₀ (length rows₀) (length ranges₀ / 3))) ((answer (reading form₀ update₀ (length rows₀) (length ranges₀ / 3))) .blocks) (rowsFrom (rangeWords (length ranges₀) (reading form₀ update₀ (length rows₀) (length ranges₀ / 3))) 0 ((answer (reading form₀ update₀ (length rows₀) (length ranges₀ / 3))) .ranges)) (length out₀)) .bytes; blocks = (answer (reading form₀ update₀ (length rows₀) (length ranges₀ / 3))) .blocks; ranges = (answer (reading form₀ update₀ (length rows₀) (length ranges₀ / 3))) .ranges }) (tableOf (length rows₀) (reading form₀ update₀ (length rows₀) (length ranges₀ / 3))) (rangeWords (length ranges₀) (reading form₀ update₀ (length rows₀) (length ranges₀ / 3))) (readOut update₀ (vectorOf vector₀) form₀ to₀ (tableOf (length rows₀) (reading form₀ update₀ (length rows₀) (length ranges₀ / 3))) ((answer (reading form₀ update₀ (length rows₀) (length ranges₀ / 3))) .blocks) (rowsFrom (rangeWords (length ranges₀) (reading form₀ update₀ (length rows₀) (length ranges₀ / 3))) 0 ((answer (reading form₀ update₀ (length rows₀) (length ranges₀ / 3))) .ranges)) out₀) (diff-has (record { number = 0; place = 0 }) (refusal-has 0 (refl, lit< tt) 0 (refl, lit< tt)) ((readAnswer update₀ (vectorOf vector₀) form₀ to₀ (tableOf (length rows₀) (reading form₀ update₀ (length rows₀) (length ranges₀ / 3))) ((answer (reading form₀ update₀ (length rows₀) (length ranges₀ / 3))) .blocks) (rowsFrom (rangeWords (length ranges₀) (reading form₀ update₀ (length rows₀) (length ranges₀ / 3))) 0 ((answer (reading form₀ update₀ (length rows₀) (length ranges₀ / 3))) .ranges)) (length out₀)) .bytes) (written-bytes (readAnswer update₀ (vectorOf vector₀) form₀ to₀ (tableOf (length rows₀) (reading form₀ update₀ (length rows₀) (length ranges₀ / 3))) ((answer (reading form₀ update₀ (length rows₀) (length ranges₀ / 3))) .blocks) (rowsFrom (rangeWords (length ranges₀) (reading form₀ update₀ (length rows₀) (length ranges₀ / 3))) 0 ((answer (reading form₀ update₀ (length rows₀) (length ranges₀ / 3))) .ranges)) (length out₀)) (g₇ .0)) ((answer (reading form₀ update₀ (length rows₀) (length ranges₀ / 3))) .blocks) (update-blocks (answer (reading form₀ update₀ (length rows₀) (length ranges₀ / 3))) (g₄ .0)) ((answer (reading form₀ update₀ (length rows₀) (length ranges₀ / 3))) .ranges) (update-ranges (answer (reading form₀ update₀ (length rows₀) (length ranges₀ / 3))) (g₄ .0))) (exit-done form₀ update₀ vector₀ to₀ rows₀ ranges₀ out₀ (not-false (known to₀) y₂) (eqb-true _ 0 (not-false _ y₅)) (eqb-true _ 0 (not-false _ y₈)))))))))))
 
 pub encode-diff-spec : {M : Type 1} → stated.statement M
 unfolding code.routine tablesOf

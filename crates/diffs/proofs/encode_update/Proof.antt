@@ -40,7 +40,7 @@ use Rattle.diffs.specs.declared.Diff.{Diff}
 use Prim.Native.Nat.{_/_}
 use Rattle.diffs.specs.Promises.{answered, diffOf, emptyVector}
 use Rattle.numbers.specs.Output.{padded}
-use Rattle.updates.specs.Promises.{reading, rowsOf, wordsOf}
+use Rattle.updates.specs.Promises.{reading, tableOf, rangeWords}
 use Rattle.diffs.proofs.Sorts.{diff}
 use Rattle.table.proofs.Sorts.{block}
 use Rattle.diffs.proofs.Cards.{Diffs·encode-diff, diffs·encode-diff-vector! }
@@ -107,7 +107,7 @@ module _ {M : Type 1} (𝓤 : URA M) (H : Heap 𝓤) (A : Atoms 𝓤) (W : Given
 
   -- the contract
   abbrev Right : Diff → List Block → List ℕ → List ℕ → Type 0
-  Right r rows₁ ranges₁ out₁ = (r ≡ answered (diffOf form₀ update₀ emptyVector to₀ (length rows₀) (length ranges₀ / 3) (length out₀))) × (rows₁ ≡ rowsOf (length rows₀) (diffOf form₀ update₀ emptyVector to₀ (length rows₀) (length ranges₀ / 3) (length out₀) .reading)) × (ranges₁ ≡ wordsOf (length ranges₀) (diffOf form₀ update₀ emptyVector to₀ (length rows₀) (length ranges₀ / 3) (length out₀) .reading)) × (out₁ ≡ padded (length out₀) (diffOf form₀ update₀ emptyVector to₀ (length rows₀) (length ranges₀ / 3) (length out₀) .bytes))
+  Right r rows₁ ranges₁ out₁ = (r ≡ answered (diffOf form₀ update₀ emptyVector to₀ (length rows₀) (length ranges₀ / 3) (length out₀))) × (rows₁ ≡ tableOf (length rows₀) (diffOf form₀ update₀ emptyVector to₀ (length rows₀) (length ranges₀ / 3) (length out₀) .reading)) × (ranges₁ ≡ rangeWords (length ranges₀) (diffOf form₀ update₀ emptyVector to₀ (length rows₀) (length ranges₀ / 3) (length out₀) .reading)) × (out₁ ≡ padded (length out₀) (diffOf form₀ update₀ emptyVector to₀ (length rows₀) (length ranges₀ / 3) (length out₀) .bytes))
 
   exits : (r : Diff) (rows₁ : List Block) (ranges₁ : List ℕ) (out₁ : List ℕ) → Has diff r → Right r rows₁ ranges₁ out₁ → ent 𝓤 (sem 𝓤 H A (refs (hs rows₁ ranges₁ out₁))) (Post (diff .val r))
   exits r rows₁ ranges₁ out₁ g e = leaves 𝓤 H A W (ps rows₁ ranges₁ out₁) (refl, (refl, (refl, tt))) diff r g (Right r rows₁ ranges₁ out₁) e (Post (diff .val r)) (λ fit. ends-at 𝓤 H A f.ended (stays fs) (f.clauses 𝓤 H A mem run) W ((κs, qs, bounds, a, at-entry), tt) (diff .val r) r (ends (ps rows₁ ranges₁ out₁)) fit)
@@ -134,9 +134,9 @@ module _ {M : Type 1} (𝓤 : URA M) (H : Heap 𝓤) (A : Atoms 𝓤) (W : Given
         assigns ! (agg ! (and-then ! (load ! (from ! (stop !)) (look ! 3 refl)) (and-then ! (load ! (from ! (fld ! refl (stop !))) (look-in ! 23 (sub ! 1 refl (whole !)))) (no-more !)))) (from ! (stop !)) (init ! 1 refl (tt, (tt, (record { fits = are .1 .1 .1 .1 .1 .0 .0 .1 .0 }, tt)))) $
         calls-by ! (fmOf 𝓤 H (W .laws) 𝓣) (1 ∷ 0 ∷ 2 ∷ 3 ∷ 4 ∷ []) (tab byte (own-seat l₇ 16 ν₇ δ₇) (replicate 16 0) ∷ hs rows₀ ranges₀ out₀) (diffs·encode-diff-vector! 𝓤 H A mem run (𝓣 .C) known-diffs·encode-diff form₀ (are .0) at-update update₀ (own-seat l₇ 16 ν₇ δ₇) (replicate 16 0) to₀ (are .1 .1 .0) at-rows rows₀ at-ranges ranges₀ at-out out₀) refl (λ P. and-then ! (load ! (from ! (stop !)) (look ! 33 refl)) (and-then ! (load ! (from ! (stop !)) (look ! 31 refl)) (and-then ! (load ! (from ! (stop !)) (look ! 13 refl)) (and-then ! (load ! (from ! (stop !)) (look ! 29 refl)) (and-then ! (load ! (from ! (stop !)) (look ! 9 refl)) (and-then ! (load ! (from ! (stop !)) (look ! 5 refl)) (and-then ! (load ! (from ! (stop !)) (look ! 1 refl)) (no-more !)))))))) (λ g₁.
         land ! (from ! (stop !)) (init ! 35 refl (g₁ .1 .0)) $
-        move ! (0 ∷ 21 ∷ []) $ own-back ! tt byte 16 16 (omega (arith)) 0 (replicate 16 0) l₇ ν₇ δ₇ (hs (rowsOf (length rows₀) (diffOf form₀ update₀ (replicate 16 0) to₀ (length rows₀) (length ranges₀ / 3) (length out₀) .reading)) (wordsOf (length ranges₀) (diffOf form₀ update₀ (replicate 16 0) to₀ (length rows₀) (length ranges₀ / 3) (length out₀) .reading)) (padded (length out₀) (diffOf form₀ update₀ (replicate 16 0) to₀ (length rows₀) (length ranges₀ / 3) (length out₀) .bytes))) $ move ! (0 ∷ 2 ∷ 3 ∷ 4 ∷ 5 ∷ 6 ∷ 7 ∷ 8 ∷ 9 ∷ 10 ∷ 11 ∷ 12 ∷ 13 ∷ 14 ∷ 15 ∷ 16 ∷ 17 ∷ 18 ∷ 19 ∷ 20 ∷ 21 ∷ 1 ∷ []) $
+        move ! (0 ∷ 21 ∷ []) $ own-back ! tt byte 16 16 (omega (arith)) 0 (replicate 16 0) l₇ ν₇ δ₇ (hs (tableOf (length rows₀) (diffOf form₀ update₀ (replicate 16 0) to₀ (length rows₀) (length ranges₀ / 3) (length out₀) .reading)) (rangeWords (length ranges₀) (diffOf form₀ update₀ (replicate 16 0) to₀ (length rows₀) (length ranges₀ / 3) (length out₀) .reading)) (padded (length out₀) (diffOf form₀ update₀ (replicate 16 0) to₀ (length rows₀) (length ranges₀ / 3) (length out₀) .bytes))) $ move ! (0 ∷ 2 ∷ 3 ∷ 4 ∷ 5 ∷ 6 ∷ 7 ∷ 8 ∷ 9 ∷ 10 ∷ 11 ∷ 12 ∷ 13 ∷ 14 ∷ 15 ∷ 16 ∷ 17 ∷ 18 ∷ 19 ∷ 20 ∷ 21 ∷ 1 ∷ []) $
         returns-within ! Post refl (look ! 35 refl) $
-        free-all ! (_ ∷ []) En (has _ ∷ has _ ∷ has _ ∷ has _ ∷ has _ ∷ has _ ∷ has _ ∷ has _ ∷ has _ ∷ has _ ∷ has _ ∷ has _ ∷ has _ ∷ has _ ∷ has _ ∷ has _ ∷ has _ ∷ has _ ∷ []) [] $ by ! (exits (answered (diffOf form₀ update₀ (replicate 16 0) to₀ (length rows₀) (length ranges₀ / 3) (length out₀))) (rowsOf (length rows₀) (diffOf form₀ update₀ (replicate 16 0) to₀ (length rows₀) (length ranges₀ / 3) (length out₀) .reading)) (wordsOf (length ranges₀) (diffOf form₀ update₀ (replicate 16 0) to₀ (length rows₀) (length ranges₀ / 3) (length out₀) .reading)) (padded (length out₀) (diffOf form₀ update₀ (replicate 16 0) to₀ (length rows₀) (length ranges₀ / 3) (length out₀) .bytes)) (g₁ .0) (against-zeros form₀ update₀ to₀ rows₀ ranges₀ out₀))))))
+        free-all ! (_ ∷ []) En (has _ ∷ has _ ∷ has _ ∷ has _ ∷ has _ ∷ has _ ∷ has _ ∷ has _ ∷ has _ ∷ has _ ∷ has _ ∷ has _ ∷ has _ ∷ has _ ∷ has _ ∷ has _ ∷ has _ ∷ has _ ∷ []) [] $ by ! (exits (answered (diffOf form₀ update₀ (replicate 16 0) to₀ (length rows₀) (length ranges₀ / 3) (length out₀))) (tableOf (length rows₀) (diffOf form₀ update₀ (replicate 16 0) to₀ (length rows₀) (length ranges₀ / 3) (length out₀) .reading)) (rangeWords (length ranges₀) (diffOf form₀ update₀ (replicate 16 0) to₀ (length rows₀) (length ranges₀ / 3) (length out₀) .reading)) (padded (length out₀) (diffOf form₀ update₀ (replicate 16 0) to₀ (length rows₀) (length ranges₀ / 3) (length out₀) .bytes)) (g₁ .0) (against-zeros form₀ update₀ to₀ rows₀ ranges₀ out₀))))))
 
 pub encode-update-spec : {M : Type 1} → stated.statement M
 unfolding code.routine tablesOf

@@ -40,7 +40,7 @@ use Rattle.numbers.specs.declared.Refusal.{Refusal}
 use Rattle.diffs.specs.Promises.{answered, refusedWith}
 use Rattle.numbers.specs.Output.{padded}
 use Rattle.table.specs.Rows.{clearedFrom}
-use Rattle.updates.specs.Promises.{refused, rowsOf, wordsOf}
+use Rattle.updates.specs.Promises.{refused, tableOf, rangeWords}
 use Rattle.diffs.proofs.Sorts.{diff}
 use Rattle.reader.proofs.Sorts.{refusal}
 use Rattle.table.proofs.Sorts.{block}
@@ -111,7 +111,7 @@ module _ {M : Type 1} (𝓤 : URA M) (H : Heap 𝓤) (A : Atoms 𝓤) (W : Given
 
   -- the contract
   abbrev Right : Diff → List Block → List ℕ → List ℕ → Type 0
-  Right r rows₁ ranges₁ out₁ = (r ≡ answered (refusedWith why₀)) × (rows₁ ≡ rowsOf (length rows₀) (refused why₀)) × (ranges₁ ≡ wordsOf (length ranges₀) (refused why₀)) × (out₁ ≡ padded (length out₀) [])
+  Right r rows₁ ranges₁ out₁ = (r ≡ answered (refusedWith why₀)) × (rows₁ ≡ tableOf (length rows₀) (refused why₀)) × (ranges₁ ≡ rangeWords (length ranges₀) (refused why₀)) × (out₁ ≡ padded (length out₀) [])
 
   exits : (r : Diff) (rows₁ : List Block) (ranges₁ : List ℕ) (out₁ : List ℕ) → Has diff r → Right r rows₁ ranges₁ out₁ → ent 𝓤 (sem 𝓤 H A (refs (hs rows₁ ranges₁ out₁))) (Post (diff .val r))
   exits r rows₁ ranges₁ out₁ g e = leaves 𝓤 H A W (ps rows₁ ranges₁ out₁) (refl, (refl, (refl, tt))) diff r g (Right r rows₁ ranges₁ out₁) e (Post (diff .val r)) (λ fit. ends-at 𝓤 H A f.ended (stays fs) (f.clauses 𝓤 H A mem run) W ((κs, qs, bounds, a, at-entry), tt) (diff .val r) r (ends (ps rows₁ ranges₁ out₁)) fit)

@@ -1,13 +1,13 @@
 -- `explainer::clock_line` meets its contract: field by field.
 use mathlib.Core.Path.{refl}
-use Rattle.origins.specs.Origins.{inLine}
+use Rattle.origins.specs.Origins.{lineStand}
 use Rattle.explainer.specs.Explanation.{clockLine}
 use borrow.Author.Needs.{needs}
 use Rattle.explainer.proofs.clock_line.Statement.{statement}
 use Rattle.explainer.proofs.clock_line.Tie as tie
 
 returns : tie.Need-returns
-unfolding clockLine inLine
+unfolding clockLine lineStand
 returns c = rw (c .less .ensures) refl
 
 pub clock-line-spec : {M : Type 1} → statement M

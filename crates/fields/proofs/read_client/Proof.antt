@@ -1,14 +1,14 @@
 -- `fields::read_client` meets its contract: in line, or from its column.
 use mathlib.Core.Path.{_∙_}
 use Rattle.grammar.specs.Grammar as grammar
-use Rattle.decoder.specs.Line.{line, numberOf}
+use Rattle.decoder.specs.Line.{line, numberBy}
 use Rattle.fields.proofs.Laws.{in-line, client-drawn}
 use borrow.Author.Needs.{needs}
 use Rattle.fields.proofs.read_client.Statement.{statement}
 use Rattle.fields.proofs.read_client.Tie as tie
 
 returns : tie.Need-returns
-unfolding line numberOf
+unfolding line numberBy
 returns c =
     let b = c .before .before .before .before .before .before .before in
     let u = b .args .update .now in

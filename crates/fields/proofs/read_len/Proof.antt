@@ -4,7 +4,7 @@ use borrow.Author.Tests.{lt-ltb, le-ltb}
 use Rattle.numbers.specs.Limits.{maxClock}
 use Rattle.grammar.specs.Grammar as grammar
 use Rattle.grammar.specs.Course.{not}
-use Rattle.decoder.specs.Line.{bounded, line, numberOf}
+use Rattle.decoder.specs.Line.{bounded, line, numberBy}
 use Rattle.cells.specs.declared.Drawn.the-variants.{Number, Refused}
 use Rattle.cells.specs.Cells.{placeIn, given}
 use Rattle.fields.proofs.Laws.{in-line, given-refused, len-drawn}
@@ -13,7 +13,7 @@ use Rattle.fields.proofs.read_len.Statement.{statement}
 use Rattle.fields.proofs.read_len.Tie as tie
 
 returns : tie.Need-returns
-unfolding line numberOf
+unfolding line numberBy
 returns c =
     let b = c .before .before .before .before .before .before .before in
     let u = b .args .update .now in

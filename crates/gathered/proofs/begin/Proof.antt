@@ -4,7 +4,7 @@ use mathlib.Core.List.{[]}
 use lib.ListN.{set}
 use Rattle.opening.specs.Opening.{openedIn}
 use Rattle.cells.proofs.States.{at-moved, small-at}
-use Rattle.decoder.specs.Update.{placed}
+use Rattle.decoder.specs.Update.{restPlaces}
 use Rattle.update.specs.Steps.{begins}
 use Rattle.update.proofs.Laws.{starts-line, unopened, starts-columned}
 use Rattle.gathered.specs.Gathered.{Begins}
@@ -44,7 +44,7 @@ same-length-2 : tie.Need-same-length-2
 same-length-2 c = search needs
 
 returns-2 : tie.Need-returns-2
-unfolding Begins begins placed
+unfolding Begins begins restPlaces
 returns-2 c =
     let a = c .before .before .before .before .before .before .before .before .before .args in
     let o = c .before .before .before .before .«open» in

@@ -42,7 +42,7 @@ use Rattle.held_sorts.specs.Promises.{lent, sortHeldOf}
 use Rattle.slow_held_sorts.specs.Promises.{slowSortHeldOf}
 use Rattle.numbers.specs.Output.{padded}
 use Rattle.ranges.specs.Table.{flat as flattened}
-use Rattle.updates.specs.Promises.{reading, rowsOf, wordsOf}
+use Rattle.updates.specs.Promises.{reading, tableOf, rangeWords}
 use Rattle.held_sorts.proofs.Sorts.{sortedheld}
 use Rattle.table.proofs.Sorts.{block}
 use Rattle.held_cases.proofs.Cards.{Held-sorts·sort-held, Slow-held-sorts·sort-held-slowly, held-sorts·sort-held!, slow-held-sorts·sort-held-slowly! }
@@ -174,7 +174,7 @@ module _ {M : Type 1} (𝓤 : URA M) (H : Heap 𝓤) (A : Atoms 𝓤) (W : Given
         calls-by ! (fmOf 𝓤 H (W .laws) 𝓣) (0 ∷ 1 ∷ 2 ∷ 3 ∷ 4 ∷ 5 ∷ 6 ∷ 7 ∷ []) (hs rows₀ words₀ given₀ order₀ counts₀ pending₀) (slow-held-sorts·sort-held-slowly! 𝓤 H A mem run (𝓣 .C) known-slow-held-sorts·sort-held-slowly form₀ (are .1 .0) at-update update₀ at-held held₀ at-rows rows₀ at-words words₀ at-given given₀ at-order order₀ at-counts counts₀ at-pending pending₀) refl (λ P. and-then ! (load ! (from ! (stop !)) (look ! 67 refl)) (and-then ! (load ! (from ! (stop !)) (look ! 65 refl)) (and-then ! (load ! (from ! (stop !)) (look ! 63 refl)) (and-then ! (load ! (from ! (stop !)) (look ! 45 refl)) (and-then ! (load ! (from ! (stop !)) (look ! 41 refl)) (and-then ! (load ! (from ! (stop !)) (look ! 37 refl)) (and-then ! (load ! (from ! (stop !)) (look ! 33 refl)) (and-then ! (load ! (from ! (stop !)) (look ! 29 refl)) (and-then ! (load ! (from ! (stop !)) (look ! 25 refl)) (no-more !)))))))))) (λ g₂.
         land ! (from ! (stop !)) (init ! 71 refl (g₂ .1 .0)) $
         return-on ! Post refl (look ! 71 refl) $
-        free-all ! (_ ∷ []) En (has _ ∷ has _ ∷ has _ ∷ has _ ∷ has _ ∷ has _ ∷ has _ ∷ has _ ∷ has _ ∷ has _ ∷ has _ ∷ has _ ∷ has _ ∷ has _ ∷ has _ ∷ has _ ∷ has _ ∷ has _ ∷ has _ ∷ has _ ∷ has _ ∷ has _ ∷ has _ ∷ has _ ∷ []) [] $ by ! (exits (answered (slowSortHeldOf form₀ update₀ held₀ (length rows₀) (length words₀ / 3) (length given₀ / 3) (lent order₀ counts₀ pending₀))) (rowsOf (length rows₀) ((slowSortHeldOf form₀ update₀ held₀ (length rows₀) (length words₀ / 3) (length given₀ / 3) (lent order₀ counts₀ pending₀)) .reading)) (wordsOf (length words₀) ((slowSortHeldOf form₀ update₀ held₀ (length rows₀) (length words₀ / 3) (length given₀ / 3) (lent order₀ counts₀ pending₀)) .reading)) (padded (length given₀) (flattened ((slowSortHeldOf form₀ update₀ held₀ (length rows₀) (length words₀ / 3) (length given₀ / 3) (lent order₀ counts₀ pending₀)) .held))) (padded (length order₀) ((slowSortHeldOf form₀ update₀ held₀ (length rows₀) (length words₀ / 3) (length given₀ / 3) (lent order₀ counts₀ pending₀)) .order)) (padded (length counts₀) ((slowSortHeldOf form₀ update₀ held₀ (length rows₀) (length words₀ / 3) (length given₀ / 3) (lent order₀ counts₀ pending₀)) .counts)) (padded (length pending₀) ((slowSortHeldOf form₀ update₀ held₀ (length rows₀) (length words₀ / 3) (length given₀ / 3) (lent order₀ counts₀ pending₀)) .pending)) (g₂ .0))))
+        free-all ! (_ ∷ []) En (has _ ∷ has _ ∷ has _ ∷ has _ ∷ has _ ∷ has _ ∷ has _ ∷ has _ ∷ has _ ∷ has _ ∷ has _ ∷ has _ ∷ has _ ∷ has _ ∷ has _ ∷ has _ ∷ has _ ∷ has _ ∷ has _ ∷ has _ ∷ has _ ∷ has _ ∷ has _ ∷ has _ ∷ []) [] $ by ! (exits (answered (slowSortHeldOf form₀ update₀ held₀ (length rows₀) (length words₀ / 3) (length given₀ / 3) (lent order₀ counts₀ pending₀))) (tableOf (length rows₀) ((slowSortHeldOf form₀ update₀ held₀ (length rows₀) (length words₀ / 3) (length given₀ / 3) (lent order₀ counts₀ pending₀)) .reading)) (rangeWords (length words₀) ((slowSortHeldOf form₀ update₀ held₀ (length rows₀) (length words₀ / 3) (length given₀ / 3) (lent order₀ counts₀ pending₀)) .reading)) (padded (length given₀) (flattened ((slowSortHeldOf form₀ update₀ held₀ (length rows₀) (length words₀ / 3) (length given₀ / 3) (lent order₀ counts₀ pending₀)) .held))) (padded (length order₀) ((slowSortHeldOf form₀ update₀ held₀ (length rows₀) (length words₀ / 3) (length given₀ / 3) (lent order₀ counts₀ pending₀)) .order)) (padded (length counts₀) ((slowSortHeldOf form₀ update₀ held₀ (length rows₀) (length words₀ / 3) (length given₀ / 3) (lent order₀ counts₀ pending₀)) .counts)) (padded (length pending₀) ((slowSortHeldOf form₀ update₀ held₀ (length rows₀) (length words₀ / 3) (length given₀ / 3) (lent order₀ counts₀ pending₀)) .pending)) (g₂ .0))))
         (λ y₁.
         skip-on ! $
         assigns ! (addr ! (from ! (fld ! refl (hop ! (look-in ! 61 (sub ! 0 refl (whole !))) (stop !))))) (from ! (stop !)) (init ! 23 refl (tt, tt)) $
@@ -192,7 +192,7 @@ module _ {M : Type 1} (𝓤 : URA M) (H : Heap 𝓤) (A : Atoms 𝓤) (W : Given
         calls-by ! (fmOf 𝓤 H (W .laws) 𝓣) (0 ∷ 1 ∷ 2 ∷ 3 ∷ 4 ∷ 5 ∷ 6 ∷ 7 ∷ []) (hs rows₀ words₀ given₀ order₀ counts₀ pending₀) (held-sorts·sort-held! 𝓤 H A mem run (𝓣 .C) known-held-sorts·sort-held form₀ (are .1 .0) at-update update₀ at-held held₀ at-rows rows₀ at-words words₀ at-given given₀ at-order order₀ at-counts counts₀ at-pending pending₀) refl (λ P. and-then ! (load ! (from ! (stop !)) (look ! 67 refl)) (and-then ! (load ! (from ! (stop !)) (look ! 65 refl)) (and-then ! (load ! (from ! (stop !)) (look ! 63 refl)) (and-then ! (load ! (from ! (stop !)) (look ! 21 refl)) (and-then ! (load ! (from ! (stop !)) (look ! 17 refl)) (and-then ! (load ! (from ! (stop !)) (look ! 13 refl)) (and-then ! (load ! (from ! (stop !)) (look ! 9 refl)) (and-then ! (load ! (from ! (stop !)) (look ! 5 refl)) (and-then ! (load ! (from ! (stop !)) (look ! 1 refl)) (no-more !)))))))))) (λ g₃.
         land ! (from ! (stop !)) (init ! 71 refl (g₃ .1 .0)) $
         returns-within ! Post refl (look ! 71 refl) $
-        free-all ! (_ ∷ []) En (has _ ∷ has _ ∷ has _ ∷ has _ ∷ has _ ∷ has _ ∷ has _ ∷ has _ ∷ has _ ∷ has _ ∷ has _ ∷ has _ ∷ bare ∷ bare ∷ bare ∷ bare ∷ bare ∷ bare ∷ bare ∷ bare ∷ bare ∷ bare ∷ bare ∷ bare ∷ has _ ∷ has _ ∷ has _ ∷ has _ ∷ has _ ∷ has _ ∷ has _ ∷ has _ ∷ has _ ∷ has _ ∷ has _ ∷ has _ ∷ []) [] $ by ! (exits (answered (sortHeldOf form₀ update₀ held₀ (length rows₀) (length words₀ / 3) (length given₀ / 3) (lent order₀ counts₀ pending₀))) (rowsOf (length rows₀) ((sortHeldOf form₀ update₀ held₀ (length rows₀) (length words₀ / 3) (length given₀ / 3) (lent order₀ counts₀ pending₀)) .reading)) (wordsOf (length words₀) ((sortHeldOf form₀ update₀ held₀ (length rows₀) (length words₀ / 3) (length given₀ / 3) (lent order₀ counts₀ pending₀)) .reading)) (padded (length given₀) (flattened ((sortHeldOf form₀ update₀ held₀ (length rows₀) (length words₀ / 3) (length given₀ / 3) (lent order₀ counts₀ pending₀)) .held))) (padded (length order₀) ((sortHeldOf form₀ update₀ held₀ (length rows₀) (length words₀ / 3) (length given₀ / 3) (lent order₀ counts₀ pending₀)) .order)) (padded (length counts₀) ((sortHeldOf form₀ update₀ held₀ (length rows₀) (length words₀ / 3) (length given₀ / 3) (lent order₀ counts₀ pending₀)) .counts)) (padded (length pending₀) ((sortHeldOf form₀ update₀ held₀ (length rows₀) (length words₀ / 3) (length given₀ / 3) (lent order₀ counts₀ pending₀)) .pending)) (g₃ .0)))))
+        free-all ! (_ ∷ []) En (has _ ∷ has _ ∷ has _ ∷ has _ ∷ has _ ∷ has _ ∷ has _ ∷ has _ ∷ has _ ∷ has _ ∷ has _ ∷ has _ ∷ bare ∷ bare ∷ bare ∷ bare ∷ bare ∷ bare ∷ bare ∷ bare ∷ bare ∷ bare ∷ bare ∷ bare ∷ has _ ∷ has _ ∷ has _ ∷ has _ ∷ has _ ∷ has _ ∷ has _ ∷ has _ ∷ has _ ∷ has _ ∷ has _ ∷ has _ ∷ []) [] $ by ! (exits (answered (sortHeldOf form₀ update₀ held₀ (length rows₀) (length words₀ / 3) (length given₀ / 3) (lent order₀ counts₀ pending₀))) (tableOf (length rows₀) ((sortHeldOf form₀ update₀ held₀ (length rows₀) (length words₀ / 3) (length given₀ / 3) (lent order₀ counts₀ pending₀)) .reading)) (rangeWords (length words₀) ((sortHeldOf form₀ update₀ held₀ (length rows₀) (length words₀ / 3) (length given₀ / 3) (lent order₀ counts₀ pending₀)) .reading)) (padded (length given₀) (flattened ((sortHeldOf form₀ update₀ held₀ (length rows₀) (length words₀ / 3) (length given₀ / 3) (lent order₀ counts₀ pending₀)) .held))) (padded (length order₀) ((sortHeldOf form₀ update₀ held₀ (length rows₀) (length words₀ / 3) (length given₀ / 3) (lent order₀ counts₀ pending₀)) .order)) (padded (length counts₀) ((sortHeldOf form₀ update₀ held₀ (length rows₀) (length words₀ / 3) (length given₀ / 3) (lent order₀ counts₀ pending₀)) .counts)) (padded (length pending₀) ((sortHeldOf form₀ update₀ held₀ (length rows₀) (length words₀ / 3) (length given₀ / 3) (lent order₀ counts₀ pending₀)) .pending)) (g₃ .0)))))
 
 pub sort-by-spec : {M : Type 1} → stated.statement M
 unfolding code.routine tablesOf

@@ -41,7 +41,7 @@ use Rattle.held_answers.specs.Answers.{answered, refusedWith}
 use Rattle.held_answers.specs.AnswersInner.{readHeld}
 use Rattle.numbers.specs.Output.{padded}
 use Rattle.table.specs.Rows.{clearedFrom}
-use Rattle.updates.specs.Promises.{refused, rowsOf, wordsOf}
+use Rattle.updates.specs.Promises.{refused, tableOf, rangeWords}
 use Rattle.held_sorts.proofs.Sorts.{sortedheld}
 use Rattle.reader.proofs.Sorts.{refusal}
 use Rattle.reader.proofs.Sorts.{refusal}
@@ -129,7 +129,7 @@ module _ {M : Type 1} (𝓤 : URA M) (H : Heap 𝓤) (A : Atoms 𝓤) (W : Given
 
   -- the contract
   abbrev Right : SortedHeld → List Block → List ℕ → List ℕ → List ℕ → List ℕ → List ℕ → Type 0
-  Right r rows₁ ranges₁ given₁ order₁ counts₁ pending₁ = (r ≡ answered (refusedWith why₀)) × (rows₁ ≡ rowsOf (length rows₀) (refused why₀)) × (ranges₁ ≡ wordsOf (length ranges₀) (refused why₀)) × (given₁ ≡ padded (length given₀) []) × (order₁ ≡ padded (length order₀) []) × (counts₁ ≡ padded (length counts₀) []) × (pending₁ ≡ padded (length pending₀) [])
+  Right r rows₁ ranges₁ given₁ order₁ counts₁ pending₁ = (r ≡ answered (refusedWith why₀)) × (rows₁ ≡ tableOf (length rows₀) (refused why₀)) × (ranges₁ ≡ rangeWords (length ranges₀) (refused why₀)) × (given₁ ≡ padded (length given₀) []) × (order₁ ≡ padded (length order₀) []) × (counts₁ ≡ padded (length counts₀) []) × (pending₁ ≡ padded (length pending₀) [])
 
   exits : (r : SortedHeld) (rows₁ : List Block) (ranges₁ : List ℕ) (given₁ : List ℕ) (order₁ : List ℕ) (counts₁ : List ℕ) (pending₁ : List ℕ) → Has sortedheld r → Right r rows₁ ranges₁ given₁ order₁ counts₁ pending₁ → ent 𝓤 (sem 𝓤 H A (refs (hs rows₁ ranges₁ given₁ order₁ counts₁ pending₁))) (Post (sortedheld .val r))
   exits r rows₁ ranges₁ given₁ order₁ counts₁ pending₁ g e = leaves 𝓤 H A W (ps rows₁ ranges₁ given₁ order₁ counts₁ pending₁) (refl, (refl, (refl, (refl, (refl, (refl, tt)))))) sortedheld r g (Right r rows₁ ranges₁ given₁ order₁ counts₁ pending₁) e (Post (sortedheld .val r)) (λ fit. ends-at 𝓤 H A f.ended (stays fs) (f.clauses 𝓤 H A mem run) W ((κs, qs, bounds, a, at-entry), tt) (sortedheld .val r) r (ends (ps rows₁ ranges₁ given₁ order₁ counts₁ pending₁)) fit)

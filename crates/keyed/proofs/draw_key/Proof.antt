@@ -1,7 +1,7 @@
 -- `keyed::draw_key` meets its contract: its number is known, is refused, or takes the next text.
 use mathlib.Core.Path.{refl, sym, ap, _∙_}
 use Rattle.grammar.specs.Course.{got, not}
-use Rattle.decoder.specs.Columned.{numbered}
+use Rattle.decoder.specs.Columned.{keyByNumber}
 use Rattle.cells.specs.Cells.{placeIn, keyCount, stateIn, given}
 use Rattle.cells.proofs.States.{beside-none}
 use Rattle.fields.specs.Fields.{partGiven}
@@ -17,7 +17,7 @@ returns c =
     let u = b .args .update .now in
     let v = c .before .before .before .before .draw-difference .last .1 .0 in
     let k = c .before .before .before .before .draw-difference .ensures in
-    (k .0, beside-none (b .args .k) (b .args .r .now), key-none u v ∙ ap (λ d. numbered u (given v d)) (sym (c .enum-told .given .1)) ∙ key-drawn u (b .args .w .now) v _ k)
+    (k .0, beside-none (b .args .k) (b .args .r .now), key-none u v ∙ ap (λ d. keyByNumber u (given v d)) (sym (c .enum-told .given .1)) ∙ key-drawn u (b .args .w .now) v _ k)
 
 known-key-requires : tie.Need-known-key-requires
 unfolding keyCount
@@ -36,7 +36,7 @@ returns-2 c =
       f .0,
       ap (λ p. got p (stateIn v)) (f .1)
           ∙ key-known u v (x .0 .0) (c .before .before .before .before .before .if1 .taken)
-          ∙ ap (λ d. numbered u (given v d)) (sym (x .1))
+          ∙ ap (λ d. keyByNumber u (given v d)) (sym (x .1))
           ∙ key-drawn u (b .args .w .now) v _ k,
     )
 
@@ -53,7 +53,7 @@ returns-3 c =
       beside-none (b .args .k) (b .args .r .now),
       ap not (f .3)
           ∙ key-over u v (x .0 .0) (c .before .before .before .before .before .before .if1 .left) (c .before .before .before .before .before .if2 .taken)
-          ∙ ap (λ d. numbered u (given v d)) (sym (x .1))
+          ∙ ap (λ d. keyByNumber u (given v d)) (sym (x .1))
           ∙ key-drawn u (b .args .w .now) v _ k,
     )
 
@@ -74,7 +74,7 @@ returns-4 c =
       f .1,
       f .2
           ∙ key-new u v (x .0 .0) (c .before .before .before .before .before .before .before .before .if1 .left) (c .before .before .before .before .before .before .before .if2 .left)
-          ∙ ap (λ d. numbered u (given v d)) (sym (x .1))
+          ∙ ap (λ d. keyByNumber u (given v d)) (sym (x .1))
           ∙ key-drawn u (b .args .w .now) v _ k,
     )
 

@@ -49,7 +49,7 @@ use Rattle.lines.specs.LinesInner.{overlay}
 use Rattle.listed.specs.Listed.{listedReading}
 use Rattle.listing_text.specs.Listing.{listing, refusedLine}
 use Rattle.ranges.specs.TableInner.{rowsFrom}
-use Rattle.updates.specs.Promises.{answer, reading, rowsOf, wordsOf}
+use Rattle.updates.specs.Promises.{answer, reading, tableOf, rangeWords}
 use Rattle.table.proofs.Sorts.{block}
 use Rattle.reader.proofs.Sorts.{refusal}
 use Rattle.updates.proofs.Sorts.{update-refusal, update-blocks, update-ranges}
@@ -124,10 +124,10 @@ module _ {M : Type 1} (𝓤 : URA M) (H : Heap 𝓤) (A : Atoms 𝓤) (W : Given
   R₀ = reading form₀ update₀ n (m / 3)
 
   abbrev rows₁ : List Block
-  rows₁ = rowsOf n R₀
+  rows₁ = tableOf n R₀
 
   abbrev words₁ : List ℕ
-  words₁ = wordsOf m R₀
+  words₁ = rangeWords m R₀
 
   abbrev shown : List ℕ
   shown = listing form₀ (take (answer R₀ .blocks) rows₁) (rowsFrom words₁ 0 (answer R₀ .ranges))

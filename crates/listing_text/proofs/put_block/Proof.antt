@@ -2,7 +2,7 @@
 use native.Mathlib.Omega.{arith}
 use mathlib.Core.List.{[], _∷_, _++_}
 use Rattle.lines.proofs.Laws.{put-then}
-use Rattle.listing_text.specs.Listing.{number, kindName, blockLine}
+use Rattle.listing_text.specs.Listing.{numberThen, kindName, blockLine}
 use Rattle.listing_text.proofs.Laws.{number-short, kind-short}
 use borrow.Author.Needs.{needs}
 use Rattle.listing_text.proofs.put_block.Statement.{statement}
@@ -26,9 +26,9 @@ returns c =
     let a = c .before .before .before .before .before .before .before .before .before .before .before .before .before .before .before .before .before .before .before .before .before .before .before .args in
     let o = a .out .now in
     let u = a .used in
-    let client = number (a .b .client) 32 in
-    let clock = number (a .b .clock) 32 in
-    let units = number (a .b .length .0) 32 in
+    let client = numberThen (a .b .client) 32 in
+    let clock = numberThen (a .b .clock) 32 in
+    let units = numberThen (a .b .length .0) 32 in
     let kind = kindName (a .b .kind) in
     put-then o u (client ++ clock ++ units ++ kind) (10 ∷ [])
     (put-then o u (client ++ clock ++ units) kind (put-then o u (client ++ clock) units (put-then o u client clock (c .before .before .before .before .before .before .before .before .before .before .before .before .before .before .before .before .before .before .before .put-number .ensures) (c .before .before .before .before .before .before .before .before .before .before .before .before .before .before .put-number2 .ensures)) (c .before .before .before .before .before .before .before .before .before .before .put-number3 .ensures)) (c .before .before .before .before .before .before .put-kind .ensures)) (c .before .before .put-byte .ensures)

@@ -2,7 +2,7 @@
 use native.Mathlib.Omega.{arith}
 use mathlib.Core.List.{_++_}
 use Rattle.lines.proofs.Laws.{put-then}
-use Rattle.listing_text.specs.Listing.{number, rangeLine}
+use Rattle.listing_text.specs.Listing.{numberThen, rangeLine}
 use Rattle.listing_text.proofs.Laws.{number-short}
 use borrow.Author.Needs.{needs}
 use Rattle.listing_text.proofs.put_range.Statement.{statement}
@@ -18,9 +18,9 @@ returns : tie.Need-returns
 unfolding rangeLine
 returns c =
     let a = c .before .before .before .before .before .before .before .before .before .before .before .before .before .args in
-    let client = number (a .client) 32 in
-    let clock = number (a .clock) 32 in
-    put-then (a .out .now) (a .used) (client ++ clock) (number (a .len) 10) (put-then (a .out .now) (a .used) client clock (c .before .before .before .before .before .before .before .before .before .before .put-number .ensures) (c .before .before .before .before .before .before .put-number2 .ensures)) (c .before .before .put-number3 .ensures)
+    let client = numberThen (a .client) 32 in
+    let clock = numberThen (a .clock) 32 in
+    put-then (a .out .now) (a .used) (client ++ clock) (numberThen (a .len) 10) (put-then (a .out .now) (a .used) client clock (c .before .before .before .before .before .before .before .before .before .before .put-number .ensures) (c .before .before .before .before .before .before .put-number2 .ensures)) (c .before .before .put-number3 .ensures)
 
 pub put-range-spec : {M : Type 1} → statement M
 put-range-spec = tie.close (tie.spec (λ c κs. search needs) put-number-requires-2 put-number-requires-3 (λ c. search needs) returns)

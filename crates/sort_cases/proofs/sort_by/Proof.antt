@@ -41,7 +41,7 @@ use Rattle.numbers.specs.Output.{padded}
 use Rattle.slow_sorts.specs.Promises.{slowSortOf}
 use Rattle.sort_answers.specs.Answers.{answered}
 use Rattle.sorts.specs.Promises.{lent, sortOf}
-use Rattle.updates.specs.Promises.{reading, rowsOf, wordsOf}
+use Rattle.updates.specs.Promises.{reading, tableOf, rangeWords}
 use Rattle.sorts.proofs.Sorts.{sorted}
 use Rattle.table.proofs.Sorts.{block}
 use Rattle.sort_cases.proofs.Cards.{Sorts·sort, Slow-sorts·sort-slowly, sorts·sort!, slow-sorts·sort-slowly! }
@@ -176,7 +176,7 @@ module _ {M : Type 1} (𝓤 : URA M) (H : Heap 𝓤) (A : Atoms 𝓤) (W : Given
         calls-by ! (fmOf 𝓤 H (W .laws) 𝓣) (0 ∷ 1 ∷ 2 ∷ 3 ∷ 4 ∷ 5 ∷ 6 ∷ 7 ∷ []) (hs rows₀ words₀ order₀ counts₀ reaches₀ pending₀) (slow-sorts·sort-slowly! 𝓤 H A mem run (𝓣 .C) known-slow-sorts·sort-slowly rule₀ (are .1 .0) form₀ (are .1 .1 .0) at-update update₀ at-vector vector₀ at-rows rows₀ at-words words₀ at-order order₀ at-counts counts₀ at-reaches reaches₀ at-pending pending₀) refl (λ P. and-then ! (load ! (from ! (stop !)) (look ! 69 refl)) (and-then ! (load ! (from ! (stop !)) (look ! 67 refl)) (and-then ! (load ! (from ! (stop !)) (look ! 65 refl)) (and-then ! (load ! (from ! (stop !)) (look ! 63 refl)) (and-then ! (load ! (from ! (stop !)) (look ! 45 refl)) (and-then ! (load ! (from ! (stop !)) (look ! 41 refl)) (and-then ! (load ! (from ! (stop !)) (look ! 37 refl)) (and-then ! (load ! (from ! (stop !)) (look ! 33 refl)) (and-then ! (load ! (from ! (stop !)) (look ! 29 refl)) (and-then ! (load ! (from ! (stop !)) (look ! 25 refl)) (no-more !))))))))))) (λ g₂.
         land ! (from ! (stop !)) (init ! 73 refl (g₂ .1 .0)) $
         return-on ! Post refl (look ! 73 refl) $
-        free-all ! (_ ∷ []) En (has _ ∷ has _ ∷ has _ ∷ has _ ∷ has _ ∷ has _ ∷ has _ ∷ has _ ∷ has _ ∷ has _ ∷ has _ ∷ has _ ∷ has _ ∷ has _ ∷ has _ ∷ has _ ∷ has _ ∷ has _ ∷ has _ ∷ has _ ∷ has _ ∷ has _ ∷ has _ ∷ has _ ∷ has _ ∷ []) [] $ by ! (exits (answered (slowSortOf rule₀ form₀ update₀ vector₀ (length rows₀) (length words₀ / 3) (lent order₀ counts₀ reaches₀ pending₀))) (rowsOf (length rows₀) ((slowSortOf rule₀ form₀ update₀ vector₀ (length rows₀) (length words₀ / 3) (lent order₀ counts₀ reaches₀ pending₀)) .reading)) (wordsOf (length words₀) ((slowSortOf rule₀ form₀ update₀ vector₀ (length rows₀) (length words₀ / 3) (lent order₀ counts₀ reaches₀ pending₀)) .reading)) (padded (length order₀) ((slowSortOf rule₀ form₀ update₀ vector₀ (length rows₀) (length words₀ / 3) (lent order₀ counts₀ reaches₀ pending₀)) .order)) (padded (length counts₀) ((slowSortOf rule₀ form₀ update₀ vector₀ (length rows₀) (length words₀ / 3) (lent order₀ counts₀ reaches₀ pending₀)) .counts)) (padded (length reaches₀) ((slowSortOf rule₀ form₀ update₀ vector₀ (length rows₀) (length words₀ / 3) (lent order₀ counts₀ reaches₀ pending₀)) .reaches)) (padded (length pending₀) ((slowSortOf rule₀ form₀ update₀ vector₀ (length rows₀) (length words₀ / 3) (lent order₀ counts₀ reaches₀ pending₀)) .pending)) (g₂ .0))))
+        free-all ! (_ ∷ []) En (has _ ∷ has _ ∷ has _ ∷ has _ ∷ has _ ∷ has _ ∷ has _ ∷ has _ ∷ has _ ∷ has _ ∷ has _ ∷ has _ ∷ has _ ∷ has _ ∷ has _ ∷ has _ ∷ has _ ∷ has _ ∷ has _ ∷ has _ ∷ has _ ∷ has _ ∷ has _ ∷ has _ ∷ has _ ∷ []) [] $ by ! (exits (answered (slowSortOf rule₀ form₀ update₀ vector₀ (length rows₀) (length words₀ / 3) (lent order₀ counts₀ reaches₀ pending₀))) (tableOf (length rows₀) ((slowSortOf rule₀ form₀ update₀ vector₀ (length rows₀) (length words₀ / 3) (lent order₀ counts₀ reaches₀ pending₀)) .reading)) (rangeWords (length words₀) ((slowSortOf rule₀ form₀ update₀ vector₀ (length rows₀) (length words₀ / 3) (lent order₀ counts₀ reaches₀ pending₀)) .reading)) (padded (length order₀) ((slowSortOf rule₀ form₀ update₀ vector₀ (length rows₀) (length words₀ / 3) (lent order₀ counts₀ reaches₀ pending₀)) .order)) (padded (length counts₀) ((slowSortOf rule₀ form₀ update₀ vector₀ (length rows₀) (length words₀ / 3) (lent order₀ counts₀ reaches₀ pending₀)) .counts)) (padded (length reaches₀) ((slowSortOf rule₀ form₀ update₀ vector₀ (length rows₀) (length words₀ / 3) (lent order₀ counts₀ reaches₀ pending₀)) .reaches)) (padded (length pending₀) ((slowSortOf rule₀ form₀ update₀ vector₀ (length rows₀) (length words₀ / 3) (lent order₀ counts₀ reaches₀ pending₀)) .pending)) (g₂ .0))))
         (λ y₁.
         skip-on ! $
         assigns ! (addr ! (from ! (fld ! refl (hop ! (look-in ! 61 (sub ! 0 refl (whole !))) (stop !))))) (from ! (stop !)) (init ! 23 refl (tt, tt)) $
@@ -194,7 +194,7 @@ module _ {M : Type 1} (𝓤 : URA M) (H : Heap 𝓤) (A : Atoms 𝓤) (W : Given
         calls-by ! (fmOf 𝓤 H (W .laws) 𝓣) (0 ∷ 1 ∷ 2 ∷ 3 ∷ 4 ∷ 5 ∷ 6 ∷ 7 ∷ []) (hs rows₀ words₀ order₀ counts₀ reaches₀ pending₀) (sorts·sort! 𝓤 H A mem run (𝓣 .C) known-sorts·sort rule₀ (are .1 .0) form₀ (are .1 .1 .0) at-update update₀ at-vector vector₀ at-rows rows₀ at-words words₀ at-order order₀ at-counts counts₀ at-reaches reaches₀ at-pending pending₀) refl (λ P. and-then ! (load ! (from ! (stop !)) (look ! 69 refl)) (and-then ! (load ! (from ! (stop !)) (look ! 67 refl)) (and-then ! (load ! (from ! (stop !)) (look ! 65 refl)) (and-then ! (load ! (from ! (stop !)) (look ! 63 refl)) (and-then ! (load ! (from ! (stop !)) (look ! 21 refl)) (and-then ! (load ! (from ! (stop !)) (look ! 17 refl)) (and-then ! (load ! (from ! (stop !)) (look ! 13 refl)) (and-then ! (load ! (from ! (stop !)) (look ! 9 refl)) (and-then ! (load ! (from ! (stop !)) (look ! 5 refl)) (and-then ! (load ! (from ! (stop !)) (look ! 1 refl)) (no-more !))))))))))) (λ g₃.
         land ! (from ! (stop !)) (init ! 73 refl (g₃ .1 .0)) $
         returns-within ! Post refl (look ! 73 refl) $
-        free-all ! (_ ∷ []) En (has _ ∷ has _ ∷ has _ ∷ has _ ∷ has _ ∷ has _ ∷ has _ ∷ has _ ∷ has _ ∷ has _ ∷ has _ ∷ has _ ∷ has _ ∷ bare ∷ bare ∷ bare ∷ bare ∷ bare ∷ bare ∷ bare ∷ bare ∷ bare ∷ bare ∷ bare ∷ bare ∷ has _ ∷ has _ ∷ has _ ∷ has _ ∷ has _ ∷ has _ ∷ has _ ∷ has _ ∷ has _ ∷ has _ ∷ has _ ∷ has _ ∷ []) [] $ by ! (exits (answered (sortOf rule₀ form₀ update₀ vector₀ (length rows₀) (length words₀ / 3) (lent order₀ counts₀ reaches₀ pending₀))) (rowsOf (length rows₀) ((sortOf rule₀ form₀ update₀ vector₀ (length rows₀) (length words₀ / 3) (lent order₀ counts₀ reaches₀ pending₀)) .reading)) (wordsOf (length words₀) ((sortOf rule₀ form₀ update₀ vector₀ (length rows₀) (length words₀ / 3) (lent order₀ counts₀ reaches₀ pending₀)) .reading)) (padded (length order₀) ((sortOf rule₀ form₀ update₀ vector₀ (length rows₀) (length words₀ / 3) (lent order₀ counts₀ reaches₀ pending₀)) .order)) (padded (length counts₀) ((sortOf rule₀ form₀ update₀ vector₀ (length rows₀) (length words₀ / 3) (lent order₀ counts₀ reaches₀ pending₀)) .counts)) (padded (length reaches₀) ((sortOf rule₀ form₀ update₀ vector₀ (length rows₀) (length words₀ / 3) (lent order₀ counts₀ reaches₀ pending₀)) .reaches)) (padded (length pending₀) ((sortOf rule₀ form₀ update₀ vector₀ (length rows₀) (length words₀ / 3) (lent order₀ counts₀ reaches₀ pending₀)) .pending)) (g₃ .0)))))
+        free-all ! (_ ∷ []) En (has _ ∷ has _ ∷ has _ ∷ has _ ∷ has _ ∷ has _ ∷ has _ ∷ has _ ∷ has _ ∷ has _ ∷ has _ ∷ has _ ∷ has _ ∷ bare ∷ bare ∷ bare ∷ bare ∷ bare ∷ bare ∷ bare ∷ bare ∷ bare ∷ bare ∷ bare ∷ bare ∷ has _ ∷ has _ ∷ has _ ∷ has _ ∷ has _ ∷ has _ ∷ has _ ∷ has _ ∷ has _ ∷ has _ ∷ has _ ∷ has _ ∷ []) [] $ by ! (exits (answered (sortOf rule₀ form₀ update₀ vector₀ (length rows₀) (length words₀ / 3) (lent order₀ counts₀ reaches₀ pending₀))) (tableOf (length rows₀) ((sortOf rule₀ form₀ update₀ vector₀ (length rows₀) (length words₀ / 3) (lent order₀ counts₀ reaches₀ pending₀)) .reading)) (rangeWords (length words₀) ((sortOf rule₀ form₀ update₀ vector₀ (length rows₀) (length words₀ / 3) (lent order₀ counts₀ reaches₀ pending₀)) .reading)) (padded (length order₀) ((sortOf rule₀ form₀ update₀ vector₀ (length rows₀) (length words₀ / 3) (lent order₀ counts₀ reaches₀ pending₀)) .order)) (padded (length counts₀) ((sortOf rule₀ form₀ update₀ vector₀ (length rows₀) (length words₀ / 3) (lent order₀ counts₀ reaches₀ pending₀)) .counts)) (padded (length reaches₀) ((sortOf rule₀ form₀ update₀ vector₀ (length rows₀) (length words₀ / 3) (lent order₀ counts₀ reaches₀ pending₀)) .reaches)) (padded (length pending₀) ((sortOf rule₀ form₀ update₀ vector₀ (length rows₀) (length words₀ / 3) (lent order₀ counts₀ reaches₀ pending₀)) .pending)) (g₃ .0)))))
 
 pub sort-by-spec : {M : Type 1} → stated.statement M
 unfolding code.routine tablesOf

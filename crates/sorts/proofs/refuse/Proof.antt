@@ -40,7 +40,7 @@ use Rattle.sort_answers.specs.declared.Sorted.{Sorted}
 use Rattle.numbers.specs.Output.{padded}
 use Rattle.sort_answers.specs.Answers.{answered, refusedWith}
 use Rattle.table.specs.Rows.{clearedFrom}
-use Rattle.updates.specs.Promises.{refused, rowsOf, wordsOf}
+use Rattle.updates.specs.Promises.{refused, tableOf, rangeWords}
 use Rattle.reader.proofs.Sorts.{refusal}
 use Rattle.sorts.proofs.Sorts.{sorted}
 use Rattle.table.proofs.Sorts.{block}
@@ -126,7 +126,7 @@ module _ {M : Type 1} (𝓤 : URA M) (H : Heap 𝓤) (A : Atoms 𝓤) (W : Given
 
   -- the contract
   abbrev Right : Sorted → List Block → List ℕ → List ℕ → List ℕ → List ℕ → List ℕ → Type 0
-  Right r rows₁ ranges₁ order₁ counts₁ reaches₁ pending₁ = (r ≡ answered (refusedWith why₀)) × (rows₁ ≡ rowsOf (length rows₀) (refused why₀)) × (ranges₁ ≡ wordsOf (length ranges₀) (refused why₀)) × (order₁ ≡ padded (length order₀) []) × (counts₁ ≡ padded (length counts₀) []) × (reaches₁ ≡ padded (length reaches₀) []) × (pending₁ ≡ padded (length pending₀) [])
+  Right r rows₁ ranges₁ order₁ counts₁ reaches₁ pending₁ = (r ≡ answered (refusedWith why₀)) × (rows₁ ≡ tableOf (length rows₀) (refused why₀)) × (ranges₁ ≡ rangeWords (length ranges₀) (refused why₀)) × (order₁ ≡ padded (length order₀) []) × (counts₁ ≡ padded (length counts₀) []) × (reaches₁ ≡ padded (length reaches₀) []) × (pending₁ ≡ padded (length pending₀) [])
 
   exits : (r : Sorted) (rows₁ : List Block) (ranges₁ : List ℕ) (order₁ : List ℕ) (counts₁ : List ℕ) (reaches₁ : List ℕ) (pending₁ : List ℕ) → Has sorted r → Right r rows₁ ranges₁ order₁ counts₁ reaches₁ pending₁ → ent 𝓤 (sem 𝓤 H A (refs (hs rows₁ ranges₁ order₁ counts₁ reaches₁ pending₁))) (Post (sorted .val r))
   exits r rows₁ ranges₁ order₁ counts₁ reaches₁ pending₁ g e = leaves 𝓤 H A W (ps rows₁ ranges₁ order₁ counts₁ reaches₁ pending₁) (refl, (refl, (refl, (refl, (refl, (refl, tt)))))) sorted r g (Right r rows₁ ranges₁ order₁ counts₁ reaches₁ pending₁) e (Post (sorted .val r)) (λ fit. ends-at 𝓤 H A f.ended (stays fs) (f.clauses 𝓤 H A mem run) W ((κs, qs, bounds, a, at-entry), tt) (sorted .val r) r (ends (ps rows₁ ranges₁ order₁ counts₁ reaches₁ pending₁)) fit)

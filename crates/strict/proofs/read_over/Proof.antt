@@ -44,7 +44,7 @@ use Rattle.grammar.specs.Course.{fit}
 use Rattle.numbers.specs.Number.{pick}
 use Rattle.strict.specs.Promises.{ReadStrictly, beforehand}
 use Rattle.table.specs.Rows.{clearedFrom}
-use Rattle.updates.specs.Promises.{answer, refused, rowsOf, wordsOf}
+use Rattle.updates.specs.Promises.{answer, refused, tableOf, rangeWords}
 use Rattle.reader.proofs.Sorts.{refusal, refusal-has, filled, filled·rows-0, filled·rows-1, filled·refused-0, filled-cases}
 use Rattle.leftover.specs.Leftover as leftover
 use Rattle.strict.proofs.Laws.{blocks-out, set-out, left-out, done}
@@ -202,7 +202,7 @@ module _ {M : Type 1} (𝓤 : URA M) (H : Heap 𝓤) (A : Atoms 𝓤) (W : Given
         calls-by ! (fmOf 𝓤 H (W .laws) 𝓣) (2 ∷ 3 ∷ []) (hs (w₁ .1 .1 .0) (w₁ .1 .1 .1 .0) (setWords form₀ update₀ x₂b (length ranges₀))) (strict·refuse! 𝓤 H A mem run (𝓣 .C) known-strict·refuse at-rows (w₁ .1 .1 .1 .0) at-ranges (setWords form₀ update₀ x₂b (length ranges₀)) (record { number = 15; place = leftover.lowest (leftover.lower (at-update .count) (leftover.stretch x₄b (at-update .count))) (pick (eqb form₀ 1) [] (leftover.columnsAt (stateIn (w₁ .1 .1 .0)))) }) (refusal-has 15 (refl, lit< tt) (leftover.lowest (leftover.lower (at-update .count) (leftover.stretch x₄b (at-update .count))) (pick (eqb form₀ 1) [] (leftover.columnsAt (stateIn (w₁ .1 .1 .0))))) (g₅ .0))) refl (λ P. and-then ! (load ! (from ! (stop !)) (look ! 21 refl)) (and-then ! (load ! (from ! (stop !)) (look ! 17 refl)) (and-then ! (load ! (from ! (stop !)) (look ! 15 refl)) (no-more !)))) (λ g₇.
         land ! (from ! (stop !)) (init ! 77 refl (g₇ .1 .0)) $
         return-on ! Post refl (look ! 77 refl) $
-        free-all ! (_ ∷ []) En (has _ ∷ has _ ∷ has _ ∷ has _ ∷ has _ ∷ has _ ∷ has _ ∷ has _ ∷ has _ ∷ has _ ∷ has _ ∷ bare ∷ bare ∷ has _ ∷ has _ ∷ has _ ∷ has _ ∷ has _ ∷ bare ∷ has _ ∷ has _ ∷ has _ ∷ bare ∷ has _ ∷ has _ ∷ has _ ∷ has _ ∷ has _ ∷ has _ ∷ has _ ∷ has _ ∷ has _ ∷ []) [] $ by ! (exits (answer (refused (record { number = 15; place = leftover.lowest (leftover.lower (at-update .count) (leftover.stretch x₄b (at-update .count))) (pick (eqb form₀ 1) [] (leftover.columnsAt (stateIn (w₁ .1 .1 .0)))) }))) (w₁ .1 .1 .0) (rowsOf (length (w₁ .1 .1 .1 .0)) (refused (record { number = 15; place = leftover.lowest (leftover.lower (at-update .count) (leftover.stretch x₄b (at-update .count))) (pick (eqb form₀ 1) [] (leftover.columnsAt (stateIn (w₁ .1 .1 .0)))) }))) (wordsOf (length (setWords form₀ update₀ x₂b (length ranges₀))) (refused (record { number = 15; place = leftover.lowest (leftover.lower (at-update .count) (leftover.stretch x₄b (at-update .count))) (pick (eqb form₀ 1) [] (leftover.columnsAt (stateIn (w₁ .1 .1 .0)))) }))) (g₇ .0) (left-out form₀ update₀ rows₀ ranges₀ (req .1) x₂a x₂b (sym (read .0) ∙ e₂) x₄a x₄b e₄ (w₁ .1 .1 .0) (read .2) y₆ _ _ (sz .1 .0) (sz .1 .1 .0)))))
+        free-all ! (_ ∷ []) En (has _ ∷ has _ ∷ has _ ∷ has _ ∷ has _ ∷ has _ ∷ has _ ∷ has _ ∷ has _ ∷ has _ ∷ has _ ∷ bare ∷ bare ∷ has _ ∷ has _ ∷ has _ ∷ has _ ∷ has _ ∷ bare ∷ has _ ∷ has _ ∷ has _ ∷ bare ∷ has _ ∷ has _ ∷ has _ ∷ has _ ∷ has _ ∷ has _ ∷ has _ ∷ has _ ∷ has _ ∷ []) [] $ by ! (exits (answer (refused (record { number = 15; place = leftover.lowest (leftover.lower (at-update .count) (leftover.stretch x₄b (at-update .count))) (pick (eqb form₀ 1) [] (leftover.columnsAt (stateIn (w₁ .1 .1 .0)))) }))) (w₁ .1 .1 .0) (tableOf (length (w₁ .1 .1 .1 .0)) (refused (record { number = 15; place = leftover.lowest (leftover.lower (at-update .count) (leftover.stretch x₄b (at-update .count))) (pick (eqb form₀ 1) [] (leftover.columnsAt (stateIn (w₁ .1 .1 .0)))) }))) (rangeWords (length (setWords form₀ update₀ x₂b (length ranges₀))) (refused (record { number = 15; place = leftover.lowest (leftover.lower (at-update .count) (leftover.stretch x₄b (at-update .count))) (pick (eqb form₀ 1) [] (leftover.columnsAt (stateIn (w₁ .1 .1 .0)))) }))) (g₇ .0) (left-out form₀ update₀ rows₀ ranges₀ (req .1) x₂a x₂b (sym (read .0) ∙ e₂) x₄a x₄b e₄ (w₁ .1 .1 .0) (read .2) y₆ _ _ (sz .1 .0) (sz .1 .1 .0)))))
         (λ y₆.
         skip-on ! $
         flat ! $

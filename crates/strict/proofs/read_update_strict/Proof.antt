@@ -40,7 +40,7 @@ use Rattle.walks.proofs.Flow.{flat, tests, skip-on, return-on}
 use Rattle.block.specs.declared.Block.{Block}
 use Rattle.updates.specs.declared.Update.{Update}
 use Rattle.strict.specs.Promises.{ReadStrictly, beforehand}
-use Rattle.updates.specs.Promises.{answer, refused, rowsOf, wordsOf}
+use Rattle.updates.specs.Promises.{answer, refused, tableOf, rangeWords}
 use Rattle.reader.proofs.Sorts.{refusal, refusal-has}
 use Rattle.update.proofs.Laws.{fresh}
 use Rattle.strict.proofs.Laws.{on-first}
@@ -137,7 +137,7 @@ module _ {M : Type 1} (𝓤 : URA M) (H : Heap 𝓤) (A : Atoms 𝓤) (W : Given
         calls-by ! (fmOf 𝓤 H (W .laws) 𝓣) (1 ∷ 2 ∷ []) (hs rows₀ ranges₀) (strict·refuse! 𝓤 H A mem run (𝓣 .C) known-strict·refuse at-rows rows₀ at-ranges ranges₀ (record { number = beforehand form₀ update₀; place = 0 }) (refusal-has (beforehand form₀ update₀) (g₁ .0) 0 (refl, lit< tt))) refl (λ P. and-then ! (load ! (from ! (stop !)) (look ! 19 refl)) (and-then ! (load ! (from ! (stop !)) (look ! 15 refl)) (and-then ! (load ! (from ! (stop !)) (look ! 29 refl)) (no-more !)))) (λ g₃.
         land ! (from ! (stop !)) (init ! 41 refl (g₃ .1 .0)) $
         return-on ! Post refl (look ! 41 refl) $
-        free-all ! (_ ∷ []) En (has _ ∷ has _ ∷ has _ ∷ has _ ∷ has _ ∷ has _ ∷ has _ ∷ bare ∷ bare ∷ has _ ∷ has _ ∷ has _ ∷ has _ ∷ has _ ∷ []) [] $ by ! (exits (answer (refused (record { number = beforehand form₀ update₀; place = 0 }))) (rowsOf (length rows₀) (refused (record { number = beforehand form₀ update₀; place = 0 }))) (wordsOf (length ranges₀) (refused (record { number = beforehand form₀ update₀; place = 0 }))) (g₃ .0) (on-first form₀ update₀ rows₀ ranges₀ (not-true (eqb (beforehand form₀ update₀) 0) y₂)))))
+        free-all ! (_ ∷ []) En (has _ ∷ has _ ∷ has _ ∷ has _ ∷ has _ ∷ has _ ∷ has _ ∷ bare ∷ bare ∷ has _ ∷ has _ ∷ has _ ∷ has _ ∷ has _ ∷ []) [] $ by ! (exits (answer (refused (record { number = beforehand form₀ update₀; place = 0 }))) (tableOf (length rows₀) (refused (record { number = beforehand form₀ update₀; place = 0 }))) (rangeWords (length ranges₀) (refused (record { number = beforehand form₀ update₀; place = 0 }))) (g₃ .0) (on-first form₀ update₀ rows₀ ranges₀ (not-true (eqb (beforehand form₀ update₀) 0) y₂)))))
         (λ y₂.
         skip-on ! $
         array-typed ! word 580 0 (refl, lit< tt) (λ ty₇.

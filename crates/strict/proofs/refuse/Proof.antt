@@ -38,7 +38,7 @@ use Rattle.block.specs.declared.Block.{Block}
 use Rattle.numbers.specs.declared.Refusal.{Refusal}
 use Rattle.updates.specs.declared.Update.{Update}
 use Rattle.table.specs.Rows.{clearedFrom}
-use Rattle.updates.specs.Promises.{answer, refused, rowsOf, wordsOf}
+use Rattle.updates.specs.Promises.{answer, refused, tableOf, rangeWords}
 use Rattle.reader.proofs.Sorts.{refusal}
 use Rattle.updates.proofs.Laws.{rows-none, words-none}
 use Rattle.table.proofs.Sorts.{block}
@@ -98,7 +98,7 @@ module _ {M : Type 1} (𝓤 : URA M) (H : Heap 𝓤) (A : Atoms 𝓤) (W : Given
 
   -- the contract
   abbrev Right : Update → List Block → List ℕ → Type 0
-  Right r rows₁ ranges₁ = (r ≡ answer (refused why₀)) × (rows₁ ≡ rowsOf (length rows₀) (refused why₀)) × (ranges₁ ≡ wordsOf (length ranges₀) (refused why₀))
+  Right r rows₁ ranges₁ = (r ≡ answer (refused why₀)) × (rows₁ ≡ tableOf (length rows₀) (refused why₀)) × (ranges₁ ≡ rangeWords (length ranges₀) (refused why₀))
 
   exits : (r : Update) (rows₁ : List Block) (ranges₁ : List ℕ) → Has update r → Right r rows₁ ranges₁ → ent 𝓤 (sem 𝓤 H A (refs (hs rows₁ ranges₁))) (Post (update .val r))
   exits r rows₁ ranges₁ g e = leaves 𝓤 H A W (ps rows₁ ranges₁) (refl, (refl, tt)) update r g (Right r rows₁ ranges₁) e (Post (update .val r)) (λ fit. ends-at 𝓤 H A f.ended (stays fs) (f.clauses 𝓤 H A mem run) W ((κs, qs, bounds, a, at-entry), tt) (update .val r) r (ends (ps rows₁ ranges₁)) fit)

@@ -38,7 +38,7 @@ use Rattle.walks.proofs.Flow.{flat, tests, skip-on, return-on}
 use Prim.Native.Nat.{_/_}
 use Rattle.block.specs.declared.Block.{Block}
 use Rattle.updates.specs.declared.Update.{Update}
-use Rattle.updates.specs.Promises.{Reading, answer, rowsOf, wordsOf}
+use Rattle.updates.specs.Promises.{Reading, answer, tableOf, rangeWords}
 use Rattle.strict.specs.Promises.{strictly}
 use Rattle.table.proofs.Sorts.{block}
 use Rattle.updates.proofs.Sorts.{update-blocks}
@@ -120,10 +120,10 @@ module _ {M : Type 1} (𝓤 : URA M) (H : Heap 𝓤) (A : Atoms 𝓤) (W : Given
   said b = answer (found b)
 
   abbrev rows′ : Block → List Block
-  rows′ b = rowsOf (length (replicate n₀ b)) (found b)
+  rows′ b = tableOf (length (replicate n₀ b)) (found b)
 
   abbrev words′ : Block → List ℕ
-  words′ b = wordsOf (length words₀) (found b)
+  words′ b = rangeWords (length words₀) (found b)
 
   module _ (𝓣 : Tables 𝓤 H) (known-update-cases·rows·full : Triple 𝓤 (𝓣 .C #update-cases·rows·full) (Update-cases·rows·full 𝓤 H A mem run)) (known-strict·read-update-strict : Triple 𝓤 (𝓣 .C #strict·read-update-strict) (Strict·read-update-strict 𝓤 H A mem run)) (known-update-cases·rows·begin : Triple 𝓤 (𝓣 .C #update-cases·rows·begin) (Update-cases·rows·begin 𝓤 H A mem run)) (known-update-cases·tables·put-rows : Triple 𝓤 (𝓣 .C #update-cases·tables·put-rows) (Update-cases·tables·put-rows 𝓤 H A mem run)) (known-update-cases·rows·end : Triple 𝓤 (𝓣 .C #update-cases·rows·end) (Update-cases·rows·end 𝓤 H A mem run)) where
     walk : ent 𝓤 (onEntry 𝓤 H A f.signature κs qs a at-entry) (WpFn 𝓤 H (𝓣 .C) (𝓣 .Λ) code.function (vals (ps words₀ sink₀)) Post)

@@ -7,7 +7,7 @@ use denote.Ref.{now}
 use lib.ListN.{length}
 use Rattle.text.specs.declared.Taken.{Taken}
 use Rattle.text.specs.declared.Taken.the-variants as units
-use Rattle.string.specs.String.{ending, taken}
+use Rattle.string.specs.String.{textEnding, unitsTaken}
 use Rattle.string.specs.StringInner.{TookWithin}
 use borrow.Author.Needs.{needs}
 use Rattle.string.proofs.take.Statement.{statement}
@@ -23,11 +23,11 @@ add-next c =
     ⊎-elim (λ l. omega (arith, l)) (λ z. omega (arith, z)) w
 
 returns : tie.Need-returns
-unfolding taken ending
+unfolding unitsTaken textEnding
 returns c = rw (← c .before .before .before .before .take-text .ensures .0, c .before .before .bytes .given .1)
 
 returns-2 : tie.Need-returns-2
-unfolding taken ending
+unfolding unitsTaken textEnding
 returns-2 c = rw (← c .before .before .before .take-text .ensures .0, c .before .n .given .1)
 
 pub take-spec : {M : Type 1} → statement M

@@ -1,13 +1,13 @@
 -- `summaries::refuse` meets its contract: zeros everywhere.
 use mathlib.Core.Path.{refl, _∙_}
 use Rattle.numbers.proofs.Output.{padded-none}
-use Rattle.summaries.specs.Promises.{summarized, bytesIn}
+use Rattle.summaries.specs.Promises.{summarized, madeBytes}
 use borrow.Author.Needs.{needs}
 use Rattle.summaries.proofs.refuse.Statement.{statement}
 use Rattle.summaries.proofs.refuse.Tie as tie
 
 returns : tie.Need-returns
-unfolding summarized bytesIn
+unfolding summarized madeBytes
 returns c = (refl, c .before .before .clear .ensures ∙ padded-none (c .before .before .before .before .before .args .out .now))
 
 pub refuse-spec : {M : Type 1} → statement M

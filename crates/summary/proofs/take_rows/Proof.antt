@@ -6,7 +6,7 @@ use mathlib.Core.List.{List, [], _∷_}
 use lib.ListN.{length}
 use lib.Seq.{length-sets}
 use Rattle.bits.specs.Bits.{ofBytes}
-use Rattle.summary.specs.Words.{row, wordsIn}
+use Rattle.summary.specs.Words.{summaryRow, wordsIn}
 use Rattle.summary.specs.WordsInner.{Took}
 use Rattle.summary.proofs.Taking.{Taking, rowFrom, begins, cut-off, no-row, one-row, all-rows}
 use borrow.Author.Needs.{needs}
@@ -58,7 +58,7 @@ loop-again c =
     let h = c .before .before .before .before .before .before .before .before .get2 in
     let i = c .before .before .before .before .before .before .before .get3 in
     let j = c .before .before .before .before .before .before .get4 in
-    let r = row (g .result) (h .result) (i .result) (j .result) in
+    let r = summaryRow (g .result) (h .result) (i .result) (j .result) in
     let same : r ≡ rowFrom (l .o) (ofBytes (a .s .now)) = rw (g .ensures, h .ensures, i .ensures, j .ensures) in (
       one-row (a .s .now) (a .n) m (l .rows) (l .o) (l .k) (l .left) (l .above) (l .good) (l .inv .0) (c .before .before .before .before .before .before .before .before .before .before .before .before .loop-test .taken) (c .before .before .before .before .before .before .before .before .before .before .before .if1 .left) (room-is (l .rows) (a .rows .now) (l .inv .1)) (c .before .before .before .before .before .before .before .before .before .before .if2 .left) r same (p .last .0) (p .ensures)
           (c .both .result) (c .both .ensures ∙ ap (λ (x : Bool). l .good && x) (c .before .is-fine .ensures)),

@@ -10,13 +10,13 @@ use Rattle.numbers.specs.Number.{unsigned}
 use Rattle.numbers.specs.Limits.{maxUnsigned}
 use Rattle.numbers.specs.OutputInner.{done}
 use Rattle.numbers.proofs.Output.{verdict-why, verdict-room, verdict-done, refused-answer, refused-bytes, done-answer, done-bytes, take-sets}
-use Rattle.wairokabi.specs.Promises.{over}
+use Rattle.wairokabi.specs.Promises.{whyOver}
 use borrow.Author.Needs.{needs}
 use Rattle.wairokabi.proofs.write_unsigned.Statement.{statement}
 use Rattle.wairokabi.proofs.write_unsigned.Tie as tie
 
 returns : tie.Need-returns
-unfolding over
+unfolding whyOver
 returns c =
     let a = c .before .before .before .before .before .before .args in
     let n = length (a .out .now) in
@@ -27,7 +27,7 @@ returns c =
     rw (lt-ltb maxUnsigned (a .value) (c .before .before .before .before .if1 .taken)) (r .0 ∙ refused-answer 3 n b 3 v ne, r .1 ∙ refused-bytes 3 n b 3 v ne)
 
 returns-2 : tie.Need-returns-2
-unfolding over
+unfolding whyOver
 returns-2 c =
     let a = c .before .before .before .before .before .before .before .before .args in
     let n = length (a .out .now) in
@@ -49,7 +49,7 @@ finish-requires c κs =
     omega (arith, w .ensures .0, w .kept .0, c .before .before .before .before .before .before .size-unsigned .ensures .0, c .before .before .before .before .before .if2 .left)
 
 returns-3 : tie.Need-returns-3
-unfolding over
+unfolding whyOver
 returns-3 c =
     let a = c .before .before .before .before .before .before .before .before .before .before .before .before .args in
     let e = a .out .now in
