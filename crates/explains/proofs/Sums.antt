@@ -19,7 +19,7 @@ use Rattle.decoder.specs.Columned.{columned}
 use Rattle.roles.specs.declared.Role.{Role}
 use Rattle.roles.specs.declared.Role.the-variants as role
 use Rattle.roles.specs.declared.Plan.{Plan}
-use Rattle.roles.specs.Roles.{start, goTo, sectioned, announced, onward, headed, informed, lengthened, lasting, contentRole, toContent, toKey, toRight, toParent, toNode, behind, after, codeOf, ownClock, isEnded, settled}
+use Rattle.roles.specs.Roles.{start, goTo, sectioned, announced, onward, headed, informed, lengthened, endedWith, contentRole, toContent, toKey, toRight, toParent, toNode, planAfter, after, codeOf, ownClock, isEnded, movedOn}
 use Rattle.origins.specs.declared.Line.{Line}
 use Rattle.origins.specs.declared.Rise.{Rise}
 use Rattle.origins.specs.Origins.{noRise, storedLine, plainLine, lineAt, linesInLine, linesIn}
@@ -124,8 +124,8 @@ low-onward : (q : Plan) → Low q → Low (onward q)
 unfolding onward
 low-onward q h = omega (arith, h)
 
-low-settled : (q : Plan) → Low q → Low (settled q)
-unfolding settled
+low-settled : (q : Plan) → Low q → Low (movedOn q)
+unfolding movedOn
 low-settled q h = low-pick (isEnded q) (onward q) q (low-onward q h) h
 
 low-to : (r : Role) (q : Plan) → Low q → Low (goTo r q)
@@ -142,8 +142,8 @@ low-content q h = low-to (contentRole (q .info % 32)) q h
 low-key : (q : Plan) → Low q → Low (toKey q)
 low-key q h = low-pick (ltb (q .info) 32) (toContent q) (goTo role.Key q) (low-content q h) (low-to role.Key q h)
 
-low-behind : (r : Role) (q : Plan) (v p : ℕ) → Low q → Low (behind r q v p)
-unfolding behind sectioned announced headed informed toRight toParent toNode
+low-behind : (r : Role) (q : Plan) (v p : ℕ) → Low q → Low (planAfter r q v p)
+unfolding planAfter sectioned announced headed informed toRight toParent toNode
 low-behind role.Sections q v p h = omega arith
 low-behind role.Blocks q v p h = omega arith
 low-behind role.Client q v p h = low-to role.FirstClock q h
@@ -166,8 +166,8 @@ low-behind role.Text q v p h = low-lengthened role.Ended v q h
 low-behind role.MarkKey q v p h = low-to role.MarkValue q h
 low-behind role.MarkValue q v p h = low-lengthened role.Ended 1 q h
 low-behind role.TypeNumber q v p h =
-    low-pick (ltb maxType v) (goTo role.Over q) (pick (isNamed v) (goTo role.NodeName q) (lasting 1 q)) (low-to role.Over q h)
-    (low-pick (isNamed v) (goTo role.NodeName q) (lasting 1 q) (low-to role.NodeName q h) (low-lengthened role.Ended 1 q h))
+    low-pick (ltb maxType v) (goTo role.Over q) (pick (isNamed v) (goTo role.NodeName q) (endedWith 1 q)) (low-to role.Over q h)
+    (low-pick (isNamed v) (goTo role.NodeName q) (endedWith 1 q) (low-to role.NodeName q h) (low-lengthened role.Ended 1 q h))
 low-behind role.NodeName q v p h = low-lengthened role.Ended 1 q h
 low-behind role.ListLength q v p h = low-lengthened role.ListValues v q h
 low-behind role.ListValues q v p h = low-to role.Ended q h
@@ -211,10 +211,10 @@ module _ {S : Type 0} (r : Reader S) (tell : ℕ → (f : Field) → Answer f �
   found-sums (kept b ∷ rest) w q h zero low told = sums-append (h .head) (clockLine q ∷ h .own) (told .head) (clock-sums q low, told .own)
   found-sums (kept b ∷ rest) w q h (suc n) low told = found-sums rest w q h n low told
   found-sums (drew f a s t ∷ rest) w q h zero low told =
-      let p = settled q in
+      let p = movedOn q in
       found-sums rest (w .1) _ _ zero (low-after p (heard f a .0) (heard f a .1) (low-settled q low)) (told-noted (codeOf (p .role)) _ h (true-of (codeOf (p .role)) f a s t (w .0)) told)
   found-sums (drew f a s t ∷ rest) w q h (suc n) low told =
-      let p = settled q in
+      let p = movedOn q in
       found-sums rest (w .1) _ _ (suc n) (low-after p (heard f a .0) (heard f a .1) (low-settled q low)) (told-noted (codeOf (p .role)) _ h (true-of (codeOf (p .role)) f a s t (w .0)) told)
 
 blank-told : Told blank
