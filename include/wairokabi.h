@@ -12,7 +12,7 @@
 // - What is lent to be written (no `const`) shares no byte with anything else that is lent to the same call.
 // Calls may run at the same time in several threads, each on what it alone is lent. A call takes no memory but
 // what is lent and the stack, at most: `wairokabi_list` 101.4 KiB, `wairokabi_encode_diff` and `_encode_update` 27.9, `_sort_held` 25.9, `_sort` 24.8,
-// `_sort_slowly` 19.8, `_sort_held_slowly` 18.9, `_read_update` and `_read_update_strict` 13.4, `_explain` and `_write_summary` 8.3, `_content` 6.7,
+// `_sort_slowly` 19.8, `_sort_held_slowly` 18.9, `_read_update` and `_read_update_strict` 13.4, `_write_summary` 10.3, `_explain` 8.3, `_content` 6.7,
 // `_read_state_vector` 1.3, any other 0.3
 // (tools/stack; of the x86-64 archive, without what memcpy and memset take).
 //
