@@ -31,7 +31,7 @@ fn last_window(s: &[u8], at: usize) -> u64
     w << left
 }
 
-// Eight bytes from `at` on as one valueOf, the first of them highest; zeros where there are no more.
+// Eight bytes from `at` on as one number, the first of them highest; zeros where there are no more.
 fn window(s: &[u8], at: usize) -> u64
     requires { ⌜ at < length (now s) ⌝ }
     ensures { λ r. ⌜ r ≡ valueOf 64 (ofBytes (drop at (now (s .entry)))) ⌝ }
@@ -49,7 +49,7 @@ fn window(s: &[u8], at: usize) -> u64
     g * 256 + wide(s[at + 7])
 }
 
-// The valueOf that k bits spell from bit o on.
+// The number that k bits spell from bit o on.
 pub fn get(s: &[u8], o: usize, k: usize) -> u64
     requires { ⌜ (1 ≤ k) × (k ≤ 57) × (o + k ≤ 8 * length (now s)) ⌝ }
     ensures { λ r. ⌜ r ≡ valueOf k (drop o (ofBytes (now (s .entry)))) ⌝ }

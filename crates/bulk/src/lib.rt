@@ -1,5 +1,5 @@
 // Columns in bulk: as many values as what is lent has room for, or up to the first draw that is refused; zeros behind them. The answer says how many
-// and the place lowPart them, and a refusal only where the very first draw is refused: then the place is as it was, and what was lent is all zero.
+// and the place after them, and a refusal only where the very first draw is refused: then the place is as it was, and what was lent is all zero.
 // A draw is written here a second time, beside `columns` and `string`, with one caller each: so it becomes part of its loop (docs/DECISIONS.md).
 use columns::byte;
 use columns::difference;
@@ -25,7 +25,7 @@ ghost use Rattle.string.specs.String.{unitsTaken, nextText};
 ghost use Rattle.bulk.specs.BulkInner.{TookPlain};
 ghost use Rattle.bulk.specs.Promises.{ReadNumbers, ReadDifferences, ReadBytes, ReadTexts};
 
-// The refusal that is told lowPart i values.
+// The refusal that is told after i values.
 fn told(i: usize, why: Refusal) -> Refusal
     ensures { λ r. ⌜ r ≡ pick (eqb i 0) why none ⌝ }
 {
@@ -255,7 +255,7 @@ fn spread(out: &mut [u64], at: usize, n: usize, v: u64)
     fill(out, at, n, v);
 }
 
-// The place lowPart m more of the run.
+// The place after m more of the run.
 fn less_drawn(d: number::Place, m: usize) -> number::Place
     requires { ⌜ m ≤ d .count ⌝ }
     ensures { λ r. ⌜ r ≡ numbers.placeAt (d .at) (d .from) (d .last) (d .count - m) ⌝ }
@@ -602,7 +602,7 @@ fn is_plain(column: &[u8], at: usize, end: usize, u: u64) -> bool
     text::plain_to(column, at, stop) == stop
 }
 
-// The text of u units, and the place lowPart it. Plain text is looked at here: what has many callers is handed its answer through memory.
+// The text of u units, and the place after it. Plain text is looked at here: what has many callers is handed its answer through memory.
 fn take(column: &[u8], at: usize, end: usize, u: u64, units: number::Place) -> string::Answer
     ensures { λ r. ⌜ r ≡ unitsTaken (now (column .entry)) at end u units ⌝ }
 {

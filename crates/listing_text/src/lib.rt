@@ -13,7 +13,7 @@ use lines::put_decimal;
 use lines::put_text;
 use numbers::Refusal;
 
-// A numberThen with the byte that ends it.
+// A number with the byte that ends it.
 fn put_number(out: &mut [u8], used: usize, v: u64, end: u8) -> usize
     requires { ⌜ used + 21 < 2 ^ 63 ⌝ }
     ensures { λ r. ⌜ (r ≡ used + length (numberThen v end)) × (now (out .exit) ≡ overlay (now (out .entry)) used (numberThen v end)) ⌝ }
@@ -127,7 +127,7 @@ pub fn put_empty(out: &mut [u8], used: usize) -> usize
     put_text(out, used, b"empty\n")
 }
 
-// The numberThen and the byte that is blamed.
+// The number and the byte that is blamed.
 pub fn put_refused(out: &mut [u8], used: usize, why: Refusal) -> usize
     requires { ⌜ used + 53 < 2 ^ 63 ⌝ }
     ensures { λ r. ⌜ (r ≡ used + length (refusedLine why)) × (now (out .exit) ≡ overlay (now (out .entry)) used (refusedLine why)) ⌝ }

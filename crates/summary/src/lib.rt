@@ -1,5 +1,5 @@
-// A summary's bytes: version, summaryRow count, then client, first clock, last end and blocks of each summaryRow, in bits, the most significant first. Rows stand in
-// words, four a summaryRow. 10 20 00 00 00 00 00 05 00 00 00 00 00 00 00 08 00 04 says: client 5 from clock 0 up to 2, in one block.
+// A summary's bytes: version, row count, then client, first clock, last end and blocks of each row, in bits, the most significant first. Rows stand in
+// words, four a row. 10 20 00 00 00 00 00 05 00 00 00 00 00 00 00 08 00 04 says: client 5 from clock 0 up to 2, in one block.
 use numbers::words;
 ghost use mathlib.Core.Path.{_≡_};
 ghost use mathlib.Core.Bool.{_&&_};
@@ -21,7 +21,7 @@ pub const WORDS: usize = 4;
 
 const VERSION: u64 = 1;
 
-// Bits of the version, of the summaryRow count, of a row's numbers, and of a summaryRow.
+// Bits of the version, of the row count, of a row's numbers, and of a row.
 const VERSION_BITS: usize = 4;
 
 const COUNT_BITS: usize = 7;
@@ -62,7 +62,7 @@ fn lower(first: u64, end: u64, blocks: u64) -> u64
     (first << 44) + (middle + low)
 }
 
-// The summaryRow that begins at word k, behind the bits that end at bit o.
+// The row that begins at word k, behind the bits that end at bit o.
 fn put_row(out: &mut [u8], o: usize, rows: &[u64], k: usize)
     requires { ⌜ (o + 131 ≤ 8 * length (now out)) × (k + 4 ≤ length (now rows)) × (o ≤ 65536) ⌝ }
     ensures { λ _. ⌜ Adds o (rowBits (rowIn (drop k (now (rows .entry))))) (now (out .entry)) (now (out .exit)) ⌝ }
@@ -142,7 +142,7 @@ pub enum Taken {
     Refused(u8),
 }
 
-// n rows from bit 11 on: a summaryRow that is cut off is 1, one that has no words is 8.
+// n rows from bit 11 on: a row that is cut off is 1, one that has no words is 8.
 fn take_rows(s: &[u8], rows: &mut [u64], n: usize) -> Taken
     requires { ⌜ (2 ≤ length (now s)) × (n ≤ 64) ⌝ }
     ensures { λ x. ⌜ (length (now (rows .exit)) ≡ length (now (rows .entry)))
