@@ -828,7 +828,7 @@ const open = async wasm => {
 }
   return { open, Refused, TYPES, FIELDS, of: {
     library: '567f82c64ea1a67ecc605d178c5b7406afdbbbb514d6ca4b2f332140b0973b57',
-    crates: 'b0dd9713dc63b9dae0b8e3529f61f763ba81613c00e06e3886ed3ff90002f89b',
+    crates: 'a29140b0f332b56bae3d37eda10000e4945713cb7d2f18ab68d51589e1394d3b',
     wasm: `
 AGFzbQEAAAABjAMlYAZ+fn5+fn4AYAN+fn4BfmAFfn5+fn4AYAN+fn4AYAR+fn5+AX5gBn5+fn5+fwBgBH5+fn4AYAR+f35+AGAFfn9+fn4AYAZ+f35+fn4AYAR+fn5/AGAGfn5+fn5+AX5gAn5+AG
 AHfn5+f35+fgF+YAZ+fn5/fn4BfmAHfn9+fn5+fgBgBX9+fn5+AX5gCX5/fn5+fn5+fgBgCH5+fn5+fn9+AX5gAn5+AX5gB35+fn5+fn4AYAh+fn5+fn5+fgBgCn5+fn5+fn5/fn8BfmAFfn5+fn4B

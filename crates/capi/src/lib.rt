@@ -93,7 +93,8 @@ pub extern "C" fn wairokabi_encode_diff(
     ranges: &mut [u64],
     out: &mut [u8],
 ) -> Diff
-    ensures { λ r. ⌜ Diffs form (now (update .entry)) (now (vector .entry)) to (now (rows .entry)) (now (ranges .entry)) (now (out .entry)) r (now (rows .exit)) (now (ranges .exit)) (now (out .exit)) ⌝ }
+    ensures { λ r. ⌜ Diffs form (now (update .entry)) (now (vector .entry)) to (now (rows .entry)) (now (ranges .entry)) (now (out .entry))
+        r (now (rows .exit)) (now (ranges .exit)) (now (out .exit)) ⌝ }
 {
     diffs::encode_diff(form, update, vector, to, rows, ranges, out)
 }
@@ -107,7 +108,8 @@ pub extern "C" fn wairokabi_encode_update(
     ranges: &mut [u64],
     out: &mut [u8],
 ) -> Diff
-    ensures { λ r. ⌜ Diffs form (now (update .entry)) emptyVector to (now (rows .entry)) (now (ranges .entry)) (now (out .entry)) r (now (rows .exit)) (now (ranges .exit)) (now (out .exit)) ⌝ }
+    ensures { λ r. ⌜ Diffs form (now (update .entry)) emptyVector to (now (rows .entry)) (now (ranges .entry)) (now (out .entry))
+        r (now (rows .exit)) (now (ranges .exit)) (now (out .exit)) ⌝ }
 {
     diffs::encode_update(form, update, to, rows, ranges, out)
 }
@@ -125,7 +127,9 @@ pub extern "C" fn wairokabi_sort(
     reaches: &mut [u64],
     pending: &mut [u64],
 ) -> Sorted
-    ensures { λ r. ⌜ SortUpdate rule form (now (update .entry)) (now (vector .entry)) (now (rows .entry)) (now (ranges .entry)) (now (order .entry)) (now (counts .entry)) (now (reaches .entry)) (now (pending .entry)) r (now (rows .exit)) (now (ranges .exit)) (now (order .exit)) (now (counts .exit)) (now (reaches .exit)) (now (pending .exit)) ⌝ }
+    ensures { λ r. ⌜ SortUpdate rule form (now (update .entry)) (now (vector .entry)) (now (rows .entry)) (now (ranges .entry)) (now (order .entry))
+        (now (counts .entry)) (now (reaches .entry)) (now (pending .entry))
+        r (now (rows .exit)) (now (ranges .exit)) (now (order .exit)) (now (counts .exit)) (now (reaches .exit)) (now (pending .exit)) ⌝ }
 {
     sorts::sort(
         rule,

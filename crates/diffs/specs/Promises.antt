@@ -30,7 +30,8 @@ whyNot u v form to room r = verdict (diffWhy form to u v (r .blocks) (r .ranges)
 
 unfoldable pub diffed : List ℕ → List Entry → ℕ → ℕ → ℕ → Reading → Diffed
 diffed u v form to room r =
-    pick (eqb (whyNot u v form to room r) 0) (record { refusal = none; bytes = diffBytes to u v (r .blocks) (r .ranges); reading = r }) (refusedWith (nowhere (whyNot u v form to room r)))
+    pick (eqb (whyNot u v form to room r) 0) (record { refusal = none; bytes = diffBytes to u v (r .blocks) (r .ranges); reading = r })
+    (refusedWith (nowhere (whyNot u v form to room r)))
 
 -- the vector is read after the update, and its refusal blames no byte
 unfoldable pub against : List ℕ → Course Entry → ℕ → ℕ → ℕ → Reading → Diffed
@@ -40,7 +41,8 @@ unfoldable pub afterReading : List ℕ → Course Entry → ℕ → ℕ → ℕ 
 afterReading u c form to room r = pick (eqb (r .refusal .number) 0) (against u c form to room r) (refusedWith (r .refusal))
 
 unfoldable pub diffOf : ℕ → List ℕ → List ℕ → ℕ → ℕ → ℕ → ℕ → Diffed
-diffOf form u v to blockRows rangeRows room = pick (known to) (afterReading u (vectorOf v) form to room (reading form u blockRows rangeRows)) (refusedWith (nowhere 12))
+diffOf form u v to blockRows rangeRows room =
+    pick (known to) (afterReading u (vectorOf v) form to room (reading form u blockRows rangeRows)) (refusedWith (nowhere 12))
 
 -- ---- what `encode_diff` gives, and what it leaves in all that is lent
 
@@ -50,7 +52,8 @@ answered d = record { refusal = d .refusal; bytes = length (d .bytes); blocks = 
 -- what d leaves: the answer r, with these rows, words and bytes at entry and at exit
 abbrev pub Leaves : Diffed → List Block → List ℕ → List ℕ → Diff → List Block → List ℕ → List ℕ → Type 0
 Leaves d rows ranges out r rows₁ ranges₁ out₁ =
-    (r ≡ answered d) × (rows₁ ≡ tableOf (length rows) (d .reading)) × (ranges₁ ≡ rangeWords (length ranges) (d .reading)) × (out₁ ≡ padded (length out) (d .bytes))
+    (r ≡ answered d) × (rows₁ ≡ tableOf (length rows) (d .reading)) × (ranges₁ ≡ rangeWords (length ranges) (d .reading))
+    × (out₁ ≡ padded (length out) (d .bytes))
 
 abbrev pub Diffs : ℕ → List ℕ → List ℕ → ℕ → List Block → List ℕ → List ℕ → Diff → List Block → List ℕ → List ℕ → Type 0
 Diffs form u v to rows ranges out = Leaves (diffOf form u v to (length rows) (length ranges / 3) (length out)) rows ranges out

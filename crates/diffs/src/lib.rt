@@ -60,7 +60,8 @@ pub fn encode_diff(
     ranges: &mut [u64],
     out: &mut [u8],
 ) -> Diff
-    ensures { λ r. ⌜ Diffs form (now (update .entry)) (now (vector .entry)) to (now (rows .entry)) (now (ranges .entry)) (now (out .entry)) r (now (rows .exit)) (now (ranges .exit)) (now (out .exit)) ⌝ }
+    ensures { λ r. ⌜ Diffs form (now (update .entry)) (now (vector .entry)) to (now (rows .entry)) (now (ranges .entry)) (now (out .entry))
+        r (now (rows .exit)) (now (ranges .exit)) (now (out .exit)) ⌝ }
 {
     if !is_known(to) {
         return refuse(
@@ -119,7 +120,8 @@ pub fn encode_update(
     ranges: &mut [u64],
     out: &mut [u8],
 ) -> Diff
-    ensures { λ r. ⌜ Diffs form (now (update .entry)) emptyVector to (now (rows .entry)) (now (ranges .entry)) (now (out .entry)) r (now (rows .exit)) (now (ranges .exit)) (now (out .exit)) ⌝ }
+    ensures { λ r. ⌜ Diffs form (now (update .entry)) emptyVector to (now (rows .entry)) (now (ranges .entry)) (now (out .entry))
+        r (now (rows .exit)) (now (ranges .exit)) (now (out .exit)) ⌝ }
 {
     let mut zeros = [0u8; 16];
     let vector = &mut zeros[..];

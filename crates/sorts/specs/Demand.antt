@@ -1,5 +1,5 @@
--- The user's demand 3, of a sort that is done: what its words say of every allowed order. The first record is over any rule and any knowledge, and serves sorting
--- by held ids too (`held_sorts`); a sort against a vector has reaches beside it.
+-- The user's demand 3, of a sort that is done: what its words say of every allowed order. The first record is over any rule and any knowledge, and serves
+-- sorting by held ids too (`held_sorts`); a sort against a vector has reaches beside it.
 use Prim.Native.Nat.{ℕ, _<_}
 use mathlib.Core.Path.{_≡_}
 use mathlib.Core.Logic.{_↔_}
@@ -24,8 +24,8 @@ use Rattle.block.specs.declared.Block.{Block}
 -- ---- blocks sorted by a rule from what is known at first, reported of these clients: an order and two reports are those of every allowed run
 
 pub record Demanded {A : Type 0} (R : Rule A) (bs : List Block) (κ : A → ℕ) (cs : List ℕ) (order counts pending : List ℕ) : Type 0 where
-  -- the client of each step: every other whole run takes the same blocks and comes to know the same, and a block is left pending exactly when no allowed
-  -- run takes it
+  -- the client of each step: every other whole run takes the same blocks and comes to know the same, and a block is left pending exactly when no
+  -- allowed run takes it
   pub run : List ℕ
   pub sorts : Sorts (steps R bs) κ run
   -- each step takes the highest client that may be taken, and no other whole run does

@@ -35,8 +35,8 @@ pub fn refuse(
     sort_answers::none(why)
 }
 
-// The blocks of an update of one form, sorted by a rule (13 or 28) against a state vector: their numbers in the order in which they are taken (a word each); and, highest
-// client first, how many blocks were taken of each client that has any (two words each), how far each client reaches, the vector's too (two words),
+// The blocks of an update of one form, sorted by a rule (13 or 28) against a state vector: their numbers in the order in which they are taken (a word
+// each); and, highest client first, how many blocks were taken of each client that has any (two words each), how far each client reaches, the vector's too (two words),
 // and what each client waits for that has blocks left: the client of the first id that is not met, and how far that reaches (three words). Under rule
 // 28 a block waits for its dependencies on other clients, under rule 13 for its own client's reach to come to its clock, too. Both tables are filled
 // with what was read.
@@ -52,7 +52,9 @@ pub fn sort(
     reaches: &mut [u64],
     pending: &mut [u64],
 ) -> Sorted
-    ensures { λ r. ⌜ SortUpdate rule form (now (update .entry)) (now (vector .entry)) (now (rows .entry)) (now (ranges .entry)) (now (order .entry)) (now (counts .entry)) (now (reaches .entry)) (now (pending .entry)) r (now (rows .exit)) (now (ranges .exit)) (now (order .exit)) (now (counts .exit)) (now (reaches .exit)) (now (pending .exit)) ⌝ }
+    ensures { λ r. ⌜ SortUpdate rule form (now (update .entry)) (now (vector .entry)) (now (rows .entry)) (now (ranges .entry)) (now (order .entry))
+        (now (counts .entry)) (now (reaches .entry)) (now (pending .entry))
+        r (now (rows .exit)) (now (ranges .exit)) (now (order .exit)) (now (counts .exit)) (now (reaches .exit)) (now (pending .exit)) ⌝ }
 {
     if !sort_answers::is_rule(rule) {
         return refuse(

@@ -39,7 +39,8 @@ fn refuse(out: &mut [u8], why: Refusal) -> Summarized
 fn write_rows(out: &mut [u8], rows: &[u64], n: usize) -> Summarized
     requires { ⌜ (4 * n ≤ length (now rows)) × (n ≤ 64) ⌝ }
     ensures { λ r. ⌜ (r ≡ summarized (fitted (length (now (out .entry))) (bytes (summaryOf one (rowsIn n (now (rows .entry)))))))
-        × (now (out .exit) ≡ padded (length (now (out .entry))) (madeBytes (fitted (length (now (out .entry))) (bytes (summaryOf one (rowsIn n (now (rows .entry)))))))) ⌝ }
+        × (now (out .exit) ≡ padded (length (now (out .entry)))
+        (madeBytes (fitted (length (now (out .entry))) (bytes (summaryOf one (rowsIn n (now (rows .entry)))))))) ⌝ }
 {
     let size = summary::size(n);
     if out.len() < size {

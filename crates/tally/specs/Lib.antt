@@ -1,2 +1,2 @@
--- A block counted into rows.
+-- Sections in the order of their clients, and rows in that order.
 pub mod Tally
