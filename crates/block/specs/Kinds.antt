@@ -1,5 +1,5 @@
--- The kinds of a block, as a row's `kind` has them, and what a kind says. Each is named where it is meant: a number that is none of them says nothing,
--- and 0 is the row that has no block.
+-- The kinds of a block, as a row's `kind` has them, and what a kind says. Each is named where it is meant: a number that is none of them says
+-- nothing, and 0 is the row that has no block.
 use Prim.Native.Nat.{ℕ}
 use mathlib.Core.Bool.{Bool, _||_}
 use lib.Dec.{eqb}

@@ -1,5 +1,5 @@
--- A row with something set. Five setters have every field: what stands first in a row, its ids, its root, its part, its mark. All others are made of them,
--- and so is every record of a block, from the row that has no block or from another: a field more is said in `row` and here.
+-- A row with something set. Five setters have every field: what stands first in a row, its ids, its root, its part, its mark. All others are made of
+-- them, and so is every record of a block, from the row that has no block or from another: a field more is said in `row` and here.
 use Prim.Native.Nat.{ℕ}
 use mathlib.Core.Bool.{Bool, true, false}
 use Rattle.text.specs.declared.Part.{Part}

@@ -1,6 +1,6 @@
--- The difference column: a signed e from -2^31 to 2^31-1. The difference is e/2 rounded down; odd e: an unsigned c follows and it applies c + 2 times;
--- even e, minus zero too: once. The base is the value before, starting at 0; each value must be a legal clock.
--- A difference d is kept as its key d + 2^31, so that it is a natural number.
+-- The difference column: a signed e from -2^31 to 2^31-1. The difference is e/2 rounded down; odd e: an unsigned c follows and it applies c + 2
+-- times; even e, minus zero too: once. The base is the value before, starting at 0; each value must be a legal clock. A difference d is kept as its
+-- key d + 2^31, so that it is a natural number.
 use Prim.Native.Nat.{ℕ, _+_, _-_, _/_, _%_}
 use mathlib.Core.List.{List}
 use mathlib.Core.Bool.{Bool}

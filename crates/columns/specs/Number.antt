@@ -1,4 +1,5 @@
--- The number column: a signed number. Plus or plain zero: one value. Minus, minus zero too: an unsigned c follows and the magnitude stands c + 2 times.
+-- The number column: a signed number. Plus or plain zero: one value. Minus, minus zero too: an unsigned c follows and the magnitude stands c + 2
+-- times.
 use Prim.Native.Nat.{ℕ, _+_, _-_}
 use mathlib.Core.List.{List}
 use lib.Dec.{ltb}

@@ -1,5 +1,5 @@
--- Form 2: clients, clocks, infos, parent infos, texts, type numbers, lengths and keys are drawn from columns, each a prefix of the update, and blamed at
--- their run's first byte; all else stands in the rest. And the fields of either form over one state, as code has them.
+-- Form 2: clients, clocks, infos, parent infos, texts, type numbers, lengths and keys are drawn from columns, each a prefix of the update, and blamed
+-- at their run's first byte; all else stands in the rest. And the fields of either form over one state, as code has them.
 use Prim.Native.Nat.{ℕ}
 use mathlib.Core.List.{List, [], _∷_, _++_}
 use lib.Dec.{ltb}

@@ -1,5 +1,5 @@
--- Where the reading of form 2 stands: the next byte of the rest, nine columns, each with its place and where it ends in the update, and the keys that were
--- read, in the order in which they came.
+-- Where the reading of form 2 stands: the next byte of the rest, nine columns, each with its place and where it ends in the update, and the keys that
+-- were read, in the order in which they came.
 use Prim.Native.Nat.{ℕ}
 use mathlib.Core.List.{List}
 use Rattle.text.specs.declared.Part.{Part}

@@ -1,4 +1,5 @@
--- Demand 3 in the demand's own words: when a step is allowed, by each rule; that every allowed run can be carried on to an end; and when a sort is done.
+-- Demand 3 in the demand's own words: when a step is allowed, by each rule; that every allowed run can be carried on to an end; and when a sort is
+-- done.
 use Prim.Native.Nat.{ℕ, _≤_, _<_}
 use mathlib.Core.Path.{_≡_}
 use mathlib.Core.Logic.{_⊎_, _↔_}
@@ -35,7 +36,8 @@ front bs s c = getD (queue bs c) (s .taken c) noBlock
 abbrev pub Met : (ℕ → ℕ) → ℕ → Id → Type 0
 Met reach c d = (d .client ≡ c) ⊎ (d .clock < reach (d .client))
 
--- by rule 28 a step may take the front of a client exactly when it is a Skip, or each of its dependencies on another client lies below that client's reach
+-- by rule 28 a step may take the front of a client exactly when it is a Skip, or each of its dependencies on another client lies below that client's
+-- reach
 abbrev pub CanIff28 : Type 0
 CanIff28 =
     (bs : List Block) (s : State ℕ) (c : ℕ)

@@ -87,7 +87,8 @@ AllLegal form (t ∷ ts) = Legal form t × AllLegal form ts
 -- numbers without a column stand in line, where a state's place is; a limit is tested where a number stands
 pub record Lined {S : Type 0} (form : ℕ) (u : List ℕ) (r : Reader S) (place : S → ℕ) : Type 0 where
   pub bounds : (n : ℕ) (s : S) → r (grammar.number (grammar.upTo n)) s ≡ bounded n (r (grammar.number grammar.any) s)
-  pub any : (v p : ℕ) (s m : S) → r (grammar.number grammar.any) s ≡ got (v, p) m → line form u (grammar.number grammar.any) (place s) ≡ got (v, p) (place m)
+  pub any : (v p : ℕ) (s m : S) → r (grammar.number grammar.any) s ≡ got (v, p) m
+      → line form u (grammar.number grammar.any) (place s) ≡ got (v, p) (place m)
 
 -- the bytes u of a form have a reader, and a state that their blocks are read from; from there it draws the tokens, and no byte is left
 pub record DrawnAgain (form : ℕ) (u : List ℕ) (ts : List Token) : Type 1 where

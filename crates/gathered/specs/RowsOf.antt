@@ -1,4 +1,5 @@
--- The rows of an update: for each client that has kept blocks, highest first, the clock of the first of them, the end of the last, and how many they are.
+-- The rows of an update: for each client that has kept blocks, highest first, the clock of the first of them, the end of the last, and how many they
+-- are.
 use Prim.Native.Nat.{ℕ, _+_}
 use mathlib.Core.List.{List, [], _∷_, map}
 use lib.Dec.{ltb, eqb}

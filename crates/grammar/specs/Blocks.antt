@@ -77,8 +77,8 @@ module _ {E : Type 0} where
     v ← draw (values at n)
     done (withContent ANY (record { 0 = n }) v b)
 
-  -- deleted (1) is a length field, binary (3) length and bytes in line, string (4) a text, format (6) a key and a value, type (7) its number, and a node
-  -- name if it has one, any (8) a length field and so many values; all else is refused with 5, at the info byte
+  -- deleted (1) is a length field, binary (3) length and bytes in line, string (4) a text, format (6) a key and a value, type (7) its number, and a
+  -- node name if it has one, any (8) a length field and so many values; all else is refused with 5, at the info byte
   unfoldable pub contentOf : ℕ → ℕ → Block → Grammar E Block
   contentOf n at b =
       pick (eqb n 1) (deleted b)

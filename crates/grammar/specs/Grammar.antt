@@ -19,8 +19,8 @@ pub data Number : Type 0 where
   deleteLen : Number
   typeNumber : Number
 
--- a key is a mark's or a node's name, which a form may have once for all that bear it; a mark's value, and so many plain values, say where a value of an
--- unknown kind is blamed
+-- a key is a mark's or a node's name, which a form may have once for all that bear it; a mark's value, and so many plain values, say where a value of
+-- an unknown kind is blamed
 pub data Field : Type 0 where
   number : Number → Field
   text : Field

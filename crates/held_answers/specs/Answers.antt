@@ -1,5 +1,5 @@
--- What `sort_held` answers: the order in which blocks are taken, the reports, the held ids that were given, and the reading; or a refusal. And how the
--- answer is made of what the sorter says.
+-- What `sort_held` answers: the order in which blocks are taken, the reports, the held ids that were given, and the reading; or a refusal. And how
+-- the answer is made of what the sorter says.
 use Prim.Native.Nat.{ℕ, _/_}
 use mathlib.Core.List.{List, []}
 use lib.ListN.{length}

@@ -1,5 +1,5 @@
--- The user's demand 3 over held sets, of a sort by held ids that is done: what its words say of every allowed order, in the record that serves the sort against
--- a vector too (`sorts`).
+-- The user's demand 3 over held sets, of a sort by held ids that is done: what its words say of every allowed order, in the record that serves the
+-- sort against a vector too (`sorts`).
 use mathlib.Core.Path.{_≡_}
 use mathlib.Core.Bool.{true, false}
 use Rattle.grammar.specs.Course.{Course, things, ending}

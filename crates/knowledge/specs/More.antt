@@ -1,4 +1,5 @@
--- More knowledge holds no block back: what is said of two runs over the same blocks by the same rule, the second from a start that knows at least as much.
+-- More knowledge holds no block back: what is said of two runs over the same blocks by the same rule, the second from a start that knows at least as
+-- much.
 use Prim.Native.Nat.{ℕ, _≤_}
 use mathlib.Core.Path.{_≡_}
 use mathlib.Core.List.{List}
@@ -22,7 +23,8 @@ pub record Ran {A : Type 0} (R : Rule A) (bs : List Block) (κ : A → ℕ) (ns 
 abbrev pub knownBy : {A : Type 0} {R : Rule A} {bs : List Block} {κ : A → ℕ} {ns : List ℕ} → Ran R bs κ ns → A → ℕ
 knownBy {A} {R} {bs} {κ} r = (after (steps R bs) (start κ) (r .run)) .known
 
-pub record NoneHeldBack {A : Type 0} {R : Rule A} {bs : List Block} {κ κ′ : A → ℕ} {ns ms : List ℕ} (a : Ran R bs κ ns) (b : Ran R bs κ′ ms) : Type 0 where
+pub record NoneHeldBack
+    {A : Type 0} {R : Rule A} {bs : List Block} {κ κ′ : A → ℕ} {ns ms : List ℕ} (a : Ran R bs κ ns) (b : Ran R bs κ′ ms) : Type 0 where
   -- each block that a takes b takes, by its number
   pub taken : (n : ℕ) → Listed n ns → Listed n ms
   -- and b ends knowing at least as much

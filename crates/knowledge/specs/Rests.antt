@@ -11,8 +11,8 @@ use Rattle.kept.specs.Kept.{keepFrom}
 use Rattle.kept.specs.KeptInner.{rowsOf}
 use Rattle.sorting.specs.Rules.{deps, others, unmet, free}
 
--- e is what is left of the block b of client c, against the remote clock k: it is of the same kind and ends where b ends; it starts where b starts, or at or
--- below k; and whatever ids are met, e waits for no other client if b waits for none
+-- e is what is left of the block b of client c, against the remote clock k: it is of the same kind and ends where b ends; it starts where b starts,
+-- or at or below k; and whatever ids are met, e waits for no other client if b waits for none
 pub record Rest (c k : ℕ) (b e : Block) : Type 0 where
   pub kind : e .kind ≡ b .kind
   pub end : e .clock + e .length .0 ≡ b .clock + b .length .0

@@ -1,4 +1,5 @@
--- Calls of `sort_held` that are done (W-206): what was lent, what was given back and left, as the promise says, and the number 0; and what more is held.
+-- Calls of `sort_held` that are done (W-206): what was lent, what was given back and left, as the promise says, and the number 0; and what more is
+-- held.
 use Prim.Native.Nat.{ℕ, _/_}
 use mathlib.Core.Path.{_≡_}
 use mathlib.Core.List.{List}

@@ -1,5 +1,5 @@
--- Which bytes of an update stay unread: what lies behind the place of reading in each column, texts that no text takes, and what follows the delete set. A run
--- is read as a whole with its first value, so what it could still give is no byte that stays.
+-- Which bytes of an update stay unread: what lies behind the place of reading in each column, texts that no text takes, and what follows the delete
+-- set. A run is read as a whole with its first value, so what it could still give is no byte that stays.
 use Prim.Native.Nat.{ℕ}
 use mathlib.Core.List.{List, [], _∷_}
 use lib.Dec.{ltb, eqb}

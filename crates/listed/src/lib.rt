@@ -66,7 +66,9 @@ fn put_tables(
     ranges: usize,
 ) -> usize
     requires { ⌜ (blocks ≤ length (now rows)) × (3 * ranges ≤ length (now words)) × (93 + 71 * blocks + 63 * ranges < 2 ^ 63) ⌝ }
-    ensures { λ r. ⌜ (r ≡ length (listing form (take blocks (now (rows .entry))) (rowsFrom (now (words .entry)) 0 ranges))) × (now (out .exit) ≡ overlay (now (out .entry)) 0 (listing form (take blocks (now (rows .entry))) (rowsFrom (now (words .entry)) 0 ranges))) ⌝ }
+    ensures { λ r. ⌜ (r ≡ length (listing form (take blocks (now (rows .entry))) (rowsFrom (now (words .entry)) 0 ranges)))
+        × (now (out .exit) ≡ overlay (now (out .entry)) 0
+        (listing form (take blocks (now (rows .entry))) (rowsFrom (now (words .entry)) 0 ranges))) ⌝ }
 {
     let past_header = listing_text::put_header(out, 0, form, blocks, ranges);
     let past_blocks = listing_text::put_blocks(out, past_header, rows, blocks);
@@ -76,7 +78,8 @@ fn put_tables(
 
 // The lines of an update, or of its refusal.
 fn put_reading(form: u8, update: &[u8], out: &mut [u8]) -> usize
-    ensures { λ r. ⌜ (r ≡ length (listedReading form (now (update .entry)))) × (now (out .exit) ≡ overlay (now (out .entry)) 0 (listedReading form (now (update .entry)))) ⌝ }
+    ensures { λ r. ⌜ (r ≡ length (listedReading form (now (update .entry))))
+        × (now (out .exit) ≡ overlay (now (out .entry)) 0 (listedReading form (now (update .entry)))) ⌝ }
 {
     let none = block::none();
     let mut table = [none; 512];
@@ -92,7 +95,8 @@ fn put_reading(form: u8, update: &[u8], out: &mut [u8]) -> usize
 }
 
 fn put_update(form: u8, update: &[u8], out: &mut [u8]) -> usize
-    ensures { λ r. ⌜ (r ≡ length (listedUpdate form (now (update .entry)))) × (now (out .exit) ≡ overlay (now (out .entry)) 0 (listedUpdate form (now (update .entry)))) ⌝ }
+    ensures { λ r. ⌜ (r ≡ length (listedUpdate form (now (update .entry))))
+        × (now (out .exit) ≡ overlay (now (out .entry)) 0 (listedUpdate form (now (update .entry)))) ⌝ }
 {
     if is_empty(form, update) {
         return listing_text::put_empty(out, 0);

@@ -66,8 +66,8 @@ Apart [] = Unit {0}
 Apart (r ∷ []) = Unit {0}
 Apart (r ∷ s ∷ rs) = (r .key ≡ s .key → ⊥) × Apart (s ∷ rs)
 
--- what a writer writes of the values is the spelling of runs that say them; neighbours differ, no runs that say the same are fewer, and no others whose
--- neighbours differ say the same
+-- what a writer writes of the values is the spelling of runs that say them; neighbours differ, no runs that say the same are fewer, and no others
+-- whose neighbours differ say the same
 pub record Longest (leads : Rule) (c : Coding) (vs : List ℕ) : Type 0 where
   pub runs : List Run
   pub written : column c vs ≡ spelled c runs

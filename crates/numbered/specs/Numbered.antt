@@ -1,6 +1,6 @@
--- Blocks by number. Block k of its client's stands at clock k and has one clock, a Skip too; and where it hung on an id of another client that is not held
--- at first, it hangs on the number of that client's block which holds the id. So whether an id is held is whether its client's queue has got past one block,
--- and a sorter by reaches that sorts these blocks sorts by held ids.
+-- Blocks by number. Block k of its client's stands at clock k and has one clock, a Skip too; and where it hung on an id of another client that is not
+-- held at first, it hangs on the number of that client's block which holds the id. So whether an id is held is whether its client's queue has got
+-- past one block, and a sorter by reaches that sorts these blocks sorts by held ids.
 use Prim.Native.Nat.{ℕ, suc, _+_, _-_}
 use mathlib.Core.Bool.{Bool, true, false}
 use mathlib.Core.List.{List, [], _∷_}

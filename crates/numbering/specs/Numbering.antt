@@ -1,5 +1,5 @@
--- A key is remembered: it stands in words behind those known, if there is room for it, and that there is none is said. A part is noted: it stands behind
--- the aliases with a number, if that is a known key's and there is room. Their texts are parts of any update.
+-- A key is remembered: it stands in words behind those known, if there is room for it, and that there is none is said. A part is noted: it stands
+-- behind the aliases with a number, if that is a known key's and there is room. Their texts are parts of any update.
 use Prim.Native.Nat.{ℕ, _≤_, _<_}
 use mathlib.Core.Path.{_≡_}
 use mathlib.Core.Bool.{Bool, true, false}

@@ -1,6 +1,6 @@
--- A form written, all its lanes at once: the sizes of its lanes, what leads each of them, where they begin, and what is written. Form 1 has one lane and
--- nothing is measured; form 2 has eleven, and all but the last are measured first, since their lengths stand before them. Tokens have their keys as the
--- form has them.
+-- A form written, all its lanes at once: the sizes of its lanes, what leads each of them, where they begin, and what is written. Form 1 has one lane
+-- and nothing is measured; form 2 has eleven, and all but the last are measured first, since their lengths stand before them. Tokens have their keys
+-- as the form has them.
 use Prim.Native.Nat.{ℕ, zero, suc, _+_}
 use mathlib.Core.Bool.{Bool, true, false}
 use mathlib.Core.List.{List, [], _∷_}
@@ -49,7 +49,9 @@ farFor form ts = pick (eqb form 1) false (anyFar (measured ts))
 
 -- the text column has its texts, led by their length, and their units
 unfoldable pub textSize : List ℕ → ℕ
-textSize z = pick (ltb (getD z texts 0) brim) (pick (ltb (getD z units 0) brim) (length (unsigned (getD z texts 0)) + getD z texts 0 + getD z units 0) 0) 0
+textSize z =
+    pick (ltb (getD z texts 0) brim)
+    (pick (ltb (getD z units 0) brim) (length (unsigned (getD z texts 0)) + getD z texts 0 + getD z units 0) 0) 0
 
 -- lanes that nothing leads: units, the rest, form 1
 unfoldable pub isBare : ℕ → Bool

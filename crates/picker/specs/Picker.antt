@@ -119,7 +119,8 @@ lift reach i b = set reach i (lifted (getD reach i 0) b)
 unfoldable pub took : List Slot → Desk → Block → Desk
 took ss d b =
     record {
-      at = pointed (putFront (d .fronts) (d .at .slot) (moved (frontAt (d .fronts) (d .at .slot)) (d .at .row))) (lift (d .reach) (d .at .slot) b) (length ss)
+      at = pointed (putFront (d .fronts) (d .at .slot) (moved (frontAt (d .fronts) (d .at .slot)) (d .at .row)))
+          (lift (d .reach) (d .at .slot) b) (length ss)
           (oneMore (d .at .steps)) (d .at .left - 1);
       reach = lift (d .reach) (d .at .slot) b;
       fronts = putFront (d .fronts) (d .at .slot) (moved (frontAt (d .fronts) (d .at .slot)) (d .at .row));

@@ -17,7 +17,9 @@ updateD =
 
 -- the text "hi" of client 5 in the parent "t", whose bytes lie at these places
 abbrev pub hi : ℕ → ℕ → Block
-hi name at = withName (record { place = name; bytes = record { 0 = 1 } }) (withPart (record { place = at; bytes = record { 0 = 2 } }) (plain 5 0 2 TEXT))
+hi name at =
+    withName (record { place = name; bytes = record { 0 = 1 } })
+    (withPart (record { place = at; bytes = record { 0 = 2 } }) (plain 5 0 2 TEXT))
 
 abbrev pub blocksC : List Block
 blocksC = hi 7 9 ∷ []

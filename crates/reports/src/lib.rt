@@ -126,7 +126,8 @@ pub fn report_pending(
 ) -> usize
     requires { ⌜ 3 * n ≤ length (now slots) ⌝ }
     ensures { λ r. ⌜ (r ≡ length (pendingFrom 0 (slotsFrom (now (slots .entry)) 0 n) (now (fronts .entry)) (now (reach .entry))))
-        × (now (out .exit) ≡ fitted (length (now (out .entry))) (pendingFrom 0 (slotsFrom (now (slots .entry)) 0 n) (now (fronts .entry)) (now (reach .entry)))) ⌝ }
+        × (now (out .exit) ≡ fitted (length (now (out .entry)))
+        (pendingFrom 0 (slotsFrom (now (slots .entry)) 0 n) (now (fronts .entry)) (now (reach .entry)))) ⌝ }
 {
     let mut at = 0;
     let mut i = 0;

@@ -1,4 +1,5 @@
--- Case E of document 01, "Numbers worked by hand": C, its block, and its diffs against a vector that has one unit of it and against one that has both.
+-- Case E of document 01, "Numbers worked by hand": C, its block, and its diffs against a vector that has one unit of it and against one that has
+-- both.
 use Prim.Native.Nat.{ℕ, suc}
 use mathlib.Core.Path.{_≡_}
 use mathlib.Core.List.{List, [], _∷_}
@@ -21,5 +22,6 @@ done b = record { refusal = none; bytes = b; reading = record { refusal = none; 
 
 -- 64 bytes are lent, a block row at least, and any range rows
 pub record CaseE : Type 0 where
-  pub one : (n m : ℕ) → diffOf 1 updateC (1 ∷ 5 ∷ 1 ∷ []) 1 (suc n) m 64 ≡ done (0x01 ∷ 0x01 ∷ 0x05 ∷ 0x01 ∷ 0x84 ∷ 0x05 ∷ 0x00 ∷ 0x01 ∷ 0x69 ∷ 0x00 ∷ [])
+  pub one : (n m : ℕ)
+      → diffOf 1 updateC (1 ∷ 5 ∷ 1 ∷ []) 1 (suc n) m 64 ≡ done (0x01 ∷ 0x01 ∷ 0x05 ∷ 0x01 ∷ 0x84 ∷ 0x05 ∷ 0x00 ∷ 0x01 ∷ 0x69 ∷ 0x00 ∷ [])
   pub all : (n m : ℕ) → diffOf 1 updateC (1 ∷ 5 ∷ 2 ∷ []) 1 (suc n) m 64 ≡ done (0x00 ∷ 0x00 ∷ [])

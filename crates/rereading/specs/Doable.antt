@@ -1,5 +1,5 @@
--- What it takes for a diff to be done: form, update and vector are good, form 2 has not too many keys, no cut falls inside a pair, no format changes its
--- form, no difference is too far, and the bytes fit.
+-- What it takes for a diff to be done: form, update and vector are good, form 2 has not too many keys, no cut falls inside a pair, no format changes
+-- its form, no difference is too far, and the bytes fit.
 use Prim.Native.Nat.{ℕ, _≤_}
 use mathlib.Core.Path.{_≡_}
 use mathlib.Core.Bool.{true, false}

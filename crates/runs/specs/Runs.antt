@@ -87,8 +87,12 @@ abbrev pub onlyByte : ℕ → ℕ → List ℕ
 onlyByte k n = k ∷ []
 
 unfoldable pub coding : Column → Coding
-coding Number = record { keyOf = itself; spell = number.runBytes; final = number.runBytes; most = maxValue; fits = fitsLessTwo; lastFits = fitsLessTwo; near = always }
-coding Difference = record { keyOf = difference.keyBetween; spell = difference.runBytes; final = difference.runBytes; most = maxClock; fits = fitsLessTwo; lastFits = fitsLessTwo; near = nearKey }
+coding Number =
+    let run = number.runBytes in
+    record { keyOf = itself; spell = run; final = run; most = maxValue; fits = fitsLessTwo; lastFits = fitsLessTwo; near = always }
+coding Difference =
+    let run = difference.runBytes in
+    record { keyOf = difference.keyBetween; spell = run; final = run; most = maxClock; fits = fitsLessTwo; lastFits = fitsLessTwo; near = nearKey }
 coding Byte = record { keyOf = itself; spell = byte.runBytes; final = onlyByte; most = 255; fits = fitsLessOne; lastFits = always; near = always }
 
 -- the bytes of values, and their refusal

@@ -1,5 +1,5 @@
--- Document 01's sentences on columns, one by one: what a run gives, however its numbers are spelled and wherever it stands, where no run is under way. A
--- column's own definition says what the next value is; these say what all values of a run are.
+-- Document 01's sentences on columns, one by one: what a run gives, however its numbers are spelled and wherever it stands, where no run is under
+-- way. A column's own definition says what the next value is; these say what all values of a run are.
 use Prim.Native.Nat.{ℕ, zero, suc, _+_, _-_, _%_, _≤_, _<_}
 use mathlib.Core.Path.{_≡_}
 use mathlib.Core.Bool.{Bool, true, false}

@@ -1,5 +1,5 @@
--- What the slow plain sorter does with rows and the entries of a vector, by a rule: slots and reaches, all sweeps, and the reports. Crate `swept` says that
--- this is sorting.
+-- What the slow plain sorter does with rows and the entries of a vector, by a rule: slots and reaches, all sweeps, and the reports. Crate `swept`
+-- says that this is sorting.
 use Prim.Native.Nat.{ℕ}
 use mathlib.Core.Path.{_≡_}
 use mathlib.Core.List.{List}
@@ -54,8 +54,10 @@ sweptOn rule ss rows v order counts reaches pending = reportsOn rule ss rows (bo
 -- ---- against a vector: where it is refused nothing is written
 
 unfoldable pub unswept : ℕ → List ℕ → List ℕ → List ℕ → List ℕ → Left
-unswept number order counts reaches pending = record { sorting = noSorting number; order = order; counts = counts; reaches = reaches; pending = pending }
+unswept number order counts reaches pending =
+    record { sorting = noSorting number; order = order; counts = counts; reaches = reaches; pending = pending }
 
 unfoldable pub sweptRead : ℕ → Course Entry → List Block → ℕ → List ℕ → List ℕ → List ℕ → List ℕ → Left
 sweptRead rule c rows blocks order counts reaches pending =
-    ending c (λ s. sweptOn rule (slotsIn rows blocks c) rows (things c) order counts reaches pending) (λ why. unswept (why .number) order counts reaches pending)
+    ending c (λ s. sweptOn rule (slotsIn rows blocks c) rows (things c) order counts reaches pending)
+    (λ why. unswept (why .number) order counts reaches pending)

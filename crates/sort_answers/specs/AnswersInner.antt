@@ -12,7 +12,8 @@ use Rattle.sort_answers.specs.Answers.{whyNot}
 unfoldable pub judged : Sorting → ℕ → ℕ → ℕ → ℕ → ℕ
 judged s order counts reaches pending =
     pick (eqb (s .number) 0)
-    (whyNot (record { order = order; counts = counts; reaches = reaches; pending = pending }) (s .steps) (s .counts) (s .reaches) (s .pending)) (s .number)
+    (whyNot (record { order = order; counts = counts; reaches = reaches; pending = pending }) (s .steps) (s .counts) (s .reaches) (s .pending))
+    (s .number)
 
 unfoldable pub answerTo : Update → Sorting → Sorted
 answerTo read s =

@@ -1,5 +1,5 @@
--- What a sorter does with rows and the entries of a vector, by a rule: slots, fronts and reaches, all looks, and the reports. Crate `outcome` says that
--- this is sorting.
+-- What a sorter does with rows and the entries of a vector, by a rule: slots, fronts and reaches, all looks, and the reports. Crate `outcome` says
+-- that this is sorting.
 use Prim.Native.Nat.{ℕ, suc, _-_, _*_}
 use mathlib.Core.List.{List, [], _∷_, _++_}
 use lib.ListN.{length, take, replicate}
@@ -74,7 +74,8 @@ sortingOf p counts reaches pending = record { number = 0; steps = p .steps; coun
 
 unfoldable pub sortingOn : ℕ → List Slot → List Block → ℕ → List Entry → List ℕ → Sorting
 sortingOn rule ss rows blocks v order =
-    sortingOf (deskOn rule ss rows blocks v order .at) (length (countsOn rule ss rows blocks v order)) (length (reachesOn rule ss rows blocks v order)) (length (pendingOn rule ss rows blocks v order))
+    sortingOf (deskOn rule ss rows blocks v order .at) (length (countsOn rule ss rows blocks v order))
+    (length (reachesOn rule ss rows blocks v order)) (length (pendingOn rule ss rows blocks v order))
 
 abbrev pub noSorting : ℕ → Sorting
 noSorting n = record { number = n; steps = 0; counts = 0; reaches = 0; pending = 0 }
@@ -85,16 +86,20 @@ abbrev pub slotsIn : List Block → ℕ → Course Entry → List Slot
 slotsIn rows blocks c = slotsFor maxReaches (take blocks rows) (clientsIn (things c))
 
 unfoldable pub sortingRead : ℕ → Course Entry → List Block → ℕ → List ℕ → Sorting
-sortingRead rule c rows blocks order = ending c (λ s. sortingOn rule (slotsIn rows blocks c) rows blocks (things c) order) (λ why. noSorting (why .number))
+sortingRead rule c rows blocks order =
+    ending c (λ s. sortingOn rule (slotsIn rows blocks c) rows blocks (things c) order) (λ why. noSorting (why .number))
 
 unfoldable pub orderRead : ℕ → Course Entry → List Block → ℕ → List ℕ → List ℕ
 orderRead rule c rows blocks order = ending c (λ s. orderOn rule (slotsIn rows blocks c) rows blocks (things c) order) (λ why. order)
 
 unfoldable pub countsRead : ℕ → Course Entry → List Block → ℕ → List ℕ → List ℕ → List ℕ
-countsRead rule c rows blocks order w = ending c (λ s. fitted (length w) (countsOn rule (slotsIn rows blocks c) rows blocks (things c) order)) (λ why. w)
+countsRead rule c rows blocks order w =
+    ending c (λ s. fitted (length w) (countsOn rule (slotsIn rows blocks c) rows blocks (things c) order)) (λ why. w)
 
 unfoldable pub reachesRead : ℕ → Course Entry → List Block → ℕ → List ℕ → List ℕ → List ℕ
-reachesRead rule c rows blocks order w = ending c (λ s. fitted (length w) (reachesOn rule (slotsIn rows blocks c) rows blocks (things c) order)) (λ why. w)
+reachesRead rule c rows blocks order w =
+    ending c (λ s. fitted (length w) (reachesOn rule (slotsIn rows blocks c) rows blocks (things c) order)) (λ why. w)
 
 unfoldable pub pendingRead : ℕ → Course Entry → List Block → ℕ → List ℕ → List ℕ → List ℕ
-pendingRead rule c rows blocks order w = ending c (λ s. fitted (length w) (pendingOn rule (slotsIn rows blocks c) rows blocks (things c) order)) (λ why. w)
+pendingRead rule c rows blocks order w =
+    ending c (λ s. fitted (length w) (pendingOn rule (slotsIn rows blocks c) rows blocks (things c) order)) (λ why. w)

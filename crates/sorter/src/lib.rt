@@ -52,10 +52,14 @@ fn pick_rows(
     order: &mut [u64],
 ) -> Look
     requires { ⌜ (3 * n ≤ length (now slots)) × Falling (slotsFrom (now slots) 0 n) ⌝ }
-    ensures { λ r. ⌜ (r ≡ allPicked rule (slotsFrom (now (slots .entry)) 0 n) (now (rows .entry)) blocks (now (reach .entry)) (now (fronts .entry)) (now (order .entry)) .at)
-        × (now (reach .exit) ≡ allPicked rule (slotsFrom (now (slots .entry)) 0 n) (now (rows .entry)) blocks (now (reach .entry)) (now (fronts .entry)) (now (order .entry)) .reach)
-        × (now (fronts .exit) ≡ allPicked rule (slotsFrom (now (slots .entry)) 0 n) (now (rows .entry)) blocks (now (reach .entry)) (now (fronts .entry)) (now (order .entry)) .fronts)
-        × (now (order .exit) ≡ allPicked rule (slotsFrom (now (slots .entry)) 0 n) (now (rows .entry)) blocks (now (reach .entry)) (now (fronts .entry)) (now (order .entry)) .order) ⌝ }
+    ensures { λ r. ⌜ (r ≡ allPicked rule (slotsFrom (now (slots .entry)) 0 n) (now (rows .entry)) blocks (now (reach .entry)) (now (fronts .entry))
+        (now (order .entry)) .at)
+        × (now (reach .exit) ≡ allPicked rule (slotsFrom (now (slots .entry)) 0 n) (now (rows .entry)) blocks (now (reach .entry))
+        (now (fronts .entry)) (now (order .entry)) .reach)
+        × (now (fronts .exit) ≡ allPicked rule (slotsFrom (now (slots .entry)) 0 n) (now (rows .entry)) blocks (now (reach .entry))
+        (now (fronts .entry)) (now (order .entry)) .fronts)
+        × (now (order .exit) ≡ allPicked rule (slotsFrom (now (slots .entry)) 0 n) (now (rows .entry)) blocks (now (reach .entry))
+        (now (fronts .entry)) (now (order .entry)) .order) ⌝ }
 {
     let mut p = picker::begin(rule, fronts, reach, n, blocks);
     while p.row < rows.len() {
@@ -99,7 +103,8 @@ pub fn open_slots(
 ) -> usize
     requires { ⌜ (blocks ≤ length (now rows)) × (m ≤ length (now clients)) ⌝ }
     ensures { λ r. ⌜ (r ≡ length (slotsFor (length (now (slots .entry)) / 3) (take blocks (now (rows .entry))) (take m (now (clients .entry)))))
-        × (now (slots .exit) ≡ stored (now (slots .entry)) (slotsFor (length (now (slots .entry)) / 3) (take blocks (now (rows .entry))) (take m (now (clients .entry))))) ⌝ }
+        × (now (slots .exit) ≡ stored (now (slots .entry))
+        (slotsFor (length (now (slots .entry)) / 3) (take blocks (now (rows .entry))) (take m (now (clients .entry))))) ⌝ }
 {
     let noted = note_rows(rows, blocks, slots);
     slots::name_all(slots, noted.slots, clients, m)
@@ -122,11 +127,19 @@ fn sort_slots(
     pending: &mut [u64],
 ) -> Sorting
     requires { ⌜ (3 * n ≤ length (now slots)) × Falling (slotsFrom (now slots) 0 n) ⌝ }
-    ensures { λ r. ⌜ (r ≡ sortingOn rule (slotsFrom (now (slots .entry)) 0 n) (now (rows .entry)) blocks (entriesOf m (now (clients .entry)) (now (clocks .entry))) (now (order .entry)))
-        × (now (order .exit) ≡ orderOn rule (slotsFrom (now (slots .entry)) 0 n) (now (rows .entry)) blocks (entriesOf m (now (clients .entry)) (now (clocks .entry))) (now (order .entry)))
-        × (now (counts .exit) ≡ fitted (length (now (counts .entry))) (countsOn rule (slotsFrom (now (slots .entry)) 0 n) (now (rows .entry)) blocks (entriesOf m (now (clients .entry)) (now (clocks .entry))) (now (order .entry))))
-        × (now (reaches .exit) ≡ fitted (length (now (reaches .entry))) (reachesOn rule (slotsFrom (now (slots .entry)) 0 n) (now (rows .entry)) blocks (entriesOf m (now (clients .entry)) (now (clocks .entry))) (now (order .entry))))
-        × (now (pending .exit) ≡ fitted (length (now (pending .entry))) (pendingOn rule (slotsFrom (now (slots .entry)) 0 n) (now (rows .entry)) blocks (entriesOf m (now (clients .entry)) (now (clocks .entry))) (now (order .entry)))) ⌝ }
+    ensures { λ r. ⌜ (r ≡ sortingOn rule (slotsFrom (now (slots .entry)) 0 n) (now (rows .entry)) blocks
+        (entriesOf m (now (clients .entry)) (now (clocks .entry))) (now (order .entry)))
+        × (now (order .exit) ≡ orderOn rule (slotsFrom (now (slots .entry)) 0 n) (now (rows .entry)) blocks
+        (entriesOf m (now (clients .entry)) (now (clocks .entry))) (now (order .entry)))
+        × (now (counts .exit) ≡ fitted (length (now (counts .entry)))
+        (countsOn rule (slotsFrom (now (slots .entry)) 0 n) (now (rows .entry)) blocks (entriesOf m (now (clients .entry)) (now (clocks .entry)))
+        (now (order .entry))))
+        × (now (reaches .exit) ≡ fitted (length (now (reaches .entry)))
+        (reachesOn rule (slotsFrom (now (slots .entry)) 0 n) (now (rows .entry)) blocks (entriesOf m (now (clients .entry)) (now (clocks .entry)))
+        (now (order .entry))))
+        × (now (pending .exit) ≡ fitted (length (now (pending .entry)))
+        (pendingOn rule (slotsFrom (now (slots .entry)) 0 n) (now (rows .entry)) blocks (entriesOf m (now (clients .entry)) (now (clocks .entry)))
+        (now (order .entry)))) ⌝ }
 {
     let mut reached = [0u64; 128];
     let reach = &mut reached[..];
@@ -156,11 +169,19 @@ fn sort_kept(
     pending: &mut [u64],
 ) -> Sorting
     requires { ⌜ (blocks ≤ length (now rows)) × (m ≤ length (now clients)) ⌝ }
-    ensures { λ r. ⌜ (r ≡ sortingOn rule (slotsFor maxReaches (take blocks (now (rows .entry))) (take m (now (clients .entry)))) (now (rows .entry)) blocks (entriesOf m (now (clients .entry)) (now (clocks .entry))) (now (order .entry)))
-        × (now (order .exit) ≡ orderOn rule (slotsFor maxReaches (take blocks (now (rows .entry))) (take m (now (clients .entry)))) (now (rows .entry)) blocks (entriesOf m (now (clients .entry)) (now (clocks .entry))) (now (order .entry)))
-        × (now (counts .exit) ≡ fitted (length (now (counts .entry))) (countsOn rule (slotsFor maxReaches (take blocks (now (rows .entry))) (take m (now (clients .entry)))) (now (rows .entry)) blocks (entriesOf m (now (clients .entry)) (now (clocks .entry))) (now (order .entry))))
-        × (now (reaches .exit) ≡ fitted (length (now (reaches .entry))) (reachesOn rule (slotsFor maxReaches (take blocks (now (rows .entry))) (take m (now (clients .entry)))) (now (rows .entry)) blocks (entriesOf m (now (clients .entry)) (now (clocks .entry))) (now (order .entry))))
-        × (now (pending .exit) ≡ fitted (length (now (pending .entry))) (pendingOn rule (slotsFor maxReaches (take blocks (now (rows .entry))) (take m (now (clients .entry)))) (now (rows .entry)) blocks (entriesOf m (now (clients .entry)) (now (clocks .entry))) (now (order .entry)))) ⌝ }
+    ensures { λ r. ⌜ (r ≡ sortingOn rule (slotsFor maxReaches (take blocks (now (rows .entry))) (take m (now (clients .entry))))
+        (now (rows .entry)) blocks (entriesOf m (now (clients .entry)) (now (clocks .entry))) (now (order .entry)))
+        × (now (order .exit) ≡ orderOn rule (slotsFor maxReaches (take blocks (now (rows .entry))) (take m (now (clients .entry))))
+        (now (rows .entry)) blocks (entriesOf m (now (clients .entry)) (now (clocks .entry))) (now (order .entry)))
+        × (now (counts .exit) ≡ fitted (length (now (counts .entry)))
+        (countsOn rule (slotsFor maxReaches (take blocks (now (rows .entry))) (take m (now (clients .entry)))) (now (rows .entry)) blocks
+        (entriesOf m (now (clients .entry)) (now (clocks .entry))) (now (order .entry))))
+        × (now (reaches .exit) ≡ fitted (length (now (reaches .entry)))
+        (reachesOn rule (slotsFor maxReaches (take blocks (now (rows .entry))) (take m (now (clients .entry)))) (now (rows .entry)) blocks
+        (entriesOf m (now (clients .entry)) (now (clocks .entry))) (now (order .entry))))
+        × (now (pending .exit) ≡ fitted (length (now (pending .entry)))
+        (pendingOn rule (slotsFor maxReaches (take blocks (now (rows .entry))) (take m (now (clients .entry)))) (now (rows .entry)) blocks
+        (entriesOf m (now (clients .entry)) (now (clocks .entry))) (now (order .entry)))) ⌝ }
 {
     let mut words = [0u64; 384];
     let slots = &mut words[..];

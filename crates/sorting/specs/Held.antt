@@ -1,5 +1,6 @@
--- Sorting by held ids (W-206): a block waits for the ids of other clients that it hangs on, until each is held: at first, or by a taken block that is no Skip.
--- What is known is, for an id, whether it is held: 1 if so, else 0. Reported of an id that is not held is its own clock. No reach decides anything.
+-- Sorting by held ids (W-206): a block waits for the ids of other clients that it hangs on, until each is held: at first, or by a taken block that is
+-- no Skip. What is known is, for an id, whether it is held: 1 if so, else 0. Reported of an id that is not held is its own clock. No reach decides
+-- anything.
 use Prim.Native.Nat.{ℕ, _+_}
 use mathlib.Core.Bool.{Bool, _&&_}
 use mathlib.Core.List.{List, [], _∷_}

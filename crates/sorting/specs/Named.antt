@@ -1,4 +1,5 @@
--- The rules by the numbers that a caller names them with: 13, and any other number is 28's (that 28 is the only other one that is taken, `sorts` says).
+-- The rules by the numbers that a caller names them with: 13, and any other number is 28's (that 28 is the only other one that is taken, `sorts`
+-- says).
 use Prim.Native.Nat.{ℕ}
 use mathlib.Core.List.{List}
 use lib.Dec.{eqb}

@@ -1,5 +1,5 @@
--- Rule 13, that of peers on Yjs 13 (W-210): a block waits for what it hangs on at other clients, and then behind a gap: until its own client's reach has
--- come to its clock, so that the id before the block is met.
+-- Rule 13, that of peers on Yjs 13 (W-210): a block waits for what it hangs on at other clients, and then behind a gap: until its own client's reach
+-- has come to its clock, so that the id before the block is met.
 use Prim.Native.Nat.{ℕ, zero, suc}
 use mathlib.Core.List.{List, [], _∷_, _++_}
 use Rattle.block.specs.declared.Id.{Id}

@@ -1,4 +1,5 @@
--- An update's blocks in queues, one a client, and what a rule is, by which a front is ready. The rules themselves stand in a file each (Rule28, Rule13).
+-- An update's blocks in queues, one a client, and what a rule is, by which a front is ready. The rules themselves stand in a file each (Rule28,
+-- Rule13).
 use Prim.Native.Nat.{ℕ, _+_}
 use mathlib.Core.Bool.{Bool, true, false, _||_}
 use mathlib.Core.List.{List, [], _∷_}
@@ -37,8 +38,8 @@ others c (d ∷ ds) = pick (eqb (d .client) c) (others c ds) (d ∷ others c ds)
 
 -- ---- rules
 
--- A rule says what a block of a client asks for, if it is no Skip, in the order in which it is reported; when an id is met by what is known; what a taken
--- block makes known; and what is reported of an id that is not met, beside its client.
+-- A rule says what a block of a client asks for, if it is no Skip, in the order in which it is reported; when an id is met by what is known; what a
+-- taken block makes known; and what is reported of an id that is not met, beside its client.
 pub record Rule (A : Type 0) : Type 0 where
   pub asks : ℕ → Block → List Id
   pub met : (A → ℕ) → Id → Bool

@@ -1,5 +1,5 @@
--- The slow plain order (W-211): a sweep goes over all clients, lowest first, and takes each one's fronts while they are ready; sweeps follow each other
--- until one takes nothing. It is measured against Steps, where no order is preferred.
+-- The slow plain order (W-211): a sweep goes over all clients, lowest first, and takes each one's fronts while they are ready; sweeps follow each
+-- other until one takes nothing. It is measured against Steps, where no order is preferred.
 use Prim.Native.Nat.{ℕ, zero, suc, _-_}
 use mathlib.Core.List.{List, [], _∷_, _++_}
 use Rattle.numbers.specs.Number.{pick}

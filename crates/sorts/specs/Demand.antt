@@ -1,5 +1,5 @@
--- The user's demand 3, of a sort that is done: what its words say of every allowed order. The first record is over any rule and any knowledge, and serves
--- sorting by held ids too (`held_sorts`); a sort against a vector has reaches beside it.
+-- The user's demand 3, of a sort that is done: what its words say of every allowed order. The first record is over any rule and any knowledge, and
+-- serves sorting by held ids too (`held_sorts`); a sort against a vector has reaches beside it.
 use Prim.Native.Nat.{ℕ, _<_}
 use mathlib.Core.Path.{_≡_}
 use mathlib.Core.Logic.{_↔_}

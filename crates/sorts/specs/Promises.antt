@@ -72,7 +72,8 @@ sortOf = sortBy quickly
 -- ---- what `sort` gives, and what it leaves in all that is lent
 
 -- what a sort s leaves: the answer r, with these rows and words at entry and at exit
-abbrev pub Leaves : Sort → List Block → List ℕ → List ℕ → List ℕ → List ℕ → List ℕ → Sorted → List Block → List ℕ → List ℕ → List ℕ → List ℕ → List ℕ → Type 0
+abbrev pub Leaves : Sort → List Block → List ℕ → List ℕ → List ℕ → List ℕ → List ℕ
+    → Sorted → List Block → List ℕ → List ℕ → List ℕ → List ℕ → List ℕ → Type 0
 Leaves s rows ranges order counts reaches pending r rows₁ ranges₁ order₁ counts₁ reaches₁ pending₁ =
     (r ≡ answered s)
     × (rows₁ ≡ tableOf (length rows) (s .reading))

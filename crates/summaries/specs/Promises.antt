@@ -48,7 +48,8 @@ madeBytes (refused why) = []
 
 -- the answer r, and the bytes lent, from `out` to `out₁`
 abbrev pub WriteSummary : ℕ → List ℕ → List ℕ → Summarized → List ℕ → Type 0
-WriteSummary form u out r out₁ = (r ≡ summarized (summaryIn form u (length out))) × (out₁ ≡ padded (length out) (madeBytes (summaryIn form u (length out))))
+WriteSummary form u out r out₁ =
+    (r ≡ summarized (summaryIn form u (length out))) × (out₁ ≡ padded (length out) (madeBytes (summaryIn form u (length out))))
 
 -- ---- read: how many rows, or a refusal, which blames no byte
 

@@ -1,4 +1,5 @@
--- A summary, bit by bit: version, row count, then a row a client, highest client first; zeros fill the last byte. How it is written, and how it is read.
+-- A summary, bit by bit: version, row count, then a row a client, highest client first; zeros fill the last byte. How it is written, and how it is
+-- read.
 use Prim.Native.Nat.{ℕ, zero, suc, _-_, _^_}
 use mathlib.Core.Bool.{Bool, true, _&&_}
 use mathlib.Core.List.{List, [], _∷_, _++_}

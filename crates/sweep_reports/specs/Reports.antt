@@ -30,7 +30,8 @@ blockWaits rule ss reach s b =
 
 -- its front, so many of its blocks being taken
 unfoldable pub frontWaits : ℕ → List Slot → List Block → List ℕ → Slot → ℕ → List ℕ
-frontWaits rule ss rows reach s done = pick (ltb (frontRow s done) (length rows)) (blockWaits rule ss reach s (getD rows (frontRow s done) noBlock)) []
+frontWaits rule ss rows reach s done =
+    pick (ltb (frontRow s done) (length rows)) (blockWaits rule ss reach s (getD rows (frontRow s done) noBlock)) []
 
 -- of these slots, the first of which is slot i of all
 unfoldable pub waitsFrom : ℕ → ℕ → List Slot → List Block → List ℕ → List ℕ → List Slot → List ℕ

@@ -1,5 +1,5 @@
--- What the slow plain sorter does with slots, reaches and counts: a front taken, a client's fronts, a sweep, all sweeps. Crate `swept` says that this is
--- the slow order of `sorting`.
+-- What the slow plain sorter does with slots, reaches and counts: a front taken, a client's fronts, a sweep, all sweeps. Crate `swept` says that this
+-- is the slow order of `sorting`.
 use Prim.Native.Nat.{ℕ, zero, suc, _+_, _-_}
 use mathlib.Core.Path.{_≡_}
 use mathlib.Core.Bool.{Bool, false, not}
@@ -100,7 +100,8 @@ swept rule ss rows d = sweptBelow (length ss) rule ss rows d
 -- until a sweep takes nothing, at most so many sweeps
 unfoldable pub sweptBy : ℕ → ℕ → List Slot → List Block → Board → Board
 sweptBy zero rule ss rows d = d
-sweptBy (suc k) rule ss rows d = pick (ltb (d .steps) (swept rule ss rows d .steps)) (sweptBy k rule ss rows (swept rule ss rows d)) (swept rule ss rows d)
+sweptBy (suc k) rule ss rows d =
+    pick (ltb (d .steps) (swept rule ss rows d .steps)) (sweptBy k rule ss rows (swept rule ss rows d)) (swept rule ss rows d)
 
 -- how many blocks of the first i slots are left
 unfoldable pub leftBelow : List Slot → List ℕ → ℕ → ℕ

@@ -1,4 +1,5 @@
--- Draws in line tile the bytes that they are drawn from: one begins where the one before ended, and the line of each has its bytes, all of them and no others.
+-- Draws in line tile the bytes that they are drawn from: one begins where the one before ended, and the line of each has its bytes, all of them and
+-- no others.
 use Prim.Native.Nat.{ℕ, _+_, _≤_}
 use mathlib.Core.Path.{_≡_}
 use mathlib.Core.List.{List, [], _∷_}

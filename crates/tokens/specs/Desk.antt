@@ -1,6 +1,6 @@
--- The lanes of a form side by side, a token at a time: form 1 has one lane, form 2 eleven, and each takes its own of every token. The states of the ten
--- lanes before the last are words, five a lane; behind them stand the keys known, two words a key, and their aliases, three words each, where there are
--- keys to remember. The last lane, and form 1's only one, is all in line: its state is its place.
+-- The lanes of a form side by side, a token at a time: form 1 has one lane, form 2 eleven, and each takes its own of every token. The states of the
+-- ten lanes before the last are words, five a lane; behind them stand the keys known, two words a key, and their aliases, three words each, where
+-- there are keys to remember. The last lane, and form 1's only one, is all in line: its state is its place.
 use Prim.Native.Nat.{ℕ, zero, suc, _+_, _*_, _≤_, _<_}
 use mathlib.Core.Path.{_≡_}
 use mathlib.Core.Logic.{_≢_}

@@ -1,5 +1,5 @@
--- Keys by number, as form 2 has them: a key that was written is its number again, any other takes the next number and its text follows. Equal means equal
--- bytes. No more keys than form 2 may have are remembered.
+-- Keys by number, as form 2 has them: a key that was written is its number again, any other takes the next number and its text follows. Equal means
+-- equal bytes. No more keys than form 2 may have are remembered.
 use Prim.Native.Nat.{ℕ, suc}
 use mathlib.Core.Bool.{Bool, true, false, _&&_}
 use mathlib.Core.List.{List, [], _∷_, _++_}

@@ -1,4 +1,5 @@
--- A lane that is being written: its state, a token at a time. It is written where there is room and measured where there is none: the state is the same.
+-- A lane that is being written: its state, a token at a time. It is written where there is room and measured where there is none: the state is the
+-- same.
 use Prim.Native.Nat.{ℕ, _+_}
 use mathlib.Core.Bool.{Bool, true, false}
 use mathlib.Core.List.{List, [], _∷_}

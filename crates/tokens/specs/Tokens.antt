@@ -86,9 +86,10 @@ led b = unsigned (length b) ++ b
 unfoldable pub inlined : ℕ → ℕ → List ℕ
 inlined k v = pick (eqb k infos) (v ∷ []) (unsigned v)
 
--- ---- what a lane takes of a token: bytes that stand as they are, or values of its column. Form 2 has keys by number (`numbered` in Keys), so no lane of
--- it takes one; a mark's value is a text in form 1, and a plain value in form 2
+-- ---- what a lane takes of a token
 
+-- bytes that stand as they are, or values of its column. Form 2 has keys by number (`numbered` in Keys), so no lane of it takes one; a mark's value is
+-- a text in form 1, and a plain value in form 2
 unfoldable pub taken : ℕ → Token → List ℕ
 taken k (field j v) = pick (eqb k whole) (inlined j v) (pick (eqb k j) (v ∷ []) [])
 taken k (text b n) = pick (eqb k whole) (led b) (pick (eqb k texts) b (pick (eqb k units) (n ∷ []) []))
@@ -106,7 +107,9 @@ unfoldable pub inLine : ℕ → Bool
 inLine k = pick (eqb k texts) true (pick (eqb k rest) true (eqb k whole))
 
 unfoldable pub columnIn : ℕ → Column
-columnIn k = pick (eqb k keys) Difference (pick (eqb k lefts) Difference (pick (eqb k rights) Difference (pick (eqb k infos) Byte (pick (eqb k parents) Byte Number))))
+columnIn k =
+    pick (eqb k keys) Difference (pick (eqb k lefts) Difference (pick (eqb k rights) Difference
+    (pick (eqb k infos) Byte (pick (eqb k parents) Byte Number))))
 
 -- a lane's bytes
 unfoldable pub lane : ℕ → List Token → List ℕ

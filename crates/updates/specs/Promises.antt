@@ -42,7 +42,9 @@ unfoldable pub early : ℕ → List ℕ → ℕ
 early form u = pick (known form) (pick (ltb maxUpdate (length u)) 3 0) 12
 
 unfoldable pub reading : ℕ → List ℕ → ℕ → ℕ → Reading
-reading form u blockRows rangeRows = pick (eqb (early form u) 0) (withBlocks form u rangeRows (fit blockRows (blocksOf form u))) (refused (nowhere (early form u)))
+reading form u blockRows rangeRows =
+    pick (eqb (early form u) 0) (withBlocks form u rangeRows (fit blockRows (blocksOf form u)))
+    (refused (nowhere (early form u)))
 
 -- ---- what `read_update` gives, and what it leaves in n rows and in n words, three a range row
 

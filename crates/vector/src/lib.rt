@@ -92,7 +92,9 @@ fn count_of(r: Entries) -> usize
 // Every entry in reading order, its client and its clock at one index, and zeros after the last; on a refusal zeros only.
 pub fn read_entries(vector: &[u8], clients: &mut [u64], clocks: &mut [u64]) -> Entries
     requires { ⌜ (maxClients ≤ length (now clients)) × (maxClients ≤ length (now clocks)) ⌝ }
-    ensures { λ r. ⌜ (r ≡ entriesOf (vectorOf (now (vector .entry)))) × (now (clients .exit) ≡ padded (length (now (clients .entry))) (clientsIn (kept (vectorOf (now (vector .entry)))))) × (now (clocks .exit) ≡ padded (length (now (clocks .entry))) (clocksIn (kept (vectorOf (now (vector .entry)))))) ⌝ }
+    ensures { λ r. ⌜ (r ≡ entriesOf (vectorOf (now (vector .entry))))
+        × (now (clients .exit) ≡ padded (length (now (clients .entry))) (clientsIn (kept (vectorOf (now (vector .entry))))))
+        × (now (clocks .exit) ≡ padded (length (now (clocks .entry))) (clocksIn (kept (vectorOf (now (vector .entry)))))) ⌝ }
 {
     let r = read_announced(vector, clients, clocks);
     let n = count_of(r);
@@ -143,7 +145,8 @@ fn refuse(out: &mut [u64], number: u8) -> Vector
 // Client and clock of every entry in reading order, two words each, and zeros after the last: the vector's own refusal, then 10 where the
 // words don't fit.
 pub fn read_state_vector(vector: &[u8], out: &mut [u64]) -> Vector
-    ensures { λ r. ⌜ (r ≡ vectorAnswer (length (now (out .entry))) (vectorOf (now (vector .entry)))) × (now (out .exit) ≡ vectorWords (length (now (out .entry))) (vectorOf (now (vector .entry)))) ⌝ }
+    ensures { λ r. ⌜ (r ≡ vectorAnswer (length (now (out .entry))) (vectorOf (now (vector .entry))))
+        × (now (out .exit) ≡ vectorWords (length (now (out .entry))) (vectorOf (now (vector .entry)))) ⌝ }
 {
     let mut clients = [0u64; 64];
     let mut clocks = [0u64; 64];

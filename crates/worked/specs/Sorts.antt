@@ -61,7 +61,8 @@ parent =
 abbrev pub left : Taken
 left = taken 28 (others1 .bytes) nobody (1 ∷ 0 ∷ []) (9 ∷ 1 ∷ 5 ∷ 1 ∷ []) (9 ∷ 1 ∷ 5 ∷ 1 ∷ []) []
 
--- a block whose left id is its own client's, far ahead: it is not asked for by rule 28; by rule 13 the block waits behind the gap, and names its own client
+-- a block whose left id is its own client's, far ahead: it is not asked for by rule 28; by rule 13 the block waits behind the gap, and names its own
+-- client
 abbrev pub own : List ℕ
 own = 0x01 ∷ 0x01 ∷ 0x05 ∷ 0x03 ∷ 0x83 ∷ 0x05 ∷ 0x07 ∷ 0x01 ∷ 0x61 ∷ 0x00 ∷ []
 

@@ -1,5 +1,5 @@
--- Updates worked by hand, in either form: their bytes, most of them as Yjs 13.5.43 writes them, and the rows that they are. What is said of each is computed
--- from the definitions (proofs/ReadSo), so a mistake that code and definition shared would show here.
+-- Updates worked by hand, in either form: their bytes, most of them as Yjs 13.5.43 writes them, and the rows that they are. What is said of each is
+-- computed from the definitions (proofs/ReadSo), so a mistake that code and definition shared would show here.
 use Prim.Native.Nat.{ℕ}
 use mathlib.Core.Path.{_≡_}
 use mathlib.Core.List.{List, [], _∷_}

@@ -25,8 +25,8 @@ diffBytes form u v bs rs = bytesOf form (diffTokens form u v bs rs)
 unfoldable pub turnedFormat : ℕ → ℕ → List Section → Bool
 turnedFormat from form ss = pick (eqb from form) false (anyFormat ss)
 
--- 3 where form 2 would have too many keys, 9 where it would cut inside a pair, 19 where a format of form `from` would change its form, 13 where form 2 needs
--- a difference that it cannot spell
+-- 3 where form 2 would have too many keys, 9 where it would cut inside a pair, 19 where a format of form `from` would change its form, 13 where form
+-- 2 needs a difference that it cannot spell
 unfoldable pub diffWhy : ℕ → ℕ → List ℕ → List Entry → List Block → List Range → ℕ
 diffWhy from form u v bs rs =
     pick (manyKeys form (diffTokens form u v bs rs)) 3

@@ -1,5 +1,5 @@
--- What is written of an update that was read, against a vector: the steps with their refusals, 3, 9, 19, 13, 10. `Meaning` in the proofs says that this is the
--- diff.
+-- What is written of an update that was read, against a vector: the steps with their refusals, 3, 9, 19, 13, 10. `Meaning` in the proofs says that
+-- this is the diff.
 use Prim.Native.Nat.{ℕ}
 use mathlib.Core.Bool.{Bool, false}
 use mathlib.Core.List.{List, [], _∷_}

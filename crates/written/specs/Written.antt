@@ -1,5 +1,5 @@
--- What a reader finds in records that were written: the same records. Their names, keys, marks and stored parts lie elsewhere and have the same bytes; a key
--- beside a left or a right id is gone, for nothing of it was spelled.
+-- What a reader finds in records that were written: the same records. Their names, keys, marks and stored parts lie elsewhere and have the same
+-- bytes; a key beside a left or a right id is gone, for nothing of it was spelled.
 use Prim.Native.Nat.{ℕ}
 use mathlib.Core.Path.{_≡_}
 use mathlib.Core.List.{List, [], _∷_, _++_}
@@ -70,8 +70,8 @@ Goes {S} {A} R (b ∷ bs) c rest = (a : A) × (p : ℕ) × (on : Run S A (Unit {
 abbrev pub AlikeIn : List ℕ → List ℕ → Block → Block → Type 0
 AlikeIn d u b c = Alike d b u c
 
--- the update d of a form is read: its blocks are the records of the sections, up to a place from where its delete set is the ranges, up to the place t; and no
--- byte of its columns is left
+-- the update d of a form is read: its blocks are the records of the sections, up to a place from where its delete set is the ranges, up to the place
+-- t; and no byte of its columns is left
 pub record WrittenReads (form : ℕ) (d u : List ℕ) (ss : List Section) (rs : List Range) (t : ℕ) : Type 0 where
   pub between : ℕ
   pub blocks : Goes (AlikeIn d u) (sectionsRead u ss) (blocksOf form d) (over tt between)
