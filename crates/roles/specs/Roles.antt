@@ -10,25 +10,18 @@ use Rattle.roles.specs.declared.Role.{Role}
 use Rattle.roles.specs.declared.Role.the-variants.{Sections, Blocks, Client, FirstClock, Info, SkipLength, GcLength, LeftClient, LeftClock, RightClient, RightClock, ParentInfo, ParentName, ParentClient, ParentClock, Key, DeletedLength, Binary, Text, MarkKey, MarkValue, TypeNumber, NodeName, ListLength, ListValues, Ended, Over}
 use Rattle.roles.specs.declared.Plan.{Plan}
 
+-- a role, sections and blocks left, room for blocks; the section's first clock, the block's; its info byte and the byte's place; its length
+abbrev pub plan : Role → ℕ → ℕ → ℕ → ℕ → ℕ → ℕ → ℕ → ℕ → Plan
+plan r n k m f c i p l = record { role = r; sections = n; blocks = k; room = m; first = f; clock = c; info = i; place = p; length = l }
+
 -- the plan before the first draw
 abbrev pub start : Plan
-start = record { role = Sections; sections = 0; blocks = 0; room = maxBlocks; first = 0; clock = 0; info = 0; place = 0; length = 0 }
+start = plan Sections 0 0 maxBlocks 0 0 0 0 0
 
 -- ---- how a plan goes on
 
 unfoldable pub goTo : Role → Plan → Plan
-goTo r q =
-    record {
-      role = r;
-      sections = q .sections;
-      blocks = q .blocks;
-      room = q .room;
-      first = q .first;
-      clock = q .clock;
-      info = q .info;
-      place = q .place;
-      length = q .length;
-    }
+goTo r q = plan r (q .sections) (q .blocks) (q .room) (q .first) (q .clock) (q .info) (q .place) (q .length)
 
 -- before so many sections
 unfoldable pub sectionRole : ℕ → Role
@@ -36,22 +29,11 @@ sectionRole n = pick (eqb n 0) Over Blocks
 
 -- so many sections
 unfoldable pub sectioned : ℕ → Plan → Plan
-sectioned n q = record { role = sectionRole n; sections = n; blocks = 0; room = q .room; first = 0; clock = 0; info = 0; place = 0; length = 0 }
+sectioned n q = plan (sectionRole n) n 0 (q .room) 0 0 0 0 0
 
 -- one section of them, with so many blocks
 unfoldable pub announced : ℕ → Plan → Plan
-announced k q =
-    record {
-      role = Client;
-      sections = q .sections - 1;
-      blocks = k;
-      room = q .room - k;
-      first = 0;
-      clock = 0;
-      info = 0;
-      place = 0;
-      length = 0;
-    }
+announced k q = plan Client (q .sections - 1) k (q .room - k) 0 0 0 0 0
 
 -- before so many blocks, and then so many sections
 unfoldable pub blockRole : ℕ → ℕ → Role
@@ -59,63 +41,19 @@ blockRole k n = pick (eqb k 0) (sectionRole n) Info
 
 -- behind a block, or a section's head: the next block of this section, which begins where the one before ended; where none is left, the next section
 unfoldable pub onward : Plan → Plan
-onward q =
-    record {
-      role = blockRole (q .blocks) (q .sections);
-      sections = q .sections;
-      blocks = q .blocks - 1;
-      room = q .room;
-      first = q .first;
-      clock = q .clock + q .length;
-      info = 0;
-      place = 0;
-      length = 0;
-    }
+onward q = plan (blockRole (q .blocks) (q .sections)) (q .sections) (q .blocks - 1) (q .room) (q .first) (q .clock + q .length) 0 0 0
 
 -- the first clock
 unfoldable pub headed : ℕ → Plan → Plan
-headed c q =
-    onward (record {
-      role = Ended;
-      sections = q .sections;
-      blocks = q .blocks;
-      room = q .room;
-      first = c;
-      clock = c;
-      info = 0;
-      place = 0;
-      length = 0;
-    })
+headed c q = onward (plan Ended (q .sections) (q .blocks) (q .room) c c 0 0 0)
 
 -- the info byte, and its place
 unfoldable pub informed : Role → ℕ → ℕ → Plan → Plan
-informed r i p q =
-    record {
-      role = r;
-      sections = q .sections;
-      blocks = q .blocks;
-      room = q .room;
-      first = q .first;
-      clock = q .clock;
-      info = i;
-      place = p;
-      length = 0;
-    }
+informed r i p q = plan r (q .sections) (q .blocks) (q .room) (q .first) (q .clock) i p 0
 
 -- the length
 unfoldable pub lengthened : Role → ℕ → Plan → Plan
-lengthened r n q =
-    record {
-      role = r;
-      sections = q .sections;
-      blocks = q .blocks;
-      room = q .room;
-      first = q .first;
-      clock = q .clock;
-      info = q .info;
-      place = q .place;
-      length = n;
-    }
+lengthened r n q = plan r (q .sections) (q .blocks) (q .room) (q .first) (q .clock) (q .info) (q .place) n
 
 -- nothing more of this block is drawn, and it has so many clocks
 abbrev pub endedWith : ℕ → Plan → Plan
