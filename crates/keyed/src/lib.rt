@@ -64,7 +64,7 @@ fn draw_key(update: &[u8], w: &mut [u64], r: &mut [u64], k: usize) -> Field
     ensures { λ f. ⌜ WordGiven k (now (w .entry)) (now (w .exit)) (now (r .entry)) (now (r .exit)) f
         (keyIn (now (update .entry)) (stateIn (now (w .entry)))) ⌝ }
 {
-    let Drawn::Number(number) = cells::draw_difference(update, w, 0) else {
+    let Drawn::Number(number) = fields::read_difference(2, update, w, 0) else {
         return Field::Refused;
     };
     let count = w[cells::KEY_COUNT];
