@@ -72,13 +72,23 @@ pub record Short (w : List ℕ) (k : ℕ) : Type 0 where
   pub last : cell w k 2 ≤ 4294967295
   pub key : cell w k 5 ≤ 4294967295
 
+-- no run of the key column is under way and nothing is left of it, so that no key can be read
+abbrev pub Idle : List ℕ → Type 0
+Idle w = (cell w 0 3 ≡ 0) × (cell w 0 4 ≤ cell w 0 0)
+
+-- there are words for 256 keys, or there is no key to read
 pub record Small (w : List ℕ) : Type 0 where
-  pub size : length w ≡ 580
+  pub size : 68 ≤ length w
+  pub room : length w < 580 → Idle w
   pub keys : keyCount w ≤ maxKeys
   pub key : Short w 0
   pub left : Short w 2
   pub right : Short w 3
   pub why : getD w 65 0 ≤ 255
+
+-- words that are enough for update u in form 2: those without words for keys are where its key column, whose length byte 1 begins, is empty
+abbrev pub Enough : List ℕ → List ℕ → Type 0
+Enough u w = length w < 580 → getD u 1 0 ≡ 0
 
 -- a column other than the three of differences
 abbrev pub Wide : ℕ → Type 0
@@ -124,12 +134,17 @@ bytesGiven v k Refused = course.not (whyIn v)
 
 -- ---- what a draw from column k does, from words w to words v
 
+-- where a key's number was drawn there are words for keys
+abbrev pub Roomy : ℕ → List ℕ → Drawn → Type 0
+Roomy k v (Number x) = k ≡ 0 → 580 ≤ length v
+Roomy k v Refused = Unit {0}
+
 -- the column's answer a
 abbrev pub NumberPut : ℕ → List ℕ → List ℕ → Drawn → number-answer.Answer → Type 0
 NumberPut k w v r a = Small v × Elsewhere k w v × (numbersGiven v k r ≡ numberDrawn (λ c. c) (cell w k 4) a) × Kept k w v
 
 abbrev pub DifferencePut : ℕ → List ℕ → List ℕ → Drawn → difference-answer.Answer → Type 0
-DifferencePut k w v r a = Small v × Elsewhere k w v × (differencesGiven v k r ≡ differenceDrawn (λ c. c) (cell w k 4) a)
+DifferencePut k w v r a = Small v × Elsewhere k w v × (differencesGiven v k r ≡ differenceDrawn (λ c. c) (cell w k 4) a) × Roomy k v r
 
 -- the column's place p
 abbrev pub BytePut : ℕ → List ℕ → List ℕ → byte-place.Place → Type 0
@@ -139,7 +154,7 @@ abbrev pub NumberDrawn : List ℕ → ℕ → List ℕ → List ℕ → Drawn �
 NumberDrawn u k w v r = Small v × Elsewhere k w v × (numbersGiven v k r ≡ fromNumbers u (numbersIn w k) (λ c. c)) × Kept k w v
 
 abbrev pub DifferenceDrawn : List ℕ → ℕ → List ℕ → List ℕ → Drawn → Type 0
-DifferenceDrawn u k w v r = Small v × Elsewhere k w v × (differencesGiven v k r ≡ fromDifferences u (differencesIn w k) (λ c. c))
+DifferenceDrawn u k w v r = Small v × Elsewhere k w v × (differencesGiven v k r ≡ fromDifferences u (differencesIn w k) (λ c. c)) × Roomy k v r
 
 abbrev pub ByteDrawn : List ℕ → ℕ → List ℕ → List ℕ → Drawn → Type 0
 ByteDrawn u k w v r = Small v × Elsewhere k w v × (bytesGiven v k r ≡ fromBytes u (bytesIn w k) (λ c. c))

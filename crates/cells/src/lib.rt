@@ -5,7 +5,7 @@ use numbers::Refusal;
 use numbers::Signed;
 ghost use mathlib.Core.Path.{_≡_};
 ghost use mathlib.Core.Logic.{_≢_};
-ghost use Prim.Native.Nat.{_+_, _≤_};
+ghost use Prim.Native.Nat.{_+_, _≤_, _<_};
 ghost use lib.ListN.{take};
 ghost use lib.Dec.{eqb};
 ghost use Rattle.columns.specs.Number as numbers;
@@ -220,7 +220,7 @@ fn begin_differences(update: &[u8], w: &mut [u64], k: usize) -> Drawn
 
 // The run of a difference that begins at `from`, its first value drawn onto the value before: it applies `left` times more.
 fn put_difference(w: &mut [u64], k: usize, past: usize, from: usize, key: u64, left: u64) -> Drawn
-    requires { ⌜ Small (now w) × Narrow k × (key ≤ 4294967295) ⌝ }
+    requires { ⌜ Small (now w) × Narrow k × (key ≤ 4294967295) × (cell (now w) k 0 < cell (now w) k 4) ⌝ }
     ensures { λ r. ⌜ DifferencePut k (now (w .entry)) (now (w .exit)) r
         (differences.drawn (differences.placeAt past from (cell (now (w .entry)) k 2) key (left + 1))) ⌝ }
 {

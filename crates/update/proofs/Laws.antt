@@ -246,7 +246,12 @@ module _ (form : ℕ) (u m w : List ℕ) (s : Spot) (some : 1 ≤ s .blocks) whe
 -- words of which none is stored yet
 pub fresh : Small (replicate 580 0)
 unfolding cell keyCount
-fresh = record { size = refl; keys = omega arith; key = record { last = omega arith; key = omega arith }; left = record { last = omega arith; key = omega arith }; right = record { last = omega arith; key = omega arith }; why = omega arith }
+fresh = record { size = omega arith; room = λ l. (refl, omega arith); keys = omega arith; key = record { last = omega arith; key = omega arith }; left = record { last = omega arith; key = omega arith }; right = record { last = omega arith; key = omega arith }; why = omega arith }
+
+-- and few of them, without words for keys
+pub fresh-few : Small (replicate 68 0)
+unfolding cell keyCount
+fresh-few = record { size = omega arith; room = λ l. (refl, omega arith); keys = omega arith; key = record { last = omega arith; key = omega arith }; left = record { last = omega arith; key = omega arith }; right = record { last = omega arith; key = omega arith }; why = omega arith }
 
 abbrev first : ℕ → Spot
 first n = record { sections = n; blocks = 0; room = maxBlocks; seen = 0; client = 0; clock = 0 }
