@@ -1,5 +1,6 @@
 -- `update::begin` meets its contract: form 1 stands at its first byte, any other is opened; then the section count.
 use mathlib.Core.Path.{sym, ap, _∙_}
+use lib.ListN.{length-set}
 use Rattle.opening.specs.Opening.{openedIn}
 use Rattle.cells.proofs.States.{at-moved, small-at}
 use Rattle.update.proofs.Laws.{starts-line, unopened, starts-columned}
@@ -10,6 +11,9 @@ use Rattle.update.proofs.begin.Tie as tie
 read-count-requires : tie.Need-read-count-requires
 read-count-requires c κs =
     small-at (c .before .before .before .before .args .w .now) (c .before .before .before .before .pre .0) 0
+
+same-length : tie.Need-same-length
+same-length c = c .before .before .read-count .kept .1 .1 .0 ∙ length-set (c .before .before .before .before .before .before .before .args .w .now) 63 0
 
 open-requires : tie.Need-open-requires
 open-requires c κs =
@@ -37,5 +41,5 @@ pub begin-spec : {M : Type 1} → statement M
 begin-spec =
     tie.close
     (tie.spec
-    (λ c. search needs) read-count-requires (λ c. search needs) returns open-requires (λ c. search needs) (λ c. search needs)
+    (λ c. search needs) read-count-requires same-length returns open-requires (λ c. search needs) (λ c. search needs)
     (λ c κs. search needs) (λ c. search needs) returns-2 (λ c κs. search needs) (λ c. search needs) returns-3)
