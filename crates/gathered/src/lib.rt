@@ -9,11 +9,12 @@ use summary::WORDS;
 use update::Spot;
 use update::Step;
 ghost use mathlib.Core.Path.{_≡_};
+ghost use mathlib.Core.Logic.{_≢_};
 ghost use mathlib.Core.List.{[]};
 ghost use Prim.Native.Nat.{_≤_, _<_};
 ghost use lib.ListN.{length, take};
 ghost use Rattle.numbers.specs.Limits.{maxClock, maxClients, maxBlocks};
-ghost use Rattle.cells.specs.Cells.{Small};
+ghost use Rattle.cells.specs.Cells.{Small, Enough};
 ghost use Rattle.grammar.specs.Course.{things};
 ghost use Rattle.tally.specs.Tally.{Descends, clientsIn};
 ghost use Rattle.gathered.specs.RowsOf.{firstClock, toldOf};
@@ -26,7 +27,7 @@ const LENGTH: usize = 2;
 
 // The section count: the form opened, if it has columns.
 fn begin(form: u8, update: &[u8], w: &mut [u64]) -> Drawn
-    requires { ⌜ Small (now w) ⌝ }
+    requires { ⌜ Small (now w) × (form ≢ 1 → Enough (now update) (now w)) ⌝ }
     ensures { λ d. ⌜ Small (now (w .exit)) × Begins form (now (update .entry)) (now (w .exit)) d ⌝ }
 {
     if form == 1 {
