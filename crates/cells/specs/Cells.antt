@@ -1,6 +1,7 @@
--- Where reading stands, as words: seven for each of the nine columns, in the format's order key, client, left clock, right clock, info, text, parent info,
--- type, length; then the place in line (63), the place that the number drawn last is blamed at (64), why a field was refused (65, 66), how many keys were read
--- (67), and place and bytes of each of them, two words a key. A column's words are at, from, last, count, to and two more.
+-- Where reading stands, as words: seven for each of the nine columns, in the format's order key, client, left clock, right clock, info, text, parent
+-- info, type, length; then the place in line (63), the place that the number drawn last is blamed at (64), why a field was refused (65, 66), how many
+-- keys were read (67), and, where there may be keys to read, place and bytes of each of them, two words a key. A column's words are at, from, last,
+-- count, to and two more.
 use Prim.Native.Nat.{ℕ, zero, suc, _+_, _*_, _≤_, _<_}
 use mathlib.Core.Path.{_≡_}
 use mathlib.Core.Logic.{_≢_}
@@ -29,11 +30,17 @@ numbersIn w k = record { place = record { at = cell w k 0; from = cell w k 1; la
 
 -- word 5 is the difference's key
 unfoldable pub differencesIn : List ℕ → ℕ → Differences
-differencesIn w k = record { place = record { at = cell w k 0; from = cell w k 1; last = cell w k 2; key = cell w k 5; count = cell w k 3 }; to = cell w k 4 }
+differencesIn w k = record {
+  place = record { at = cell w k 0; from = cell w k 1; last = cell w k 2; key = cell w k 5; count = cell w k 3 };
+  to = cell w k 4;
+}
 
 -- word 5 is 1 where the byte stands without end
 unfoldable pub bytesIn : List ℕ → ℕ → Bytes
-bytesIn w k = record { place = record { at = cell w k 0; from = cell w k 1; last = cell w k 2; count = cell w k 3; endless = eqb (cell w k 5) 1 }; to = cell w k 4 }
+bytesIn w k = record {
+  place = record { at = cell w k 0; from = cell w k 1; last = cell w k 2; count = cell w k 3; endless = eqb (cell w k 5) 1 };
+  to = cell w k 4;
+}
 
 -- the place of the units first; words 5 and 6 are the text's own at and end
 unfoldable pub textsIn : List ℕ → ℕ → Texts
@@ -57,7 +64,19 @@ unfoldable pub keysIn : List ℕ → List Part
 keysIn w = keysFrom w 0 (keyCount w)
 
 unfoldable pub stateIn : List ℕ → State
-stateIn w = record { at = atIn w; key = differencesIn w 0; client = numbersIn w 1; left = differencesIn w 2; right = differencesIn w 3; info = bytesIn w 4; text = textsIn w 5; parent = bytesIn w 6; types = numbersIn w 7; len = numbersIn w 8; keys = keysIn w }
+stateIn w = record {
+  at = atIn w;
+  key = differencesIn w 0;
+  client = numbersIn w 1;
+  left = differencesIn w 2;
+  right = differencesIn w 3;
+  info = bytesIn w 4;
+  text = textsIn w 5;
+  parent = bytesIn w 6;
+  types = numbersIn w 7;
+  len = numbersIn w 8;
+  keys = keysIn w;
+}
 
 unfoldable pub placeIn : List ℕ → ℕ
 placeIn w = getD w 64 0

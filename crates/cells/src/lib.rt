@@ -12,9 +12,10 @@ ghost use Rattle.columns.specs.Number as numbers;
 ghost use Rattle.columns.specs.Difference as differences;
 ghost use Rattle.columns.specs.Difference.{outside, keyRead};
 ghost use Rattle.cells.specs.declared.Drawn.the-variants as drawn;
-ghost use Rattle.cells.specs.Cells.{cell, whyIn, Small, Wide, Narrow, Elsewhere, NumberPut, DifferencePut, BytePut, NumberDrawn, DifferenceDrawn, ByteDrawn};
+ghost use Rattle.cells.specs.Cells.{cell, whyIn, Small, Wide, Narrow, Elsewhere};
+ghost use Rattle.cells.specs.Cells.{NumberPut, DifferencePut, BytePut, NumberDrawn, DifferenceDrawn, ByteDrawn};
 
-// How many words there are, and which of them are no column's.
+// How many words there are, with those for keys, and which of them are no column's.
 pub const WORDS: usize = 580;
 
 pub const AT: usize = 63;

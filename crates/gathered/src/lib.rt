@@ -18,7 +18,8 @@ ghost use Rattle.cells.specs.Cells.{Small, Enough};
 ghost use Rattle.grammar.specs.Course.{things};
 ghost use Rattle.tally.specs.Tally.{Descends, clientsIn};
 ghost use Rattle.gathered.specs.RowsOf.{firstClock, toldOf};
-ghost use Rattle.gathered.specs.Gathered.{Ends, sectionsFrom, blocksFrom, Begins, Headed, Tallies, Scans, Tells, whyHead, whyTallied, whyScanned, whyChecked};
+ghost use Rattle.gathered.specs.Gathered.{Ends, sectionsFrom, blocksFrom, Begins, Headed, Tallies, Scans, Tells};
+ghost use Rattle.gathered.specs.Gathered.{whyHead, whyTallied, whyScanned, whyChecked};
 
 // Where a block's row of words has its clock and its length.
 const CLOCK: usize = 1;

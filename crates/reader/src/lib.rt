@@ -88,7 +88,7 @@ fn is_keyless(form: u8, update: &[u8]) -> bool
     update[1] == 0
 }
 
-// The same, over words of its own: a message of one block has no use for 512 words of keys, and clearing them took a fifth of its time.
+// The same, over words of its own. Those for keys are 512, and setting them to zero takes 20 to 30 ns of the 144 of a message of one block.
 pub fn read_blocks(form: u8, update: &[u8], rows: &mut [Block]) -> Filled
     ensures { λ r. ⌜ (r ≡ filledOf (length (now (rows .entry))) (blocksOf form (now (update .entry))))
         × (now (rows .exit) ≡ rowsOf (length (now (rows .entry))) (blocksOf form (now (update .entry)))) ⌝ }

@@ -21,7 +21,7 @@ returns c =
     (f .0 ∙ line-explains (a .form) (a .update .now) (replicate 580 0) (c .before .before .before .before .before .before .if1 .taken) fresh-at (a .n), f .1)
 
 open-requires : tie.Need-open-requires
-open-requires c κs = (fresh, fresh-enough _)
+open-requires c κs = (fresh, fresh-enough (c .before .before .before .before .args .update .now))
 
 returns-2 : tie.Need-returns-2
 returns-2 c =
