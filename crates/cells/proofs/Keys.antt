@@ -84,7 +84,7 @@ keys-none w e = ap (keysFrom w 0) e ∙ from-none w 0
 
 -- ---- a key more, its place and bytes in the first two words that are no key's
 
-module _ (w : List ℕ) (s : Small w) (n : ℕ) (e : n ≡ keyCount w) (few : n < maxKeys) (place bytes : ℕ) where
+module _ (w : List ℕ) (s : Small w) (wide : 580 ≤ length w) (n : ℕ) (e : n ≡ keyCount w) (few : n < maxKeys) (place bytes : ℕ) where
   abbrev pub joined : List ℕ
   joined = set (set (set w (68 + 2 * n) place) (68 + 2 * n + 1) bytes) 67 (n + 1)
 
@@ -95,10 +95,10 @@ module _ (w : List ℕ) (s : Small w) (n : ℕ) (e : n ≡ keyCount w) (few : n 
       ∙ getD-set-other v (68 + 2 * n + 1) i bytes 0 (λ q. omega arith)
       ∙ getD-set-other w (68 + 2 * n) i place 0 (λ q. omega arith)
 
-  pub joined-size : length joined ≡ 580
+  pub joined-size : length joined ≡ length w
   joined-size =
       let v = set w (68 + 2 * n) place in
-      length-set (set v (68 + 2 * n + 1) bytes) 67 (n + 1) ∙ length-set v (68 + 2 * n + 1) bytes ∙ length-set w (68 + 2 * n) place ∙ s .size
+      length-set (set v (68 + 2 * n + 1) bytes) 67 (n + 1) ∙ length-set v (68 + 2 * n + 1) bytes ∙ length-set w (68 + 2 * n) place
 
   pub joined-count : keyCount joined ≡ n + 1
   unfolding keyCount
@@ -120,9 +120,9 @@ module _ (w : List ℕ) (s : Small w) (n : ℕ) (e : n ≡ keyCount w) (few : n 
       rw (
         getD-set-other (set v (68 + 2 * n + 1) bytes) 67 (68 + 2 * n) (n + 1) 0 (λ q. omega arith),
         getD-set-other v (68 + 2 * n + 1) (68 + 2 * n) bytes 0 (λ q. omega arith),
-        getD-set-same w (68 + 2 * n) place 0 (omega (arith, s .size)),
+        getD-set-same w (68 + 2 * n) place 0 (omega (arith, wide)),
         getD-set-other (set v (68 + 2 * n + 1) bytes) 67 (68 + 2 * n + 1) (n + 1) 0 (λ q. omega arith),
-        getD-set-same v (68 + 2 * n + 1) bytes 0 (omega (arith, s .size, length-set w (68 + 2 * n) place)),
+        getD-set-same v (68 + 2 * n + 1) bytes 0 (omega (arith, wide, length-set w (68 + 2 * n) place)),
       ) refl
 
   pub keys-joined : keysIn joined ≡ keysIn w ++ (record { place = place; bytes = record { 0 = bytes } } ∷ [])

@@ -27,6 +27,7 @@ use Rattle.decoder.specs.Columned.{numberDrawn, differenceDrawn, byteDrawn, tex
 use Rattle.cells.specs.declared.Drawn.{Drawn}
 use Rattle.cells.specs.declared.Drawn.the-variants.{Number, Refused}
 use Rattle.cells.specs.Cells.{cell, numbersIn, differencesIn, bytesIn, textsIn, atIn, placeIn, keyCount, keysIn, stateIn, Short, Small, Elsewhere, Beside, given, numbersGiven, differencesGiven, bytesGiven, NumberDrawn, DifferenceDrawn, ByteDrawn}
+use Rattle.cells.proofs.Words.{room-same}
 use Rattle.cells.proofs.Keys.{keys-same, keys-none, joined, joined-below, joined-size, joined-count, keys-joined}
 
 -- ---- columns that are as before
@@ -147,7 +148,8 @@ module _ (w : List ℕ) (s : Small w) (e : ℕ) where
 
   pub small-at : Small (set w 63 e)
   small-at = record {
-    size = length-set w 63 e ∙ s .size;
+    size = rw (length-set w 63 e) (s .size);
+    room = room-same w (set w 63 e) (λ i m. cell-moved 0 i (omega arith) m) (length-set w 63 e) s;
     keys = rw count-moved (s .keys);
     key = record { last = rw (cell-moved 0 2 (omega arith) (omega arith)) (s .key .last); key = rw (cell-moved 0 5 (omega arith) (omega arith)) (s .key .key) };
     left = record { last = rw (cell-moved 2 2 (omega arith) (omega arith)) (s .left .last); key = rw (cell-moved 2 5 (omega arith) (omega arith)) (s .left .key) };
@@ -182,9 +184,10 @@ module _ (w v : List ℕ) (below : (i : ℕ) → i < 67 → getD v i 0 ≡ getD 
   short-below : (k : ℕ) → k ≤ 8 → Short w k → Short v k
   short-below k few s = record { last = rw (cell-below k 2 few (omega arith)) (s .last); key = rw (cell-below k 5 few (omega arith)) (s .key) }
 
-  pub small-keys : Small w → length v ≡ 580 → keyCount v ≤ maxKeys → Small v
+  pub small-keys : Small w → length v ≡ length w → keyCount v ≤ maxKeys → Small v
   small-keys s l few = record {
-    size = l;
+    size = rw l (s .size);
+    room = room-same w v (λ i m. cell-below 0 i (omega arith) m) l s;
     keys = few;
     key = short-below 0 (omega arith) (s .key);
     left = short-below 2 (omega arith) (s .left);
@@ -205,19 +208,19 @@ module _ (w : List ℕ) (s : Small w) where
   state-unkeyed = state-keys w (set w 67 0) unkeyed-below ∙ ap (λ ps. withKeys ps (stateIn w)) (keys-none (set w 67 0) unkeyed-count)
 
   pub small-unkeyed : Small (set w 67 0)
-  small-unkeyed = small-keys w (set w 67 0) unkeyed-below s (length-set w 67 0 ∙ s .size) (rw unkeyed-count (omega arith))
+  small-unkeyed = small-keys w (set w 67 0) unkeyed-below s (length-set w 67 0) (rw unkeyed-count (omega arith))
 
 -- a key more
-module _ (w : List ℕ) (s : Small w) (n : ℕ) (e : n ≡ keyCount w) (few : n < maxKeys) (place bytes : ℕ) where
-  pub state-joined : stateIn (joined w s n e few place bytes) ≡ withKeys (keysIn w ++ (record { place = place; bytes = record { 0 = bytes } } ∷ [])) (stateIn w)
+module _ (w : List ℕ) (s : Small w) (wide : 580 ≤ length w) (n : ℕ) (e : n ≡ keyCount w) (few : n < maxKeys) (place bytes : ℕ) where
+  pub state-joined : stateIn (joined w s wide n e few place bytes) ≡ withKeys (keysIn w ++ (record { place = place; bytes = record { 0 = bytes } } ∷ [])) (stateIn w)
   state-joined =
-      state-keys w (joined w s n e few place bytes) (joined-below w s n e few place bytes)
-      ∙ ap (λ ps. withKeys ps (stateIn w)) (keys-joined w s n e few place bytes)
+      state-keys w (joined w s wide n e few place bytes) (joined-below w s wide n e few place bytes)
+      ∙ ap (λ ps. withKeys ps (stateIn w)) (keys-joined w s wide n e few place bytes)
 
-  pub small-joined : Small (joined w s n e few place bytes)
+  pub small-joined : Small (joined w s wide n e few place bytes)
   small-joined =
-      small-keys w (joined w s n e few place bytes) (joined-below w s n e few place bytes) s (joined-size w s n e few place bytes)
-      (rw (joined-count w s n e few place bytes) (omega arith))
+      small-keys w (joined w s wide n e few place bytes) (joined-below w s wide n e few place bytes) s (joined-size w s wide n e few place bytes)
+      (rw (joined-count w s wide n e few place bytes) (omega arith))
 
 -- ---- two words of a row
 

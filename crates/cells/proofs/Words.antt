@@ -10,7 +10,7 @@ use lib.Dec.{eqb}
 use lib.ListN.{length, getD, set, length-set}
 use lib.Seq.{getD-set-other, getD-set-same}
 use borrow.Author.Tests.{eqb-true, eqb-false}
-use Rattle.cells.specs.Cells.{cell, numbersIn, differencesIn, bytesIn, textsIn, atIn, placeIn, whyIn, keyCount, Short, Small, Wide, Elsewhere}
+use Rattle.cells.specs.Cells.{cell, numbersIn, differencesIn, bytesIn, textsIn, atIn, placeIn, whyIn, keyCount, Short, Idle, Small, Wide, Elsewhere}
 
 -- ---- elsewhere
 
@@ -55,10 +55,18 @@ pub count-same : (k : ℕ) (w v : List ℕ) → Elsewhere k w v → keyCount v �
 unfolding keyCount
 count-same k w v e = e .keys 67 (omega arith)
 
+-- the key column is as before
+pub idle-same : (w v : List ℕ) → ((i : ℕ) → i < 7 → cell v 0 i ≡ cell w 0 i) → Idle w → Idle v
+idle-same w v e i = (e 3 (omega arith) ∙ i .0, rw (e 4 (omega arith), e 0 (omega arith)) (i .1))
+
+pub room-same : (w v : List ℕ) → ((i : ℕ) → i < 7 → cell v 0 i ≡ cell w 0 i) → length v ≡ length w → Small w → length v < 580 → Idle v
+room-same w v e l s h = idle-same w v e (s .room (omega (arith, l, h)))
+
 -- a column that is none of differences changed
-pub small-wide : (k : ℕ) (w v : List ℕ) → Wide k → Small w → Elsewhere k w v → length v ≡ 580 → getD v 65 0 ≤ 255 → Small v
+pub small-wide : (k : ℕ) (w v : List ℕ) → Wide k → Small w → Elsewhere k w v → length v ≡ length w → getD v 65 0 ≤ 255 → Small v
 small-wide k w v few s e l b = record {
-  size = l;
+  size = rw l (s .size);
+  room = room-same w v (λ i m. e .same 0 i (omega arith) (λ q. few .1 (sym q)) m) l s;
   keys = rw (count-same k w v e) (s .keys);
   key = short-same k 0 w v e (omega arith) (λ q. few .1 (sym q)) (s .key);
   left = short-same k 2 w v e (omega arith) (λ q. few .2 (sym q)) (s .left);
@@ -66,10 +74,12 @@ small-wide k w v few s e l b = record {
   why = b;
 }
 
--- any column changed, and is short if it is one of differences
-pub small-any : (k : ℕ) (w v : List ℕ) → Small w → Elsewhere k w v → length v ≡ 580 → getD v 65 0 ≤ 255 → Short v k → Small v
-small-any k w v s e l b short = record {
-  size = l;
+-- any column changed, and is short if it is one of differences; the key column, and is idle unless there are words for keys
+pub small-any : (k : ℕ) (w v : List ℕ) → Small w → (k ≡ 0 → length v < 580 → Idle v) → Elsewhere k w v → length v ≡ length w → getD v 65 0 ≤ 255
+    → Short v k → Small v
+small-any k w v s own e l b short = record {
+  size = rw l (s .size);
+  room = λ h. roomy h (eqb 0 k) refl;
   keys = rw (count-same k w v e) (s .keys);
   key = at 0 (omega arith) (s .key);
   left = at 2 (omega arith) (s .left);
@@ -84,11 +94,16 @@ small-any k w v s e l b short = record {
     at : (j : ℕ) → j ≤ 8 → Short w j → Short v j
     at j few h = go j few h (eqb j k) refl
 
+    roomy : length v < 580 → (x : Bool) → eqb 0 k ≡ x → Idle v
+    roomy h true q = own (sym (eqb-true 0 k q)) h
+    roomy h false q = room-same w v (λ i m. e .same 0 i (omega arith) (eqb-false 0 k q) m) l s h
+
 -- ---- words stored in column k, one after the other
 
 -- v is w but for column k, whose seven words are c, and for the place blamed last
 pub record Held (k : ℕ) (w c v : List ℕ) : Type 0 where
-  pub size : length v ≡ 580
+  pub long : 68 ≤ length w
+  pub size : length v ≡ length w
   pub elsewhere : Elsewhere k w v
   pub why : getD v 65 0 ≤ 255
   pub seven : length c ≡ 7
@@ -99,7 +114,7 @@ column w k = cell w k 0 ∷ cell w k 1 ∷ cell w k 2 ∷ cell w k 3 ∷ cell w 
 
 module _ (k : ℕ) (w : List ℕ) where
   pub held : Small w → Held k w (column w k) w
-  held s = record { size = s .size; elsewhere = elsewhere-none k w; why = s .why; seven = refl; words = at }
+  held s = record { long = s .size; size = refl; elsewhere = elsewhere-none k w; why = s .why; seven = refl; words = at }
     where
       at : (j : ℕ) → j < 7 → cell w k j ≡ getD (column w k) j 0
       at zero l = refl
@@ -115,6 +130,7 @@ module _ (k : ℕ) (w : List ℕ) where
     pub put-at : (n j a : ℕ) → n ≡ 7 * k + j → j < 7 → Held k w (set c j a) (set v n a)
     unfolding cell
     put-at n j a e l = record {
+      long = h .long;
       size = length-set v n a ∙ h .size;
       elsewhere = elsewhere-on k w v (set v n a) (h .elsewhere) (elsewhere-in k j n a v e l few);
       why = rw (getD-set-other v n 65 a 0 (λ q. omega arith)) (h .why);
@@ -125,7 +141,7 @@ module _ (k : ℕ) (w : List ℕ) where
         go : (i : ℕ) → i < 7 → (x : Bool) → eqb i j ≡ x → getD (set v n a) (7 * k + i) 0 ≡ getD (set c j a) i 0
         go i b true q =
             let s = eqb-true i j q in
-            rw (s, ← e) (getD-set-same v n a 0 (omega (arith, h .size)) ∙ sym (getD-set-same c j a 0 (omega (arith, h .seven))))
+            rw (s, ← e) (getD-set-same v n a 0 (omega (arith, h .size, h .long)) ∙ sym (getD-set-same c j a 0 (omega (arith, h .seven))))
         go i b false q =
             let s = eqb-false i j q in
             getD-set-other v n (7 * k + i) a 0 (λ p. s (omega arith)) ∙ h .words i b ∙ sym (getD-set-other c j i a 0 s)
@@ -134,6 +150,7 @@ module _ (k : ℕ) (w : List ℕ) where
     pub put-place : (a : ℕ) → Held k w c (set v 64 a)
     unfolding cell
     put-place a = record {
+      long = h .long;
       size = length-set v 64 a ∙ h .size;
       elsewhere = elsewhere-on k w v (set v 64 a) (h .elsewhere) (elsewhere-behind k 64 a v (omega arith) (omega arith));
       why = rw (getD-set-other v 64 65 a 0 (λ q. omega arith)) (h .why);
@@ -143,7 +160,7 @@ module _ (k : ℕ) (w : List ℕ) where
 
     pub place-put : (a : ℕ) → placeIn (set v 64 a) ≡ a
     unfolding placeIn
-    place-put a = getD-set-same v 64 a 0 (omega (arith, h .size))
+    place-put a = getD-set-same v 64 a 0 (omega (arith, h .size, h .long))
 
 -- the first four words of a column, one after the other
 module _ (k : ℕ) (w : List ℕ) (s : Small w) (few : k ≤ 8) (at from last count : ℕ) where
@@ -182,9 +199,9 @@ module _ (k : ℕ) (w c v : List ℕ) (h : Held k w c v) where
   pub held-wide : Wide k → Small w → Small v
   held-wide few s = small-wide k w v few s (h .elsewhere) (h .size) (h .why)
 
-  pub held-short : Small w → getD c 2 0 ≤ 4294967295 → getD c 5 0 ≤ 4294967295 → Small v
-  held-short s last key =
-      small-any k w v s (h .elsewhere) (h .size) (h .why) (record { last = rw (h .words 2 (omega arith)) last; key = rw (h .words 5 (omega arith)) key })
+  pub held-short : Small w → (k ≡ 0 → length v < 580 → Idle v) → getD c 2 0 ≤ 4294967295 → getD c 5 0 ≤ 4294967295 → Small v
+  held-short s own last key =
+      small-any k w v s own (h .elsewhere) (h .size) (h .why) (record { last = rw (h .words 2 (omega arith)) last; key = rw (h .words 5 (omega arith)) key })
 
 -- ---- why a field was refused
 
@@ -197,8 +214,8 @@ module _ (w : List ℕ) (s : Small w) (number place : ℕ) where
       let v = set w 65 number in
       elsewhere-on 9 w v blamed (elsewhere-behind 9 65 number w (omega arith) (omega arith)) (elsewhere-behind 9 66 place v (omega arith) (omega arith))
 
-  size-refused : length blamed ≡ 580
-  size-refused = length-set (set w 65 number) 66 place ∙ length-set w 65 number ∙ s .size
+  size-refused : length blamed ≡ length w
+  size-refused = length-set (set w 65 number) 66 place ∙ length-set w 65 number
 
   number-refused : getD blamed 65 0 ≡ number
   number-refused = getD-set-other (set w 65 number) 66 65 place 0 (λ q. omega arith) ∙ getD-set-same w 65 number 0 (omega (arith, s .size))
@@ -209,7 +226,8 @@ module _ (w : List ℕ) (s : Small w) (number place : ℕ) where
 
   pub small-refused : number ≤ 255 → Small blamed
   small-refused l = record {
-    size = size-refused;
+    size = rw size-refused (s .size);
+    room = room-same w blamed (λ i m. elsewhere-refused .same 0 i (omega arith) (λ q. omega arith) m) size-refused s;
     keys = rw (count-same 9 w blamed elsewhere-refused) (s .keys);
     key = short-same 9 0 w blamed elsewhere-refused (omega arith) (λ q. omega arith) (s .key);
     left = short-same 9 2 w blamed elsewhere-refused (omega arith) (λ q. omega arith) (s .left);

@@ -1,6 +1,7 @@
--- Where reading stands, as words: seven for each of the nine columns, in the format's order key, client, left clock, right clock, info, text, parent info,
--- type, length; then the place in line (63), the place that the number drawn last is blamed at (64), why a field was refused (65, 66), how many keys were read
--- (67), and place and bytes of each of them, two words a key. A column's words are at, from, last, count, to and two more.
+-- Where reading stands, as words: seven for each of the nine columns, in the format's order key, client, left clock, right clock, info, text, parent
+-- info, type, length; then the place in line (63), the place that the number drawn last is blamed at (64), why a field was refused (65, 66), how many
+-- keys were read (67), and, where there may be keys to read, place and bytes of each of them, two words a key. A column's words are at, from, last,
+-- count, to and two more.
 use Prim.Native.Nat.{ℕ, zero, suc, _+_, _*_, _≤_, _<_}
 use mathlib.Core.Path.{_≡_}
 use mathlib.Core.Logic.{_≢_}
@@ -29,11 +30,17 @@ numbersIn w k = record { place = record { at = cell w k 0; from = cell w k 1; la
 
 -- word 5 is the difference's key
 unfoldable pub differencesIn : List ℕ → ℕ → Differences
-differencesIn w k = record { place = record { at = cell w k 0; from = cell w k 1; last = cell w k 2; key = cell w k 5; count = cell w k 3 }; to = cell w k 4 }
+differencesIn w k = record {
+  place = record { at = cell w k 0; from = cell w k 1; last = cell w k 2; key = cell w k 5; count = cell w k 3 };
+  to = cell w k 4;
+}
 
 -- word 5 is 1 where the byte stands without end
 unfoldable pub bytesIn : List ℕ → ℕ → Bytes
-bytesIn w k = record { place = record { at = cell w k 0; from = cell w k 1; last = cell w k 2; count = cell w k 3; endless = eqb (cell w k 5) 1 }; to = cell w k 4 }
+bytesIn w k = record {
+  place = record { at = cell w k 0; from = cell w k 1; last = cell w k 2; count = cell w k 3; endless = eqb (cell w k 5) 1 };
+  to = cell w k 4;
+}
 
 -- the place of the units first; words 5 and 6 are the text's own at and end
 unfoldable pub textsIn : List ℕ → ℕ → Texts
@@ -57,7 +64,19 @@ unfoldable pub keysIn : List ℕ → List Part
 keysIn w = keysFrom w 0 (keyCount w)
 
 unfoldable pub stateIn : List ℕ → State
-stateIn w = record { at = atIn w; key = differencesIn w 0; client = numbersIn w 1; left = differencesIn w 2; right = differencesIn w 3; info = bytesIn w 4; text = textsIn w 5; parent = bytesIn w 6; types = numbersIn w 7; len = numbersIn w 8; keys = keysIn w }
+stateIn w = record {
+  at = atIn w;
+  key = differencesIn w 0;
+  client = numbersIn w 1;
+  left = differencesIn w 2;
+  right = differencesIn w 3;
+  info = bytesIn w 4;
+  text = textsIn w 5;
+  parent = bytesIn w 6;
+  types = numbersIn w 7;
+  len = numbersIn w 8;
+  keys = keysIn w;
+}
 
 unfoldable pub placeIn : List ℕ → ℕ
 placeIn w = getD w 64 0
@@ -72,13 +91,23 @@ pub record Short (w : List ℕ) (k : ℕ) : Type 0 where
   pub last : cell w k 2 ≤ 4294967295
   pub key : cell w k 5 ≤ 4294967295
 
+-- no run of the key column is under way and nothing is left of it, so that no key can be read
+abbrev pub Idle : List ℕ → Type 0
+Idle w = (cell w 0 3 ≡ 0) × (cell w 0 4 ≤ cell w 0 0)
+
+-- there are words for 256 keys, or there is no key to read
 pub record Small (w : List ℕ) : Type 0 where
-  pub size : length w ≡ 580
+  pub size : 68 ≤ length w
+  pub room : length w < 580 → Idle w
   pub keys : keyCount w ≤ maxKeys
   pub key : Short w 0
   pub left : Short w 2
   pub right : Short w 3
   pub why : getD w 65 0 ≤ 255
+
+-- words that are enough for update u in form 2: those without words for keys are where its key column, whose length byte 1 begins, is empty
+abbrev pub Enough : List ℕ → List ℕ → Type 0
+Enough u w = length w < 580 → getD u 1 0 ≡ 0
 
 -- a column other than the three of differences
 abbrev pub Wide : ℕ → Type 0
@@ -124,12 +153,17 @@ bytesGiven v k Refused = course.not (whyIn v)
 
 -- ---- what a draw from column k does, from words w to words v
 
+-- where a key's number was drawn there are words for keys
+abbrev pub Roomy : ℕ → List ℕ → Drawn → Type 0
+Roomy k v (Number x) = k ≡ 0 → 580 ≤ length v
+Roomy k v Refused = Unit {0}
+
 -- the column's answer a
 abbrev pub NumberPut : ℕ → List ℕ → List ℕ → Drawn → number-answer.Answer → Type 0
 NumberPut k w v r a = Small v × Elsewhere k w v × (numbersGiven v k r ≡ numberDrawn (λ c. c) (cell w k 4) a) × Kept k w v
 
 abbrev pub DifferencePut : ℕ → List ℕ → List ℕ → Drawn → difference-answer.Answer → Type 0
-DifferencePut k w v r a = Small v × Elsewhere k w v × (differencesGiven v k r ≡ differenceDrawn (λ c. c) (cell w k 4) a)
+DifferencePut k w v r a = Small v × Elsewhere k w v × (differencesGiven v k r ≡ differenceDrawn (λ c. c) (cell w k 4) a) × Roomy k v r
 
 -- the column's place p
 abbrev pub BytePut : ℕ → List ℕ → List ℕ → byte-place.Place → Type 0
@@ -139,7 +173,7 @@ abbrev pub NumberDrawn : List ℕ → ℕ → List ℕ → List ℕ → Drawn �
 NumberDrawn u k w v r = Small v × Elsewhere k w v × (numbersGiven v k r ≡ fromNumbers u (numbersIn w k) (λ c. c)) × Kept k w v
 
 abbrev pub DifferenceDrawn : List ℕ → ℕ → List ℕ → List ℕ → Drawn → Type 0
-DifferenceDrawn u k w v r = Small v × Elsewhere k w v × (differencesGiven v k r ≡ fromDifferences u (differencesIn w k) (λ c. c))
+DifferenceDrawn u k w v r = Small v × Elsewhere k w v × (differencesGiven v k r ≡ fromDifferences u (differencesIn w k) (λ c. c)) × Roomy k v r
 
 abbrev pub ByteDrawn : List ℕ → ℕ → List ℕ → List ℕ → Drawn → Type 0
 ByteDrawn u k w v r = Small v × Elsewhere k w v × (bytesGiven v k r ≡ fromBytes u (bytesIn w k) (λ c. c))

@@ -5,16 +5,17 @@ use numbers::Refusal;
 use numbers::Signed;
 ghost use mathlib.Core.Path.{_≡_};
 ghost use mathlib.Core.Logic.{_≢_};
-ghost use Prim.Native.Nat.{_+_, _≤_};
+ghost use Prim.Native.Nat.{_+_, _≤_, _<_};
 ghost use lib.ListN.{take};
 ghost use lib.Dec.{eqb};
 ghost use Rattle.columns.specs.Number as numbers;
 ghost use Rattle.columns.specs.Difference as differences;
 ghost use Rattle.columns.specs.Difference.{outside, keyRead};
 ghost use Rattle.cells.specs.declared.Drawn.the-variants as drawn;
-ghost use Rattle.cells.specs.Cells.{cell, whyIn, Small, Wide, Narrow, Elsewhere, NumberPut, DifferencePut, BytePut, NumberDrawn, DifferenceDrawn, ByteDrawn};
+ghost use Rattle.cells.specs.Cells.{cell, whyIn, Small, Wide, Narrow, Elsewhere};
+ghost use Rattle.cells.specs.Cells.{NumberPut, DifferencePut, BytePut, NumberDrawn, DifferenceDrawn, ByteDrawn};
 
-// How many words there are, and which of them are no column's.
+// How many words there are, with those for keys, and which of them are no column's.
 pub const WORDS: usize = 580;
 
 pub const AT: usize = 63;
@@ -220,7 +221,7 @@ fn begin_differences(update: &[u8], w: &mut [u64], k: usize) -> Drawn
 
 // The run of a difference that begins at `from`, its first value drawn onto the value before: it applies `left` times more.
 fn put_difference(w: &mut [u64], k: usize, past: usize, from: usize, key: u64, left: u64) -> Drawn
-    requires { ⌜ Small (now w) × Narrow k × (key ≤ 4294967295) ⌝ }
+    requires { ⌜ Small (now w) × Narrow k × (key ≤ 4294967295) × (cell (now w) k 0 < cell (now w) k 4) ⌝ }
     ensures { λ r. ⌜ DifferencePut k (now (w .entry)) (now (w .exit)) r
         (differences.drawn (differences.placeAt past from (cell (now (w .entry)) k 2) key (left + 1))) ⌝ }
 {

@@ -34,7 +34,7 @@ use Rattle.cells.specs.Cells.{textsIn, atIn, whyIn, stateIn, Small, partIn, giv
 use Rattle.cells.proofs.Words.{held, put-place, held-wide, elsewhere-behind}
 use Rattle.cells.proofs.States.{state-client, state-left, state-right, state-info, state-text, state-parent, state-len, state-same, state-at, small-at, place-moved, row-first, row-second, mapped, text-mapped, number-onto, difference-onto, byte-onto}
 use Rattle.cells.specs.declared.Field.the-variants as field
-use Rattle.fields.specs.Fields.{clockAt, Narrow, partGiven, textGiven, textsGiven, TextDrawn}
+use Rattle.fields.specs.Fields.{clockAt, Narrow, Given, Rising, partGiven, textGiven, textsGiven, TextDrawn}
 
 -- ---- in line
 
@@ -42,7 +42,7 @@ pub in-line : (form : ℕ) (u w : List ℕ) → form ≡ 1 → (f : Field) → o
 unfolding fields stateIn
 in-line form u w h f = rw (eq-eqb form 1 h) refl
 
-pub clock-line : (u : List ℕ) (at k : ℕ) → upTo maxClock u at ≡ line 1 u (grammar.number (clockAt k)) at
+clock-line : (u : List ℕ) (at k : ℕ) → upTo maxClock u at ≡ line 1 u (grammar.number (clockAt k)) at
 unfolding line numberBy clockAt
 clock-line u at k = go (eqb k 2)
   where
@@ -208,7 +208,7 @@ module _ (form : ℕ) (u w v : List ℕ) (other : form ≢ 1) (r : Drawn) where
   right-drawn d = difference-onto u w v 3 r (λ c. withRight c (stateIn w)) (state-right w v (d .1)) d ∙ sym (fields-columned form u other (grammar.number grammar.rightClock) (stateIn w))
 
   -- the clock whose column is k
-  pub clock-drawn : (k : ℕ) → Narrow k → DifferenceDrawn u k w v r → From (clockAt k)
+  clock-drawn : (k : ℕ) → Narrow k → DifferenceDrawn u k w v r → From (clockAt k)
   unfolding clockAt
   clock-drawn k n = go (eqb k 2) refl
     where
@@ -247,3 +247,19 @@ module _ (form : ℕ) (u w v : List ℕ) (other : form ≢ 1) (r : Drawn) where
         let f : Texts → State = λ c. withText c (stateIn w) in
         texts-given f r (state-text w v (d .1)) ∙ ap (mapped f) (d .3) ∙ text-mapped (c .to) f (nextText (take (c .to) u) (c .place))
         ∙ sym (fields-columned form u other grammar.text (stateIn w))
+
+-- ---- a clock of either form
+
+pub clock-read : (form : ℕ) (u w v : List ℕ) (r : Drawn) (k : ℕ) → Narrow k → Rising form u k w v r
+    → Given w v r (fields form u (grammar.number (clockAt k)) (stateIn w))
+clock-read form u w v r k n d = go (eqb form 1) refl
+  where
+    go : (b : Bool) → eqb form 1 ≡ b → Given w v r (fields form u (grammar.number (clockAt k)) (stateIn w))
+    go true q =
+        let one = eqb-true form 1 q in
+        let g = d .0 one in
+        (g .0, g .1 ∙ ap (onto (stateIn w)) (clock-line u (atIn w) k) ∙ in-line form u w one (grammar.number (clockAt k)))
+    go false q =
+        let other = eqb-false form 1 q in
+        let g = d .1 other in
+        (g .0, clock-drawn form u w v other r k n g)

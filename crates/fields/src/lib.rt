@@ -13,8 +13,9 @@ ghost use Rattle.grammar.specs.Grammar as grammar;
 ghost use Rattle.decoder.specs.Line.{upTo, byteAt, bytesAt, checked};
 ghost use Rattle.decoder.specs.Columned.{onto};
 ghost use Rattle.decoder.specs.ColumnedInner.{fields};
+ghost use Rattle.cells.specs.Cells as cells;
 ghost use Rattle.cells.specs.Cells.{NumberDrawn, atIn, stateIn, Small, Beside, given};
-ghost use Rattle.fields.specs.Fields.{clockAt, Narrow, partGiven, textGiven, Given, PartGiven, TextGiven, TextDrawn};
+ghost use Rattle.fields.specs.Fields.{clockAt, Narrow, partGiven, textGiven, Given, PartGiven, TextGiven, Rising, TextDrawn};
 
 // ---- in line
 
@@ -107,15 +108,24 @@ pub fn read_client(form: u8, update: &[u8], w: &mut [u64]) -> Drawn
     cells::draw_number(update, w, 1)
 }
 
-// The clock of an id: of a left id (2) or of a right one (3).
-pub fn read_clock(form: u8, update: &[u8], w: &mut [u64], k: usize) -> Drawn
-    requires { ⌜ Small (now w) × Narrow k ⌝ }
-    ensures { λ r. ⌜ Given (now (w .entry)) (now (w .exit)) r (fields form (now (update .entry)) (grammar.number (clockAt k)) (stateIn (now (w .entry)))) ⌝ }
+// The next value of difference column k; in form 1 a clock in line. Called from two places, clocks of ids and numbers of keys, so that it stays a function of
+// its own and what reads an id becomes part of its caller: measured, a tenth of reading.
+pub fn read_difference(form: u8, update: &[u8], w: &mut [u64], k: usize) -> Drawn
+    requires { ⌜ Small (now w) × cells.Narrow k ⌝ }
+    ensures { λ r. ⌜ Rising form (now (update .entry)) k (now (w .entry)) (now (w .exit)) r ⌝ }
 {
     if form == 1 {
         return read_var(update, w, numbers::MAX_CLOCK);
     }
     cells::draw_difference(update, w, k)
+}
+
+// The clock of an id: of a left id (2) or of a right one (3).
+pub fn read_clock(form: u8, update: &[u8], w: &mut [u64], k: usize) -> Drawn
+    requires { ⌜ Small (now w) × Narrow k ⌝ }
+    ensures { λ r. ⌜ Given (now (w .entry)) (now (w .exit)) r (fields form (now (update .entry)) (grammar.number (clockAt k)) (stateIn (now (w .entry)))) ⌝ }
+{
+    read_difference(form, update, w, k)
 }
 
 pub fn read_info(form: u8, update: &[u8], w: &mut [u64]) -> Drawn

@@ -9,15 +9,17 @@ use summary::WORDS;
 use update::Spot;
 use update::Step;
 ghost use mathlib.Core.Path.{_≡_};
+ghost use mathlib.Core.Logic.{_≢_};
 ghost use mathlib.Core.List.{[]};
 ghost use Prim.Native.Nat.{_≤_, _<_};
 ghost use lib.ListN.{length, take};
 ghost use Rattle.numbers.specs.Limits.{maxClock, maxClients, maxBlocks};
-ghost use Rattle.cells.specs.Cells.{Small};
+ghost use Rattle.cells.specs.Cells.{Small, Enough};
 ghost use Rattle.grammar.specs.Course.{things};
 ghost use Rattle.tally.specs.Tally.{Descends, clientsIn};
 ghost use Rattle.gathered.specs.RowsOf.{firstClock, toldOf};
-ghost use Rattle.gathered.specs.Gathered.{Ends, sectionsFrom, blocksFrom, Begins, Headed, Tallies, Scans, Tells, whyHead, whyTallied, whyScanned, whyChecked};
+ghost use Rattle.gathered.specs.Gathered.{Ends, sectionsFrom, blocksFrom, Begins, Headed, Tallies, Scans, Tells};
+ghost use Rattle.gathered.specs.Gathered.{whyHead, whyTallied, whyScanned, whyChecked};
 
 // Where a block's row of words has its clock and its length.
 const CLOCK: usize = 1;
@@ -26,7 +28,7 @@ const LENGTH: usize = 2;
 
 // The section count: the form opened, if it has columns.
 fn begin(form: u8, update: &[u8], w: &mut [u64]) -> Drawn
-    requires { ⌜ Small (now w) ⌝ }
+    requires { ⌜ Small (now w) × (form ≢ 1 → Enough (now update) (now w)) ⌝ }
     ensures { λ d. ⌜ Small (now (w .exit)) × Begins form (now (update .entry)) (now (w .exit)) d ⌝ }
 {
     if form == 1 {

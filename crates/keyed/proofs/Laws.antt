@@ -30,7 +30,7 @@ use Rattle.decoder.proofs.Laws.{fields-columned}
 use Rattle.cells.specs.declared.Drawn as cells-drawn
 use Rattle.cells.specs.declared.Drawn.the-variants as drawn
 use Rattle.cells.specs.declared.Field.the-variants as field
-use Rattle.cells.specs.Cells.{atIn, placeIn, keyCount, keysIn, stateIn, whyIn, Small, partIn, given, DifferenceDrawn}
+use Rattle.cells.specs.Cells.{atIn, placeIn, keyCount, keysIn, stateIn, whyIn, Small, partIn, given, Roomy, DifferenceDrawn}
 use Rattle.cells.proofs.Keys.{keys-length, joined}
 use Rattle.cells.proofs.States.{state-key, state-joined, difference-onto}
 use Rattle.fields.specs.Fields.{partGiven, textGiven}
@@ -103,6 +103,10 @@ module _ (form : ℕ) (u w : List ℕ) (blame n : ℕ) where
 
 -- ---- a key by its number
 
+-- where a number was drawn there are words for keys
+pub room-drawn : (v : List ℕ) (r : cells-drawn.Drawn) (x : ℕ) → r ≡ drawn.Number x → Roomy 0 v r → 580 ≤ length v
+room-drawn v r x e a = subst (λ (d : cells-drawn.Drawn). Roomy 0 v d) e a refl
+
 -- which is drawn from its column
 pub key-drawn : (u w v : List ℕ) (r : cells-drawn.Drawn) → DifferenceDrawn u 0 w v r → keyByNumber u (given v r) ≡ keyIn u (stateIn w)
 unfolding keyIn stateIn
@@ -167,9 +171,9 @@ module _ (u w v q : List ℕ) (k : ℕ) where
         let e : keysIn v ≡ keysIn w = ap (keysAfter (keysIn w)) (h ∙ word-in u (stateIn w)) ∙ word-keys u (stateIn w) in
         sym (keys-length v) ∙ ap length e ∙ keys-length w
 
-    pub join-done : (s : Small v) (n : ℕ) (e : n ≡ keyCount v) (few : n < maxKeys)
-        → partGiven k (joined v s n e few (getD q k 0) (getD q (k + 1) 0)) q field.Done ≡ joining (textIn u (stateIn w))
+    pub join-done : (s : Small v) (wide : 580 ≤ length v) (n : ℕ) (e : n ≡ keyCount v) (few : n < maxKeys)
+        → partGiven k (joined v s wide n e few (getD q k 0) (getD q (k + 1) 0)) q field.Done ≡ joining (textIn u (stateIn w))
     unfolding partGiven keeping stateIn partIn
-    join-done s n e few =
-        ap (got (partIn q k)) (state-joined v s n e few (getD q k 0) (getD q (k + 1) 0))
+    join-done s wide n e few =
+        ap (got (partIn q k)) (state-joined v s wide n e few (getD q k 0) (getD q (k + 1) 0))
         ∙ ap keeping (h ∙ word-in u (stateIn w)) ∙ word-keeping (textIn u (stateIn w))

@@ -6,7 +6,7 @@ use cells::Drawn;
 use cells::Field;
 use cells::PLACE;
 ghost use mathlib.Core.Path.{_≡_};
-ghost use Prim.Native.Nat.{_+_, _<_};
+ghost use Prim.Native.Nat.{_+_, _≤_, _<_};
 ghost use lib.ListN.{length, getD};
 ghost use Rattle.block.specs.Row.{noPart};
 ghost use Rattle.grammar.specs.Grammar as grammar;
@@ -33,7 +33,7 @@ fn read_word(form: u8, update: &[u8], w: &mut [u64], r: &mut [u64], k: usize) ->
 
 // The key that was read under this number.
 fn known_key(w: &[u64], r: &mut [u64], k: usize, number: usize)
-    requires { ⌜ Small (now w) × (k + 1 < length (now r)) × (number < keyCount (now w)) ⌝ }
+    requires { ⌜ Small (now w) × (k + 1 < length (now r)) × (number < keyCount (now w)) × (580 ≤ length (now w)) ⌝ }
     ensures { λ _. ⌜ Beside k (now (r .entry)) (now (r .exit)) × (partIn (now (r .exit)) k ≡ getD (keysIn (now (w .entry))) number noPart) ⌝ }
 {
     let base = cells::KEYS + 2 * number;
@@ -43,7 +43,7 @@ fn known_key(w: &[u64], r: &mut [u64], k: usize, number: usize)
 
 // The next text, which is a key from now on.
 fn new_key(update: &[u8], w: &mut [u64], r: &mut [u64], k: usize, count: usize) -> Field
-    requires { ⌜ Small (now w) × (k + 1 < length (now r)) × (count ≡ keyCount (now w)) × (count < maxKeys) ⌝ }
+    requires { ⌜ Small (now w) × (k + 1 < length (now r)) × (count ≡ keyCount (now w)) × (count < maxKeys) × (580 ≤ length (now w)) ⌝ }
     ensures { λ f. ⌜ WordGiven k (now (w .entry)) (now (w .exit)) (now (r .entry)) (now (r .exit)) f
         (joining (textIn (now (update .entry)) (stateIn (now (w .entry))))) ⌝ }
 {
@@ -64,7 +64,7 @@ fn draw_key(update: &[u8], w: &mut [u64], r: &mut [u64], k: usize) -> Field
     ensures { λ f. ⌜ WordGiven k (now (w .entry)) (now (w .exit)) (now (r .entry)) (now (r .exit)) f
         (keyIn (now (update .entry)) (stateIn (now (w .entry)))) ⌝ }
 {
-    let Drawn::Number(number) = cells::draw_difference(update, w, 0) else {
+    let Drawn::Number(number) = fields::read_difference(2, update, w, 0) else {
         return Field::Refused;
     };
     let count = w[cells::KEY_COUNT];

@@ -1,6 +1,6 @@
 -- Form 2 opened: what is cut so far is in the words, what is still to come is the rest of the grammar; then the text is opened.
 use Prim.Native.Nat.{ℕ, suc, _+_, _*_, _-_, _≤_, _<_}
-use mathlib.Core.Path.{_≡_, refl, sym, ap, _∙_}
+use mathlib.Core.Path.{_≡_, refl, sym, ap, subst, _∙_}
 use mathlib.Core.Logic.{_≢_}
 use mathlib.Core.List.{List, [], _∷_, _++_}
 use mathlib.Core.Bool.{Bool, true, false}
@@ -10,8 +10,9 @@ use lib.ListN.{length, getD, set, take, length-append, List·getD-append}
 use lib.Seq.{getD-append-add}
 use borrow.Author.Tests.{lt-ltb, le-ltb, lt-leb, eqb-true, eqb-false}
 use Rattle.numbers.specs.declared.Refusal.{Refusal}
+use Rattle.numbers.specs.declared.Read.{Read}
 use Rattle.numbers.specs.declared.Read.the-variants as read
-use Rattle.numbers.specs.Number.{readUnsigned}
+use Rattle.numbers.specs.Number.{spelt, answerAt, readUnsigned}
 use Rattle.text.specs.declared.Part.{Part}
 use Rattle.block.specs.Row.{noPart}
 use Rattle.string.specs.declared.Place as string-place
@@ -25,7 +26,7 @@ use Rattle.decoder.specs.States.{State, Texts, withText, withKeys, movedTo}
 use Rattle.decoder.specs.Opening.{cut, heads, endOf, numbersFrom, differencesFrom, bytesFrom, standing, withOpened, textOpened, onHeads, openedOf}
 use Rattle.cells.specs.declared.Drawn.{Drawn}
 use Rattle.cells.specs.declared.Drawn.the-variants.{Number, Refused}
-use Rattle.cells.specs.Cells.{cell, numbersIn, differencesIn, bytesIn, textsIn, stateIn, whyIn, Small, Elsewhere}
+use Rattle.cells.specs.Cells.{cell, numbersIn, differencesIn, bytesIn, textsIn, stateIn, whyIn, Idle, Small, Elsewhere}
 use Rattle.opening.specs.Opening.{Cut, openedIn, Opened}
 use Rattle.cells.proofs.Words.{Held, put-at, run, put-run, texts-held, held-wide, held-short}
 use Rattle.cells.proofs.States.{state-text, state-at, small-at, state-unkeyed}
@@ -68,7 +69,7 @@ module _ (u w : List ℕ) (s : Small w) where
 
 -- ---- the columns
 
-module _ (k : ℕ) (w : List ℕ) (s : Small w) (few : k ≤ 8) (from to : ℕ) where
+module _ (k : ℕ) (w : List ℕ) (s : Small w) (few : k ≤ 8) (from to : ℕ) (bare : k ≡ 0 → length w < 580 → to ≤ from) where
   pub column-put : Cut k from to w (set (set (set (run k w s few from from 0 0) (7 * k + 4) to) (7 * k + 5) 2147483648) (7 * k + 6) 0)
   column-put =
       let w3 = run k w s few from from 0 0 in
@@ -79,12 +80,34 @@ module _ (k : ℕ) (w : List ℕ) (s : Small w) (few : k ≤ 8) (from to : ℕ) 
       let h5 = put-at k w _ w4 few h4 (7 * k + 5) 5 2147483648 refl (omega arith) in
       let h6 = put-at k w _ w5 few h5 (7 * k + 6) 6 0 refl (omega arith) in
       record {
-        small = held-short k w _ w6 h6 s (omega arith) (omega arith);
+        small = held-short k w _ w6 h6 s (λ z l. idle w6 z (h6 .words 3 (omega arith)) (h6 .words 4 (omega arith)) (h6 .words 0 (omega arith)) (bare z (omega (arith, h6 .size, l)))) (omega arith) (omega arith);
         elsewhere = h6 .elsewhere;
         begins = (h6 .words 0 (omega arith), h6 .words 1 (omega arith));
         ends = h6 .words 4 (omega arith);
         rest = (h6 .words 2 (omega arith), h6 .words 3 (omega arith), h6 .words 5 (omega arith), h6 .words 6 (omega arith));
       }
+    where
+      idle : (v : List ℕ) → k ≡ 0 → cell v k 3 ≡ 0 → cell v k 4 ≡ to → cell v k 0 ≡ from → to ≤ from → Idle v
+      idle v z count ends begins l =
+          let count₀ : cell v 0 3 ≡ 0 = subst (λ (j : ℕ). cell v j 3 ≡ 0) z count in
+          let ends₀ : cell v 0 4 ≡ to = subst (λ (j : ℕ). cell v j 4 ≡ to) z ends in
+          let begins₀ : cell v 0 0 ≡ from = subst (λ (j : ℕ). cell v j 0 ≡ from) z begins in
+          (count₀, omega (arith, ends₀, begins₀, l))
+
+-- a length whose first byte is 0
+unfoldable size-of : Read → ℕ
+size-of (read.Number v e) = v
+size-of (read.Refused why) = 0
+
+zero-size : (u : List ℕ) → getD u 1 0 ≡ 0 → size-of (readUnsigned u 1) ≡ 0
+unfolding readUnsigned answerAt spelt size-of
+zero-size [] h = refl
+zero-size (x ∷ []) h = refl
+zero-size (x ∷ b ∷ t) h = rw h refl
+
+pub empty-key : (u : List ℕ) (at size from : ℕ) → at ≡ 1 → readUnsigned u at ≡ read.Number size from → getD u 1 0 ≡ 0 → size ≡ 0
+unfolding size-of
+empty-key u at size from one e h = let q : size-of (readUnsigned u 1) ≡ size = ap size-of (ap (readUnsigned u) (sym one) ∙ e) in sym q ∙ zero-size u h
 
 -- column j stands at the part p, nothing drawn from it
 pub record Fresh (w : List ℕ) (j : ℕ) (p : Part) : Type 0 where

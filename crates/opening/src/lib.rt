@@ -4,9 +4,10 @@ use cells::Drawn;
 use cells::KEY_COUNT;
 use numbers::Read;
 ghost use mathlib.Core.Path.{_≡_};
-ghost use Prim.Native.Nat.{_≤_};
+ghost use Prim.Native.Nat.{_≤_, _<_};
+ghost use lib.ListN.{length};
 ghost use Rattle.decoder.specs.Opening.{textOpened};
-ghost use Rattle.cells.specs.Cells.{stateIn, Small};
+ghost use Rattle.cells.specs.Cells.{stateIn, Small, Enough};
 ghost use Rattle.opening.specs.Opening.{Cut, openedIn, Opened};
 
 fn open_text(update: &[u8], w: &mut [u64]) -> Drawn
@@ -30,9 +31,9 @@ fn open_text(update: &[u8], w: &mut [u64]) -> Drawn
     }
 }
 
-// Column k from a place to its end, nothing drawn from it yet: a difference of 0, and no byte without end.
+// Column k from a place to its end, nothing drawn from it yet: a difference of 0, and no byte without end. A key column that may be read needs words for keys.
 fn put_column(w: &mut [u64], k: usize, from: usize, to: usize)
-    requires { ⌜ Small (now w) × (k ≤ 8) ⌝ }
+    requires { ⌜ Small (now w) × (k ≤ 8) × (k ≡ 0 → length (now w) < 580 → to ≤ from) ⌝ }
     ensures { λ _. ⌜ Cut k from to (now (w .entry)) (now (w .exit)) ⌝ }
 {
     let b = 7 * k;
@@ -47,7 +48,7 @@ fn put_column(w: &mut [u64], k: usize, from: usize, to: usize)
 
 // The state before form 2's first number: a flag byte of any value, nine columns, and the text among them opened. No key was read yet.
 pub fn open(update: &[u8], w: &mut [u64]) -> Drawn
-    requires { ⌜ Small (now w) ⌝ }
+    requires { ⌜ Small (now w) × Enough (now update) (now w) ⌝ }
     ensures { λ r. ⌜ Opened (now (update .entry)) (now (w .exit)) r ⌝ }
 {
     if update.len() == 0 {

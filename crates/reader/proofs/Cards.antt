@@ -15,11 +15,11 @@ use contract.Monad.{Fun, fact, factI}
 use denote.Triple.Statement.{Contract, Triple}
 use denote.Triple.Spec.{tripleOf}
 use denote.Triple.Clauses.{atExit}
-use Rattle.walks.proofs.Rows.{Has, byte, word}
+use Rattle.walks.proofs.Rows.{Has, byte, word, bool-kind}
 use Rattle.walks.proofs.Refs.{Seat, val, mut, read, pass, Card, Told, since}
 use Rattle.block.specs.declared.Block.{Block}
 use Rattle.update.specs.declared.Spot.{Spot}
-use Rattle.cells.specs.Cells.{Small}
+use Rattle.cells.specs.Cells.{Small, Enough}
 use Rattle.item.specs.Row.{Narrow, rowIn}
 use Rattle.grammar.specs.Course.{fit}
 use Rattle.decoder.specs.Update.{inColumns, blocksOf}
@@ -28,7 +28,7 @@ use Rattle.numbers.specs.Limits.{maxClients}
 use Rattle.numbers.specs.Output.{padded}
 use Rattle.vector.specs.Vector.{clientsIn, vectorOf}
 use Rattle.vector.specs.VectorInner.{clocksIn, entriesOf, kept}
-use Rattle.reader.specs.Reader.{filledOf, rowsOf, Stands}
+use Rattle.reader.specs.Reader.{filledOf, rowsOf, Stands, keyless}
 use Rattle.reader.proofs.Sorts.{update·spot, update·step, begun, filled, entries}
 use Rattle.table.proofs.Sorts.{block}
 use Rattle.update.proofs.begin as update·begin-fn
@@ -41,6 +41,8 @@ use Rattle.reader.proofs.read_sections as reader·read-sections-fn
 use Rattle.reader.proofs.read_sections.Symbol.{name as #reader·read-sections}
 use Rattle.reader.proofs.read_blocks_over as reader·read-blocks-over-fn
 use Rattle.reader.proofs.read_blocks_over.Symbol.{name as #reader·read-blocks-over}
+use Rattle.reader.proofs.is_keyless as reader·is-keyless-fn
+use Rattle.reader.proofs.is_keyless.Symbol.{name as #reader·is-keyless}
 use Rattle.vector.proofs.read_entries as vector·read-entries-fn
 use Rattle.vector.proofs.read_entries.Symbol.{name as #vector·read-entries}
 
@@ -60,19 +62,22 @@ module _ {M : Type 1} (𝓤 : URA M) (H : Heap 𝓤) (A : Atoms 𝓤) (mem : Mem
   abbrev pub Reader·read-blocks-over : Contract 𝓤
   Reader·read-blocks-over = tripleOf 𝓤 H A reader·read-blocks-over-fn.signature (reader·read-blocks-over-fn.spec 𝓤 H A mem run)
 
+  abbrev pub Reader·is-keyless : Contract 𝓤
+  Reader·is-keyless = tripleOf 𝓤 H A reader·is-keyless-fn.signature (reader·is-keyless-fn.spec 𝓤 H A mem run)
+
   abbrev pub Vector·read-entries : Contract 𝓤
   Vector·read-entries = tripleOf 𝓤 H A vector·read-entries-fn.signature (vector·read-entries-fn.spec 𝓤 H A mem run)
 
   module _ (C : Calls 𝓤 H) where
-    pub update·begin! : Triple 𝓤 (C #update·begin) Update·begin → (form₀ : ℕ) (g-form : Has byte form₀) (at-update : Seat) (update₀ : List ℕ) (at-w : Seat) (w₀ : List ℕ) → (Small w₀) → Told 𝓤 H A C #update·begin (val byte form₀ g-form ∷ pass byte at-update update₀ ∷ mut word at-w w₀ w₀ ∷ []) begun (λ r ws. Starts form₀ update₀ (ws .1 .1 .0) r)
+    pub update·begin! : Triple 𝓤 (C #update·begin) Update·begin → (form₀ : ℕ) (g-form : Has byte form₀) (at-update : Seat) (update₀ : List ℕ) (at-w : Seat) (w₀ : List ℕ) → (Small w₀ × (form₀ ≢ 1 → Enough update₀ w₀)) → Told 𝓤 H A C #update·begin (val byte form₀ g-form ∷ pass byte at-update update₀ ∷ mut word at-w w₀ w₀ ∷ []) begun (λ r ws. Starts form₀ update₀ (ws .1 .1 .0) r)
     update·begin! known form₀ g-form at-update update₀ at-w w₀ h = record {
       loose = record {
         contract = Update·begin;
         known = known;
         ghost = λ x. (x, tt);
         args = λ ns. refl;
-        asked = fact 𝓤 (Small w₀);
-        asks = factI 𝓤 (Small w₀) (emp 𝓤) h;
+        asked = fact 𝓤 (Small w₀ × (form₀ ≢ 1 → Enough update₀ w₀));
+        asks = factI 𝓤 (Small w₀ × (form₀ ≢ 1 → Enough update₀ w₀)) (emp 𝓤) h;
         into = λ ns. id⊢ 𝓤 _;
         ensured = λ x r ws. update·begin-fn.clauses 𝓤 H A mem run (x .0) (x .3) .ensures tt r (atExit update·begin-fn.ended (x .0) (x .3) ws);
         out = λ ns v. id⊢ 𝓤 _;
@@ -126,20 +131,34 @@ module _ {M : Type 1} (𝓤 : URA M) (H : Heap 𝓤) (A : Atoms 𝓤) (mem : Mem
       said = λ ns r ws. since 𝓤 (λ e. e);
     }
 
-    pub reader·read-blocks-over! : Triple 𝓤 (C #reader·read-blocks-over) Reader·read-blocks-over → (form₀ : ℕ) (g-form : Has byte form₀) (at-update : Seat) (update₀ : List ℕ) (at-w : Seat) (w₀ : List ℕ) (at-rows : Seat) (rows₀ : List Block) → (Small w₀) → Told 𝓤 H A C #reader·read-blocks-over (val byte form₀ g-form ∷ pass byte at-update update₀ ∷ mut word at-w w₀ w₀ ∷ mut block at-rows rows₀ rows₀ ∷ []) filled (λ r ws. (r ≡ filledOf (length rows₀) (blocksOf form₀ update₀)) × (ws .1 .1 .1 .0 ≡ rowsOf (length rows₀) (blocksOf form₀ update₀)) × (form₀ ≢ 1 → Stands (fit (length rows₀) (inColumns update₀)) (ws .1 .1 .0)) × Small (ws .1 .1 .0))
+    pub reader·read-blocks-over! : Triple 𝓤 (C #reader·read-blocks-over) Reader·read-blocks-over → (form₀ : ℕ) (g-form : Has byte form₀) (at-update : Seat) (update₀ : List ℕ) (at-w : Seat) (w₀ : List ℕ) (at-rows : Seat) (rows₀ : List Block) → (Small w₀ × (form₀ ≢ 1 → Enough update₀ w₀)) → Told 𝓤 H A C #reader·read-blocks-over (val byte form₀ g-form ∷ pass byte at-update update₀ ∷ mut word at-w w₀ w₀ ∷ mut block at-rows rows₀ rows₀ ∷ []) filled (λ r ws. (r ≡ filledOf (length rows₀) (blocksOf form₀ update₀)) × (ws .1 .1 .1 .0 ≡ rowsOf (length rows₀) (blocksOf form₀ update₀)) × (form₀ ≢ 1 → Stands (fit (length rows₀) (inColumns update₀)) (ws .1 .1 .0)) × Small (ws .1 .1 .0))
     reader·read-blocks-over! known form₀ g-form at-update update₀ at-w w₀ at-rows rows₀ h = record {
       loose = record {
         contract = Reader·read-blocks-over;
         known = known;
         ghost = λ x. (x, tt);
         args = λ ns. refl;
-        asked = fact 𝓤 (Small w₀);
-        asks = factI 𝓤 (Small w₀) (emp 𝓤) h;
+        asked = fact 𝓤 (Small w₀ × (form₀ ≢ 1 → Enough update₀ w₀));
+        asks = factI 𝓤 (Small w₀ × (form₀ ≢ 1 → Enough update₀ w₀)) (emp 𝓤) h;
         into = λ ns. id⊢ 𝓤 _;
         ensured = λ x r ws. reader·read-blocks-over-fn.clauses 𝓤 H A mem run (x .0) (x .3) .ensures tt r (atExit reader·read-blocks-over-fn.ended (x .0) (x .3) ws);
         out = λ ns v. id⊢ 𝓤 _;
       };
       said = λ ns r ws. since 𝓤 (λ e. e);
+    }
+
+    pub reader·is-keyless! : Triple 𝓤 (C #reader·is-keyless) Reader·is-keyless → (form₀ : ℕ) (g-form : Has byte form₀) (at-update : Seat) (update₀ : List ℕ) → Card 𝓤 H A C #reader·is-keyless (val byte form₀ g-form ∷ pass byte at-update update₀ ∷ []) bool-kind (keyless form₀ update₀)
+    reader·is-keyless! known form₀ g-form at-update update₀ = record {
+      contract = Reader·is-keyless;
+      known = known;
+      ghost = λ x. (x, tt);
+      args = λ ns. refl;
+      asked = emp 𝓤;
+      asks = id⊢ 𝓤 _;
+      into = λ ns. id⊢ 𝓤 _;
+      ensured = λ x r ws. reader·is-keyless-fn.clauses 𝓤 H A mem run (x .0) (x .3) .ensures tt r (atExit reader·is-keyless-fn.ended (x .0) (x .3) ws);
+      out = λ ns v. id⊢ 𝓤 _;
+      said = λ ns r ws. since 𝓤 (λ e. (e, tt));
     }
 
     pub vector·read-entries! : Triple 𝓤 (C #vector·read-entries) Vector·read-entries → (at-vector : Seat) (vector₀ : List ℕ) (at-clients : Seat) (clients₀ : List ℕ) (at-clocks : Seat) (clocks₀ : List ℕ) → ((maxClients ≤ length clients₀) × (maxClients ≤ length clocks₀)) → Card 𝓤 H A C #vector·read-entries (pass byte at-vector vector₀ ∷ mut word at-clients clients₀ (padded (length clients₀) (clientsIn (kept (vectorOf vector₀)))) ∷ mut word at-clocks clocks₀ (padded (length clocks₀) (clocksIn (kept (vectorOf vector₀)))) ∷ []) entries (entriesOf (vectorOf vector₀))

@@ -1,9 +1,12 @@
 -- What so many rows hold of the blocks of an update: the blocks, then rows without one; or no block at all after a refusal. And where the words then
--- stand.
+-- stand, and where they need not be for keys.
 use Prim.Native.Nat.{ℕ, _-_}
 use mathlib.Core.Path.{_≡_}
 use mathlib.Core.List.{List, _++_}
-use lib.ListN.{length, replicate}
+use mathlib.Core.Bool.{Bool, true}
+use lib.Dec.{eqb}
+use lib.ListN.{length, getD, replicate}
+use Rattle.numbers.specs.Number.{pick}
 use Rattle.block.specs.declared.Block.{Block}
 use Rattle.block.specs.Row.{noBlock}
 use Rattle.grammar.specs.Course.{Run, thing, over, stopped, Course, fit, things, ending}
@@ -23,3 +26,7 @@ unfoldable pub Stands : {E A : Type 0} → Run State E A → List ℕ → Type 0
 Stands (thing e p c) v = Stands c v
 Stands (over a s) v = s ≡ movedTo (stateIn v) (s .at)
 Stands (stopped why) v = Unit {0}
+
+-- no key can be read by its number: in form 1 none has one; in form 2 byte 1 is the length of the key column
+unfoldable pub keyless : ℕ → List ℕ → Bool
+keyless form u = pick (eqb form 1) true (eqb (getD u 1 0) 0)

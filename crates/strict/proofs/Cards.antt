@@ -1,5 +1,6 @@
 -- What callees do at given arguments (tools/walkgen.py cards; `Told`, what the contract says where it gives no equations, by hand). Assumes that each meets its contract.
 use mathlib.Core.Path.{_≡_, refl}
+use mathlib.Core.Logic.{_≢_}
 use Prim.Native.Nat.{ℕ, _/_}
 use mathlib.Core.List.{List, [], _∷_}
 use lib.Dec.{eqb}
@@ -18,7 +19,7 @@ use Rattle.walks.proofs.Rows.{Has, byte, word}
 use Rattle.walks.proofs.Refs.{Seat, val, mut, read, pass, Card, Told, since}
 use Rattle.block.specs.declared.Block.{Block}
 use Rattle.numbers.specs.declared.Refusal.{Refusal}
-use Rattle.cells.specs.Cells.{Small, stateIn}
+use Rattle.cells.specs.Cells.{Small, Enough, stateIn}
 use Rattle.numbers.specs.Number.{pick}
 use Rattle.leftover.specs.Leftover as leftover
 use Rattle.strict.specs.Promises.{beforehand, strictly, ReadStrictly}
@@ -82,15 +83,15 @@ module _ {M : Type 1} (𝓤 : URA M) (H : Heap 𝓤) (A : Atoms 𝓤) (mem : Mem
       said = λ ns r ws. since 𝓤 (λ e. (e .0, (e .1, (e .2, tt))));
     }
 
-    pub strict·read-over! : Triple 𝓤 (C #strict·read-over) Strict·read-over → (form₀ : ℕ) (g-form : Has byte form₀) (at-update : Seat) (update₀ : List ℕ) (at-w : Seat) (w₀ : List ℕ) (at-rows : Seat) (rows₀ : List Block) (at-ranges : Seat) (ranges₀ : List ℕ) → (Small w₀ × (beforehand form₀ update₀ ≡ 0)) → Told 𝓤 H A C #strict·read-over (val byte form₀ g-form ∷ pass byte at-update update₀ ∷ mut word at-w w₀ w₀ ∷ mut block at-rows rows₀ rows₀ ∷ mut word at-ranges ranges₀ ranges₀ ∷ []) update (λ r ws. ReadStrictly form₀ update₀ rows₀ ranges₀ r (ws .1 .1 .1 .0) (ws .1 .1 .1 .1 .0))
+    pub strict·read-over! : Triple 𝓤 (C #strict·read-over) Strict·read-over → (form₀ : ℕ) (g-form : Has byte form₀) (at-update : Seat) (update₀ : List ℕ) (at-w : Seat) (w₀ : List ℕ) (at-rows : Seat) (rows₀ : List Block) (at-ranges : Seat) (ranges₀ : List ℕ) → (Small w₀ × (form₀ ≢ 1 → Enough update₀ w₀) × (beforehand form₀ update₀ ≡ 0)) → Told 𝓤 H A C #strict·read-over (val byte form₀ g-form ∷ pass byte at-update update₀ ∷ mut word at-w w₀ w₀ ∷ mut block at-rows rows₀ rows₀ ∷ mut word at-ranges ranges₀ ranges₀ ∷ []) update (λ r ws. ReadStrictly form₀ update₀ rows₀ ranges₀ r (ws .1 .1 .1 .0) (ws .1 .1 .1 .1 .0))
     strict·read-over! known form₀ g-form at-update update₀ at-w w₀ at-rows rows₀ at-ranges ranges₀ h = record {
       loose = record {
         contract = Strict·read-over;
         known = known;
         ghost = λ x. (x, tt);
         args = λ ns. refl;
-        asked = fact 𝓤 (Small w₀ × (beforehand form₀ update₀ ≡ 0));
-        asks = factI 𝓤 (Small w₀ × (beforehand form₀ update₀ ≡ 0)) (emp 𝓤) h;
+        asked = fact 𝓤 (Small w₀ × (form₀ ≢ 1 → Enough update₀ w₀) × (beforehand form₀ update₀ ≡ 0));
+        asks = factI 𝓤 (Small w₀ × (form₀ ≢ 1 → Enough update₀ w₀) × (beforehand form₀ update₀ ≡ 0)) (emp 𝓤) h;
         into = λ ns. id⊢ 𝓤 _;
         ensured = λ x r ws. strict·read-over-fn.clauses 𝓤 H A mem run (x .0) (x .3) .ensures tt r (atExit strict·read-over-fn.ended (x .0) (x .3) ws);
         out = λ ns v. id⊢ 𝓤 _;

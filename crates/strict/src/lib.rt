@@ -5,7 +5,8 @@ use numbers::Refusal;
 use reader::Filled;
 use updates::Update;
 ghost use mathlib.Core.Path.{_≡_};
-ghost use Rattle.cells.specs.Cells.{Small};
+ghost use mathlib.Core.Logic.{_≢_};
+ghost use Rattle.cells.specs.Cells.{Small, Enough};
 ghost use Rattle.updates.specs.Promises.{refused, Leaves};
 ghost use Rattle.strict.specs.Promises.{beforehand, ReadStrictly};
 
@@ -46,7 +47,7 @@ fn read_over(
     rows: &mut [Block],
     ranges: &mut [u64],
 ) -> Update
-    requires { ⌜ Small (now w) × (beforehand form (now update) ≡ 0) ⌝ }
+    requires { ⌜ Small (now w) × (form ≢ 1 → Enough (now update) (now w)) × (beforehand form (now update) ≡ 0) ⌝ }
     ensures { λ r. ⌜ ReadStrictly form (now (update .entry)) (now (rows .entry)) (now (ranges .entry)) r (now (rows .exit)) (now (ranges .exit)) ⌝ }
 {
     match reader::read_blocks_over(form, update, w, rows) {

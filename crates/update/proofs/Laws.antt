@@ -7,7 +7,7 @@ use mathlib.Core.Logic.{_≢_}
 use mathlib.Core.Bool.{Bool, true, false}
 use mathlib.Core.List.{List, [], _∷_, _++_}
 use lib.Dec.{ltb}
-use lib.ListN.{length, take, set, replicate, length-set}
+use lib.ListN.{length, getD, take, set, replicate, length-set, length-replicate, getD-replicate}
 use lib.Seq.{take-suc-set}
 use borrow.Author.Tests.{lt-ltb, le-ltb, ltb-false, ne-eqb}
 use Rattle.numbers.specs.declared.Refusal.{Refusal}
@@ -30,7 +30,7 @@ use Rattle.decoder.specs.Update.{restPlaces, inColumns, blocksOf}
 use Rattle.decoder.proofs.Laws.{placed-line, run-columned, fields-up-to}
 use Rattle.cells.specs.declared.Drawn as cells-drawn
 use Rattle.cells.specs.declared.Drawn.the-variants as drawn
-use Rattle.cells.specs.Cells.{cell, atIn, placeIn, whyIn, stateIn, Small, given, keyCount}
+use Rattle.cells.specs.Cells.{cell, atIn, placeIn, whyIn, stateIn, Small, Enough, given, keyCount}
 use Rattle.opening.specs.Opening.{openedIn}
 use Rattle.item.specs.Row.{rowIn, Narrow, blockOnto}
 use Rattle.update.specs.declared.Spot.{Spot}
@@ -244,9 +244,29 @@ module _ (form : ℕ) (u m w : List ℕ) (s : Spot) (some : 1 ≤ s .blocks) whe
 -- ---- the beginning
 
 -- words of which none is stored yet
-pub fresh : Small (replicate 580 0)
+zeros : (n : ℕ) → 68 ≤ n → Small (replicate n 0)
 unfolding cell keyCount
-fresh = record { size = refl; keys = omega arith; key = record { last = omega arith; key = omega arith }; left = record { last = omega arith; key = omega arith }; right = record { last = omega arith; key = omega arith }; why = omega arith }
+zeros n l =
+    let z : (i : ℕ) → i < 68 → _≡_ {A = ℕ} (getD (replicate n 0) i 0) 0 = λ i m. getD-replicate n i 0 0 (omega arith) in
+    record {
+      size = rw (length-replicate {A = ℕ} n 0) l;
+      room = λ _. (z 3 (omega arith), omega (arith, z 4 (omega arith)));
+      keys = omega (arith, z 67 (omega arith));
+      key = record { last = omega (arith, z 2 (omega arith)); key = omega (arith, z 5 (omega arith)) };
+      left = record { last = omega (arith, z 16 (omega arith)); key = omega (arith, z 19 (omega arith)) };
+      right = record { last = omega (arith, z 23 (omega arith)); key = omega (arith, z 26 (omega arith)) };
+      why = omega (arith, z 65 (omega arith));
+    }
+
+pub fresh : Small (replicate 580 0)
+fresh = zeros 580 (omega arith)
+
+pub fresh-enough : (u : List ℕ) → Enough u (replicate 580 0)
+fresh-enough u l = absurd (omega arith)
+
+-- without words for keys
+pub fresh-few : Small (replicate 68 0)
+fresh-few = zeros 68 (omega arith)
 
 abbrev first : ℕ → Spot
 first n = record { sections = n; blocks = 0; room = maxBlocks; seen = 0; client = 0; clock = 0 }

@@ -5,9 +5,10 @@ use cells::Drawn;
 use cells::PLACE;
 use numbers::Refusal;
 ghost use mathlib.Core.Path.{_≡_};
+ghost use mathlib.Core.Logic.{_≢_};
 ghost use Prim.Native.Nat.{_≤_};
 ghost use lib.ListN.{length};
-ghost use Rattle.cells.specs.Cells.{Small};
+ghost use Rattle.cells.specs.Cells.{Small, Enough};
 ghost use Rattle.update.specs.Steps.{Fine, Stepped, Counted, Starts};
 
 // What is still to come: sections, and blocks of this section; how many blocks may still be announced; how many clients were seen; the client
@@ -151,7 +152,7 @@ fn read_count(form: u8, update: &[u8], w: &mut [u64]) -> Begun
 
 // Before the first section: the form opened, the section count read.
 pub fn begin(form: u8, update: &[u8], w: &mut [u64]) -> Begun
-    requires { ⌜ Small (now w) ⌝ }
+    requires { ⌜ Small (now w) × (form ≢ 1 → Enough (now update) (now w)) ⌝ }
     ensures { λ x. ⌜ Starts form (now (update .entry)) (now (w .exit)) x ⌝ }
 {
     if form == 1 {

@@ -1,7 +1,8 @@
 -- `cells::begin_differences` meets its contract: each return is an arm of `begun` or of `counted`, by what was read and tested on the way.
-use Prim.Native.Nat.{ℕ, _*_}
+use Prim.Native.Nat.{ℕ, _*_, _<_}
 use mathlib.Core.Path.{_≡_, refl, sym, _∙_}
 use mathlib.Core.List.{List}
+use native.Mathlib.Omega.{arith}
 use lib.ListN.{getD}
 use Rattle.numbers.specs.Number.{readSigned, readUnsigned}
 use Rattle.numbers.specs.declared.Signed.the-variants.{Value}
@@ -10,7 +11,7 @@ use Rattle.columns.specs.Difference.{begun, counted}
 use Rattle.cells.specs.declared.Drawn.{Drawn}
 use Rattle.cells.specs.Cells.{cell, DifferencePut, DifferenceDrawn}
 use Rattle.cells.proofs.Numbers.{first-cell}
-use Rattle.cells.proofs.Differences.{difference-refused, difference-begins, inside, begun-wrong, begun-outside, begun-even, begun-odd, counted-wrong, counted-many, counted-run}
+use Rattle.cells.proofs.Differences.{difference-refused, difference-begins, starts-before, inside, begun-wrong, begun-outside, begun-even, begun-odd, counted-wrong, counted-many, counted-run}
 use borrow.Author.Needs.{needs}
 use Rattle.cells.proofs.begin_differences.Statement.{statement}
 use Rattle.cells.proofs.begin_differences.Tie as tie
@@ -97,6 +98,28 @@ returns-4 c =
     (odd (n .before) ∙ counted-many (text o) (at o) (cell (a .w .now) (a .k) 2) _ _ _ _ (sym (n .read-unsigned .ensures) ∙ v .n .given .1) (t .if3 .taken))
     (difference-refused (a .k) (a .w .now) _ _ _ _ refl (r .refuse4 .ensures))
 
+-- the column has bytes left
+left-there : (s : tie.After-s) → let o = s .before .before .before in let a = start o .args in cell (a .w .now) (a .k) 0 < cell (a .w .now) (a .k) 4
+unfolding cell
+left-there s =
+    let o = s .before .before .before in
+    let a = start o .args in
+    omega (arith, first-cell (a .w .now) (a .k), starts-before (a .update .now) (text o) (at o) (cell (a .w .now) (a .k) 4) _ _ _ (o .upto .ensures) (value s))
+
+put-difference-requires : tie.Need-put-difference-requires
+put-difference-requires c κs =
+    let k = c .before .before .before .before .before .before .before in
+    let s = k .before .before .before .before in
+    let b = start (s .before .before .before) in
+    (b .pre .0, b .pre .1, k .key-read .ensures .1, left-there s)
+
+put-difference-requires-2 : tie.Need-put-difference-requires-2
+put-difference-requires-2 c κs =
+    let k = c .before .before in
+    let s = k .before .before .before .before in
+    let b = start (s .before .before .before) in
+    (b .pre .0, b .pre .1, k .key-read .ensures .1, left-there s)
+
 returns-5 : tie.Need-returns-5
 returns-5 c =
     let r = c .before .before in
@@ -129,4 +152,4 @@ begin-differences-spec =
     (λ c κs. search needs) (λ c. search needs) (λ c. search needs) (λ c κs. search needs) (λ c κs. search needs) (λ c. search needs) returns
     (λ c κs. search needs) (λ c κs. search needs) (λ c. search needs) returns-2 key-read-requires (λ c κs. search needs) (λ c. search needs)
     (λ c. search needs) (λ c κs. search needs) (λ c κs. search needs) (λ c. search needs) returns-3 (λ c κs. search needs) (λ c. search needs)
-    returns-4 (λ c. search needs) (λ c κs. search needs) (λ c. search needs) returns-5 (λ c κs. search needs) (λ c. search needs) returns-6)
+    returns-4 (λ c. search needs) put-difference-requires (λ c. search needs) returns-5 put-difference-requires-2 (λ c. search needs) returns-6)

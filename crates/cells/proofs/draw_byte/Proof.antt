@@ -1,6 +1,8 @@
 -- `cells::draw_byte` meets its contract: each return is an arm of `nextByte`, by what is left of the run.
 use Rattle.cells.specs.Cells.{cell}
 use Rattle.cells.proofs.Bytes.{byte-endless, byte-on, byte-goes-endless, byte-goes-on}
+use native.Mathlib.Omega.{arith}
+use lib.ListN.{length-set}
 use borrow.Author.Needs.{needs}
 use Rattle.cells.proofs.draw_byte.Statement.{statement}
 use Rattle.cells.proofs.draw_byte.Tie as tie
@@ -18,6 +20,9 @@ begin-bytes-requires c κs =
     let b = c .before .before .before .before .before .before .before .before .before in
     (b .pre .0, b .pre .1, c .before .if2 .taken, c .before .before .before .if1 .left)
 
+slice-write-w-3 : tie.Need-slice-write-w-3
+slice-write-w-3 c = simp length-set (omega arith)
+
 returns-3 : tie.Need-returns-3
 unfolding cell
 returns-3 c =
@@ -33,4 +38,4 @@ draw-byte-spec =
     (λ c. search needs) (λ c. search needs) (λ c. search needs) (λ c. search needs) (λ c. search needs) (λ c. search needs) (λ c. search needs)
     (λ c. search needs) (λ c. search needs) (λ c. search needs) (λ c. search needs) (λ c. search needs) returns (λ c. search needs)
     (λ c. search needs) (λ c. search needs) begin-bytes-requires (λ c. search needs) (λ c. search needs) (λ c. search needs) (λ c. search needs)
-    (λ c. search needs) (λ c. search needs) (λ c. search needs) (λ c. search needs) returns-3)
+    (λ c. search needs) (λ c. search needs) slice-write-w-3 (λ c. search needs) returns-3)

@@ -42,6 +42,9 @@ returns-3 c =
 slice-write-w-2 : tie.Need-slice-write-w-2
 slice-write-w-2 c = simp length-set (omega arith)
 
+slice-write-w-3 : tie.Need-slice-write-w-3
+slice-write-w-3 c = simp length-set (omega arith)
+
 returns-4 : tie.Need-returns-4
 unfolding cell
 returns-4 c =
@@ -49,7 +52,7 @@ returns-4 c =
     let b = e .before .before .before .before in
     let a = b .args in
     difference-goes-on (a .update .now) (a .w .now) (a .k) _ _ (e .if1 .left)
-    (difference-on (a .k) (a .w .now) (b .pre .0) (b .pre .1) (short-here (a .k) (a .w .now) (b .pre .0) (b .pre .1) .1) (c .before .if2 .left) (c .if3 .left))
+    (difference-on (a .k) (a .w .now) (b .pre .0) (b .pre .1) (e .if1 .left) (short-here (a .k) (a .w .now) (b .pre .0) (b .pre .1) .1) (c .before .if2 .left) (c .if3 .left))
 
 pub draw-difference-spec : {M : Type 1} → statement M
 draw-difference-spec =
@@ -59,4 +62,4 @@ draw-difference-spec =
     (λ c. search needs) (λ c. search needs) (λ c. search needs) (λ c. search needs) (λ c. search needs) (λ c. search needs) (λ c. search needs)
     (λ c. search needs) (λ c. search needs) add-sum-3 (λ c κs. search needs) (λ c. search needs) returns-2 (λ c κs. search needs) (λ c. search needs)
     returns-3 (λ c. search needs) (λ c. search needs) (λ c. search needs) (λ c. search needs) (λ c. search needs) (λ c. search needs) slice-write-w-2
-    (λ c. search needs) (λ c. search needs) returns-4)
+    slice-write-w-3 (λ c. search needs) returns-4)

@@ -1,7 +1,7 @@
 -- `cells::put_difference` meets its contract: each return is an arm of `drawn`, by the tests that led there.
 use Rattle.columns.specs.Difference.{placeAt}
 use Rattle.cells.specs.Cells.{cell}
-use Rattle.cells.proofs.Differences.{drawn-low, drawn-high, difference-refused, difference-put, short-here}
+use Rattle.cells.proofs.Differences.{drawn-low, drawn-high, difference-refused, difference-put, room-at, short-here}
 use native.Mathlib.Omega.{arith}
 use lib.ListN.{length-set}
 use borrow.Author.Needs.{needs}
@@ -52,7 +52,7 @@ unfolding cell
 returns-3 c =
     let b = c .before .before .before .before in
     let a = b .args in
-    difference-put (a .k) (a .w .now) (b .pre .0) (b .pre .1) (a .past) (a .from) (a .key) (a .left) (b .pre .2) (c .before .if1 .left) (c .if2 .left)
+    difference-put (a .k) (a .w .now) (b .pre .0) (b .pre .1) (room-at (a .k) (a .w .now) (b .pre .0) (b .pre .3)) (a .past) (a .from) (a .key) (a .left) (b .pre .2) (c .before .if1 .left) (c .if2 .left)
 
 pub put-difference-spec : {M : Type 1} → statement M
 put-difference-spec =

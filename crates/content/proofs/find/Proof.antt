@@ -3,7 +3,7 @@ use native.Mathlib.Omega.{arith}
 use mathlib.Core.Path.{sym, ap, _∙_}
 use lib.ListN.{replicate}
 use Rattle.update.proofs.Answers.{begun-at, begun-refused}
-use Rattle.update.proofs.Laws.{fresh}
+use Rattle.update.proofs.Laws.{fresh, fresh-enough}
 use Rattle.content.specs.declared.Found.the-variants.{Refused}
 use Rattle.content.specs.ContentInner.{whyBegun, whyScanned, whyChecked}
 use Rattle.content.proofs.Finds.{not-begun, not-scanned, not-checked, found}
@@ -12,7 +12,7 @@ use Rattle.content.proofs.find.Statement.{statement}
 use Rattle.content.proofs.find.Tie as tie
 
 begin-requires : tie.Need-begin-requires
-begin-requires c κs = fresh
+begin-requires c κs = (fresh, λ _. fresh-enough (c .before .before .args .update .now))
 
 returns : tie.Need-returns
 returns c =

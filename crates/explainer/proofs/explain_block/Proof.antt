@@ -2,7 +2,7 @@
 use native.Mathlib.Omega.{arith}
 use mathlib.Core.Path.{_∙_}
 use lib.ListN.{replicate}
-use Rattle.update.proofs.Laws.{fresh}
+use Rattle.update.proofs.Laws.{fresh, fresh-enough}
 use Rattle.explainer.proofs.Forms.{line-reads, line-explains, column-reads, column-explains, unopened-explains, fresh-at, opened-as}
 use borrow.Author.Needs.{needs}
 use Rattle.explainer.proofs.explain_block.Statement.{statement}
@@ -21,7 +21,7 @@ returns c =
     (f .0 ∙ line-explains (a .form) (a .update .now) (replicate 580 0) (c .before .before .before .before .before .before .if1 .taken) fresh-at (a .n), f .1)
 
 open-requires : tie.Need-open-requires
-open-requires c κs = fresh
+open-requires c κs = (fresh, fresh-enough (c .before .before .before .before .args .update .now))
 
 returns-2 : tie.Need-returns-2
 returns-2 c =

@@ -12,7 +12,7 @@ use Rattle.explainer.proofs.follow.Tie as tie
 
 abbrev Inv-loop : tie.InvT-loop
 Inv-loop form update w₀ n sheet₀ part₀ q₀ ahead₀ own₀ w sheet part q ahead own =
-    Follows form update (followed form update n (stateIn w₀)) w sheet q ahead own × (length part ≡ 2)
+    Follows form update (followed form update n (stateIn w₀)) w sheet q ahead own × (length part ≡ 2) × (length w ≡ length w₀)
 
 abbrev μ-loop : tie.MeasureT-loop
 μ-loop form update w₀ n sheet₀ part₀ q₀ ahead₀ own₀ w sheet part q ahead own = left q
@@ -23,7 +23,7 @@ start-requires c κs = search needs
 loop-holds : tie.Need-loop-holds Inv-loop μ-loop
 loop-holds c =
     let a = c .before .before .before .before .args in
-    (rw (c .start .ensures) (starts (a .form) (a .update .now) (a .n) (a .w .now) (a .sheet .now) (c .before .before .before .before .pre .0) (c .before .before .before .before .pre .1) (c .before .before .before .before .pre .2)), refl)
+    (rw (c .start .ensures) (starts (a .form) (a .update .now) (a .n) (a .w .now) (a .sheet .now) (c .before .before .before .before .pre .0) (c .before .before .before .before .pre .1) (c .before .before .before .before .pre .2)), refl, refl)
 
 is-ended-requires : tie.Need-is-ended-requires Inv-loop μ-loop
 is-ended-requires c κs = search needs
@@ -32,7 +32,7 @@ is-found-requires : tie.Need-is-found-requires Inv-loop μ-loop
 is-found-requires c κs = search needs
 
 same-length : tie.Need-same-length Inv-loop μ-loop
-same-length c = search needs
+same-length c = c .before .before .before .before .loop .inv .2
 
 same-length-2 : tie.Need-same-length-2 Inv-loop μ-loop
 same-length-2 c = search needs
@@ -68,13 +68,13 @@ loop-again c =
     let a = c .before .before .before .before .before .before .before .before .before .before .before .args in
     let l = c .before .before .before .before .before .before .loop in
     let e = sym (c .before .before .before .before .before .is-ended .ensures) ∙ c .before .before .before .before .if1 .taken in
-    (rw (c .onward .ensures, c .before .ahead-of .ensures) (onward-turn (a .form) (a .update .now) _ (l .w) (l .sheet) (l .q) (l .ahead) (l .own) (l .inv .0) e (sym (c .before .before .before .is-found .ensures) ∙ c .before .before .if2 .left)), l .inv .1)
+    (rw (c .onward .ensures, c .before .ahead-of .ensures) (onward-turn (a .form) (a .update .now) _ (l .w) (l .sheet) (l .q) (l .ahead) (l .own) (l .inv .0) e (sym (c .before .before .before .is-found .ensures) ∙ c .before .before .if2 .left)), l .inv .1, l .inv .2)
 
 is-over-requires : tie.Need-is-over-requires Inv-loop μ-loop
 is-over-requires c κs = search needs
 
 same-length-3 : tie.Need-same-length-3 Inv-loop μ-loop
-same-length-3 c = search needs
+same-length-3 c = c .before .before .before .before .loop .inv .2
 
 same-length-4 : tie.Need-same-length-4 Inv-loop μ-loop
 same-length-4 c = search needs
@@ -159,7 +159,7 @@ loop-again-2 c =
     let e = sym (c .before .before .before .before .before .before .before .before .before .before .before .before .before .before .before .before .before .before .before .before .is-ended .ensures) ∙ c .before .before .before .before .before .before .before .before .before .before .before .before .before .before .before .before .before .before .before .if1 .left in
     let o = sym (c .before .before .before .before .before .before .before .before .before .before .before .before .before .before .before .before .before .before .is-over .ensures) ∙ c .before .before .before .before .before .before .before .before .before .before .before .before .before .before .before .before .before .if3 .left in
     let x = c .before .before .v .given in
-    (rw (c .after .ensures) (drawn-follows (a .form) (a .update .now) _ (l .w) (l .sheet) (l .q) (l .ahead) (l .own) (l .inv .0) e o _ _ _ _ (c .before .before .before .before .before .before .before .before .before .before .before .before .before .before .before .place .ensures) _ (c .before .before .before .before .before .before .before .before .before .tell .ensures .0) _ _ _ (x .1)), c .before .before .before .before .before .before .before .before .before .tell .ensures .1)
+    (rw (c .after .ensures) (drawn-follows (a .form) (a .update .now) _ (l .w) (l .sheet) (l .q) (l .ahead) (l .own) (l .inv .0) e o _ _ _ _ (c .before .before .before .before .before .before .before .before .before .before .before .before .before .before .before .place .ensures) _ (c .before .before .before .before .before .before .before .before .before .tell .ensures .0) _ _ _ (x .1)), c .before .before .before .before .before .before .before .before .before .tell .ensures .1, c .before .before .before .before .before .before .before .before .before .tell .kept .1 .1 .0 ∙ l .inv .2)
 
 pub follow-spec : {M : Type 1} → statement M
 follow-spec = tie.close (tie.spec Inv-loop μ-loop start-requires loop-holds is-ended-requires is-found-requires same-length same-length-2 returns ahead-of-requires onward-requires loop-less loop-again is-over-requires same-length-3 same-length-4 returns-2 place-requires slice-aggregate-tell tell-requires enum-known-v enum-told same-length-5 same-length-6 returns-3 add-own after-requires loop-less-2 loop-again-2)

@@ -3,14 +3,14 @@ use native.Mathlib.Omega.{arith}
 use mathlib.Core.Path.{sym, _∙_}
 use lib.ListN.{replicate}
 use Rattle.update.proofs.Answers.{begun-at, begun-refused}
-use Rattle.update.proofs.Laws.{fresh}
+use Rattle.update.proofs.Laws.{fresh, fresh-enough}
 use Rattle.explains.proofs.Wholes.{not-begun, not-scanned, not-checked, reads}
 use borrow.Author.Needs.{needs}
 use Rattle.explains.proofs.read_whole.Statement.{statement}
 use Rattle.explains.proofs.read_whole.Tie as tie
 
 begin-requires : tie.Need-begin-requires
-begin-requires c κs = fresh
+begin-requires c κs = (fresh, λ _. fresh-enough (c .before .before .args .update .now))
 
 scan-requires : tie.Need-scan-requires
 scan-requires c κs =

@@ -2,7 +2,7 @@
 use native.Mathlib.Omega.{arith}
 use mathlib.Core.Path.{_∙_}
 use Prim.Native.Nat.{_+_}
-use lib.ListN.{getD}
+use lib.ListN.{getD, length-set}
 use Rattle.cells.specs.Cells.{atIn, stateIn}
 use Rattle.fields.proofs.Laws.{small-moved, given-moved, given-refused, byte-none, byte-read}
 use borrow.Author.Needs.{needs}
@@ -21,6 +21,9 @@ returns c =
 cast-v : tie.Need-cast-v
 cast-v c = omega (arith, c .shared-slice-known2 .given (getD (c .before .before .before .before .before .args .w .now) 63 0))
 
+slice-write-w-2 : tie.Need-slice-write-w-2
+slice-write-w-2 c = simp length-set (omega arith)
+
 returns-2 : tie.Need-returns-2
 unfolding atIn
 returns-2 c =
@@ -37,4 +40,4 @@ read-u8-spec =
     tie.close
     (tie.spec
     (λ c. search needs) (λ c κs. search needs) (λ c. search needs) returns (λ c. search needs) cast-v (λ c. search needs) (λ c. search needs)
-    (λ c. search needs) (λ c. search needs) returns-2)
+    slice-write-w-2 (λ c. search needs) returns-2)

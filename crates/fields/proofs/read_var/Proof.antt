@@ -3,6 +3,8 @@ use mathlib.Core.Path.{sym, ap, _∙_}
 use Rattle.numbers.specs.NumberInner.{whyRead}
 use Rattle.cells.specs.Cells.{atIn, stateIn}
 use Rattle.fields.proofs.Laws.{small-moved, given-moved, given-refused, var-refused, var-over, var-read}
+use native.Mathlib.Omega.{arith}
+use lib.ListN.{length-set}
 use borrow.Author.Needs.{needs}
 use Rattle.fields.proofs.read_var.Statement.{statement}
 use Rattle.fields.proofs.read_var.Tie as tie
@@ -31,6 +33,9 @@ returns-2 c =
       given-refused (c .before .before .refuse2 .last .0) (k .0) (k .3) ∙ var-over u (stateIn w) (atIn w) (b .args .most) _ _ (sym (c .before .before .before .before .before .before .before .before .read-unsigned .ensures) ∙ c .before .before .before .before .before .before .n .given .1) (c .before .before .before .before .if1 .taken),
     )
 
+slice-write-w-2 : tie.Need-slice-write-w-2
+slice-write-w-2 c = simp length-set (omega arith)
+
 returns-3 : tie.Need-returns-3
 unfolding atIn
 returns-3 c =
@@ -48,5 +53,5 @@ read-var-spec =
     tie.close
     (tie.spec
     (λ c. search needs) (λ c κs. search needs) (λ c. search needs) (λ c. search needs) (λ c κs. search needs) (λ c κs. search needs)
-    (λ c. search needs) returns (λ c κs. search needs) (λ c. search needs) returns-2 (λ c. search needs) (λ c. search needs) (λ c. search needs)
+    (λ c. search needs) returns (λ c κs. search needs) (λ c. search needs) returns-2 (λ c. search needs) slice-write-w-2 (λ c. search needs)
     returns-3)

@@ -1,7 +1,7 @@
 -- `gathered::begin` meets its contract: form 1 stands at its first byte, any other is opened; then the section count.
 use mathlib.Core.Path.{sym, ap, _∙_}
 use mathlib.Core.List.{[]}
-use lib.ListN.{set}
+use lib.ListN.{set, length-set}
 use Rattle.opening.specs.Opening.{openedIn}
 use Rattle.cells.proofs.States.{at-moved, small-at}
 use Rattle.decoder.specs.Update.{restPlaces}
@@ -17,10 +17,10 @@ slice-write-w : tie.Need-slice-write-w
 slice-write-w c = search needs
 
 read-var-requires : tie.Need-read-var-requires
-read-var-requires c κs = small-at (c .before .before .before .before .args .w .now) (c .before .before .before .before .pre) 0
+read-var-requires c κs = small-at (c .before .before .before .before .args .w .now) (c .before .before .before .before .pre .0) 0
 
 same-length : tie.Need-same-length
-same-length c = search needs
+same-length c = c .before .before .read-var .kept .1 .0 ∙ length-set (c .before .before .before .before .before .before .before .args .w .now) 63 0
 
 returns : tie.Need-returns
 returns c =
@@ -29,10 +29,12 @@ returns c =
     let w = set (a .w .now) 63 0 in
     let x = c .before .before .read-var in
     let v = x .last .1 .0 in
-    (x .ensures .0, begun-at (a .form) u w v (x .result) (x .ensures .0) (x .ensures .1) (λ y h. starts-line (a .form) u w v y (c .before .before .before .before .if1 .taken) (at-moved (a .w .now) (c .before .before .before .before .before .before .before .pre) 0) h))
+    (x .ensures .0, begun-at (a .form) u w v (x .result) (x .ensures .0) (x .ensures .1) (λ y h. starts-line (a .form) u w v y (c .before .before .before .before .if1 .taken) (at-moved (a .w .now) (c .before .before .before .before .before .before .before .pre .0) 0) h))
 
 open-requires : tie.Need-open-requires
-open-requires c κs = search needs
+open-requires c κs =
+    let b = c .before .before .before .before in
+    (b .pre .0, b .pre .1 (c .before .if1 .left))
 
 enum-told : tie.Need-enum-told
 enum-told c = search needs

@@ -1,7 +1,7 @@
 -- `gathered::gather` meets its contract: the form opened, the sections scanned, the delete set checked, the rows put in order.
 use mathlib.Core.Path.{refl, ap, _∙_}
 use native.Mathlib.Omega.{arith}
-use Rattle.update.proofs.Laws.{fresh}
+use Rattle.update.proofs.Laws.{fresh, fresh-enough}
 use Rattle.gathered.specs.declared.Gathered.the-variants as gathered
 use Rattle.gathered.specs.Gathered.{whyScanned, whyChecked}
 use Rattle.gathered.proofs.Heads.{begins-at, begins-not}
@@ -14,7 +14,7 @@ slice-aggregate-begin : tie.Need-slice-aggregate-begin
 slice-aggregate-begin c = search needs
 
 begin-requires : tie.Need-begin-requires
-begin-requires c κs = fresh
+begin-requires c κs = (fresh, λ _. fresh-enough (c .before .before .before .args .update .now))
 
 enum-known-sections : tie.Need-enum-known-sections
 enum-known-sections c = search needs

@@ -13,7 +13,7 @@ use Rattle.gathered.proofs.scan.Tie as tie
 
 abbrev Inv-loop : tie.InvT-loop
 Inv-loop form update w₀ sections rows₀ order₀ fields₀ left₀ room₀ seen₀ w rows order fields left room seen =
-    Walked form update (sectionsFrom form update sections [] maxBlocks w₀) w rows order left room seen × (length fields ≡ 24)
+    Walked form update (sectionsFrom form update sections [] maxBlocks w₀) w rows order left room seen × (length fields ≡ 24) × (length w ≡ length w₀)
 
 abbrev μ-loop : tie.MeasureT-loop
 μ-loop form update w₀ sections rows₀ order₀ fields₀ left₀ room₀ seen₀ w rows order fields left room seen = left
@@ -22,7 +22,7 @@ loop-holds : tie.Need-loop-holds Inv-loop μ-loop
 loop-holds c =
     let a = c .before .before .before .before .args in
     let h = c .before .before .before .before .pre in
-    (walk-begins (a .form) (a .update .now) (a .w .now) (a .rows .now) (a .order .now) (a .sections) (h .0) (omega (arith, h .1)) (h .2) (h .3) (h .4), refl)
+    (walk-begins (a .form) (a .update .now) (a .w .now) (a .rows .now) (a .order .now) (a .sections) (h .0) (omega (arith, h .1)) (h .2) (h .3) (h .4), refl, refl)
 
 read-head-requires : tie.Need-read-head-requires Inv-loop μ-loop
 read-head-requires c κs =
@@ -40,7 +40,7 @@ why-head-requires : tie.Need-why-head-requires Inv-loop μ-loop
 why-head-requires c κs = search needs
 
 same-length : tie.Need-same-length Inv-loop μ-loop
-same-length c = search needs
+same-length c = c .before .before .before .before .before .before .before .read-head .kept .1 .1 .0 ∙ c .before .before .before .before .before .before .before .before .before .before .before .loop .inv .2
 
 same-length-2 : tie.Need-same-length-2 Inv-loop μ-loop
 same-length-2 c = search needs
@@ -83,7 +83,10 @@ why-tallied-requires : tie.Need-why-tallied-requires Inv-loop μ-loop
 why-tallied-requires c κs = search needs
 
 same-length-4 : tie.Need-same-length-4 Inv-loop μ-loop
-same-length-4 c = c .before .before .before .before .before .before .tally-blocks .ensures .0 .size ∙ sym (c .before .before .before .before .before .before .before .before .before .before .before .before .before .before .before .before .before .before .before .before .before .before .before .before .before .pre .0 .size)
+same-length-4 c =
+    c .before .before .before .before .before .before .tally-blocks .kept .1 .1 .0
+    ∙ c .before .before .before .before .before .before .before .before .before .before .before .before .before .before .before .before .read-head .kept .1 .1 .0
+    ∙ c .before .before .before .before .before .before .before .before .before .before .before .before .before .before .before .before .before .before .before .before .loop .inv .2
 
 same-length-5 : tie.Need-same-length-5 Inv-loop μ-loop
 same-length-5 c = c .before .before .before .before .before .before .before .before .before .before .before .before .before .before .before .before .before .before .before .before .loop .inv .0 .size ∙ sym (c .before .before .before .before .before .before .before .before .before .before .before .before .before .before .before .before .before .before .before .before .before .before .before .before .before .pre .2)
@@ -143,13 +146,13 @@ loop-again c =
     let o = opens (a .form) (a .update .now) (l .w) (l .order) (l .seen) (l .room) w₁ o₁ (x .result) _ _ _ (x .ensures .2) (c .before .before .before .before .before .before .before .before .before .before .before .before .before .before .h .given .1) in
     let y = c .before .before .before .before .before .before .before .before .before .before .tally-blocks in
     let p = c .before .before .put-words in
-    (section-read (a .form) (a .update .now) _ (l .w) (l .rows) (l .order) (l .left) (l .room) (l .seen) (l .inv .0) some w₁ o₁ _ _ _ o (y .last .1 .1 .0) (p .last .0) (y .result) _ _ _ (y .ensures .0) (y .ensures .2) (c .before .before .before .before .before .t .given .1) (p .ensures) (x .ensures .1), y .ensures .1)
+    (section-read (a .form) (a .update .now) _ (l .w) (l .rows) (l .order) (l .left) (l .room) (l .seen) (l .inv .0) some w₁ o₁ _ _ _ o (y .last .1 .1 .0) (p .last .0) (y .result) _ _ _ (y .ensures .0) (y .ensures .2) (c .before .before .before .before .before .t .given .1) (p .ensures) (x .ensures .1), y .ensures .1, y .kept .1 .1 .0 ∙ x .kept .1 .1 .0 ∙ l .inv .2)
 
 slice-read-at : tie.Need-slice-read-at Inv-loop μ-loop
 slice-read-at c = search needs
 
 same-length-7 : tie.Need-same-length-7 Inv-loop μ-loop
-same-length-7 c = search needs
+same-length-7 c = c .before .before .loop .inv .2
 
 same-length-8 : tie.Need-same-length-8 Inv-loop μ-loop
 same-length-8 c = search needs

@@ -1,7 +1,8 @@
 -- `gathered::tally_blocks` meets its contract: each answer of a step is a law of the walk down the blocks.
-use mathlib.Core.Path.{refl, sym, _∙_}
+use mathlib.Core.Path.{_≡_, refl, _∙_}
 use mathlib.Core.List.{[], _∷_}
 use native.Mathlib.Omega.{arith}
+use lib.ListN.{length, length-set}
 use Rattle.item.specs.Row.{rowIn}
 use Rattle.update.specs.Steps.{left}
 use Rattle.gathered.specs.Gathered.{blocksFrom}
@@ -12,7 +13,7 @@ use Rattle.gathered.proofs.tally_blocks.Tie as tie
 
 abbrev Inv-loop : tie.InvT-loop
 Inv-loop form update w₀ r₀ blocks client clock memory₀ s₀ first₀ end₀ count₀ w r memory s first end count =
-    Walking form update (blocksFrom form update blocks client clock w₀) blocks w r memory s first end count
+    Walking form update (blocksFrom form update blocks client clock w₀) blocks w r memory s first end count × (length w ≡ length w₀)
 
 abbrev μ-loop : tie.MeasureT-loop
 μ-loop form update w₀ r₀ blocks client clock memory₀ s₀ first₀ end₀ count₀ w r memory s first end count = left s
@@ -21,13 +22,13 @@ loop-holds : tie.Need-loop-holds Inv-loop μ-loop
 loop-holds c =
     let a = c .before .before .before .args in
     let h = c .before .before .before .pre in
-    walk-begins (a .form) (a .update .now) (a .w .now) (a .r .now) (0 ∷ []) (a .blocks) (a .client) (a .clock) (h .0) (h .1) refl (h .2) (h .3) (h .4)
+    (walk-begins (a .form) (a .update .now) (a .w .now) (a .r .now) (0 ∷ []) (a .blocks) (a .client) (a .clock) (h .0) (h .1) refl (h .2) (h .3) (h .4), refl)
 
 slice-aggregate-next : tie.Need-slice-aggregate-next Inv-loop μ-loop
 slice-aggregate-next c = search needs
 
 next-requires : tie.Need-next-requires Inv-loop μ-loop
-next-requires c κs = let l = c .before .before .before .before .before .loop in (l .inv .small, l .inv .fields, l .inv .fine)
+next-requires c κs = let l = c .before .before .before .before .before .loop in (l .inv .0 .small, l .inv .0 .fields, l .inv .0 .fine)
 
 enum-known-t : tie.Need-enum-known-t Inv-loop μ-loop
 enum-known-t c = search needs
@@ -47,21 +48,21 @@ add-end c =
     let a = c .before .before .before .before .before .before .before .before .before .before .before .before .before .before .before .before .before .before .before .before .before .args in
     let l = c .before .before .before .before .before .before .before .before .before .before .before .before .before .before .before .before .before .loop in
     let x = c .before .before .before .before .before .before .before .before .before .before .before .next in
-    omega (arith, its-end (a .form) (a .update .now) _ (a .blocks) (l .w) (l .r) (l .memory) (l .s) (l .first) (l .end) (l .count) (l .inv) _ _ _ (x .result) (x .ensures) _ _ (c .before .before .before .before .t .given .1))
+    omega (arith, its-end (a .form) (a .update .now) _ (a .blocks) (l .w) (l .r) (l .memory) (l .s) (l .first) (l .end) (l .count) (l .inv .0) _ _ _ (x .result) (x .ensures) _ _ (c .before .before .before .before .t .given .1))
 
 add-count : tie.Need-add-count Inv-loop μ-loop
 add-count c =
     let a = c .before .before .before .before .before .before .before .before .before .before .before .before .before .before .before .before .before .before .before .before .before .args in
     let l = c .before .before .before .before .before .before .before .before .before .before .before .before .before .before .before .before .before .loop in
     let x = c .before .before .before .before .before .before .before .before .before .before .before .next in
-    omega (arith, countable (a .form) (a .update .now) _ (a .blocks) (l .w) (l .r) (l .memory) (l .s) (l .first) (l .end) (l .count) (l .inv))
+    omega (arith, countable (a .form) (a .update .now) _ (a .blocks) (l .w) (l .r) (l .memory) (l .s) (l .first) (l .end) (l .count) (l .inv .0))
 
 loop-less : tie.Need-loop-less Inv-loop μ-loop
 loop-less c =
     let a = c .before .before .before .before .before .before .before .before .before .before .before .before .before .before .before .before .before .before .before .before .before .args in
     let l = c .before .before .before .before .before .before .before .before .before .before .before .before .before .before .before .before .before .loop in
     let x = c .before .before .before .before .before .before .before .before .before .before .before .next in
-    block-less (a .form) (a .update .now) _ (a .blocks) (l .w) (l .r) (l .memory) (l .s) (l .first) (l .end) (l .count) (l .inv) _ _ _ (x .result) (x .ensures) _ _ (c .before .before .before .before .t .given .1)
+    block-less (a .form) (a .update .now) _ (a .blocks) (l .w) (l .r) (l .memory) (l .s) (l .first) (l .end) (l .count) (l .inv .0) _ _ _ (x .result) (x .ensures) _ _ (c .before .before .before .before .t .given .1)
 
 loop-again : tie.Need-loop-again Inv-loop μ-loop
 unfolding rowIn
@@ -69,7 +70,7 @@ loop-again c =
     let a = c .before .before .before .before .before .before .before .before .before .before .before .before .before .before .before .before .before .before .before .before .before .args in
     let l = c .before .before .before .before .before .before .before .before .before .before .before .before .before .before .before .before .before .loop in
     let x = c .before .before .before .before .before .before .before .before .before .before .before .next in
-    block-tallied (a .form) (a .update .now) _ (a .blocks) (l .w) (l .r) (l .memory) (l .s) (l .first) (l .end) (l .count) (l .inv) _ _ _ (x .result) (x .ensures) _ _ (c .before .before .before .before .t .given .1) (c .before .earliest .result) (c .before .earliest .ensures)
+    (block-tallied (a .form) (a .update .now) _ (a .blocks) (l .w) (l .r) (l .memory) (l .s) (l .first) (l .end) (l .count) (l .inv .0) _ _ _ (x .result) (x .ensures) _ _ (c .before .before .before .before .t .given .1) (c .before .earliest .result) (c .before .earliest .ensures), x .kept .1 .1 .0 ∙ l .inv .1)
 
 enum-known-t-2 : tie.Need-enum-known-t-2 Inv-loop μ-loop
 enum-known-t-2 c = search needs
@@ -79,14 +80,14 @@ loop-less-2 c =
     let a = c .before .before .before .before .before .before .before .before .before .before .before .before .before .before .before .before .before .before .args in
     let l = c .before .before .before .before .before .before .before .before .before .before .before .before .before .before .loop in
     let x = c .before .before .before .before .before .before .before .before .next in
-    on-less (a .form) (a .update .now) _ (a .blocks) (l .w) (l .r) (l .memory) (l .s) (l .first) (l .end) (l .count) (l .inv) _ _ _ (x .result) (x .ensures) _ (c .before .t2 .given .1)
+    on-less (a .form) (a .update .now) _ (a .blocks) (l .w) (l .r) (l .memory) (l .s) (l .first) (l .end) (l .count) (l .inv .0) _ _ _ (x .result) (x .ensures) _ (c .before .t2 .given .1)
 
 loop-again-2 : tie.Need-loop-again-2 Inv-loop μ-loop
 loop-again-2 c =
     let a = c .before .before .before .before .before .before .before .before .before .before .before .before .before .before .before .before .before .before .args in
     let l = c .before .before .before .before .before .before .before .before .before .before .before .before .before .before .loop in
     let x = c .before .before .before .before .before .before .before .before .next in
-    goes-on (a .form) (a .update .now) _ (a .blocks) (l .w) (l .r) (l .memory) (l .s) (l .first) (l .end) (l .count) (l .inv) _ _ _ (x .result) (x .ensures) _ (c .before .t2 .given .1)
+    (goes-on (a .form) (a .update .now) _ (a .blocks) (l .w) (l .r) (l .memory) (l .s) (l .first) (l .end) (l .count) (l .inv .0) _ _ _ (x .result) (x .ensures) _ (c .before .t2 .given .1), x .kept .1 .1 .0 ∙ l .inv .1)
 
 enum-known-at : tie.Need-enum-known-at Inv-loop μ-loop
 enum-known-at c = search needs
@@ -96,10 +97,9 @@ slice-write-w c = search needs
 
 same-length : tie.Need-same-length Inv-loop μ-loop
 same-length c =
-    let a = c .before .before .before .before .before .before .before .before .before .before .before .before .before .before .before .before .before .before .args in
     let l = c .before .before .before .before .before .before .before .before .before .before .before .before .before .before .loop in
     let x = c .before .before .before .before .before .before .before .before .next in
-    done-small (a .form) (a .update .now) _ (a .blocks) (l .w) (l .r) (l .memory) (l .s) (l .first) (l .end) (l .count) (l .inv) _ _ _ (x .result) (x .ensures) (c .before .at .given .0 .0) .size ∙ sym (c .before .before .before .before .before .before .before .before .before .before .before .before .before .before .before .before .before .before .pre .0 .size)
+    length-set (x .last .1 .1 .0) 63 (c .before .at .given .0 .0) ∙ x .kept .1 .1 .0 ∙ l .inv .1
 
 same-length-2 : tie.Need-same-length-2 Inv-loop μ-loop
 same-length-2 c = search needs
@@ -109,13 +109,15 @@ returns c =
     let a = c .before .before .before .before .before .before .before .before .before .before .before .before .before .before .before .before .before .before .args in
     let l = c .before .before .before .before .before .before .before .before .before .before .before .before .before .before .loop in
     let x = c .before .before .before .before .before .before .before .before .next in
-    (done-small (a .form) (a .update .now) _ (a .blocks) (l .w) (l .r) (l .memory) (l .s) (l .first) (l .end) (l .count) (l .inv) _ _ _ (x .result) (x .ensures) _, x .ensures .row ∙ l .inv .fields, at-done (a .form) (a .update .now) _ (a .blocks) (l .w) (l .r) (l .memory) (l .s) (l .first) (l .end) (l .count) (l .inv) _ _ _ (x .result) (x .ensures) _ (c .before .at .given .1))
+    (done-small (a .form) (a .update .now) _ (a .blocks) (l .w) (l .r) (l .memory) (l .s) (l .first) (l .end) (l .count) (l .inv .0) _ _ _ (x .result) (x .ensures) _, x .ensures .row ∙ l .inv .0 .fields, at-done (a .form) (a .update .now) _ (a .blocks) (l .w) (l .r) (l .memory) (l .s) (l .first) (l .end) (l .count) (l .inv .0) _ _ _ (x .result) (x .ensures) _ (c .before .at .given .1))
 
 enum-known-why : tie.Need-enum-known-why Inv-loop μ-loop
 enum-known-why c = search needs
 
 same-length-3 : tie.Need-same-length-3 Inv-loop μ-loop
-same-length-3 c = search needs
+same-length-3 c =
+    let l = c .before .before .before .before .before .before .before .before .before .before .before .before .before .before .loop in
+    c .before .before .before .before .before .before .before .before .next .kept .1 .1 .0 ∙ l .inv .1
 
 same-length-4 : tie.Need-same-length-4 Inv-loop μ-loop
 same-length-4 c = search needs
@@ -125,10 +127,10 @@ returns-2 c =
     let a = c .before .before .before .before .before .before .before .before .before .before .before .before .before .before .before .before .before .before .args in
     let l = c .before .before .before .before .before .before .before .before .before .before .before .before .before .before .loop in
     let x = c .before .before .before .before .before .before .before .before .next in
-    (x .ensures .small, x .ensures .row ∙ l .inv .fields, at-refused (a .form) (a .update .now) _ (a .blocks) (l .w) (l .r) (l .memory) (l .s) (l .first) (l .end) (l .count) (l .inv) _ _ _ (x .result) (x .ensures) _ (c .before .why .given .1))
+    (x .ensures .small, x .ensures .row ∙ l .inv .0 .fields, at-refused (a .form) (a .update .now) _ (a .blocks) (l .w) (l .r) (l .memory) (l .s) (l .first) (l .end) (l .count) (l .inv .0) _ _ _ (x .result) (x .ensures) _ (c .before .why .given .1))
 
 same-length-5 : tie.Need-same-length-5 Inv-loop μ-loop
-same-length-5 c = search needs
+same-length-5 c = c .before .before .loop .inv .1
 
 same-length-6 : tie.Need-same-length-6 Inv-loop μ-loop
 same-length-6 c = search needs
@@ -137,7 +139,7 @@ returns-3 : tie.Need-returns-3 Inv-loop μ-loop
 returns-3 c =
     let a = c .before .before .before .before .before .before .args in
     let l = c .before .before .loop in
-    (l .inv .small, l .inv .fields, at-end (a .form) (a .update .now) _ (a .blocks) (l .w) (l .r) (l .memory) (l .s) (l .first) (l .end) (l .count) (l .inv) (c .if1 .left))
+    (l .inv .0 .small, l .inv .0 .fields, at-end (a .form) (a .update .now) _ (a .blocks) (l .w) (l .r) (l .memory) (l .s) (l .first) (l .end) (l .count) (l .inv .0) (c .if1 .left))
 
 pub tally-blocks-spec : {M : Type 1} → statement M
 tally-blocks-spec =

@@ -30,6 +30,11 @@ returns c =
     let k = c .before .before .before .before .before .before .read-key .ensures in
     (k .0, mark-put r q (b .pre .1) (k .1) .0, field-stopped form u w v key _ (ap (partGiven 21 v q) (sym (c .enum-told2 .given .1)) ∙ k .2))
 
+read-value-requires : tie.Need-read-value-requires
+read-value-requires c κs =
+    let k = c .before .before .before .before .before .before .before .before .read-key in
+    (k .ensures .0, omega (arith, k .kept .1 .1 .1 .0, c .before .before .before .before .before .before .before .before .before .before .before .before .before .before .pre .1 .size))
+
 returns-2 : tie.Need-returns-2
 unfolding format onto partGiven
 returns-2 c =
@@ -84,6 +89,6 @@ pub read-format-spec : {M : Type 1} → statement M
 read-format-spec =
     tie.close
     (tie.spec
-    (λ c κs. search needs) (λ c. search needs) (λ c. search needs) (λ c. search needs) (λ c. search needs) returns (λ c κs. search needs)
+    (λ c κs. search needs) (λ c. search needs) (λ c. search needs) (λ c. search needs) (λ c. search needs) returns read-value-requires
     (λ c. search needs) (λ c. search needs) (λ c. search needs) (λ c. search needs) returns-2 (λ c. search needs) (λ c. search needs)
     slice-write-r-2 (λ c. search needs) same-length-6 returns-3)

@@ -1,7 +1,8 @@
 -- `keyed::new_key` meets its contract: a text, and then the words of one key more.
+use Prim.Native.Nat.{_≤_}
 use mathlib.Core.Path.{_≡_, sym, ap, _∙_}
 use native.Mathlib.Omega.{arith}
-use lib.ListN.{length-set}
+use lib.ListN.{length, length-set}
 use Rattle.cells.specs.Cells.{keyCount}
 use Rattle.cells.proofs.States.{small-joined}
 use Rattle.fields.specs.Fields.{partGiven}
@@ -35,8 +36,9 @@ returns-2 c =
     let q = c .before .before .before .before .before .before .before .before .read-word .last .1 .1 .1 .0 in
     let k = c .before .before .before .before .before .before .before .before .read-word .ensures in
     let h = ap (partGiven n v q) (sym (c .before .before .enum-told .given .1)) ∙ k .2 in
+    let wide : 580 ≤ length v = omega (arith, b .pre .4, c .before .before .before .before .before .before .before .before .read-word .kept .1 .1 .0) in
     let e : b .args .count ≡ keyCount v = b .pre .2 ∙ sym (count-kept u w v q n h) in
-    (small-joined v (k .0) (b .args .count) e (b .pre .3) _ _, k .1, join-done u w v q n h (k .0) (b .args .count) e (b .pre .3))
+    (small-joined v (k .0) wide (b .args .count) e (b .pre .3) _ _, k .1, join-done u w v q n h (k .0) wide (b .args .count) e (b .pre .3))
 
 pub new-key-spec : {M : Type 1} → statement M
 new-key-spec =

@@ -1,6 +1,7 @@
--- `opening::open` meets its contract. The loop's invariant: so many columns are cut, and from here on the opening comes to what it comes to.
+-- `opening::open` meets its contract. The loop's invariant: so many columns are cut, and from here on the opening comes to what it comes to; the first, of keys,
+-- has its length at byte 1.
 use Prim.Native.Nat.{_-_, _≤_}
-use mathlib.Core.Path.{_≡_, sym, ap, _∙_, subst}
+use mathlib.Core.Path.{_≡_, refl, sym, ap, _∙_, subst}
 use native.Mathlib.Omega.{arith}
 use denote.Ref.{now}
 use lib.ListN.{length, set, length-set}
@@ -9,13 +10,13 @@ use Rattle.numbers.specs.NumberInner.{whyRead}
 use Rattle.string.proofs.Texts.{read-ends}
 use Rattle.cells.specs.Cells.{Small}
 use Rattle.cells.proofs.States.{small-at, small-unkeyed}
-use Rattle.opening.proofs.Opening.{Cutting, cutting-empty, cutting-none, cutting-stops, cutting-goes, cutting-over, open-refused, column-refused, column-short, column-there}
+use Rattle.opening.proofs.Opening.{Cutting, cutting-empty, cutting-none, cutting-stops, cutting-goes, cutting-over, open-refused, column-refused, column-short, column-there, empty-key}
 use borrow.Author.Needs.{needs}
 use Rattle.opening.proofs.open.Statement.{statement}
 use Rattle.opening.proofs.open.Tie as tie
 
 abbrev Inv : tie.InvT-loop
-Inv u w₀ at₀ k₀ w at k = Small w × (k ≤ 9) × Cutting u w k at
+Inv u w₀ at₀ k₀ w at k = Small w × (k ≤ 9) × Cutting u w k at × (length w ≡ length w₀) × (k ≡ 0 → at ≡ 1)
 
 abbrev μ : tie.MeasureT-loop
 μ u w₀ at₀ k₀ w at k = 9 - k
@@ -29,7 +30,7 @@ returns c =
 loop-holds : tie.Need-loop-holds Inv μ
 loop-holds c =
     let b = c .before .before .before in
-    (b .pre, omega arith, cutting-none (b .args .update .now) (b .args .w .now) (c .if1 .left))
+    (b .pre .0, omega arith, cutting-none (b .args .update .now) (b .args .w .now) (c .if1 .left), refl, λ z. refl)
 
 returns-2 : tie.Need-returns-2 Inv μ
 returns-2 c =
@@ -80,6 +81,18 @@ loop-again c =
       omega arith,
       cutting-goes (a .update .now) (l .w) (l .k) (l .at) (l .inv .2) (c .before .before .before .before .before .before .before .before .before .loop-test .taken) _ (record { place = g .0 .1 .0; bytes = record { 0 = g .0 .0 } }) _
           (column-there (a .update .now) (l .at) (g .0 .0) (g .0 .1 .0) (sym (c .before .before .before .before .before .before .before .before .read-unsigned .ensures) ∙ g .1) (c .before .before .before .before .if2 .left)) p,
+      c .before .before .put-column .kept .0 ∙ l .inv .3,
+      λ z. absurd (omega arith),
+    )
+
+put-column-requires : tie.Need-put-column-requires Inv μ
+put-column-requires c κs =
+    let b = c .before .before .before .before .before .before .before .before .before .before .before in
+    let l = c .before .before .before .before .before .before .before .loop in
+    let g = c .before .before .before .n .given in (
+      l .inv .0,
+      omega arith,
+      λ z short. let none = empty-key (b .args .update .now) (l .at) (g .0 .0) (g .0 .1 .0) (l .inv .4 z) (sym (c .before .before .before .before .before .read-unsigned .ensures) ∙ g .1) (b .pre .1 (omega (arith, short, l .inv .3))) in omega (arith, none),
     )
 
 slice-write-w-2 : tie.Need-slice-write-w-2 Inv μ
@@ -89,6 +102,11 @@ open-text-requires : tie.Need-open-text-requires Inv μ
 open-text-requires c κs =
     let l = c .before .before .loop in
     small-unkeyed (set (l .w) 63 (l .at)) (small-at (l .w) (l .inv .0) (l .at))
+
+same-length-4 : tie.Need-same-length-4 Inv μ
+same-length-4 c =
+    let l = c .before .before .before .before .before .loop in
+    c .before .before .open-text .kept .1 .0 ∙ simp length-set (l .inv .3)
 
 returns-4 : tie.Need-returns-4 Inv μ
 returns-4 c =
@@ -104,4 +122,4 @@ open-spec =
     (tie.spec
     Inv μ (λ c κs. search needs) (λ c. search needs) returns loop-holds (λ c κs. search needs) (λ c. search needs) (λ c. search needs)
     (λ c κs. search needs) (λ c κs. search needs) (λ c. search needs) returns-2 sub-left (λ c κs. search needs) (λ c. search needs) returns-3 add-to
-    (λ c κs. search needs) (λ c. search needs) loop-less loop-again (λ c. search needs) slice-write-w-2 open-text-requires (λ c. search needs) returns-4)
+    put-column-requires (λ c. search needs) loop-less loop-again (λ c. search needs) slice-write-w-2 open-text-requires same-length-4 returns-4)

@@ -25,7 +25,7 @@ slice-write-w-7 : tie.Need-slice-write-w-7
 slice-write-w-7 c = simp length-set (omega arith)
 
 returns : tie.Need-returns
-returns c = column-put (c .args .k) (c .args .w .now) (c .pre .0) (c .pre .1) (c .args .from) (c .args .to)
+returns c = column-put (c .args .k) (c .args .w .now) (c .pre .0) (c .pre .1) (c .args .from) (c .args .to) (c .pre .2)
 
 pub put-column-spec : {M : Type 1} → statement M
 put-column-spec =

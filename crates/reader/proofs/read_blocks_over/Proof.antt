@@ -40,7 +40,7 @@ use Rattle.numbers.specs.declared.Refusal.{Refusal}
 use Rattle.block.specs.declared.Block.{Block}
 use Rattle.reader.specs.declared.Filled.{Filled}
 use Rattle.reader.specs.declared.Filled.the-variants.{Refused as Filled·Refused}
-use Rattle.cells.specs.Cells.{Small}
+use Rattle.cells.specs.Cells.{Small, Enough}
 use Rattle.decoder.specs.Update.{blocksOf, inColumns}
 use Rattle.grammar.specs.Course.{fit}
 use Rattle.reader.specs.Reader.{Stands, filledOf, rowsOf}
@@ -144,7 +144,7 @@ module _ {M : Type 1} (𝓤 : URA M) (H : Heap 𝓤) (A : Atoms 𝓤) (W : Given
   exits r w₁ rows₁ g e = leaves 𝓤 H A W (ps w₁ rows₁) (refl, (refl, tt)) filled r g (Right r w₁ rows₁) e (Post (filled .val r)) (λ fit. ends-at 𝓤 H A f.ended (stays fs) (f.clauses 𝓤 H A mem run) W ((κs, qs, bounds, a, at-entry), tt) (filled .val r) r (ends (ps w₁ rows₁)) fit)
 
   module _ (𝓣 : Tables 𝓤 H) (known-update·begin : Triple 𝓤 (𝓣 .C #update·begin) (Update·begin 𝓤 H A mem run)) (known-reader·read-sections : Triple 𝓤 (𝓣 .C #reader·read-sections) (Reader·read-sections 𝓤 H A mem run)) (known-table·clear : Triple 𝓤 (𝓣 .C #table·clear) (Table·clear 𝓤 H A mem run)) where
-    walk : (Small w₀) → ent 𝓤 (onEntry 𝓤 H A f.signature κs qs a at-entry) (WpFn 𝓤 H (𝓣 .C) (𝓣 .Λ) fn (vals (ps w₀ rows₀)) Post)
+    walk : (Small w₀ × (form₀ ≢ 1 → Enough update₀ w₀)) → ent 𝓤 (onEntry 𝓤 H A f.signature κs qs a at-entry) (WpFn 𝓤 H (𝓣 .C) (𝓣 .Λ) fn (vals (ps w₀ rows₀)) Post)
     walk req =
         qed W (raw (onEntry 𝓤 H A f.signature κs qs a at-entry) ∷ []) ∵ use1 W (‵ (refs (hs w₀ rows₀))) (enters 𝓤 H A W (ps w₀ rows₀)) $ enter ! (𝓣 .C) (𝓣 .Λ) fn (vals (ps w₀ rows₀)) _ $
         alloc-all ! (fn .locals) (λ l₀ l₁ l₂ l₃ l₄ l₅ l₆ l₇ l₈ l₉ l₁₀ l₁₁ l₁₂ l₁₃ l₁₄ l₁₅ l₁₆ l₁₇. let ls : List ℕ = l₀ ∷ l₁ ∷ l₂ ∷ l₃ ∷ l₄ ∷ l₅ ∷ l₆ ∷ l₇ ∷ l₈ ∷ l₉ ∷ l₁₀ ∷ l₁₁ ∷ l₁₂ ∷ l₁₃ ∷ l₁₄ ∷ l₁₅ ∷ l₁₆ ∷ l₁₇ ∷ [] in let En : Envs = envOf (fn .locals) ls in

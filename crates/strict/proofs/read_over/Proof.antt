@@ -1,6 +1,7 @@
 -- `strict::read_over` meets its contract: as `read_update`, and then what the words say is left.
 -- A walk of its MIR by hand (tools/walkgen.py walk). Assumes nothing.
 use mathlib.Core.Path.{_≡_, refl, sym, _∙_, ap, subst}
+use mathlib.Core.Logic.{_≢_}
 use Prim.Native.Nat.{ℕ, _-_}
 use native.Mathlib.Omega.{arith}
 use mathlib.Core.List.{List, [], _∷_, _++_}
@@ -38,7 +39,7 @@ use Rattle.walks.proofs.Walk.{has, bare, retyped, Envs, envOf, locals, alloc-al
 use Rattle.walks.proofs.Flow.{flat, tests, switches-to, skip-on, return-on, revalue}
 use Rattle.block.specs.declared.Block.{Block}
 use Rattle.updates.specs.declared.Update.{Update}
-use Rattle.cells.specs.Cells.{Small, stateIn}
+use Rattle.cells.specs.Cells.{Small, Enough, stateIn}
 use Rattle.deletes.specs.DeleteSet.{setOf, wordsOf as setWords}
 use Rattle.grammar.specs.Course.{fit}
 use Rattle.numbers.specs.Number.{pick}
@@ -137,7 +138,7 @@ module _ {M : Type 1} (𝓤 : URA M) (H : Heap 𝓤) (A : Atoms 𝓤) (W : Given
   exits r w₁ rows₁ ranges₁ g e = leaves 𝓤 H A W (ps w₁ rows₁ ranges₁) (refl, (refl, (refl, tt))) update r g (Right r w₁ rows₁ ranges₁) e (Post (update .val r)) (λ fit. ends-at 𝓤 H A f.ended (stays fs) (f.clauses 𝓤 H A mem run) W ((κs, qs, bounds, a, at-entry), tt) (update .val r) r (ends (ps w₁ rows₁ ranges₁)) fit)
 
   module _ (𝓣 : Tables 𝓤 H) (known-reader·read-blocks-over : Triple 𝓤 (𝓣 .C #reader·read-blocks-over) (Reader·read-blocks-over 𝓤 H A mem run)) (known-deletes·read-delete-set : Triple 𝓤 (𝓣 .C #deletes·read-delete-set) (Deletes·read-delete-set 𝓤 H A mem run)) (known-unread·lowest : Triple 𝓤 (𝓣 .C #unread·lowest) (Unread·lowest 𝓤 H A mem run)) (known-strict·refuse : Triple 𝓤 (𝓣 .C #strict·refuse) (Strict·refuse 𝓤 H A mem run)) (known-table·clear : Triple 𝓤 (𝓣 .C #table·clear) (Table·clear 𝓤 H A mem run)) (known-updates·none : Triple 𝓤 (𝓣 .C #updates·none) (Updates·none 𝓤 H A mem run)) (known-numbers·words·clear : Triple 𝓤 (𝓣 .C #numbers·words·clear) (Numbers·words·clear 𝓤 H A mem run)) where
-    walk : (Small w₀ × (beforehand form₀ update₀ ≡ 0)) → ent 𝓤 (onEntry 𝓤 H A f.signature κs qs a at-entry) (WpFn 𝓤 H (𝓣 .C) (𝓣 .Λ) fn (vals (ps w₀ rows₀ ranges₀)) Post)
+    walk : (Small w₀ × (form₀ ≢ 1 → Enough update₀ w₀) × (beforehand form₀ update₀ ≡ 0)) → ent 𝓤 (onEntry 𝓤 H A f.signature κs qs a at-entry) (WpFn 𝓤 H (𝓣 .C) (𝓣 .Λ) fn (vals (ps w₀ rows₀ ranges₀)) Post)
     walk req =
         qed W (raw (onEntry 𝓤 H A f.signature κs qs a at-entry) ∷ []) ∵ use1 W (‵ (refs (hs w₀ rows₀ ranges₀))) (enters 𝓤 H A W (ps w₀ rows₀ ranges₀)) $ enter ! (𝓣 .C) (𝓣 .Λ) fn (vals (ps w₀ rows₀ ranges₀)) _ $
         alloc-all ! (fn .locals) (λ l₀ l₁ l₂ l₃ l₄ l₅ l₆ l₇ l₈ l₉ l₁₀ l₁₁ l₁₂ l₁₃ l₁₄ l₁₅ l₁₆ l₁₇ l₁₈ l₁₉ l₂₀ l₂₁ l₂₂ l₂₃ l₂₄ l₂₅ l₂₆ l₂₇ l₂₈ l₂₉ l₃₀ l₃₁ l₃₂ l₃₃ l₃₄ l₃₅ l₃₆ l₃₇ l₃₈. let ls : List ℕ = l₀ ∷ l₁ ∷ l₂ ∷ l₃ ∷ l₄ ∷ l₅ ∷ l₆ ∷ l₇ ∷ l₈ ∷ l₉ ∷ l₁₀ ∷ l₁₁ ∷ l₁₂ ∷ l₁₃ ∷ l₁₄ ∷ l₁₅ ∷ l₁₆ ∷ l₁₇ ∷ l₁₈ ∷ l₁₉ ∷ l₂₀ ∷ l₂₁ ∷ l₂₂ ∷ l₂₃ ∷ l₂₄ ∷ l₂₅ ∷ l₂₆ ∷ l₂₇ ∷ l₂₈ ∷ l₂₉ ∷ l₃₀ ∷ l₃₁ ∷ l₃₂ ∷ l₃₃ ∷ l₃₄ ∷ l₃₅ ∷ l₃₆ ∷ l₃₇ ∷ l₃₈ ∷ [] in let En : Envs = envOf (fn .locals) ls in
@@ -147,7 +148,7 @@ module _ {M : Type 1} (𝓤 : URA M) (H : Heap 𝓤) (A : Atoms 𝓤) (W : Given
         assigns ! (agg ! (and-then ! (load ! (from ! (stop !)) (look ! 49 refl)) (and-then ! (load ! (from ! (fld ! refl (stop !))) (look-in ! 71 (sub ! 1 refl (whole !)))) (no-more !)))) (from ! (stop !)) (init ! 47 refl (tt, (tt, (record { fits = are .1 .1 .0 .0 .1 .0 }, tt)))) $
         assigns ! (addr ! (from ! (fld ! refl (hop ! (look-in ! 69 (sub ! 0 refl (whole !))) (stop !))))) (from ! (stop !)) (init ! 45 refl (tt, tt)) $
         assigns ! (agg ! (and-then ! (load ! (from ! (stop !)) (look ! 45 refl)) (and-then ! (load ! (from ! (fld ! refl (stop !))) (look-in ! 69 (sub ! 1 refl (whole !)))) (no-more !)))) (from ! (stop !)) (init ! 43 refl (tt, (tt, (record { fits = are .1 .1 .1 .0 .0 .1 .0 }, tt)))) $
-        calls-knowing ! (fmOf 𝓤 H (W .laws) 𝓣) (0 ∷ 1 ∷ 2 ∷ []) (hs w₀ rows₀ ranges₀) (reader·read-blocks-over! 𝓤 H A mem run (𝓣 .C) known-reader·read-blocks-over form₀ (are .0) at-update update₀ at-w w₀ at-rows rows₀ (req .0)) refl (λ P. and-then ! (load ! (from ! (stop !)) (look ! 75 refl)) (and-then ! (load ! (from ! (stop !)) (look ! 73 refl)) (and-then ! (load ! (from ! (stop !)) (look ! 47 refl)) (and-then ! (load ! (from ! (stop !)) (look ! 43 refl)) (no-more !))))) (λ r₁ w₁ g₁ read.
+        calls-knowing ! (fmOf 𝓤 H (W .laws) 𝓣) (0 ∷ 1 ∷ 2 ∷ []) (hs w₀ rows₀ ranges₀) (reader·read-blocks-over! 𝓤 H A mem run (𝓣 .C) known-reader·read-blocks-over form₀ (are .0) at-update update₀ at-w w₀ at-rows rows₀ (req .0, req .1)) refl (λ P. and-then ! (load ! (from ! (stop !)) (look ! 75 refl)) (and-then ! (load ! (from ! (stop !)) (look ! 73 refl)) (and-then ! (load ! (from ! (stop !)) (look ! 47 refl)) (and-then ! (load ! (from ! (stop !)) (look ! 43 refl)) (no-more !))))) (λ r₁ w₁ g₁ read.
         land ! (from ! (stop !)) (init ! 51 refl (g₁ .1 .0)) $
         filled-cases r₁
         (λ x₂a x₂b e₂.  -- Rows
@@ -202,7 +203,7 @@ module _ {M : Type 1} (𝓤 : URA M) (H : Heap 𝓤) (A : Atoms 𝓤) (W : Given
         calls-by ! (fmOf 𝓤 H (W .laws) 𝓣) (2 ∷ 3 ∷ []) (hs (w₁ .1 .1 .0) (w₁ .1 .1 .1 .0) (setWords form₀ update₀ x₂b (length ranges₀))) (strict·refuse! 𝓤 H A mem run (𝓣 .C) known-strict·refuse at-rows (w₁ .1 .1 .1 .0) at-ranges (setWords form₀ update₀ x₂b (length ranges₀)) (record { number = 15; place = leftover.lowest (leftover.lower (at-update .count) (leftover.stretch x₄b (at-update .count))) (pick (eqb form₀ 1) [] (leftover.columnsAt (stateIn (w₁ .1 .1 .0)))) }) (refusal-has 15 (refl, lit< tt) (leftover.lowest (leftover.lower (at-update .count) (leftover.stretch x₄b (at-update .count))) (pick (eqb form₀ 1) [] (leftover.columnsAt (stateIn (w₁ .1 .1 .0))))) (g₅ .0))) refl (λ P. and-then ! (load ! (from ! (stop !)) (look ! 21 refl)) (and-then ! (load ! (from ! (stop !)) (look ! 17 refl)) (and-then ! (load ! (from ! (stop !)) (look ! 15 refl)) (no-more !)))) (λ g₇.
         land ! (from ! (stop !)) (init ! 77 refl (g₇ .1 .0)) $
         return-on ! Post refl (look ! 77 refl) $
-        free-all ! (_ ∷ []) En (has _ ∷ has _ ∷ has _ ∷ has _ ∷ has _ ∷ has _ ∷ has _ ∷ has _ ∷ has _ ∷ has _ ∷ has _ ∷ bare ∷ bare ∷ has _ ∷ has _ ∷ has _ ∷ has _ ∷ has _ ∷ bare ∷ has _ ∷ has _ ∷ has _ ∷ bare ∷ has _ ∷ has _ ∷ has _ ∷ has _ ∷ has _ ∷ has _ ∷ has _ ∷ has _ ∷ has _ ∷ []) [] $ by ! (exits (answer (refused (record { number = 15; place = leftover.lowest (leftover.lower (at-update .count) (leftover.stretch x₄b (at-update .count))) (pick (eqb form₀ 1) [] (leftover.columnsAt (stateIn (w₁ .1 .1 .0)))) }))) (w₁ .1 .1 .0) (tableOf (length (w₁ .1 .1 .1 .0)) (refused (record { number = 15; place = leftover.lowest (leftover.lower (at-update .count) (leftover.stretch x₄b (at-update .count))) (pick (eqb form₀ 1) [] (leftover.columnsAt (stateIn (w₁ .1 .1 .0)))) }))) (rangeWords (length (setWords form₀ update₀ x₂b (length ranges₀))) (refused (record { number = 15; place = leftover.lowest (leftover.lower (at-update .count) (leftover.stretch x₄b (at-update .count))) (pick (eqb form₀ 1) [] (leftover.columnsAt (stateIn (w₁ .1 .1 .0)))) }))) (g₇ .0) (left-out form₀ update₀ rows₀ ranges₀ (req .1) x₂a x₂b (sym (read .0) ∙ e₂) x₄a x₄b e₄ (w₁ .1 .1 .0) (read .2) y₆ _ _ (sz .1 .0) (sz .1 .1 .0)))))
+        free-all ! (_ ∷ []) En (has _ ∷ has _ ∷ has _ ∷ has _ ∷ has _ ∷ has _ ∷ has _ ∷ has _ ∷ has _ ∷ has _ ∷ has _ ∷ bare ∷ bare ∷ has _ ∷ has _ ∷ has _ ∷ has _ ∷ has _ ∷ bare ∷ has _ ∷ has _ ∷ has _ ∷ bare ∷ has _ ∷ has _ ∷ has _ ∷ has _ ∷ has _ ∷ has _ ∷ has _ ∷ has _ ∷ has _ ∷ []) [] $ by ! (exits (answer (refused (record { number = 15; place = leftover.lowest (leftover.lower (at-update .count) (leftover.stretch x₄b (at-update .count))) (pick (eqb form₀ 1) [] (leftover.columnsAt (stateIn (w₁ .1 .1 .0)))) }))) (w₁ .1 .1 .0) (tableOf (length (w₁ .1 .1 .1 .0)) (refused (record { number = 15; place = leftover.lowest (leftover.lower (at-update .count) (leftover.stretch x₄b (at-update .count))) (pick (eqb form₀ 1) [] (leftover.columnsAt (stateIn (w₁ .1 .1 .0)))) }))) (rangeWords (length (setWords form₀ update₀ x₂b (length ranges₀))) (refused (record { number = 15; place = leftover.lowest (leftover.lower (at-update .count) (leftover.stretch x₄b (at-update .count))) (pick (eqb form₀ 1) [] (leftover.columnsAt (stateIn (w₁ .1 .1 .0)))) }))) (g₇ .0) (left-out form₀ update₀ rows₀ ranges₀ (req .2) x₂a x₂b (sym (read .0) ∙ e₂) x₄a x₄b e₄ (w₁ .1 .1 .0) (read .2) y₆ _ _ (sz .1 .0) (sz .1 .1 .0)))))
         (λ y₆.
         skip-on ! $
         flat ! $
@@ -211,7 +212,7 @@ module _ {M : Type 1} (𝓤 : URA M) (H : Heap 𝓤) (A : Atoms 𝓤) (W : Given
         assigns ! (of-opd ! (load ! (from ! (stop !)) (look ! 33 refl))) (from ! (stop !)) (init ! 41 refl (update .lawful M 𝓤 H A W .typed (record { refusal = record { number = 0; place = 0 }; blocks = x₂a; ranges = x₄a }) _ (update-has (record { number = 0; place = 0 }) (refusal-has 0 (refl, lit< tt) 0 (refl, lit< tt)) x₂a (filled·rows-0 x₂a x₂b (subst (Has filled) e₂ (g₁ .0))) x₄a (deletes·set·ranges-0 x₄a x₄b (subst (Has deletes·set) e₄ (g₃ .0)))) .0)) $
         assigns ! (of-opd ! (load ! (from ! (stop !)) (look ! 41 refl))) (from ! (stop !)) (init ! 77 refl (update .lawful M 𝓤 H A W .typed (record { refusal = record { number = 0; place = 0 }; blocks = x₂a; ranges = x₄a }) _ (update-has (record { number = 0; place = 0 }) (refusal-has 0 (refl, lit< tt) 0 (refl, lit< tt)) x₂a (filled·rows-0 x₂a x₂b (subst (Has filled) e₂ (g₁ .0))) x₄a (deletes·set·ranges-0 x₄a x₄b (subst (Has deletes·set) e₄ (g₃ .0)))) .0)) $
         returns-within ! Post refl (look ! 77 refl) $
-        free-all ! (_ ∷ []) En (has _ ∷ has _ ∷ has _ ∷ has _ ∷ has _ ∷ has _ ∷ has _ ∷ has _ ∷ has _ ∷ has _ ∷ has _ ∷ bare ∷ bare ∷ has _ ∷ has _ ∷ has _ ∷ has _ ∷ has _ ∷ has _ ∷ has _ ∷ has _ ∷ has _ ∷ has _ ∷ has _ ∷ has _ ∷ has _ ∷ has _ ∷ bare ∷ bare ∷ bare ∷ bare ∷ bare ∷ has _ ∷ []) [] $ by ! (exits (record { refusal = record { number = 0; place = 0 }; blocks = x₂a; ranges = x₄a }) (w₁ .1 .1 .0) (w₁ .1 .1 .1 .0) (setWords form₀ update₀ x₂b (length ranges₀)) (update-has (record { number = 0; place = 0 }) (refusal-has 0 (refl, lit< tt) 0 (refl, lit< tt)) x₂a (filled·rows-0 x₂a x₂b (subst (Has filled) e₂ (g₁ .0))) x₄a (deletes·set·ranges-0 x₄a x₄b (subst (Has deletes·set) e₄ (g₃ .0)))) (subst (λ (rs : List Block). ReadStrictly form₀ update₀ rows₀ ranges₀ (record { refusal = record { number = 0; place = 0 }; blocks = x₂a; ranges = x₄a }) rs (setWords form₀ update₀ x₂b (length ranges₀))) (sym (read .1)) (done form₀ update₀ rows₀ ranges₀ (req .1) x₂a x₂b (sym (read .0) ∙ e₂) x₄a x₄b e₄ (w₁ .1 .1 .0) (read .2) y₆)))))))
+        free-all ! (_ ∷ []) En (has _ ∷ has _ ∷ has _ ∷ has _ ∷ has _ ∷ has _ ∷ has _ ∷ has _ ∷ has _ ∷ has _ ∷ has _ ∷ bare ∷ bare ∷ has _ ∷ has _ ∷ has _ ∷ has _ ∷ has _ ∷ has _ ∷ has _ ∷ has _ ∷ has _ ∷ has _ ∷ has _ ∷ has _ ∷ has _ ∷ has _ ∷ bare ∷ bare ∷ bare ∷ bare ∷ bare ∷ has _ ∷ []) [] $ by ! (exits (record { refusal = record { number = 0; place = 0 }; blocks = x₂a; ranges = x₄a }) (w₁ .1 .1 .0) (w₁ .1 .1 .1 .0) (setWords form₀ update₀ x₂b (length ranges₀)) (update-has (record { number = 0; place = 0 }) (refusal-has 0 (refl, lit< tt) 0 (refl, lit< tt)) x₂a (filled·rows-0 x₂a x₂b (subst (Has filled) e₂ (g₁ .0))) x₄a (deletes·set·ranges-0 x₄a x₄b (subst (Has deletes·set) e₄ (g₃ .0)))) (subst (λ (rs : List Block). ReadStrictly form₀ update₀ rows₀ ranges₀ (record { refusal = record { number = 0; place = 0 }; blocks = x₂a; ranges = x₄a }) rs (setWords form₀ update₀ x₂b (length ranges₀))) (sym (read .1)) (done form₀ update₀ rows₀ ranges₀ (req .2) x₂a x₂b (sym (read .0) ∙ e₂) x₄a x₄b e₄ (w₁ .1 .1 .0) (read .2) y₆)))))))
         (λ x₄ e₄.  -- Refused
         knows ! (hs (w₁ .1 .1 .0) (w₁ .1 .1 .1 .0) (setWords form₀ update₀ x₂b (length ranges₀))) (λ sz.
         revalue ! 39 (deletes·set .val) e₄ refl $ switches-to ! (load ! (from ! (vrt ! refl (fld ! refl (stop !)))) (look-tag ! 39 (whole !))) refl $
@@ -229,7 +230,7 @@ module _ {M : Type 1} (𝓤 : URA M) (H : Heap 𝓤) (A : Atoms 𝓤) (W : Given
         assigns ! (of-opd ! (load ! (from ! (stop !)) (look ! 33 refl))) (from ! (stop !)) (init ! 41 refl (g₉ .1 .0)) $
         assigns ! (of-opd ! (load ! (from ! (stop !)) (look ! 41 refl))) (from ! (stop !)) (init ! 77 refl (g₉ .1 .0)) $
         returns-within ! Post refl (look ! 77 refl) $
-        free-all ! (_ ∷ []) En (has _ ∷ has _ ∷ has _ ∷ has _ ∷ has _ ∷ has _ ∷ has _ ∷ has _ ∷ bare ∷ bare ∷ bare ∷ has _ ∷ bare ∷ has _ ∷ has _ ∷ has _ ∷ has _ ∷ has _ ∷ has _ ∷ has _ ∷ has _ ∷ has _ ∷ has _ ∷ bare ∷ bare ∷ bare ∷ bare ∷ bare ∷ bare ∷ bare ∷ bare ∷ bare ∷ bare ∷ has _ ∷ has _ ∷ has _ ∷ []) [] $ by ! (exits (answer (refused x₄)) (w₁ .1 .1 .0) (clearedFrom 0 (w₁ .1 .1 .1 .0)) (setWords form₀ update₀ x₂b (length ranges₀)) (g₉ .0) (subst (λ (rs : List Block). ReadStrictly form₀ update₀ rows₀ ranges₀ (answer (refused x₄)) (clearedFrom 0 rs) (setWords form₀ update₀ x₂b (length ranges₀))) (sym (read .1)) (set-out form₀ update₀ rows₀ ranges₀ (req .1) x₂a x₂b (sym (read .0) ∙ e₂) x₄ e₄ (ap length (sym (read .1)) ∙ sz .1 .0))))))))))
+        free-all ! (_ ∷ []) En (has _ ∷ has _ ∷ has _ ∷ has _ ∷ has _ ∷ has _ ∷ has _ ∷ has _ ∷ bare ∷ bare ∷ bare ∷ has _ ∷ bare ∷ has _ ∷ has _ ∷ has _ ∷ has _ ∷ has _ ∷ has _ ∷ has _ ∷ has _ ∷ has _ ∷ has _ ∷ bare ∷ bare ∷ bare ∷ bare ∷ bare ∷ bare ∷ bare ∷ bare ∷ bare ∷ bare ∷ has _ ∷ has _ ∷ has _ ∷ []) [] $ by ! (exits (answer (refused x₄)) (w₁ .1 .1 .0) (clearedFrom 0 (w₁ .1 .1 .1 .0)) (setWords form₀ update₀ x₂b (length ranges₀)) (g₉ .0) (subst (λ (rs : List Block). ReadStrictly form₀ update₀ rows₀ ranges₀ (answer (refused x₄)) (clearedFrom 0 rs) (setWords form₀ update₀ x₂b (length ranges₀))) (sym (read .1)) (set-out form₀ update₀ rows₀ ranges₀ (req .2) x₂a x₂b (sym (read .0) ∙ e₂) x₄ e₄ (ap length (sym (read .1)) ∙ sz .1 .0))))))))))
         (λ x₂ e₂.  -- Refused
         revalue ! 51 (filled .val) e₂ refl $ switches-to ! (load ! (from ! (vrt ! refl (fld ! refl (stop !)))) (look-tag ! 51 (whole !))) refl $
         flat ! $
@@ -245,7 +246,7 @@ module _ {M : Type 1} (𝓤 : URA M) (H : Heap 𝓤) (A : Atoms 𝓤) (W : Given
         land ! (from ! (stop !)) (init ! 41 refl (g₁₁ .1 .0)) $
         assigns ! (of-opd ! (load ! (from ! (stop !)) (look ! 41 refl))) (from ! (stop !)) (init ! 77 refl (g₁₁ .1 .0)) $
         returns-within ! Post refl (look ! 77 refl) $
-        free-all ! (_ ∷ []) En (has _ ∷ has _ ∷ has _ ∷ has _ ∷ has _ ∷ has _ ∷ bare ∷ bare ∷ bare ∷ bare ∷ bare ∷ bare ∷ has _ ∷ has _ ∷ has _ ∷ has _ ∷ has _ ∷ has _ ∷ has _ ∷ bare ∷ bare ∷ bare ∷ bare ∷ bare ∷ bare ∷ bare ∷ bare ∷ bare ∷ bare ∷ bare ∷ bare ∷ bare ∷ bare ∷ bare ∷ bare ∷ bare ∷ has _ ∷ has _ ∷ has _ ∷ []) [] $ by ! (exits (answer (refused x₂)) (w₁ .1 .1 .0) (w₁ .1 .1 .1 .0) (take 0 ranges₀ ++ replicate (length ranges₀ - 0) 0) (g₁₁ .0) (subst (λ (rs : List Block). ReadStrictly form₀ update₀ rows₀ ranges₀ (answer (refused x₂)) rs (take 0 ranges₀ ++ replicate (length ranges₀ - 0) 0)) (sym (read .1)) (blocks-out form₀ update₀ rows₀ ranges₀ (req .1) x₂ (sym (read .0) ∙ e₂)))))))))
+        free-all ! (_ ∷ []) En (has _ ∷ has _ ∷ has _ ∷ has _ ∷ has _ ∷ has _ ∷ bare ∷ bare ∷ bare ∷ bare ∷ bare ∷ bare ∷ has _ ∷ has _ ∷ has _ ∷ has _ ∷ has _ ∷ has _ ∷ has _ ∷ bare ∷ bare ∷ bare ∷ bare ∷ bare ∷ bare ∷ bare ∷ bare ∷ bare ∷ bare ∷ bare ∷ bare ∷ bare ∷ bare ∷ bare ∷ bare ∷ bare ∷ has _ ∷ has _ ∷ has _ ∷ []) [] $ by ! (exits (answer (refused x₂)) (w₁ .1 .1 .0) (w₁ .1 .1 .1 .0) (take 0 ranges₀ ++ replicate (length ranges₀ - 0) 0) (g₁₁ .0) (subst (λ (rs : List Block). ReadStrictly form₀ update₀ rows₀ ranges₀ (answer (refused x₂)) rs (take 0 ranges₀ ++ replicate (length ranges₀ - 0) 0)) (sym (read .1)) (blocks-out form₀ update₀ rows₀ ranges₀ (req .2) x₂ (sym (read .0) ∙ e₂)))))))))
 
 pub read-over-spec : {M : Type 1} → stated.statement M
 unfolding code.routine tablesOf

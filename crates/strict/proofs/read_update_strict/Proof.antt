@@ -42,7 +42,7 @@ use Rattle.updates.specs.declared.Update.{Update}
 use Rattle.strict.specs.Promises.{ReadStrictly, beforehand}
 use Rattle.updates.specs.Promises.{answer, refused, tableOf, rangeWords}
 use Rattle.reader.proofs.Sorts.{refusal, refusal-has}
-use Rattle.update.proofs.Laws.{fresh}
+use Rattle.update.proofs.Laws.{fresh, fresh-enough}
 use Rattle.strict.proofs.Laws.{on-first}
 use Rattle.table.proofs.Sorts.{block}
 use Rattle.updates.proofs.Sorts.{update}
@@ -151,7 +151,7 @@ module _ {M : Type 1} (𝓤 : URA M) (H : Heap 𝓤) (A : Atoms 𝓤) (W : Given
         assigns ! (agg ! (and-then ! (load ! (from ! (stop !)) (look ! 7 refl)) (and-then ! (load ! (from ! (fld ! refl (stop !))) (look-in ! 35 (sub ! 1 refl (whole !)))) (no-more !)))) (from ! (stop !)) (init ! 5 refl (tt, (tt, (record { fits = are .1 .1 .0 .0 .1 .0 }, tt)))) $
         assigns ! (addr ! (from ! (fld ! refl (hop ! (look-in ! 33 (sub ! 0 refl (whole !))) (stop !))))) (from ! (stop !)) (init ! 3 refl (tt, tt)) $
         assigns ! (agg ! (and-then ! (load ! (from ! (stop !)) (look ! 3 refl)) (and-then ! (load ! (from ! (fld ! refl (stop !))) (look-in ! 33 (sub ! 1 refl (whole !)))) (no-more !)))) (from ! (stop !)) (init ! 1 refl (tt, (tt, (record { fits = are .1 .1 .1 .0 .0 .1 .0 }, tt)))) $
-        calls-knowing ! (fmOf 𝓤 H (W .laws) 𝓣) (1 ∷ 0 ∷ 2 ∷ 3 ∷ []) (tab word (own-seat l₇ 580 ν₇ δ₇) (replicate 580 0) ∷ hs rows₀ ranges₀) (strict·read-over! 𝓤 H A mem run (𝓣 .C) known-strict·read-over form₀ (are .0) at-update update₀ (own-seat l₇ 580 ν₇ δ₇) (replicate 580 0) at-rows rows₀ at-ranges ranges₀ (fresh, eqb-true (beforehand form₀ update₀) 0 (not-false (eqb (beforehand form₀ update₀) 0) y₂))) refl (λ P. and-then ! (load ! (from ! (stop !)) (look ! 39 refl)) (and-then ! (load ! (from ! (stop !)) (look ! 37 refl)) (and-then ! (load ! (from ! (stop !)) (look ! 9 refl)) (and-then ! (load ! (from ! (stop !)) (look ! 5 refl)) (and-then ! (load ! (from ! (stop !)) (look ! 1 refl)) (no-more !)))))) (λ r₄ w₄ g₄ read.
+        calls-knowing ! (fmOf 𝓤 H (W .laws) 𝓣) (1 ∷ 0 ∷ 2 ∷ 3 ∷ []) (tab word (own-seat l₇ 580 ν₇ δ₇) (replicate 580 0) ∷ hs rows₀ ranges₀) (strict·read-over! 𝓤 H A mem run (𝓣 .C) known-strict·read-over form₀ (are .0) at-update update₀ (own-seat l₇ 580 ν₇ δ₇) (replicate 580 0) at-rows rows₀ at-ranges ranges₀ (fresh, (λ other. fresh-enough update₀), eqb-true (beforehand form₀ update₀) 0 (not-false (eqb (beforehand form₀ update₀) 0) y₂))) refl (λ P. and-then ! (load ! (from ! (stop !)) (look ! 39 refl)) (and-then ! (load ! (from ! (stop !)) (look ! 37 refl)) (and-then ! (load ! (from ! (stop !)) (look ! 9 refl)) (and-then ! (load ! (from ! (stop !)) (look ! 5 refl)) (and-then ! (load ! (from ! (stop !)) (look ! 1 refl)) (no-more !)))))) (λ r₄ w₄ g₄ read.
         land ! (from ! (stop !)) (init ! 41 refl (g₄ .1 .0)) $
         move ! (0 ∷ 27 ∷ []) $ own-back ! tt word 580 580 (omega (arith)) 0 (w₄ .1 .1 .0) l₇ ν₇ δ₇ (hs (w₄ .1 .1 .1 .0) (w₄ .1 .1 .1 .1 .0)) $ move ! (0 ∷ 2 ∷ 3 ∷ 4 ∷ 5 ∷ 6 ∷ 7 ∷ 8 ∷ 9 ∷ 10 ∷ 11 ∷ 12 ∷ 13 ∷ 14 ∷ 15 ∷ 16 ∷ 17 ∷ 18 ∷ 19 ∷ 20 ∷ 21 ∷ 22 ∷ 23 ∷ 24 ∷ 25 ∷ 26 ∷ 27 ∷ 1 ∷ []) $
         returns-within ! Post refl (look ! 41 refl) $
