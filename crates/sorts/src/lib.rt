@@ -36,10 +36,10 @@ pub fn refuse(
 }
 
 // The blocks of an update of one form, sorted by a rule (13 or 28) against a state vector: their numbers in the order in which they are taken (a word
-// each); and, highest client first, how many blocks were taken of each client that has any (two words each), how far each client reaches, the vector's too (two words),
-// and what each client waits for that has blocks left: the client of the first id that is not met, and how far that reaches (three words). Under rule
-// 28 a block waits for its dependencies on other clients, under rule 13 for its own client's reach to come to its clock, too. Both tables are filled
-// with what was read.
+// each); and, highest client first, how many blocks were taken of each client that has any (two words each), how far each client reaches, the
+// vector's too (two words), and what each client waits for that has blocks left: the client of the first id that is not met, and how far that reaches
+// (three words). Under rule 28 a block waits for its dependencies on other clients, under rule 13 for its own client's reach to come to its clock,
+// too. Both tables are filled with what was read.
 pub fn sort(
     rule: u8,
     form: u8,

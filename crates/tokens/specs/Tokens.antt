@@ -88,8 +88,8 @@ inlined k v = pick (eqb k infos) (v ∷ []) (unsigned v)
 
 -- ---- what a lane takes of a token
 
--- bytes that stand as they are, or values of its column. Form 2 has keys by number (`numbered` in Keys), so no lane of it takes one; a mark's value is
--- a text in form 1, and a plain value in form 2
+-- bytes that stand as they are, or values of its column. Form 2 has keys by number (`numbered` in Keys), so no lane of it takes one; a mark's value
+-- is a text in form 1, and a plain value in form 2
 unfoldable pub taken : ℕ → Token → List ℕ
 taken k (field j v) = pick (eqb k whole) (inlined j v) (pick (eqb k j) (v ∷ []) [])
 taken k (text b n) = pick (eqb k whole) (led b) (pick (eqb k texts) b (pick (eqb k units) (n ∷ []) []))
