@@ -39,14 +39,8 @@ quickly bs rs = record { order = orderHeld bs rs; counts = countsHeld bs rs; pen
 -- what was read, sorted by what these ranges hold
 unfoldable pub sortedAll : Finder → List Range → Reading → SortHeld
 sortedAll F rs r =
-    record {
-      refusal = none;
-      order = F (r .blocks) rs .order;
-      counts = F (r .blocks) rs .counts;
-      pending = F (r .blocks) rs .pending;
-      held = rs;
-      reading = r;
-    }
+    let x = F (r .blocks) rs in
+    record { refusal = none; order = x .order; counts = x .counts; pending = x .pending; held = rs; reading = r }
 
 unfoldable pub whySort : Room → SortHeld → ℕ
 whySort m s = whyNot m (length (s .order)) (length (s .counts)) 0 (length (s .pending))

@@ -38,14 +38,8 @@ quickly R bs v = record { order = orderOf R bs v; counts = countsOf R bs v; reac
 -- what was read, sorted against the entries of a vector
 unfoldable pub sortedAll : Finder → Rule ℕ → List Entry → Reading → Sort
 sortedAll F R v r =
-    record {
-      refusal = none;
-      order = F R (r .blocks) v .order;
-      counts = F R (r .blocks) v .counts;
-      reaches = F R (r .blocks) v .reaches;
-      pending = F R (r .blocks) v .pending;
-      reading = r;
-    }
+    let x = F R (r .blocks) v in
+    record { refusal = none; order = x .order; counts = x .counts; reaches = x .reaches; pending = x .pending; reading = r }
 
 unfoldable pub whySort : Room → Sort → ℕ
 whySort m s = whyNot m (length (s .order)) (length (s .counts)) (length (s .reaches)) (length (s .pending))
