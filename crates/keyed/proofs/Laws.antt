@@ -103,14 +103,14 @@ module _ (form : ℕ) (u w : List ℕ) (blame n : ℕ) where
 
 -- ---- a key by its number
 
--- where a number was drawn there are words for keys
-pub room-drawn : (v : List ℕ) (r : cells-drawn.Drawn) (x : ℕ) → r ≡ drawn.Number x → Roomy 0 v r → 580 ≤ length v
-room-drawn v r x e a = subst (λ (d : cells-drawn.Drawn). Roomy 0 v d) e a refl
-
 -- which is drawn from its column
 pub key-drawn : (u w v : List ℕ) (r : cells-drawn.Drawn) → DifferenceDrawn u 0 w v r → keyByNumber u (given v r) ≡ keyIn u (stateIn w)
 unfolding keyIn stateIn
 key-drawn u w v r d = ap (keyByNumber u) (difference-onto u w v 0 r (λ c. keyMoved c (stateIn w)) (state-key w v (d .1)) d)
+
+-- where a number was drawn there are words for keys
+pub room-drawn : (v : List ℕ) (r : cells-drawn.Drawn) (x : ℕ) → r ≡ drawn.Number x → Roomy 0 v r → 580 ≤ length v
+room-drawn v r x e a = subst (λ (d : cells-drawn.Drawn). Roomy 0 v d) e a refl
 
 module _ (u v : List ℕ) where
   pub key-none : not (whyIn v) ≡ keyByNumber u (given v drawn.Refused)

@@ -1,5 +1,5 @@
 -- What so many rows hold of the blocks of an update: the blocks, then rows without one; or no block at all after a refusal. And where the words then
--- stand, and where they need not be for keys.
+-- stand; and whether no key can be read.
 use Prim.Native.Nat.{ℕ, _-_}
 use mathlib.Core.Path.{_≡_}
 use mathlib.Core.List.{List, _++_}

@@ -75,19 +75,6 @@ pub fn read_blocks_over(form: u8, update: &[u8], w: &mut [u64], rows: &mut [Bloc
     }
 }
 
-// Whether no key of an update can be read by its number, so that there need be no words for keys: in form 1, and where form 2's key column is empty.
-fn is_keyless(form: u8, update: &[u8]) -> bool
-    ensures { λ r. ⌜ r ≡ keyless form (now (update .entry)) ⌝ }
-{
-    if form == 1 {
-        return true;
-    }
-    if update.len() < 2 {
-        return true;
-    }
-    update[1] == 0
-}
-
 // The same, over words of its own. Those for keys are 512, and setting them to zero takes 20 to 30 ns of the 144 of a message of one block.
 pub fn read_blocks(form: u8, update: &[u8], rows: &mut [Block]) -> Filled
     ensures { λ r. ⌜ (r ≡ filledOf (length (now (rows .entry))) (blocksOf form (now (update .entry))))
@@ -101,4 +88,17 @@ pub fn read_blocks(form: u8, update: &[u8], rows: &mut [Block]) -> Filled
     let mut words = [0u64; 580];
     let w = &mut words[..];
     read_blocks_over(form, update, w, rows)
+}
+
+// Whether no key of an update can be read by its number, so that there need be no words for keys: in form 1, and where form 2's key column is empty.
+fn is_keyless(form: u8, update: &[u8]) -> bool
+    ensures { λ r. ⌜ r ≡ keyless form (now (update .entry)) ⌝ }
+{
+    if form == 1 {
+        return true;
+    }
+    if update.len() < 2 {
+        return true;
+    }
+    update[1] == 0
 }
