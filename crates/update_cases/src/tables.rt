@@ -19,7 +19,7 @@ pub fn put_rows(rows: &[Block], n: usize, sink: &mut [u8], used: usize) -> Told 
 }
 
 // The line of an update read with n rows lent; more than there are is not asked.
-fn ask(
+pub fn ask(
     form: u8,
     update: &[u8],
     n: usize,
