@@ -25,7 +25,7 @@ use Rattle.grammar.specs.Grammar.{Number, Field}
 use Rattle.grammar.specs.Course.{Drawn, got, not}
 use Rattle.grammar.specs.Numbered.{Refuses}
 use Rattle.decoder.specs.Line.{line}
-use Rattle.decoder.specs.States.{maxKeys, Numbers, Differences, Bytes, State, withText}
+use Rattle.decoder.specs.States.{maxKeys, Numbers, Differences, Octets, State, textMoved}
 use Rattle.decoder.specs.Columned.{numberDrawn, fromNumbers, differenceDrawn, fromDifferences, byteDrawn, fromBytes, textDrawn, onto, numberIn, textIn, joining, keyByNumber, keyIn, columned}
 use Rattle.decoder.specs.Opening.{withOpened, textOpened}
 use Rattle.pieces.proofs.Forgets.{chosen}
@@ -51,7 +51,7 @@ module _ (u : List ℕ) where
       go (difference.Next v p) l = tt
       go (difference.Bad why) l = l
 
-  bytes-right : (c : Bytes) (put : Bytes → State) → Right (fromBytes u c put)
+  bytes-right : (c : Octets) (put : Octets → State) → Right (fromBytes u c put)
   unfolding byteDrawn Refuses
   bytes-right c put = go (nextByte (take (c .to) u) (c .place)) (byte-numbered (take (c .to) u) (c .place))
     where
@@ -64,7 +64,7 @@ module _ (u : List ℕ) where
     unfolding textDrawn Refuses
     text-right = go (nextText (take (s .text .to) u) (s .text .place)) (string-numbered (take (s .text .to) u) (s .text .place))
       where
-        go : (r : string-answer.Answer) → NumberedString r → Right (textDrawn (λ c. withText c s) (s .text .to) r)
+        go : (r : string-answer.Answer) → NumberedString r → Right (textDrawn (λ c. textMoved c s) (s .text .to) r)
         go (string.Next v p) l = tt
         go (string.Bad why) l = l
 

@@ -3,8 +3,8 @@ use Prim.Native.Nat.{ℕ, zero, suc}
 use mathlib.Core.List.{List, [], _∷_, _++_}
 use lib.Dec.{eqb}
 use Rattle.text.specs.declared.Part.{Part}
-use Rattle.grammar.specs.GrammarInner.{_>>=_}
-use Rattle.grammar.specs.Course.{Drawn, got, not, Run, thing, over, stopped, onDrawn, run}
+use Rattle.grammar.specs.Grammar.{_>>=_}
+use Rattle.grammar.specs.Course.{Drawn, got, not, CourseTo, thing, over, stopped, onDrawn, run}
 use Rattle.grammar.specs.Blocks.{allBlocks}
 use Rattle.grammar.specs.Deletes.{allRanges}
 use Rattle.grammar.specs.Numbered as numbered
@@ -35,14 +35,14 @@ opened-right : (u : List ℕ) → Right (openedOf u)
 unfolding openedOf onHeads numbered.Stops Refuses
 opened-right u = go (run (line 2 u) heads 0) (line-numbered 2 u heads heads-own 0)
   where
-    go : (c : Run ℕ (Unit {0}) (List Part)) → Stops c → Right (onHeads u c)
+    go : (c : CourseTo ℕ (Unit {0}) (List Part)) → Stops c → Right (onHeads u c)
     go (thing e p c) h = go c h
     go (over ps at) h = columns.opened-right u (standing ps at)
     go (stopped why) h = h
 
 -- ---- blocks and ranges
 
-placed-stops : {E A : Type 0} (c : Run State E A) → Stops c → Stops (restPlaces c)
+placed-stops : {E A : Type 0} (c : CourseTo State E A) → Stops c → Stops (restPlaces c)
 unfolding restPlaces numbered.Stops
 placed-stops (thing e p c) h = placed-stops c h
 placed-stops (over a s) h = tt

@@ -6,7 +6,7 @@ use Rattle.numbers.specs.Number.{lowPart, spelt, answerAt, readUnsigned, speltS
 use Rattle.text.specs.Utf8.{lead, next, after as afterText, settled, wellFormed}
 use Rattle.anys.specs.declared.Skipped.{Skipped}
 use Rattle.anys.specs.declared.Skipped.the-variants.{At}
-use Rattle.anys.specs.Any.{refused, thenAt, onCount, onSigned, signedAt, skipBytes, skipLed, textFrom, textAt, tagged, headAt, onHead, each, entry, any, anys}
+use Rattle.anys.specs.Any.{refused, thenAt, onCount, onSigned, signedAt, skipBytes, skipLed, textFrom, textAt, tagged, headAt, onHead, each, member, any, anys}
 
 -- bytes, how many values are to be passed over from their start, and what that comes to; an unknown tag is blamed at 100
 pub record Case : Type 0 where
@@ -17,7 +17,7 @@ pub record Case : Type 0 where
 abbrev case : List ℕ → ℕ → Skipped → Case
 case b n s = record { bytes = b; count = n; comes = s }
 
--- n arrays of one entry, each in the one before, and then these bytes
+-- n arrays of one member, each in the one before, and then these bytes
 abbrev nested : ℕ → List ℕ → List ℕ
 nested zero b = b
 nested (suc n) b = 0x75 ∷ 0x01 ∷ nested n b
@@ -49,5 +49,5 @@ Right [] = Unit {0}
 Right (x ∷ xs) = (anys (x .bytes) 100 (x .count) 0 ≡ x .comes) × Right xs
 
 pub worked : Right table
-unfolding Right anys any each entry onHead headAt tagged textAt textFrom skipLed skipBytes signedAt onSigned onCount thenAt readUnsigned readSigned answerAt spelt lowPart speltSigned minusOf withSign wellFormed settled afterText next lead
+unfolding Right anys any each member onHead headAt tagged textAt textFrom skipLed skipBytes signedAt onSigned onCount thenAt readUnsigned readSigned answerAt spelt lowPart speltSigned minusOf withSign wellFormed settled afterText next lead
 worked = (refl, (refl, (refl, (refl, (refl, (refl, (refl, (refl, (refl, (refl, (refl, (refl, (refl, (refl, (refl, (refl, (refl, (refl, tt))))))))))))))))))

@@ -1,4 +1,4 @@
--- The laws of passing over values: the first and the others, and k and then j; each value takes a byte; what a refusal says; and an entry at a time.
+-- The laws of passing over values: the first and the others, and k and then j; each value takes a byte; what a refusal says; and an member at a time.
 use Prim.Native.Nat.{ℕ, zero, suc, _+_, _-_, _≤_, _<_}
 use mathlib.Core.Path.{_≡_, refl, subst, sym, ap, _∙_}
 use mathlib.Core.Logic.{_⊎_, inl, inr, ⊎-elim, _≢_}
@@ -18,7 +18,7 @@ use Rattle.anys.specs.declared.Head.{Head}
 use Rattle.anys.specs.declared.Head.the-variants.{Alone, Holds}
 use Rattle.anys.specs.declared.Next.{Next}
 use Rattle.anys.specs.declared.Next.the-variants as next
-use Rattle.anys.specs.Any.{refused, thenAt, onCount, textAt, headAt, onHead, each, entry, any, deepest, anys}
+use Rattle.anys.specs.Any.{refused, thenAt, onCount, textAt, headAt, onHead, each, member, any, deepest, anys}
 use Rattle.anys.specs.Steps.{keyAt, opening, openAt, passing, valueIn, behind, entryAt, through}
 use Rattle.anys.proofs.Places.{read-ends, Refuses, Ends, lower, then-ends, counted-ends, text-ends, Heads, heads, too-deep}
 
@@ -77,8 +77,8 @@ module _ (u : List ℕ) (blame : ℕ) where
       then-ends u blame (at + suc k) (suc at) (one at) (each k one) (h at)
       (λ e l w. lower u blame (at + suc k) (e + k) (each k one e) (omega arith) (each-ends one h k e w))
 
-  pub entry-ends : (keyed : Bool) (one : ℕ → Skipped) → ((at : ℕ) → Ends u blame (suc at) (one at)) → (at : ℕ) → Ends u blame (suc at) (entry keyed u one at)
-  unfolding entry
+  pub entry-ends : (keyed : Bool) (one : ℕ → Skipped) → ((at : ℕ) → Ends u blame (suc at) (one at)) → (at : ℕ) → Ends u blame (suc at) (member keyed u one at)
+  unfolding member
   entry-ends true one h at = then-ends u blame (suc at) (suc at) (textAt u at) one (text-ends u blame at) (λ e l w. lower u blame (suc at) (suc e) (one e) (omega arith) (h e))
   entry-ends false one h at = h at
 
@@ -96,7 +96,7 @@ module _ (u : List ℕ) (blame : ℕ) where
   any-ends (suc n) at =
       head-ends at _
       (λ keyed h. counted-ends u blame (suc at) (at + 1) _
-      (λ k e l w. lower u blame (suc at) (e + k) (each k (entry keyed u (any n u blame)) e) (omega arith) (each-ends (entry keyed u (any n u blame)) (entry-ends keyed (any n u blame) (any-ends n)) k e w)))
+      (λ k e l w. lower u blame (suc at) (e + k) (each k (member keyed u (any n u blame)) e) (omega arith) (each-ends (member keyed u (any n u blame)) (entry-ends keyed (any n u blame) (any-ends n)) k e w)))
 
   pub anys-ends : (k at : ℕ) → 0 < k → Ends u blame (at + k) (anys u blame k at)
   unfolding anys each
@@ -139,9 +139,9 @@ module _ (u : List ℕ) (blame : ℕ) where
       go (At m) q r = (m, q, r)
       go (Refused why) q r = absurd (let z : _≡_ {A = ℕ} 0 1 = cc in omega arith)
 
-  -- ---- an entry at a time
+  -- ---- an member at a time
 
-  -- what an entry comes to moves on, from within the bytes
+  -- what an member comes to moves on, from within the bytes
   unfoldable pub Goes : ℕ → Next → Type 0
   Goes at (next.Past e) = (at < length u) × (at < e)
   Goes at (next.Opens keyed n e) = (at < length u) × (at < e)
@@ -229,9 +229,9 @@ module _ (u : List ℕ) (blame : ℕ) where
     unfolding Goes
     opens-goes k n e p = subst (Goes at) (sym is ∙ p) (goes room keyed at)
 
-  -- what the level says that an entry opens, with n levels below it
+  -- what the level says that an member opens, with n levels below it
   abbrev pub inner : ℕ → Bool → ℕ → ℕ → Skipped
-  inner n keyed k e = each k (entry keyed u (any (n - 1) u blame)) e
+  inner n keyed k e = each k (member keyed u (any (n - 1) u blame)) e
 
   none-below : (at : ℕ) (f : Bool → ℕ → ℕ → Skipped) (x : Head) → onHead x (λ keyed. refused 3 at) ≡ through (valueIn x (openAt u at false)) f
   unfolding onHead valueIn openAt through passing
@@ -255,20 +255,20 @@ module _ (u : List ℕ) (blame : ℕ) where
   unfolding any
   any-none at f = none-below at f (headAt u blame at)
 
-  any-some : (n at : ℕ) → any (suc n) u blame at ≡ through (valueIn (headAt u blame at) (openAt u at true)) (λ keyed k e. each k (entry keyed u (any n u blame)) e)
+  any-some : (n at : ℕ) → any (suc n) u blame at ≡ through (valueIn (headAt u blame at) (openAt u at true)) (λ keyed k e. each k (member keyed u (any n u blame)) e)
   unfolding any
-  any-some n at = some-below at (λ keyed k e. each k (entry keyed u (any n u blame)) e) (headAt u blame at)
+  any-some n at = some-below at (λ keyed k e. each k (member keyed u (any n u blame)) e) (headAt u blame at)
 
   value-next : (n at : ℕ) → any n u blame at ≡ through (valueIn (headAt u blame at) (openAt u at (ltb 0 n))) (inner n)
   value-next zero at = any-none at (inner 0) ∙ ap (λ (r : Bool). through (valueIn (headAt u blame at) (openAt u at r)) (inner 0)) (sym (le-ltb 0 0 (omega arith)))
   value-next (suc n) at =
       let e : n ≡ suc n - 1 = omega arith in
       any-some n at
-      ∙ ap (λ (m : ℕ). through (valueIn (headAt u blame at) (openAt u at true)) (λ keyed k e. each k (entry keyed u (any m u blame)) e)) e
+      ∙ ap (λ (m : ℕ). through (valueIn (headAt u blame at) (openAt u at true)) (λ keyed k e. each k (member keyed u (any m u blame)) e)) e
       ∙ ap (λ (r : Bool). through (valueIn (headAt u blame at) (openAt u at r)) (inner (suc n))) (sym (lt-ltb 0 (suc n) (omega arith)))
 
-  pub entry-next : (n : ℕ) (keyed : Bool) (at : ℕ) → entry keyed u (any n u blame) at ≡ through (entryAt u blame (ltb 0 n) keyed at) (inner n)
-  unfolding entry entryAt behind keyAt thenAt through
+  pub entry-next : (n : ℕ) (keyed : Bool) (at : ℕ) → member keyed u (any n u blame) at ≡ through (entryAt u blame (ltb 0 n) keyed at) (inner n)
+  unfolding member entryAt behind keyAt thenAt through
   entry-next n false at = value-next n at
   entry-next n true at = go (textAt u at)
     where

@@ -1,4 +1,4 @@
--- The levels that are open: what each kind of entry leaves of them.
+-- The levels that are open: what each kind of member leaves of them.
 use Prim.Native.Nat.{ℕ, zero, suc, _+_, _-_, _≤_, _<_}
 use mathlib.Core.Path.{_≡_, refl, subst, sym, ap, _∙_}
 use mathlib.Core.Bool.{Bool, true, false}
@@ -13,7 +13,7 @@ use Rattle.anys.specs.declared.Skipped.{Skipped}
 use Rattle.anys.specs.declared.Skipped.the-variants.{At, Refused}
 use Rattle.anys.specs.declared.Next.{Next}
 use Rattle.anys.specs.declared.Next.the-variants as next
-use Rattle.anys.specs.Any.{thenAt, each, entry, any, deepest, anys}
+use Rattle.anys.specs.Any.{thenAt, each, member, any, deepest, anys}
 use Rattle.anys.specs.Steps.{entryAt, through, rest}
 use Rattle.anys.proofs.Laws.{then-then, then-same, then-end, inner, entry-next, has-room}
 
@@ -24,7 +24,7 @@ module _ (u : List ℕ) (blame : ℕ) where
   left-around left keyed zero i x at h = refl
   left-around left keyed (suc d) i x at h =
       rw (getD-set-other left i d x 0 (λ e. omega arith))
-      (then-same (each (getD left d 0) (entry (getD keyed d false) u (any (deepest - d) u blame)) at) (rest d (set left i x) keyed u blame) (rest d left keyed u blame)
+      (then-same (each (getD left d 0) (member (getD keyed d false) u (any (deepest - d) u blame)) at) (rest d (set left i x) keyed u blame) (rest d left keyed u blame)
       (λ e. left-around left keyed d i x e (omega arith)))
 
   keyed-around : (left : List ℕ) (keyed : List Bool) (d i : ℕ) (x : Bool) (at : ℕ) → d ≤ i → rest d left (set keyed i x) u blame at ≡ rest d left keyed u blame at
@@ -32,35 +32,35 @@ module _ (u : List ℕ) (blame : ℕ) where
   keyed-around left keyed zero i x at h = refl
   keyed-around left keyed (suc d) i x at h =
       rw (getD-set-other keyed i d x false (λ e. omega arith))
-      (then-same (each (getD left d 0) (entry (getD keyed d false) u (any (deepest - d) u blame)) at) (rest d left (set keyed i x) u blame) (rest d left keyed u blame)
+      (then-same (each (getD left d 0) (member (getD keyed d false) u (any (deepest - d) u blame)) at) (rest d left (set keyed i x) u blame) (rest d left keyed u blame)
       (λ e. keyed-around left keyed d i x e (omega arith)))
 
   -- the levels as a first one, of n entries, and those around it
   unfoldable level : ℕ → Bool → ℕ → ℕ → (ℕ → Skipped) → Skipped
-  level d keyed n at around = thenAt (each n (entry keyed u (any (deepest - d) u blame)) at) around
+  level d keyed n at around = thenAt (each n (member keyed u (any (deepest - d) u blame)) at) around
 
   level-set : (left : List ℕ) (keyed : List Bool) (d n at : ℕ) → d < length left → rest (suc d) (set left d n) keyed u blame at ≡ level d (getD keyed d false) n at (rest d left keyed u blame)
   unfolding rest level
   level-set left keyed d n at h =
       rw (getD-set-same left d n 0 h)
-      (then-same (each n (entry (getD keyed d false) u (any (deepest - d) u blame)) at) (rest d (set left d n) keyed u blame) (rest d left keyed u blame) (λ e. left-around left keyed d d n e (omega arith)))
+      (then-same (each n (member (getD keyed d false) u (any (deepest - d) u blame)) at) (rest d (set left d n) keyed u blame) (rest d left keyed u blame) (λ e. left-around left keyed d d n e (omega arith)))
 
   -- a level that is opened within d others
   level-put : (left : List ℕ) (keyed : List Bool) (d n : ℕ) (k : Bool) (at : ℕ) → d < length left → d < length keyed
-      → rest (suc d) (set left d n) (set keyed d k) u blame at ≡ thenAt (each n (entry k u (any (deepest - d) u blame)) at) (rest d left keyed u blame)
+      → rest (suc d) (set left d n) (set keyed d k) u blame at ≡ thenAt (each n (member k u (any (deepest - d) u blame)) at) (rest d left keyed u blame)
   unfolding rest
   level-put left keyed d n k at h g =
       rw (getD-set-same left d n 0 h, getD-set-same keyed d k false g)
-      (then-same (each n (entry k u (any (deepest - d) u blame)) at) (rest d (set left d n) (set keyed d k) u blame) (rest d left keyed u blame)
+      (then-same (each n (member k u (any (deepest - d) u blame)) at) (rest d (set left d n) (set keyed d k) u blame) (rest d left keyed u blame)
       (λ e. left-around left (set keyed d k) d d n e (omega arith) ∙ keyed-around left keyed d d k e (omega arith)))
 
-  -- an entry of a level with n more
+  -- an member of a level with n more
   level-next : (d : ℕ) (keyed : Bool) (n at : ℕ) (around : ℕ → Skipped) (x : Next) → entryAt u blame (ltb 0 (deepest - d)) keyed at ≡ x
       → level d keyed (suc n) at around ≡ thenAt (through x (inner u blame (deepest - d))) (λ e. level d keyed n e around)
   unfolding level each
   level-next d keyed n at around x q =
-      then-then (entry keyed u (any (deepest - d) u blame) at) (each n (entry keyed u (any (deepest - d) u blame))) around
-      ∙ ap (λ (s : Skipped). thenAt s (λ e. thenAt (each n (entry keyed u (any (deepest - d) u blame)) e) around)) (entry-next u blame (deepest - d) keyed at ∙ ap (λ (y : Next). through y (inner u blame (deepest - d))) q)
+      then-then (member keyed u (any (deepest - d) u blame) at) (each n (member keyed u (any (deepest - d) u blame))) around
+      ∙ ap (λ (s : Skipped). thenAt s (λ e. thenAt (each n (member keyed u (any (deepest - d) u blame)) e) around)) (entry-next u blame (deepest - d) keyed at ∙ ap (λ (y : Next). through y (inner u blame (deepest - d))) q)
 
   module _ (left : List ℕ) (keyed : List Bool) (o d at : ℕ) (od : o ≡ suc d) where
     -- a level with nothing to come is closed
@@ -92,14 +92,14 @@ module _ (u : List ℕ) (blame : ℕ) where
           let m : deepest - o ≡ deepest - d - 1 = omega arith in
           ap (λ (x : ℕ). rest x (set (set left d n) o c) (set keyed o k) u blame e) q
           ∙ level-put (set left d n) keyed o c k e (simp length-set hl) hk
-          ∙ ap (λ (x : ℕ). thenAt (each c (entry k u (any x u blame)) e) (rest o (set left d n) keyed u blame)) m
+          ∙ ap (λ (x : ℕ). thenAt (each c (member k u (any x u blame)) e) (rest o (set left d n) keyed u blame)) m
           ∙ then-same (inner u blame (deepest - d) k c e) (rest o (set left d n) keyed u blame) (λ e'. level d (getD keyed d false) n e' (rest d left keyed u blame))
           (λ e'. ap (λ (x : ℕ). rest x (set left d n) keyed u blame e') od ∙ level-set left keyed d n e' h)
           ∙ sym (next-is (next.Opens k c e) p)
 
   -- before anything is passed over: one level, of n values
   pub begun : (left : List ℕ) (keyed : List Bool) (n at : ℕ) → 0 < length left → getD keyed 0 false ≡ false → rest 1 (set left 0 n) keyed u blame at ≡ anys u blame n at
-  unfolding rest level entry anys
+  unfolding rest level member anys
   begun left keyed n at h f = level-set left keyed 0 n at h ∙ rw f (then-end (each n (any deepest u blame) at))
 
   pub all-closed : (left : List ℕ) (keyed : List Bool) (o at : ℕ) → o ≡ 0 → At at ≡ rest o left keyed u blame at

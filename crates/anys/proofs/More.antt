@@ -20,7 +20,7 @@ use Rattle.anys.specs.declared.Skipped.{Skipped}
 use Rattle.anys.specs.declared.Skipped.the-variants.{At, Refused}
 use Rattle.anys.specs.declared.Head.{Head}
 use Rattle.anys.specs.declared.Head.the-variants.{Alone}
-use Rattle.anys.specs.Any.{refused, thenAt, onCount, onSigned, signedAt, skipBytes, skipLed, textFrom, textAt, tagged, headAt, onHead, each, entry, any, deepest, anys}
+use Rattle.anys.specs.Any.{refused, thenAt, onCount, onSigned, signedAt, skipBytes, skipLed, textFrom, textAt, tagged, headAt, onHead, each, member, any, deepest, anys}
 use Rattle.anys.proofs.Places.{read-ends, bytes-span, Ends, text-ends}
 use Rattle.anys.proofs.Laws.{entry-ends, any-ends}
 
@@ -229,8 +229,8 @@ module _ (u v w : List ℕ) (n : ℕ) (Q : Refusal → Type 0) (tail : drop n v 
         (λ e p. each-stays one two ends stay k e (omega (arith, subst (Ends u blame (suc at)) p (ends at) .0)))
 
     entry-stays : (keyed : Bool) (one two : ℕ → Skipped) → ((at : ℕ) → n ≤ at → Stays Q (one at) (two at)) → (at : ℕ) → n ≤ at
-        → Stays Q (entry keyed u one at) (entry keyed v two at)
-    unfolding entry Ends
+        → Stays Q (member keyed u one at) (member keyed v two at)
+    unfolding member Ends
     entry-stays true one two stay at l =
         then-stays (textAt u at) (textAt v at) one two (text-stays at l)
         (λ e p. stay e (omega (arith, subst (Ends u blame (suc at)) p (text-ends u blame at) .0)))
@@ -242,7 +242,7 @@ module _ (u v w : List ℕ) (n : ℕ) (Q : Refusal → Type 0) (tail : drop n v 
     any-stays (suc d) at l =
         head-stays at l _ _
         (λ keyed h. counted-stays (at + 1) _ _ (omega arith)
-        (λ k e b m. each-stays (entry keyed u (any d u blame)) (entry keyed v (any d v blame)) (entry-ends u blame keyed (any d u blame) (any-ends u blame d))
+        (λ k e b m. each-stays (member keyed u (any d u blame)) (member keyed v (any d v blame)) (entry-ends u blame keyed (any d u blame) (any-ends u blame d))
         (entry-stays keyed (any d u blame) (any d v blame) (any-stays d)) k e (omega arith)))
 
     anys-stay : (k at : ℕ) → n ≤ at → Stays Q (anys u blame k at) (anys v blame k at)

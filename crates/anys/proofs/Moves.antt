@@ -15,7 +15,7 @@ use Rattle.text.specs.Utf8.{wellFormed}
 use Rattle.anys.specs.declared.Skipped.{Skipped}
 use Rattle.anys.specs.declared.Skipped.the-variants.{At, Refused}
 use Rattle.anys.specs.declared.Head.{Head}
-use Rattle.anys.specs.Any.{refused, thenAt, onCount, onSigned, signedAt, skipBytes, skipLed, textFrom, textAt, tagged, headAt, onHead, each, entry, any, deepest, anys}
+use Rattle.anys.specs.Any.{refused, thenAt, onCount, onSigned, signedAt, skipBytes, skipLed, textFrom, textAt, tagged, headAt, onHead, each, member, any, deepest, anys}
 use Rattle.anys.proofs.Places.{read-ends, Ends, lower, counted-ends, bytes-end, text-from-ends, text-ends, buf-ends, signed-ends}
 use Rattle.anys.proofs.Laws.{each-ends, entry-ends, any-ends, anys-none, anys-ends, anys-bytes}
 
@@ -267,8 +267,8 @@ module _ (u v : List ℕ) (blame blame' : ℕ) where
       (λ e l. lower u blame e (e + k) (each k one e) (omega arith) (each-ends u blame one ends k e l)) (λ e d l. each-moves one two ends moves k e d l)
 
   entry-moves : (keyed : Bool) (one two : ℕ → Skipped) → ((at : ℕ) → Ends u blame (suc at) (one at)) → ((at bt : ℕ) → Moves at bt (one at) (two bt))
-      → (at bt : ℕ) → Moves at bt (entry keyed u one at) (entry keyed v two bt)
-  unfolding entry
+      → (at bt : ℕ) → Moves at bt (member keyed u one at) (member keyed v two bt)
+  unfolding member
   entry-moves true one two ends moves at bt =
       then-moves at bt (textAt u at) (textAt v bt) one two (lower u blame at (suc at) (textAt u at) (omega arith) (text-ends u blame at)) (text-moves at bt)
       (λ e l. lower u blame e (suc e) (one e) (omega arith) (ends e)) (λ e d l. moves e d)
@@ -276,20 +276,20 @@ module _ (u v : List ℕ) (blame blame' : ℕ) where
 
   -- the entries of a value whose count is at e
   unfoldable inside : ℕ → Bool → List ℕ → ℕ → ℕ → Skipped
-  inside n keyed w b e = onCount (readUnsigned w e) (λ k i. each k (entry keyed w (any n w b)) i)
+  inside n keyed w b e = onCount (readUnsigned w e) (λ k i. each k (member keyed w (any n w b)) i)
 
   inside-ends : (n : ℕ) (keyed : Bool) (at : ℕ) → Ends u blame at (inside n keyed u blame at)
   unfolding inside
   inside-ends n keyed at =
-      counted-ends u blame at at (λ k i. each k (entry keyed u (any n u blame)) i)
-      (λ k e l h. lower u blame at (e + k) (each k (entry keyed u (any n u blame)) e) (omega arith) (each-ends u blame (entry keyed u (any n u blame)) (entry-ends u blame keyed (any n u blame) (any-ends u blame n)) k e h))
+      counted-ends u blame at at (λ k i. each k (member keyed u (any n u blame)) i)
+      (λ k e l h. lower u blame at (e + k) (each k (member keyed u (any n u blame)) e) (omega arith) (each-ends u blame (member keyed u (any n u blame)) (entry-ends u blame keyed (any n u blame) (any-ends u blame n)) k e h))
 
   inside-moves : (n : ℕ) → ((at bt : ℕ) → Moves at bt (any n u blame at) (any n v blame' bt)) → (keyed : Bool) (at bt : ℕ) → Moves at bt (inside n keyed u blame at) (inside n keyed v blame' bt)
   unfolding inside
   inside-moves n moves keyed at bt =
-      counted-moves at bt (λ k i. each k (entry keyed u (any n u blame)) i) (λ k i. each k (entry keyed v (any n v blame')) i)
-      (λ k e h. lower u blame e (e + k) (each k (entry keyed u (any n u blame)) e) (omega arith) (each-ends u blame (entry keyed u (any n u blame)) (entry-ends u blame keyed (any n u blame) (any-ends u blame n)) k e h))
-      (λ k e d h. each-moves (entry keyed u (any n u blame)) (entry keyed v (any n v blame')) (entry-ends u blame keyed (any n u blame) (any-ends u blame n)) (entry-moves keyed (any n u blame) (any n v blame') (any-ends u blame n) moves) k e d h)
+      counted-moves at bt (λ k i. each k (member keyed u (any n u blame)) i) (λ k i. each k (member keyed v (any n v blame')) i)
+      (λ k e h. lower u blame e (e + k) (each k (member keyed u (any n u blame)) e) (omega arith) (each-ends u blame (member keyed u (any n u blame)) (entry-ends u blame keyed (any n u blame) (any-ends u blame n)) k e h))
+      (λ k e d h. each-moves (member keyed u (any n u blame)) (member keyed v (any n v blame')) (entry-ends u blame keyed (any n u blame) (any-ends u blame n)) (entry-moves keyed (any n u blame) (any n v blame') (any-ends u blame n) moves) k e d h)
 
   any-is : (n : ℕ) (w : List ℕ) (b at : ℕ) → any (suc n) w b at ≡ onHead (headAt w b at) (λ keyed. inside n keyed w b (at + 1))
   unfolding any inside

@@ -78,16 +78,16 @@ unfoldable pub each : ℕ → (ℕ → Skipped) → ℕ → Skipped
 each zero one at = At at
 each (suc k) one at = thenAt (one at) (each k one)
 
--- an entry: in an object a key, and then its value
-unfoldable pub entry : Bool → List ℕ → (ℕ → Skipped) → ℕ → Skipped
-entry true u value at = thenAt (textAt u at) value
-entry false u value at = value at
+-- an member: in an object a key, and then its value
+unfoldable pub member : Bool → List ℕ → (ℕ → Skipped) → ℕ → Skipped
+member true u value at = thenAt (textAt u at) value
+member false u value at = value at
 
 -- one value, in which n levels of objects and arrays may be opened: where none may it is refused with 3 at its tag, before its count
 unfoldable pub any : ℕ → List ℕ → ℕ → ℕ → Skipped
 any zero u blame at = onHead (headAt u blame at) (λ keyed. refused 3 at)
 any (suc n) u blame at =
-    onHead (headAt u blame at) (λ keyed. onCount (readUnsigned u (at + 1)) (λ k e. each k (entry keyed u (any n u blame)) e))
+    onHead (headAt u blame at) (λ keyed. onCount (readUnsigned u (at + 1)) (λ k e. each k (member keyed u (any n u blame)) e))
 
 -- so many objects and arrays may be open at once
 abbrev pub deepest : ℕ

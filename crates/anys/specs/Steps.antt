@@ -1,4 +1,4 @@
--- Any-values an entry at a time: its key, and its value up to where others may stand in it; and what is left of the levels that are open.
+-- Any-values an member at a time: its key, and its value up to where others may stand in it; and what is left of the levels that are open.
 use Prim.Native.Nat.{ℕ, zero, suc, _+_, _-_}
 use mathlib.Core.List.{List}
 use mathlib.Core.Bool.{Bool, true, false}
@@ -13,7 +13,7 @@ use Rattle.anys.specs.declared.Head.{Head}
 use Rattle.anys.specs.declared.Head.the-variants.{Alone, Holds}
 use Rattle.anys.specs.declared.Next.{Next}
 use Rattle.anys.specs.declared.Next.the-variants as next
-use Rattle.anys.specs.Any.{thenAt, textAt, headAt, each, entry, any, deepest}
+use Rattle.anys.specs.Any.{thenAt, textAt, headAt, each, member, any, deepest}
 
 abbrev pub whySkipped : Skipped → Refusal
 whySkipped (At e) = none
@@ -46,7 +46,7 @@ behind (Refused why) f = next.Refused why
 unfoldable pub entryAt : List ℕ → ℕ → Bool → Bool → ℕ → Next
 entryAt u blame room keyed at = behind (keyAt u keyed at) (λ from. valueIn (headAt u blame from) (openAt u from room))
 
--- what an entry comes to, with what the level says that it opens
+-- what an member comes to, with what the level says that it opens
 unfoldable pub through : Next → (Bool → ℕ → ℕ → Skipped) → Skipped
 through (next.Past e) f = At e
 through (next.Opens keyed n e) f = f keyed n e
@@ -56,4 +56,4 @@ through (next.Refused why) f = Refused why
 unfoldable pub rest : ℕ → List ℕ → List Bool → List ℕ → ℕ → ℕ → Skipped
 rest zero left keyed u blame at = At at
 rest (suc d) left keyed u blame at =
-    thenAt (each (getD left d 0) (entry (getD keyed d false) u (any (deepest - d) u blame)) at) (rest d left keyed u blame)
+    thenAt (each (getD left d 0) (member (getD keyed d false) u (any (deepest - d) u blame)) at) (rest d left keyed u blame)

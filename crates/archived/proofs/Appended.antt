@@ -14,8 +14,8 @@ use Rattle.numbers.specs.Limits.{maxUpdate}
 use Rattle.numbers.proofs.Laws.{below-or}
 use Rattle.block.specs.declared.Block.{Block}
 use Rattle.ranges.specs.Ranges.{Range}
-use Rattle.grammar.specs.GrammarInner.{_>>=_}
-use Rattle.grammar.specs.Course.{Run, thing, over, stopped, Course, fit, ending, onDrawn, run}
+use Rattle.grammar.specs.Grammar.{_>>=_}
+use Rattle.grammar.specs.Course.{CourseTo, thing, over, stopped, Course, fit, ending, onDrawn, run}
 use Rattle.grammar.specs.Whole.{Ends}
 use Rattle.decoder.specs.Line.{byteAt, numberBy, line}
 use Rattle.decoder.specs.States.{State}
@@ -37,13 +37,13 @@ use Rattle.archived.proofs.Inside.{set-inside}
 
 -- ---- what ends stays the same
 
-stays-same : {S E A : Type 0} (x y : Run S E A) (s : S) → Stays x y → Ends x s → y ≡ x
+stays-same : {S E A : Type 0} (x y : CourseTo S E A) (s : S) → Stays x y → Ends x s → y ≡ x
 unfolding Stays Ends
 stays-same (thing e p c) y s h q = h .1 ∙ ap (thing e p) (stays-same c (h .0) s (h .2) q)
 stays-same (over a t) y s h q = h
 stays-same (stopped why) y s h q = absurd q
 
-fit-ends : {S E A : Type 0} (n : ℕ) (c : Run S E A) (s : S) → Ends (fit n c) s → Ends c s
+fit-ends : {S E A : Type 0} (n : ℕ) (c : CourseTo S E A) (s : S) → Ends (fit n c) s → Ends c s
 unfolding fit Ends
 fit-ends zero (thing e p c) s h = absurd h
 fit-ends (suc n) (thing e p c) s h = fit-ends n c s h
@@ -52,13 +52,13 @@ fit-ends (suc n) (over a t) s h = h
 fit-ends zero (stopped why) s h = absurd h
 fit-ends (suc n) (stopped why) s h = absurd h
 
-placed-ends : {E A : Type 0} (c : Run State E A) (at : ℕ) → Ends (restPlaces c) at → (s : State) × Ends c s
+placed-ends : {E A : Type 0} (c : CourseTo State E A) (at : ℕ) → Ends (restPlaces c) at → (s : State) × Ends c s
 unfolding restPlaces Ends
 placed-ends (thing e p c) at h = placed-ends c at h
 placed-ends (over a t) at h = (t, refl)
 placed-ends (stopped why) at h = absurd h
 
-ends-at : {S E A X : Type 0} (c : Run S E A) (f : S → X) (g : Refusal → X) (s : S) → Ends c s → ending c f g ≡ f s
+ends-at : {S E A X : Type 0} (c : CourseTo S E A) (f : S → X) (g : Refusal → X) (s : S) → Ends c s → ending c f g ≡ f s
 unfolding ending Ends
 ends-at (thing e p c) f g s h = ends-at c f g s h
 ends-at (over a t) f g s h = ap f h
@@ -93,7 +93,7 @@ module _ (form : ℕ) (u w : List ℕ) (b r : ℕ) (whole : Whole form u b r) wh
       go true e = refl
       go false e =
           let s = placed-ends (inColumns u) (whole .middle) (rw e at blocks-end) in
-          ap (λ (c : Run State Block (Unit {0})). ending c columnsAt (λ why. [])) (stays-same (inColumns u) (inColumns (u ++ w)) (s .0) (states-stay u w) (s .1))
+          ap (λ (c : CourseTo State Block (Unit {0})). ending c columnsAt (λ why. [])) (stays-same (inColumns u) (inColumns (u ++ w)) (s .0) (states-stay u w) (s .1))
 
   -- every byte was read: what is left begins where it ended
   module _ (some : 0 < length w) (every : (p : ℕ) → p < length u → Among p (unreadOf form u) → ⊥) where

@@ -10,7 +10,7 @@ use Rattle.columns.specs.Number as number
 use Rattle.columns.specs.Difference as difference
 use Rattle.columns.specs.Byte as byte
 use Rattle.grammar.specs.Grammar as grammar
-use Rattle.grammar.specs.GrammarInner as grammar-inner
+use Rattle.grammar.specs.Grammar as grammar-inner
 use Rattle.grammar.specs.Course as course
 use Rattle.grammar.specs.Blocks as blocks
 use Rattle.grammar.specs.Deletes as deletes

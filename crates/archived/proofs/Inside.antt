@@ -21,8 +21,8 @@ use Rattle.anys.specs.Any.{anys}
 use Rattle.anys.proofs.Laws.{anys-bytes}
 use Rattle.grammar.specs.Grammar as grammar
 use Rattle.grammar.specs.Grammar.{Number, Field, Grammar, ask, emit, stop, done}
-use Rattle.grammar.specs.GrammarInner.{_>>=_}
-use Rattle.grammar.specs.Course.{Drawn, got, not, Run, onDrawn, run}
+use Rattle.grammar.specs.Grammar.{_>>=_}
+use Rattle.grammar.specs.Course.{Drawn, got, not, CourseTo, onDrawn, run}
 use Rattle.grammar.specs.Deletes.{deletedClients, allRanges}
 use Rattle.grammar.specs.Whole.{Ends}
 use Rattle.decoder.specs.Line.{numberAt, varAt, bounded, upTo, byteAt, restored, deleteAt, numberBy, soMany, bytesAt, checked, wordOf, spanned, valuesAt, line}
@@ -132,7 +132,7 @@ module _ (u : List ℕ) where
   -- ---- a grammar
 
   -- a field, and what comes after it
-  drawn-in : {X E A : Type 0} (s : ℕ) (d : Drawn ℕ X) (then : X → ℕ → Run ℕ E A) → In d → ((a : X) (t : ℕ) → t ≤ length u → Ends (then a t) s → s ≤ length u)
+  drawn-in : {X E A : Type 0} (s : ℕ) (d : Drawn ℕ X) (then : X → ℕ → CourseTo ℕ E A) → In d → ((a : X) (t : ℕ) → t ≤ length u → Ends (then a t) s → s ≤ length u)
       → Ends (onDrawn d then) s → s ≤ length u
   unfolding onDrawn Ends
   drawn-in s (got a t) then l rest h = rest a t l h

@@ -19,7 +19,7 @@ use Rattle.columns.specs.declared.byte.Answer.the-variants as byte
 use Rattle.string.specs.declared.Answer as string-answer
 use Rattle.string.specs.declared.Answer.the-variants as string
 use Rattle.grammar.specs.Course as course
-use Rattle.decoder.specs.States.{maxKeys, Numbers, Differences, Bytes, Texts, State, movedTo, withKey, withClient, withLeft, withRight, withInfo, withText, withParent, withTypes, withLen, withKeys}
+use Rattle.decoder.specs.States.{maxKeys, Numbers, Differences, Octets, Texts, State, movedTo, keyMoved, clientMoved, leftMoved, rightMoved, infoMoved, textMoved, parentMoved, typesMoved, lenMoved, withKeys}
 use Rattle.columns.specs.Number.{nextNumber}
 use Rattle.columns.specs.Difference.{nextDifference}
 use Rattle.columns.specs.Byte.{nextByte}
@@ -81,39 +81,39 @@ module _ (w v : List ℕ) (k : ℕ) (same : (j i : ℕ) → j ≤ 8 → j ≢ k 
   len-same h = same-numbers w v 8 (still 8 (omega arith) h)
 
 module _ (w v : List ℕ) where
-  pub state-key : Elsewhere 0 w v → stateIn v ≡ withKey (differencesIn v 0) (stateIn w)
+  pub state-key : Elsewhere 0 w v → stateIn v ≡ keyMoved (differencesIn v 0) (stateIn w)
   unfolding stateIn
   state-key e = rw (e .at, client-same w v 0 (e .same) refl, left-same w v 0 (e .same) refl, right-same w v 0 (e .same) refl, info-same w v 0 (e .same) refl, text-same w v 0 (e .same) refl, parent-same w v 0 (e .same) refl, types-same w v 0 (e .same) refl, len-same w v 0 (e .same) refl, keys-same w v (e .keys)) refl
 
-  pub state-client : Elsewhere 1 w v → stateIn v ≡ withClient (numbersIn v 1) (stateIn w)
+  pub state-client : Elsewhere 1 w v → stateIn v ≡ clientMoved (numbersIn v 1) (stateIn w)
   unfolding stateIn
   state-client e = rw (e .at, key-same w v 1 (e .same) refl, left-same w v 1 (e .same) refl, right-same w v 1 (e .same) refl, info-same w v 1 (e .same) refl, text-same w v 1 (e .same) refl, parent-same w v 1 (e .same) refl, types-same w v 1 (e .same) refl, len-same w v 1 (e .same) refl, keys-same w v (e .keys)) refl
 
-  pub state-left : Elsewhere 2 w v → stateIn v ≡ withLeft (differencesIn v 2) (stateIn w)
+  pub state-left : Elsewhere 2 w v → stateIn v ≡ leftMoved (differencesIn v 2) (stateIn w)
   unfolding stateIn
   state-left e = rw (e .at, key-same w v 2 (e .same) refl, client-same w v 2 (e .same) refl, right-same w v 2 (e .same) refl, info-same w v 2 (e .same) refl, text-same w v 2 (e .same) refl, parent-same w v 2 (e .same) refl, types-same w v 2 (e .same) refl, len-same w v 2 (e .same) refl, keys-same w v (e .keys)) refl
 
-  pub state-right : Elsewhere 3 w v → stateIn v ≡ withRight (differencesIn v 3) (stateIn w)
+  pub state-right : Elsewhere 3 w v → stateIn v ≡ rightMoved (differencesIn v 3) (stateIn w)
   unfolding stateIn
   state-right e = rw (e .at, key-same w v 3 (e .same) refl, client-same w v 3 (e .same) refl, left-same w v 3 (e .same) refl, info-same w v 3 (e .same) refl, text-same w v 3 (e .same) refl, parent-same w v 3 (e .same) refl, types-same w v 3 (e .same) refl, len-same w v 3 (e .same) refl, keys-same w v (e .keys)) refl
 
-  pub state-info : Elsewhere 4 w v → stateIn v ≡ withInfo (bytesIn v 4) (stateIn w)
+  pub state-info : Elsewhere 4 w v → stateIn v ≡ infoMoved (bytesIn v 4) (stateIn w)
   unfolding stateIn
   state-info e = rw (e .at, key-same w v 4 (e .same) refl, client-same w v 4 (e .same) refl, left-same w v 4 (e .same) refl, right-same w v 4 (e .same) refl, text-same w v 4 (e .same) refl, parent-same w v 4 (e .same) refl, types-same w v 4 (e .same) refl, len-same w v 4 (e .same) refl, keys-same w v (e .keys)) refl
 
-  pub state-text : Elsewhere 5 w v → stateIn v ≡ withText (textsIn v 5) (stateIn w)
+  pub state-text : Elsewhere 5 w v → stateIn v ≡ textMoved (textsIn v 5) (stateIn w)
   unfolding stateIn
   state-text e = rw (e .at, key-same w v 5 (e .same) refl, client-same w v 5 (e .same) refl, left-same w v 5 (e .same) refl, right-same w v 5 (e .same) refl, info-same w v 5 (e .same) refl, parent-same w v 5 (e .same) refl, types-same w v 5 (e .same) refl, len-same w v 5 (e .same) refl, keys-same w v (e .keys)) refl
 
-  pub state-parent : Elsewhere 6 w v → stateIn v ≡ withParent (bytesIn v 6) (stateIn w)
+  pub state-parent : Elsewhere 6 w v → stateIn v ≡ parentMoved (bytesIn v 6) (stateIn w)
   unfolding stateIn
   state-parent e = rw (e .at, key-same w v 6 (e .same) refl, client-same w v 6 (e .same) refl, left-same w v 6 (e .same) refl, right-same w v 6 (e .same) refl, info-same w v 6 (e .same) refl, text-same w v 6 (e .same) refl, types-same w v 6 (e .same) refl, len-same w v 6 (e .same) refl, keys-same w v (e .keys)) refl
 
-  pub state-types : Elsewhere 7 w v → stateIn v ≡ withTypes (numbersIn v 7) (stateIn w)
+  pub state-types : Elsewhere 7 w v → stateIn v ≡ typesMoved (numbersIn v 7) (stateIn w)
   unfolding stateIn
   state-types e = rw (e .at, key-same w v 7 (e .same) refl, client-same w v 7 (e .same) refl, left-same w v 7 (e .same) refl, right-same w v 7 (e .same) refl, info-same w v 7 (e .same) refl, text-same w v 7 (e .same) refl, parent-same w v 7 (e .same) refl, len-same w v 7 (e .same) refl, keys-same w v (e .keys)) refl
 
-  pub state-len : Elsewhere 8 w v → stateIn v ≡ withLen (numbersIn v 8) (stateIn w)
+  pub state-len : Elsewhere 8 w v → stateIn v ≡ lenMoved (numbersIn v 8) (stateIn w)
   unfolding stateIn
   state-len e = rw (e .at, key-same w v 8 (e .same) refl, client-same w v 8 (e .same) refl, left-same w v 8 (e .same) refl, right-same w v 8 (e .same) refl, info-same w v 8 (e .same) refl, text-same w v 8 (e .same) refl, parent-same w v 8 (e .same) refl, types-same w v 8 (e .same) refl, keys-same w v (e .keys)) refl
 
@@ -251,7 +251,7 @@ module _ {S : Type 0} (to : ℕ) where
   difference-mapped f (difference.Next v c) = refl
   difference-mapped f (difference.Bad why) = refl
 
-  byte-mapped : (f : Bytes → S) (a : byte-answer.Answer) → mapped f (byteDrawn (λ c. c) to a) ≡ byteDrawn f to a
+  byte-mapped : (f : Octets → S) (a : byte-answer.Answer) → mapped f (byteDrawn (λ c. c) to a) ≡ byteDrawn f to a
   unfolding mapped byteDrawn
   byte-mapped f (byte.Next v c) = refl
   byte-mapped f (byte.Bad why) = refl
@@ -279,7 +279,7 @@ module _ (u w v : List ℕ) (k : ℕ) (r : Drawn) where
       go (Number x) = ap (course.got (x, placeIn v)) e
       go Refused = refl
 
-  pub byte-onto : (f : Bytes → State) → stateIn v ≡ f (bytesIn v k) → ByteDrawn u k w v r → given v r ≡ fromBytes u (bytesIn w k) f
+  pub byte-onto : (f : Octets → State) → stateIn v ≡ f (bytesIn v k) → ByteDrawn u k w v r → given v r ≡ fromBytes u (bytesIn w k) f
   unfolding mapped given bytesGiven
   byte-onto f e p = go r ∙ ap (mapped f) (p .2) ∙ byte-mapped (bytesIn w k .to) f (nextByte (take (bytesIn w k .to) u) (bytesIn w k .place))
     where

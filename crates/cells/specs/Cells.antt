@@ -13,7 +13,7 @@ use Rattle.columns.specs.declared.number.Answer as number-answer
 use Rattle.columns.specs.declared.difference.Answer as difference-answer
 use Rattle.columns.specs.declared.byte.Place as byte-place
 use Rattle.grammar.specs.Course as course
-use Rattle.decoder.specs.States.{maxKeys, Numbers, Differences, Bytes, Texts, State}
+use Rattle.decoder.specs.States.{maxKeys, Numbers, Differences, Octets, Texts, State}
 use Rattle.decoder.specs.Columned.{numberDrawn, differenceDrawn, fromNumbers, fromDifferences, fromBytes}
 use Rattle.cells.specs.declared.Drawn.{Drawn}
 use Rattle.cells.specs.declared.Drawn.the-variants.{Number, Refused}
@@ -32,7 +32,7 @@ unfoldable pub differencesIn : List ℕ → ℕ → Differences
 differencesIn w k = record { place = record { at = cell w k 0; from = cell w k 1; last = cell w k 2; key = cell w k 5; count = cell w k 3 }; to = cell w k 4 }
 
 -- word 5 is 1 where the byte stands without end
-unfoldable pub bytesIn : List ℕ → ℕ → Bytes
+unfoldable pub bytesIn : List ℕ → ℕ → Octets
 bytesIn w k = record { place = record { at = cell w k 0; from = cell w k 1; last = cell w k 2; count = cell w k 3; endless = eqb (cell w k 5) 1 }; to = cell w k 4 }
 
 -- the place of the units first; words 5 and 6 are the text's own at and end
@@ -118,7 +118,7 @@ unfoldable pub differencesGiven : List ℕ → ℕ → Drawn → course.Drawn Di
 differencesGiven v k (Number x) = course.got (x, placeIn v) (differencesIn v k)
 differencesGiven v k Refused = course.not (whyIn v)
 
-unfoldable pub bytesGiven : List ℕ → ℕ → Drawn → course.Drawn Bytes (ℕ × ℕ)
+unfoldable pub bytesGiven : List ℕ → ℕ → Drawn → course.Drawn Octets (ℕ × ℕ)
 bytesGiven v k (Number x) = course.got (x, placeIn v) (bytesIn v k)
 bytesGiven v k Refused = course.not (whyIn v)
 

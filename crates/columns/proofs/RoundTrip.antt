@@ -21,7 +21,7 @@ use Rattle.columns.specs.declared.byte.Answer.the-variants as byte-answe
 use Rattle.columns.specs.declared.number.Place as number-place
 use Rattle.columns.specs.declared.difference.Place as difference-place
 use Rattle.columns.specs.declared.byte.Place as byte-place
-use Rattle.runs.specs.declared.Column.the-variants as columns
+use Rattle.runs.specs.declared.ColumnKind.the-variants as columns
 use Rattle.columns.specs.Number as number
 use Rattle.runs.specs.Number as number-run
 use Rattle.columns.specs.Difference as difference

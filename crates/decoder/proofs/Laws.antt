@@ -9,7 +9,7 @@ use borrow.Author.Tests.{ne-eqb}
 use Rattle.numbers.specs.Number.{pick}
 use Rattle.grammar.specs.Grammar as grammar
 use Rattle.grammar.specs.Grammar.{Field, Answer, Grammar, ask, emit, stop, done}
-use Rattle.grammar.specs.Course.{Drawn, got, not, Run, thing, over, stopped, onDrawn, run}
+use Rattle.grammar.specs.Course.{Drawn, got, not, CourseTo, thing, over, stopped, onDrawn, run}
 use Rattle.grammar.proofs.Runs.{run-same}
 use Rattle.decoder.specs.Line.{upTo, bytesAt, line, numberBy}
 use Rattle.decoder.specs.States.{State, movedTo}

@@ -25,7 +25,7 @@ use Rattle.grammar.specs.Grammar as grammar
 use Rattle.grammar.specs.Grammar.{Number}
 use Rattle.grammar.specs.Course.{Drawn, got, not, Reader}
 use Rattle.decoder.specs.Line.{bounded, line}
-use Rattle.decoder.specs.States.{maxKeys, Numbers, Differences, Bytes, Texts, State, movedTo, withKey, withClient, withLeft, withRight, withInfo, withText, withParent, withTypes, withLen, withKeys}
+use Rattle.decoder.specs.States.{maxKeys, Numbers, Differences, Octets, Texts, State, movedTo, keyMoved, clientMoved, leftMoved, rightMoved, infoMoved, textMoved, parentMoved, typesMoved, lenMoved, withKeys}
 
 -- ---- a column's next value; `put` puts the column after it into a state
 
@@ -43,11 +43,11 @@ differenceDrawn put to (difference.Bad why) = not why
 abbrev pub fromDifferences : {S : Type 0} → List ℕ → Differences → (Differences → S) → Drawn S (ℕ × ℕ)
 fromDifferences u c put = differenceDrawn put (c .to) (nextDifference (take (c .to) u) (c .place))
 
-unfoldable pub byteDrawn : {S : Type 0} → (Bytes → S) → ℕ → byte-answer.Answer → Drawn S (ℕ × ℕ)
+unfoldable pub byteDrawn : {S : Type 0} → (Octets → S) → ℕ → byte-answer.Answer → Drawn S (ℕ × ℕ)
 byteDrawn put to (byte.Next v c) = got (v, c .from) (put (record { place = c; to = to }))
 byteDrawn put to (byte.Bad why) = not why
 
-abbrev pub fromBytes : {S : Type 0} → List ℕ → Bytes → (Bytes → S) → Drawn S (ℕ × ℕ)
+abbrev pub fromBytes : {S : Type 0} → List ℕ → Octets → (Octets → S) → Drawn S (ℕ × ℕ)
 fromBytes u c put = byteDrawn put (c .to) (nextByte (take (c .to) u) (c .place))
 
 -- the units of a text are the number drawn
@@ -66,21 +66,21 @@ onto s (got x e) = got x (movedTo s e)
 onto s (not why) = not why
 
 unfoldable pub numberIn : List ℕ → Number → State → Drawn State (ℕ × ℕ)
-numberIn u grammar.client s = fromNumbers u (s .client) (λ c. withClient c s)
-numberIn u grammar.leftClock s = fromDifferences u (s .left) (λ c. withLeft c s)
-numberIn u grammar.rightClock s = fromDifferences u (s .right) (λ c. withRight c s)
-numberIn u grammar.info s = fromBytes u (s .info) (λ c. withInfo c s)
-numberIn u grammar.parentInfo s = fromBytes u (s .parent) (λ c. withParent c s)
-numberIn u grammar.len s = bounded maxClock (fromNumbers u (s .len) (λ c. withLen c s))
+numberIn u grammar.client s = fromNumbers u (s .client) (λ c. clientMoved c s)
+numberIn u grammar.leftClock s = fromDifferences u (s .left) (λ c. leftMoved c s)
+numberIn u grammar.rightClock s = fromDifferences u (s .right) (λ c. rightMoved c s)
+numberIn u grammar.info s = fromBytes u (s .info) (λ c. infoMoved c s)
+numberIn u grammar.parentInfo s = fromBytes u (s .parent) (λ c. parentMoved c s)
+numberIn u grammar.len s = bounded maxClock (fromNumbers u (s .len) (λ c. lenMoved c s))
 numberIn u grammar.byte s = onto s (line 2 u (grammar.number grammar.byte) (s .at))
 numberIn u (grammar.upTo most) s = onto s (line 2 u (grammar.number (grammar.upTo most)) (s .at))
 numberIn u grammar.any s = onto s (line 2 u (grammar.number grammar.any) (s .at))
 numberIn u (grammar.deleteClock end) s = onto s (line 2 u (grammar.number (grammar.deleteClock end)) (s .at))
 numberIn u grammar.deleteLen s = onto s (line 2 u (grammar.number grammar.deleteLen) (s .at))
-numberIn u grammar.typeNumber s = fromNumbers u (s .types) (λ c. withTypes c s)
+numberIn u grammar.typeNumber s = fromNumbers u (s .types) (λ c. typesMoved c s)
 
 abbrev pub textIn : List ℕ → State → Drawn State (Part × Units)
-textIn u s = fromTexts u (s .text) (λ c. withText c s)
+textIn u s = fromTexts u (s .text) (λ c. textMoved c s)
 
 -- a text that is a key from now on
 unfoldable pub joining : Drawn State (Part × Units) → Drawn State Part
@@ -95,7 +95,7 @@ keyByNumber u (got a s) =
 keyByNumber u (not why) = not why
 
 unfoldable pub keyIn : List ℕ → State → Drawn State Part
-keyIn u s = keyByNumber u (fromDifferences u (s .key) (λ c. withKey c s))
+keyIn u s = keyByNumber u (fromDifferences u (s .key) (λ c. keyMoved c s))
 
 unfoldable pub columned : List ℕ → Reader State
 columned u (grammar.number n) s = numberIn u n s

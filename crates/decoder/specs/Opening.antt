@@ -11,10 +11,10 @@ use Rattle.string.specs.String as strings
 use Rattle.string.specs.declared.Opened as string-opened
 use Rattle.string.specs.declared.Opened.the-variants as opened
 use Rattle.grammar.specs.Grammar.{byte, number, bytes as some-bytes, Grammar, done, draw}
-use Rattle.grammar.specs.GrammarInner.{_>>=_}
-use Rattle.grammar.specs.Course.{Drawn, got, not, Run, thing, over, stopped, run}
+use Rattle.grammar.specs.Grammar.{_>>=_}
+use Rattle.grammar.specs.Course.{Drawn, got, not, CourseTo, thing, over, stopped, run}
 use Rattle.decoder.specs.Line.{line}
-use Rattle.decoder.specs.States.{Numbers, Differences, Bytes, Texts, State, state, withText}
+use Rattle.decoder.specs.States.{Numbers, Differences, Octets, Texts, State, state, textMoved}
 
 -- n columns more, behind those that are cut: each a length and so many bytes
 unfoldable pub cut : ℕ → List Part → Grammar (Unit {0}) (List Part)
@@ -35,7 +35,7 @@ numbersFrom p = record { place = numbers.startAt (p .place); to = endOf p }
 abbrev pub differencesFrom : Part → Differences
 differencesFrom p = record { place = differences.startAt (p .place); to = endOf p }
 
-abbrev pub bytesFrom : Part → Bytes
+abbrev pub bytesFrom : Part → Octets
 bytesFrom p = record { place = bytes.startAt (p .place); to = endOf p }
 
 abbrev pub textsFrom : Part → Texts
@@ -52,13 +52,13 @@ standing ps at =
 -- ---- the text opened: it stands where the column begins, and its units behind it
 
 unfoldable pub withOpened : State → string-opened.Opened → Drawn State (Unit {0})
-withOpened s (opened.At c) = got tt (withText (record { place = c; to = s .text .to }) s)
+withOpened s (opened.At c) = got tt (textMoved (record { place = c; to = s .text .to }) s)
 withOpened s (opened.Not why) = not why
 
 unfoldable pub textOpened : List ℕ → State → Drawn State (Unit {0})
 textOpened u s = withOpened s (strings.openText (take (s .text .to) u) (s .text .place .units .at))
 
-unfoldable pub onHeads : List ℕ → Run ℕ (Unit {0}) (List Part) → Drawn State (Unit {0})
+unfoldable pub onHeads : List ℕ → CourseTo ℕ (Unit {0}) (List Part) → Drawn State (Unit {0})
 onHeads u (thing e p c) = onHeads u c
 onHeads u (over ps at) = textOpened u (standing ps at)
 onHeads u (stopped why) = not why

@@ -20,7 +20,7 @@ pub record Differences : Type 0 where
   pub place : difference.Place
   pub to : ℕ
 
-pub record Bytes : Type 0 where
+pub record Octets : Type 0 where
   pub place : byte.Place
   pub to : ℕ
 
@@ -34,48 +34,48 @@ pub record State : Type 0 where
   pub client : Numbers
   pub left : Differences
   pub right : Differences
-  pub info : Bytes
+  pub info : Octets
   pub text : Texts
-  pub parent : Bytes
+  pub parent : Octets
   pub types : Numbers
   pub len : Numbers
   pub keys : List Part
 
 -- ---- a state by its fields, and with one of them put
 
-abbrev pub state : ℕ → Differences → Numbers → Differences → Differences → Bytes → Texts → Bytes → Numbers → Numbers → List Part → State
+abbrev pub state : ℕ → Differences → Numbers → Differences → Differences → Octets → Texts → Octets → Numbers → Numbers → List Part → State
 state e k c l r i x p t n ks =
     record { at = e; key = k; client = c; left = l; right = r; info = i; text = x; parent = p; types = t; len = n; keys = ks }
 
 abbrev pub movedTo : State → ℕ → State
 movedTo s e = state e (s .key) (s .client) (s .left) (s .right) (s .info) (s .text) (s .parent) (s .types) (s .len) (s .keys)
 
-abbrev pub withKey : Differences → State → State
-withKey c s = state (s .at) c (s .client) (s .left) (s .right) (s .info) (s .text) (s .parent) (s .types) (s .len) (s .keys)
+abbrev pub keyMoved : Differences → State → State
+keyMoved c s = state (s .at) c (s .client) (s .left) (s .right) (s .info) (s .text) (s .parent) (s .types) (s .len) (s .keys)
 
-abbrev pub withClient : Numbers → State → State
-withClient c s = state (s .at) (s .key) c (s .left) (s .right) (s .info) (s .text) (s .parent) (s .types) (s .len) (s .keys)
+abbrev pub clientMoved : Numbers → State → State
+clientMoved c s = state (s .at) (s .key) c (s .left) (s .right) (s .info) (s .text) (s .parent) (s .types) (s .len) (s .keys)
 
-abbrev pub withLeft : Differences → State → State
-withLeft c s = state (s .at) (s .key) (s .client) c (s .right) (s .info) (s .text) (s .parent) (s .types) (s .len) (s .keys)
+abbrev pub leftMoved : Differences → State → State
+leftMoved c s = state (s .at) (s .key) (s .client) c (s .right) (s .info) (s .text) (s .parent) (s .types) (s .len) (s .keys)
 
-abbrev pub withRight : Differences → State → State
-withRight c s = state (s .at) (s .key) (s .client) (s .left) c (s .info) (s .text) (s .parent) (s .types) (s .len) (s .keys)
+abbrev pub rightMoved : Differences → State → State
+rightMoved c s = state (s .at) (s .key) (s .client) (s .left) c (s .info) (s .text) (s .parent) (s .types) (s .len) (s .keys)
 
-abbrev pub withInfo : Bytes → State → State
-withInfo c s = state (s .at) (s .key) (s .client) (s .left) (s .right) c (s .text) (s .parent) (s .types) (s .len) (s .keys)
+abbrev pub infoMoved : Octets → State → State
+infoMoved c s = state (s .at) (s .key) (s .client) (s .left) (s .right) c (s .text) (s .parent) (s .types) (s .len) (s .keys)
 
-abbrev pub withText : Texts → State → State
-withText c s = state (s .at) (s .key) (s .client) (s .left) (s .right) (s .info) c (s .parent) (s .types) (s .len) (s .keys)
+abbrev pub textMoved : Texts → State → State
+textMoved c s = state (s .at) (s .key) (s .client) (s .left) (s .right) (s .info) c (s .parent) (s .types) (s .len) (s .keys)
 
-abbrev pub withParent : Bytes → State → State
-withParent c s = state (s .at) (s .key) (s .client) (s .left) (s .right) (s .info) (s .text) c (s .types) (s .len) (s .keys)
+abbrev pub parentMoved : Octets → State → State
+parentMoved c s = state (s .at) (s .key) (s .client) (s .left) (s .right) (s .info) (s .text) c (s .types) (s .len) (s .keys)
 
-abbrev pub withLen : Numbers → State → State
-withLen c s = state (s .at) (s .key) (s .client) (s .left) (s .right) (s .info) (s .text) (s .parent) (s .types) c (s .keys)
+abbrev pub lenMoved : Numbers → State → State
+lenMoved c s = state (s .at) (s .key) (s .client) (s .left) (s .right) (s .info) (s .text) (s .parent) (s .types) c (s .keys)
 
-abbrev pub withTypes : Numbers → State → State
-withTypes c s = state (s .at) (s .key) (s .client) (s .left) (s .right) (s .info) (s .text) (s .parent) c (s .len) (s .keys)
+abbrev pub typesMoved : Numbers → State → State
+typesMoved c s = state (s .at) (s .key) (s .client) (s .left) (s .right) (s .info) (s .text) (s .parent) c (s .len) (s .keys)
 
 abbrev pub withKeys : List Part → State → State
 withKeys ps s = state (s .at) (s .key) (s .client) (s .left) (s .right) (s .info) (s .text) (s .parent) (s .types) (s .len) ps

@@ -15,7 +15,7 @@ use Rattle.numbers.specs.NumberInner.{whyRead}
 use Rattle.numbers.specs.Limits.{maxClock, maxValue, maxClients}
 use Rattle.ranges.specs.Ranges.{Range}
 use Rattle.grammar.specs.Grammar.{Grammar}
-use Rattle.grammar.specs.GrammarInner.{_>>=_}
+use Rattle.grammar.specs.Grammar.{_>>=_}
 use Rattle.grammar.specs.Course.{Drawn, got, not, Reader, stopped, onDrawn, run}
 use Rattle.grammar.specs.Deletes.{ranges, deletedClients, allRanges}
 use Rattle.decoder.specs.Line.{numberAt, varAt, bounded, upTo, restored, deleteAt, numberBy, line}

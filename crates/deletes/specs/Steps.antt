@@ -12,7 +12,7 @@ use Rattle.ranges.specs.Ranges.{Range}
 use Rattle.ranges.specs.Table.{range}
 use Rattle.ranges.specs.TableInner.{rowsFrom, Fine, AllFine}
 use Rattle.grammar.specs.Grammar.{Grammar}
-use Rattle.grammar.specs.GrammarInner.{_>>=_}
+use Rattle.grammar.specs.Grammar.{_>>=_}
 use Rattle.grammar.specs.Course.{Course, thing, over, stopped, run, things, ending}
 use Rattle.grammar.specs.Deletes.{ranges, deletedClients}
 use Rattle.decoder.specs.Line.{line}

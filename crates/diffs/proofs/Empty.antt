@@ -7,7 +7,7 @@ use Rattle.numbers.specs.Number.{spelt, answerAt, readUnsigned}
 use Rattle.numbers.specs.Output.{padded}
 use Rattle.block.specs.declared.Block.{Block}
 use Rattle.grammar.specs.Grammar as grammar
-use Rattle.grammar.specs.GrammarInner as grammar-inner
+use Rattle.grammar.specs.Grammar as grammar-inner
 use Rattle.grammar.specs.Course.{onDrawn, run}
 use Rattle.decoder.specs.Line.{numberAt, varAt, bounded, upTo, numberBy, line}
 use Rattle.vector.specs.Vector.{entries, aVector, vectorOf}

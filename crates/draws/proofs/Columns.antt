@@ -14,7 +14,7 @@ use Rattle.string.proofs.Steps.{GivesNumbers, GivesDifferences, GivesBytes, Giv
 use Rattle.grammar.specs.Grammar as grammar
 use Rattle.grammar.specs.Course.{got}
 use Rattle.decoder.specs.Line.{numberBy, line}
-use Rattle.decoder.specs.States.{State, movedTo, withClient, withLeft, withRight, withInfo, withText, withParent, withTypes, withLen}
+use Rattle.decoder.specs.States.{State, movedTo, clientMoved, leftMoved, rightMoved, infoMoved, textMoved, parentMoved, typesMoved, lenMoved}
 use Rattle.decoder.specs.Columned.{numberDrawn, differenceDrawn, byteDrawn, textDrawn, onto, numberIn, textIn, columned}
 use Rattle.leftover.specs.Leftover.{columnsAt}
 use Rattle.leftover.specs.LeftoverInner.{Spent}
@@ -72,7 +72,7 @@ module _ (u : List ℕ) (s : State) (ks : List (List ℕ)) (v : ℕ) (ts : List 
   client-drawn l h =
       let d = h .client in (
         d .0 .from,
-        withClient (record { place = d .0; to = s .client .to }) s,
+        clientMoved (record { place = d .0; to = s .client .to }) s,
         rw (d .1),
         record { key = h .key; client = d .2; left = h .left; right = h .right; info = h .info; text = h .text; within = h .within; parent = h .parent; types = h .types; len = h .len; rest = h .rest; known = h .known; ends = h .ends },
       )
@@ -82,7 +82,7 @@ module _ (u : List ℕ) (s : State) (ks : List (List ℕ)) (v : ℕ) (ts : List 
   left-drawn l h =
       let d = h .left in (
         d .0 .from,
-        withLeft (record { place = d .0; to = s .left .to }) s,
+        leftMoved (record { place = d .0; to = s .left .to }) s,
         rw (d .1),
         record { key = h .key; client = h .client; left = d .2; right = h .right; info = h .info; text = h .text; within = h .within; parent = h .parent; types = h .types; len = h .len; rest = h .rest; known = h .known; ends = h .ends },
       )
@@ -92,7 +92,7 @@ module _ (u : List ℕ) (s : State) (ks : List (List ℕ)) (v : ℕ) (ts : List 
   right-drawn l h =
       let d = h .right in (
         d .0 .from,
-        withRight (record { place = d .0; to = s .right .to }) s,
+        rightMoved (record { place = d .0; to = s .right .to }) s,
         rw (d .1),
         record { key = h .key; client = h .client; left = h .left; right = d .2; info = h .info; text = h .text; within = h .within; parent = h .parent; types = h .types; len = h .len; rest = h .rest; known = h .known; ends = h .ends },
       )
@@ -102,7 +102,7 @@ module _ (u : List ℕ) (s : State) (ks : List (List ℕ)) (v : ℕ) (ts : List 
   info-drawn l h =
       let d = h .info in (
         d .0 .from,
-        withInfo (record { place = d .0; to = s .info .to }) s,
+        infoMoved (record { place = d .0; to = s .info .to }) s,
         rw (d .1),
         record { key = h .key; client = h .client; left = h .left; right = h .right; info = d .2; text = h .text; within = h .within; parent = h .parent; types = h .types; len = h .len; rest = h .rest; known = h .known; ends = h .ends },
       )
@@ -112,7 +112,7 @@ module _ (u : List ℕ) (s : State) (ks : List (List ℕ)) (v : ℕ) (ts : List 
   parent-drawn l h =
       let d = h .parent in (
         d .0 .from,
-        withParent (record { place = d .0; to = s .parent .to }) s,
+        parentMoved (record { place = d .0; to = s .parent .to }) s,
         rw (d .1),
         record { key = h .key; client = h .client; left = h .left; right = h .right; info = h .info; text = h .text; within = h .within; parent = d .2; types = h .types; len = h .len; rest = h .rest; known = h .known; ends = h .ends },
       )
@@ -122,7 +122,7 @@ module _ (u : List ℕ) (s : State) (ks : List (List ℕ)) (v : ℕ) (ts : List 
   type-drawn l h =
       let d = h .types in (
         d .0 .from,
-        withTypes (record { place = d .0; to = s .types .to }) s,
+        typesMoved (record { place = d .0; to = s .types .to }) s,
         rw (d .1),
         record { key = h .key; client = h .client; left = h .left; right = h .right; info = h .info; text = h .text; within = h .within; parent = h .parent; types = d .2; len = h .len; rest = h .rest; known = h .known; ends = h .ends },
       )
@@ -132,8 +132,8 @@ module _ (u : List ℕ) (s : State) (ks : List (List ℕ)) (v : ℕ) (ts : List 
   len-drawn l h =
       let d = h .len in (
         d .0 .from,
-        withLen (record { place = d .0; to = s .len .to }) s,
-        rw (d .1) (bounded-in maxClock v (d .0 .from) (withLen (record { place = d .0; to = s .len .to }) s) l),
+        lenMoved (record { place = d .0; to = s .len .to }) s,
+        rw (d .1) (bounded-in maxClock v (d .0 .from) (lenMoved (record { place = d .0; to = s .len .to }) s) l),
         record { key = h .key; client = h .client; left = h .left; right = h .right; info = h .info; text = h .text; within = h .within; parent = h .parent; types = h .types; len = d .2; rest = h .rest; known = h .known; ends = h .ends },
       )
 
@@ -154,7 +154,7 @@ text-drawn u s ks b n ts e h =
     let t = h .text in
     let held = subst (TextHeld (take (s .text .to) u)) (t .2) (text-held (take (s .text .to) u) (s .text .place) (h .within)) in (
       t .0,
-      withText (record { place = t .1; to = s .text .to }) s,
+      textMoved (record { place = t .1; to = s .text .to }) s,
       rw (t .2, ← e, ← t .4),
       front-part (s .text .to) u (t .0) (held .0 .lies) ∙ t .3,
       record { key = h .key; client = h .client; left = h .left; right = h .right; info = h .info; text = t .5; within = held .1; parent = h .parent; types = h .types; len = h .len; rest = h .rest; known = h .known; ends = h .ends },

@@ -7,7 +7,7 @@ use native.Mathlib.Omega.{arith}
 use lib.ListN.{length, take}
 use lib.Seq.{length-take-le}
 use Rattle.text.specs.Utf8.{after, settled, wellFormed}
-use Rattle.runs.specs.declared.Column.the-variants.{Number, Difference, Byte}
+use Rattle.runs.specs.declared.ColumnKind.the-variants.{Number, Difference, Byte}
 use Rattle.runs.specs.Runs.{coding, why, columnOf}
 use Rattle.string.specs.declared.Place as string-place
 use Rattle.string.specs.declared.Opened.the-variants.{At}

@@ -12,7 +12,7 @@ use Rattle.text.specs.Utf8.{unitsOf}
 use Rattle.block.specs.Row.{noPart}
 use Rattle.grammar.specs.Grammar as grammar
 use Rattle.grammar.specs.Course.{got}
-use Rattle.decoder.specs.States.{maxKeys, Differences, State, withKey, withKeys}
+use Rattle.decoder.specs.States.{maxKeys, Differences, State, keyMoved, withKeys}
 use Rattle.decoder.specs.Columned.{differenceDrawn, joining, keyByNumber as byKey, keyIn, columned}
 use Rattle.readings.specs.Sound.{bytesIn}
 use Rattle.readings.proofs.Columns.{clash}
@@ -29,7 +29,7 @@ use Rattle.draws.proofs.Values.{textsOf}
 
 -- its number is drawn
 number-drawn : (u : List ℕ) (s : State) (ks : List (List ℕ)) (v : ℕ) (ts : List Token) → Holds u s ks (field keys v ∷ ts)
-    → (p : ℕ) × (c : Differences) × (keyIn u s ≡ byKey u (got (v, p) (withKey c s))) × Holds u (withKey c s) ks ts
+    → (p : ℕ) × (c : Differences) × (keyIn u s ≡ byKey u (got (v, p) (keyMoved c s))) × Holds u (keyMoved c s) ks ts
 unfolding taken takenAll textsOf keyIn differenceDrawn
 number-drawn u s ks v ts h =
     let d = h .key in (
@@ -54,7 +54,7 @@ module _ (u : List ℕ) (s : State) (ks : List (List ℕ)) (b : List ℕ) (n : �
   unfolding columned byKey
   known-drawn e h =
       let d = number-drawn u s ks (keyNumber b ks) ts h in
-      let m : State = withKey (d .1) s in
+      let m : State = keyMoved (d .1) s in
       let size : length ks ≡ length (s .keys) = ap length (sym (h .known)) ∙ each-length u (s .keys) in
       let low : ltb (keyNumber b ks) (length (s .keys)) ≡ true = subst (λ (l : ℕ). ltb (keyNumber b ks) l ≡ true) size e in
       let here = subst (λ (l : List (List ℕ)). keyNumber b l < length (s .keys) → bytesIn u (getD (s .keys) (keyNumber b l) noPart) ≡ b) (h .known)
@@ -66,7 +66,7 @@ module _ (u : List ℕ) (s : State) (ks : List (List ℕ)) (b : List ℕ) (n : �
   unfolding columned byKey joining
   new-drawn e f w h =
       let d = number-drawn u s ks (keyNumber b ks) (text b n ∷ ts) h in
-      let t = text-drawn u (withKey (d .1) s) ks b n ts w (d .3) in
+      let t = text-drawn u (keyMoved (d .1) s) ks b n ts w (d .3) in
       let size : length ks ≡ length (s .keys) = ap length (sym (h .known)) ∙ each-length u (s .keys) in
       let high : ltb (keyNumber b ks) (length (s .keys)) ≡ false = subst (λ (l : ℕ). ltb (keyNumber b ks) l ≡ false) size e in
       let room : ltb (length (s .keys)) maxKeys ≡ true = subst (λ (l : ℕ). ltb l maxKeys ≡ true) size (free (ltb (length ks) maxKeys) f) in

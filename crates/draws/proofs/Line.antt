@@ -8,7 +8,7 @@ use lib.ListN.{length}
 use Rattle.numbers.specs.Number.{unsigned}
 use Rattle.text.specs.Utf8.{wellFormed, unitsOf}
 use Rattle.grammar.specs.Grammar as grammar
-use Rattle.grammar.specs.Course.{got, Run, thing, over, stopped, run, ending}
+use Rattle.grammar.specs.Course.{got, CourseTo, thing, over, stopped, run, ending}
 use Rattle.grammar.specs.Blocks.{allBlocks}
 use Rattle.decoder.specs.Line.{upTo, numberBy, checked, wordOf, line}
 use Rattle.decoder.specs.Update.{blocksOf}
@@ -112,7 +112,7 @@ unfolding line numberBy upTo
 lined form u = record { bounds = λ n at. refl; any = λ v p at m e. e }
 
 -- form 1 has no columns
-ending-none : {S E A : Type 0} (c : Run S E A) → _≡_ {A = List Stretch} (ending c (λ s. []) (λ why. [])) []
+ending-none : {S E A : Type 0} (c : CourseTo S E A) → _≡_ {A = List Stretch} (ending c (λ s. []) (λ why. [])) []
 unfolding ending
 ending-none (thing e p c) = ending-none c
 ending-none (over a s) = refl

@@ -8,7 +8,7 @@ use lib.Dec.{eqb}
 use lib.ListN.{length}
 use borrow.Author.Tests.{le-leb}
 use Rattle.numbers.specs.Limits.{maxValue, maxClock, maxCount}
-use Rattle.runs.specs.declared.Column.the-variants.{Number, Difference, Byte}
+use Rattle.runs.specs.declared.ColumnKind.the-variants.{Number, Difference, Byte}
 use Rattle.runs.specs.Runs.{Coding, within, overFits, storable, spellable, why, fitsLessTwo, fitsLessOne, coding}
 use Rattle.readings.proofs.Columns.{chosen}
 

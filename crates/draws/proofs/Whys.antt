@@ -8,7 +8,7 @@ use native.Mathlib.Omega.{arith}
 use lib.ListN.{length}
 use Rattle.numbers.specs.Number.{pick}
 use Rattle.numbers.specs.Limits.{maxValue, maxClock, maxCount}
-use Rattle.runs.specs.declared.Column.the-variants.{Number, Difference, Byte}
+use Rattle.runs.specs.declared.ColumnKind.the-variants.{Number, Difference, Byte}
 use Rattle.runs.specs.Runs.{coding, spellable, why}
 use Rattle.tokens.specs.Tokens.{Token, takenAll, inLine, keys, clients, lefts, rights, infos, texts, units, parents, types, lens, whole}
 use Rattle.tokens.specs.Keys.{numbered}

@@ -8,15 +8,15 @@ use lib.Dec.{ltb}
 use lib.ListN.{length, take}
 use Rattle.numbers.specs.Number.{pick}
 use Rattle.numbers.specs.Limits.{maxCount}
-use Rattle.runs.specs.declared.Column.the-variants.{Number, Difference, Byte}
+use Rattle.runs.specs.declared.ColumnKind.the-variants.{Number, Difference, Byte}
 use Rattle.runs.specs.Runs.{columnOf}
 use Rattle.string.specs.String.{textHead, textColumn}
 use Rattle.string.proofs.TextTrip.{joined, unitsEach}
 use Rattle.grammar.specs.Grammar as grammar
-use Rattle.grammar.specs.GrammarInner.{_>>=_}
+use Rattle.grammar.specs.Grammar.{_>>=_}
 use Rattle.grammar.specs.Course.{Drawn, got, not, onDrawn, run}
 use Rattle.decoder.specs.Line.{upTo, bounded, varAt, numberBy, line}
-use Rattle.decoder.specs.States.{State, movedTo, withText}
+use Rattle.decoder.specs.States.{State, movedTo, textMoved}
 use Rattle.decoder.specs.Columned.{onto, numberIn, columned}
 use Rattle.decoder.specs.Opening.{heads, standing, withOpened, textOpened, onHeads, openedOf}
 use Rattle.decoder.specs.Update.{restPlaces, inColumns, blocksOf}
@@ -64,7 +64,7 @@ module _ (ts : List Token) (t : Texted ts) (w : Whys ts) (u : List ℕ) (l : len
 
   abbrev openedState : State
   openedState =
-      withText (record { place = texts-opened .place; to = from5 + length (textsWritten ts) })
+      textMoved (record { place = texts-opened .place; to = from5 + length (textsWritten ts) })
       (standing (partsIn u (takenAll rest ts) (columns ts) 1 x) (endIn u (takenAll rest ts) (columns ts) 1 x))
 
   opens : From u 0 (0 ∷ ledAll (columns ts) (takenAll rest ts)) → openedOf u ≡ got tt openedState

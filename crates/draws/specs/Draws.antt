@@ -14,7 +14,7 @@ use Rattle.anys.specs.declared.Skipped.the-variants.{At}
 use Rattle.anys.specs.Any.{anys}
 use Rattle.grammar.specs.Grammar as grammar
 use Rattle.grammar.specs.Grammar.{Number}
-use Rattle.grammar.specs.Course.{got, Reader, Run, thing, over, Course, run, ending}
+use Rattle.grammar.specs.Course.{got, Reader, CourseTo, thing, over, Course, run, ending}
 use Rattle.grammar.specs.Blocks.{allBlocks}
 use Rattle.decoder.specs.Line.{bounded, line}
 use Rattle.decoder.specs.Update.{blocksOf}
@@ -100,8 +100,8 @@ pub record DrawnAgain (form : ℕ) (u : List ℕ) (ts : List Token) : Type 1 whe
   pub last : State
   pub drawn : Draws reader u first ts last
   -- a reading that leaves, of its last state, the place
-  pub leave : Run State Block (Unit {0}) → Course Block
-  pub leaves : (b : Block) (p : ℕ) (c : Run State Block (Unit {0})) → leave (thing b p c) ≡ thing b p (leave c)
+  pub leave : CourseTo State Block (Unit {0}) → Course Block
+  pub leaves : (b : Block) (p : ℕ) (c : CourseTo State Block (Unit {0})) → leave (thing b p c) ≡ thing b p (leave c)
   pub leaves-over : (s : State) → leave (over tt s) ≡ over tt (place s)
   pub blocks : blocksOf form u ≡ leave (run reader allBlocks first)
   -- what is left of the columns at a state, which a number without a column does not change; at the last nothing is, and it is the end

@@ -15,7 +15,7 @@ use Rattle.block.specs.Row.{noBlock, noPart}
 use Rattle.grammar.specs.Grammar as grammar
 use Rattle.grammar.specs.Grammar.{Number, Field, Answer, Grammar, ask, emit, stop, done}
 use Rattle.grammar.specs.Blocks.{allBlocks}
-use Rattle.grammar.specs.Course.{Drawn, got, not, Run, onDrawn, run}
+use Rattle.grammar.specs.Course.{Drawn, got, not, CourseTo, onDrawn, run}
 use Rattle.decoder.specs.States.{State}
 use Rattle.decoder.specs.Columned.{columned}
 use Rattle.decoder.specs.ColumnedInner.{fields}
@@ -315,7 +315,7 @@ opened-clock : (form : ℕ) (u : List ℕ) (n : ℕ) → form ≢ 1 → (d : Dra
 unfolding onOpened onDrawn followed
 opened-clock form u n other (got a s) =
     subst (λ (ls : List Line). Says ls (nth n (restPlaces (run (columned u) allBlocks s)))) (column-found form u other allBlocks start blank n s)
-    (subst (λ (c : Run State Block (Unit {0})). Says (followed form u n s) (nth n (restPlaces c))) (run-columned form u other allBlocks s) (followed-clock form u n s))
+    (subst (λ (c : CourseTo State Block (Unit {0})). Says (followed form u n s) (nth n (restPlaces c))) (run-columned form u other allBlocks s) (followed-clock form u n s))
 opened-clock form u n other (not why) = λ no. absurd (no refl)
 
 columned-clock : (form : ℕ) (u : List ℕ) (n : ℕ) → form ≢ 1 → Says (explanation form u n) (nth n (blocksOf form u))
@@ -328,5 +328,5 @@ clock-is form u n = go (eqb form 1) refl
   where
     go : (x : Bool) → eqb form 1 ≡ x → Says (explanation form u n) (nth n (blocksOf form u))
     go true e = subst (λ (ls : List Line). Says ls (nth n (blocksOf form u))) (line-explains form u [] (eqb-true form 1 e) at-first n)
-        (subst (λ (c : Run ℕ Block (Unit {0})). Says (followed form u n (stateIn [])) (nth n c)) (sym (first-byte form u [] (eqb-true form 1 e) at-first)) (followed-clock form u n (stateIn [])))
+        (subst (λ (c : CourseTo ℕ Block (Unit {0})). Says (followed form u n (stateIn [])) (nth n c)) (sym (first-byte form u [] (eqb-true form 1 e) at-first)) (followed-clock form u n (stateIn [])))
     go false e = columned-clock form u n (eqb-false form 1 e)

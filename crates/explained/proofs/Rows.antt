@@ -18,7 +18,7 @@ use Rattle.string.specs.String.{nextText}
 use Rattle.grammar.specs.Grammar as grammar
 use Rattle.grammar.specs.Grammar.{Number, Answer}
 use Rattle.grammar.specs.Course.{Drawn, got, not}
-use Rattle.decoder.specs.States.{State, Texts, withText}
+use Rattle.decoder.specs.States.{State, Texts, textMoved}
 use Rattle.decoder.specs.Columned.{textDrawn, columned}
 use Rattle.decoder.specs.ColumnedInner.{fields}
 use Rattle.decoder.proofs.Laws.{fields-columned}
@@ -104,7 +104,7 @@ module _ (form : ℕ) (u : List ℕ) where
     where
       go : (x : Bool) → eqb form 1 ≡ x → rowBy (pick x (linesInLine code grammar.text a (s .at) (t .at)) (linesIn u code grammar.text a s t)) b ≡ rowed code (heard grammar.text a .0) (partOf grammar.text a) b
       go true ex = refl
-      go false ex = ap (λ (n : ℕ). rowed code n (a .0) b) (units-drawn (λ c. withText c s) (s .text .to) (nextText (take (s .text .to) u) (s .text .place)) (λ c. refl) a t (sym (fields-columned form u (eqb-false form 1 ex) grammar.text s) ∙ e))
+      go false ex = ap (λ (n : ℕ). rowed code n (a .0) b) (units-drawn (λ c. textMoved c s) (s .text .to) (nextText (take (s .text .to) u) (s .text .place)) (λ c. refl) a t (sym (fields-columned form u (eqb-false form 1 ex) grammar.text s) ∙ e))
 
   key-row : (code : ℕ) (a : Part) (s t : State) (b : Block) → ((v : ℕ) → rowed code v a b ≡ rowed code 0 a b) → rowBy (linesOf form u code grammar.key a s t) b ≡ rowed code 0 a b
   unfolding linesOf linesIn lineAt storedLine textLine keyLine keyLines rowBy rowed headRow idRow contentRow nameRow

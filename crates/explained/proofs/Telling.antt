@@ -11,7 +11,7 @@ use Rattle.block.specs.declared.Block.{Block}
 use Rattle.block.specs.Row.{noBlock, noPart}
 use Rattle.block.specs.Rows.{plain}
 use Rattle.grammar.specs.Grammar.{Field, Answer, Grammar, ask, emit, stop, done}
-use Rattle.grammar.specs.Course.{Drawn, got, not, Run, thing, over, stopped, onDrawn, run}
+use Rattle.grammar.specs.Course.{Drawn, got, not, CourseTo, thing, over, stopped, onDrawn, run}
 use Rattle.decoder.specs.States.{State}
 use Rattle.decoder.specs.ColumnedInner.{fields}
 use Rattle.roles.specs.declared.Role.{Role}
@@ -206,7 +206,7 @@ settled-goes q = go (isEnded q) refl
 -- ---- all that is read
 
 -- kept block n of a run, from 0; the row that has none where there are not so many
-unfoldable pub nthIn : {S : Type 0} → ℕ → Run S Block (Unit {0}) → Block
+unfoldable pub nthIn : {S : Type 0} → ℕ → CourseTo S Block (Unit {0}) → Block
 nthIn zero (thing b p c) = b
 nthIn (suc n) (thing b p c) = nthIn n c
 nthIn n (over a s) = noBlock

@@ -9,7 +9,7 @@ use borrow.Author.Tests.{eqb-true, eqb-false, ne-eqb}
 use Rattle.block.specs.declared.Block.{Block}
 use Rattle.block.specs.Row.{noBlock}
 use Rattle.grammar.specs.Blocks.{allBlocks}
-use Rattle.grammar.specs.Course.{Drawn, got, not, Run, thing, over, stopped, onDrawn, run}
+use Rattle.grammar.specs.Course.{Drawn, got, not, CourseTo, thing, over, stopped, onDrawn, run}
 use Rattle.decoder.specs.States.{State}
 use Rattle.decoder.specs.Columned.{columned}
 use Rattle.decoder.specs.ColumnedInner.{fields}
@@ -27,7 +27,7 @@ use Rattle.explainer.proofs.Forms.{column-found, first-byte, line-explains}
 use Rattle.explained.specs.Told.{Values-are-fields}
 use Rattle.explained.proofs.Telling.{Tells-row, nthIn, rows}
 
-pub nth-placed : (n : ℕ) (c : Run State Block (Unit {0})) → nthIn n c ≡ nth n (restPlaces c)
+pub nth-placed : (n : ℕ) (c : CourseTo State Block (Unit {0})) → nthIn n c ≡ nth n (restPlaces c)
 unfolding nthIn nth restPlaces
 nth-placed zero (thing b p c) = refl
 nth-placed (suc n) (thing b p c) = nth-placed n c
@@ -44,7 +44,7 @@ followed-row form u n s = rows form u allBlocks start noBlock blank n s (all-fit
 opened-row : (form : ℕ) (u : List ℕ) (n : ℕ) → form ≢ 1 → (d : Drawn State (Unit {0})) → rowOf (onOpened u n d) ≡ nth n (restPlaces (onDrawn d (λ _ s. run (columned u) allBlocks s)))
 unfolding onOpened onDrawn followed rowBy restPlaces nth
 opened-row form u n other (got a s) =
-    sym (ap rowOf (column-found form u other allBlocks start blank n s)) ∙ followed-row form u n s ∙ ap (λ (c : Run State Block (Unit {0})). nth n (restPlaces c)) (run-columned form u other allBlocks s)
+    sym (ap rowOf (column-found form u other allBlocks start blank n s)) ∙ followed-row form u n s ∙ ap (λ (c : CourseTo State Block (Unit {0})). nth n (restPlaces c)) (run-columned form u other allBlocks s)
 opened-row form u zero other (not why) = refl
 opened-row form u (suc n) other (not why) = refl
 

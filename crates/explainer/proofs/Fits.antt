@@ -12,7 +12,7 @@ use Rattle.block.specs.declared.Block.{Block}
 use Rattle.block.specs.Row.{noPart}
 use Rattle.grammar.specs.Grammar as grammar
 use Rattle.grammar.specs.Grammar.{Number, Field, Answer, Grammar, ask, emit, stop, done}
-use Rattle.grammar.specs.GrammarInner.{_>>=_}
+use Rattle.grammar.specs.Grammar.{_>>=_}
 use Rattle.roles.specs.declared.Role.the-variants as role
 use Rattle.roles.specs.declared.Plan.{Plan}
 use Rattle.roles.specs.Roles.{codeOf, after, onward, movedOn, isEnded, blockRole, sectionRole}

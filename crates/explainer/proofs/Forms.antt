@@ -8,7 +8,7 @@ use borrow.Author.Tests.{ne-eqb}
 use Rattle.block.specs.declared.Block.{Block}
 use Rattle.grammar.specs.Grammar.{Field, Answer, Grammar, ask, emit, stop, done}
 use Rattle.grammar.specs.Blocks.{allBlocks}
-use Rattle.grammar.specs.Course.{Drawn, got, not, Run, thing, over, stopped, onDrawn, ending, run}
+use Rattle.grammar.specs.Course.{Drawn, got, not, CourseTo, thing, over, stopped, onDrawn, ending, run}
 use Rattle.decoder.specs.Line.{line}
 use Rattle.decoder.specs.States.{State, movedTo}
 use Rattle.decoder.specs.Columned.{onto, columned}
@@ -77,7 +77,7 @@ module _ (form : ℕ) (u : List ℕ) (other : form ≢ 1) where
 
 -- ---- whole
 
-whole-placed : {E A : Type 0} (c : Run State E A) → isWhole (restPlaces c) ≡ isWhole c
+whole-placed : {E A : Type 0} (c : CourseTo State E A) → isWhole (restPlaces c) ≡ isWhole c
 unfolding isWhole ending restPlaces
 whole-placed (thing e p c) = whole-placed c
 whole-placed (over a s) = refl

@@ -14,7 +14,7 @@ use Rattle.block.specs.Row.{noPart}
 use Rattle.block.specs.Rows.{plain, withLeft, withRight, withParent, withName, withKey, withMark, withType, withContent}
 use Rattle.block.specs.Kinds.{GC, SKIP, TYPE, isItem, isNamed, maxType}
 use Rattle.grammar.specs.Grammar.{Grammar, ask, emit, stop, done}
-use Rattle.grammar.specs.GrammarInner.{_>>=_}
+use Rattle.grammar.specs.Grammar.{_>>=_}
 use Rattle.grammar.specs.Grammar as grammar
 use Rattle.grammar.specs.Blocks as blocks
 use Rattle.roles.specs.declared.Role.{Role}

@@ -6,7 +6,7 @@ use mathlib.Core.Bool.{Bool, true, false}
 use mathlib.Core.List.{List}
 use lib.Dec.{eqb}
 use Rattle.numbers.specs.Number.{pick}
-use Rattle.grammar.specs.Course.{Run, ending, run}
+use Rattle.grammar.specs.Course.{CourseTo, ending, run}
 use Rattle.grammar.specs.Blocks.{allBlocks}
 use Rattle.decoder.specs.States.{State}
 use Rattle.decoder.specs.ColumnedInner.{fields}
@@ -21,7 +21,7 @@ use Rattle.explainer.specs.Watch.{watch}
 use Rattle.explainer.specs.Explanation.{clockLine, found, blank}
 
 -- it does not end in a refusal
-unfoldable pub isWhole : {S E A : Type 0} → Run S E A → Bool
+unfoldable pub isWhole : {S E A : Type 0} → CourseTo S E A → Bool
 isWhole c = ending c (λ s. true) (λ why. false)
 
 -- all blocks of the update can be read

@@ -24,7 +24,7 @@ use Rattle.grammar.specs.Grammar as grammar
 use Rattle.grammar.specs.Grammar.{Field}
 use Rattle.grammar.specs.Course as course
 use Rattle.decoder.specs.Line.{numberAt, varAt, bounded, upTo, byteAt, soMany, bytesAt, checked, line, numberBy}
-use Rattle.decoder.specs.States.{Texts, State, movedTo, withClient, withLeft, withRight, withInfo, withText, withParent, withLen}
+use Rattle.decoder.specs.States.{Texts, State, movedTo, clientMoved, leftMoved, rightMoved, infoMoved, textMoved, parentMoved, lenMoved}
 use Rattle.decoder.specs.Columned.{onto, numberIn, columned}
 use Rattle.decoder.specs.ColumnedInner.{fields}
 use Rattle.decoder.proofs.Laws.{fields-columned}
@@ -197,15 +197,15 @@ module _ (form : ℕ) (u w v : List ℕ) (other : form ≢ 1) (r : Drawn) where
 
   pub client-drawn : NumberDrawn u 1 w v r → From grammar.client
   unfolding columned numberIn stateIn
-  client-drawn d = number-onto u w v 1 r (λ c. withClient c (stateIn w)) (state-client w v (d .1)) d ∙ sym (fields-columned form u other (grammar.number grammar.client) (stateIn w))
+  client-drawn d = number-onto u w v 1 r (λ c. clientMoved c (stateIn w)) (state-client w v (d .1)) d ∙ sym (fields-columned form u other (grammar.number grammar.client) (stateIn w))
 
   pub left-drawn : DifferenceDrawn u 2 w v r → From grammar.leftClock
   unfolding columned numberIn stateIn
-  left-drawn d = difference-onto u w v 2 r (λ c. withLeft c (stateIn w)) (state-left w v (d .1)) d ∙ sym (fields-columned form u other (grammar.number grammar.leftClock) (stateIn w))
+  left-drawn d = difference-onto u w v 2 r (λ c. leftMoved c (stateIn w)) (state-left w v (d .1)) d ∙ sym (fields-columned form u other (grammar.number grammar.leftClock) (stateIn w))
 
   pub right-drawn : DifferenceDrawn u 3 w v r → From grammar.rightClock
   unfolding columned numberIn stateIn
-  right-drawn d = difference-onto u w v 3 r (λ c. withRight c (stateIn w)) (state-right w v (d .1)) d ∙ sym (fields-columned form u other (grammar.number grammar.rightClock) (stateIn w))
+  right-drawn d = difference-onto u w v 3 r (λ c. rightMoved c (stateIn w)) (state-right w v (d .1)) d ∙ sym (fields-columned form u other (grammar.number grammar.rightClock) (stateIn w))
 
   -- the clock whose column is k
   pub clock-drawn : (k : ℕ) → Narrow k → DifferenceDrawn u k w v r → From (clockAt k)
@@ -221,17 +221,17 @@ module _ (form : ℕ) (u w v : List ℕ) (other : form ≢ 1) (r : Drawn) where
 
   pub info-drawn : ByteDrawn u 4 w v r → From grammar.info
   unfolding columned numberIn stateIn
-  info-drawn d = byte-onto u w v 4 r (λ c. withInfo c (stateIn w)) (state-info w v (d .1)) d ∙ sym (fields-columned form u other (grammar.number grammar.info) (stateIn w))
+  info-drawn d = byte-onto u w v 4 r (λ c. infoMoved c (stateIn w)) (state-info w v (d .1)) d ∙ sym (fields-columned form u other (grammar.number grammar.info) (stateIn w))
 
   pub parent-drawn : ByteDrawn u 6 w v r → From grammar.parentInfo
   unfolding columned numberIn stateIn
-  parent-drawn d = byte-onto u w v 6 r (λ c. withParent c (stateIn w)) (state-parent w v (d .1)) d ∙ sym (fields-columned form u other (grammar.number grammar.parentInfo) (stateIn w))
+  parent-drawn d = byte-onto u w v 6 r (λ c. parentMoved c (stateIn w)) (state-parent w v (d .1)) d ∙ sym (fields-columned form u other (grammar.number grammar.parentInfo) (stateIn w))
 
   -- a length is a clock
   pub len-drawn : NumberDrawn u 8 w v r → bounded maxClock (given v r) ≡ fields form u (grammar.number grammar.len) (stateIn w)
   unfolding columned numberIn stateIn
   len-drawn d =
-      ap (bounded maxClock) (number-onto u w v 8 r (λ c. withLen c (stateIn w)) (state-len w v (d .1)) d)
+      ap (bounded maxClock) (number-onto u w v 8 r (λ c. lenMoved c (stateIn w)) (state-len w v (d .1)) d)
       ∙ sym (fields-columned form u other (grammar.number grammar.len) (stateIn w))
 
   module _ (k : ℕ) (before q : List ℕ) where
@@ -244,6 +244,6 @@ module _ (form : ℕ) (u w v : List ℕ) (other : form ≢ 1) (r : Drawn) where
     unfolding columned stateIn
     text-drawn d =
         let c = textsIn w 5 in
-        let f : Texts → State = λ c. withText c (stateIn w) in
+        let f : Texts → State = λ c. textMoved c (stateIn w) in
         texts-given f r (state-text w v (d .1)) ∙ ap (mapped f) (d .3) ∙ text-mapped (c .to) f (nextText (take (c .to) u) (c .place))
         ∙ sym (fields-columned form u other grammar.text (stateIn w))

@@ -6,7 +6,7 @@ use native.Mathlib.Omega.{arith}
 use lib.ListN.{length, take}
 use Rattle.numbers.specs.declared.Refusal.{Refusal}
 use Rattle.block.specs.declared.Block.{Block}
-use Rattle.grammar.specs.Course.{Course, Run, thing, over, stopped, things, ending}
+use Rattle.grammar.specs.Course.{Course, CourseTo, thing, over, stopped, things, ending}
 use Rattle.decoder.specs.States.{State}
 use Rattle.decoder.specs.Update.{restPlaces, blocksOf, deleteSet}
 use Rattle.readings.specs.Sound.{All}
@@ -52,13 +52,13 @@ module _ {E : Type 0} where
   ends-done (stopped w) at f g e = absurd (let z : _≡_ {A = ℕ} 0 1 = cc in omega arith)
 
 -- and how it ends up to a state's place
-placed-ends : (c : Run State Block (Unit {0})) → ending (restPlaces c) (λ at. checked.Done at) (λ w. checked.Refused w) ≡ endOf c
+placed-ends : (c : CourseTo State Block (Unit {0})) → ending (restPlaces c) (λ at. checked.Done at) (λ w. checked.Refused w) ≡ endOf c
 unfolding restPlaces ending endOf
 placed-ends (thing b p c) = placed-ends c
 placed-ends (over a s) = refl
 placed-ends (stopped why) = refl
 
-placed-items : (c : Run State Block (Unit {0})) → things (restPlaces c) ≡ things c
+placed-items : (c : CourseTo State Block (Unit {0})) → things (restPlaces c) ≡ things c
 unfolding restPlaces things
 placed-items (thing b p c) = ap (λ (l : List Block). b ∷ l) (placed-items c)
 placed-items (over a s) = refl
@@ -75,7 +75,7 @@ module _ (form : ℕ) (u : List ℕ) where
   unfolding toldOf ending
   not-begun w why g e h = tells-refused w why g (rw e) h
 
-  module _ (c : Run State Block (Unit {0})) (b : blocksOf form u ≡ restPlaces c) where
+  module _ (c : CourseTo State Block (Unit {0})) (b : blocksOf form u ≡ restPlaces c) where
     pub can-be : Ends (things c)
     can-be = subst Ends (ap things b ∙ placed-items c) (gatherable form u .ends)
 

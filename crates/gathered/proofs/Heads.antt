@@ -15,12 +15,12 @@ use Rattle.columns.specs.declared.number.Answer.the-variants as number
 use Rattle.columns.specs.Number.{nextNumber}
 use Rattle.grammar.specs.Grammar as grammar
 use Rattle.grammar.specs.Grammar.{Grammar, ask, stop, draw}
-use Rattle.grammar.specs.GrammarInner.{_>>=_}
+use Rattle.grammar.specs.Grammar.{_>>=_}
 use Rattle.grammar.specs.Course as course
 use Rattle.grammar.specs.Course.{stopped, run}
 use Rattle.grammar.specs.Blocks.{blocks, sections}
 use Rattle.decoder.specs.Line.{line, numberBy, upTo}
-use Rattle.decoder.specs.States.{Numbers, State, withClient}
+use Rattle.decoder.specs.States.{Numbers, State, clientMoved}
 use Rattle.decoder.specs.Columned.{onto, columned, numberIn, numberDrawn}
 use Rattle.decoder.specs.ColumnedInner.{fields}
 use Rattle.decoder.specs.Update.{restPlaces, blocksOf}
@@ -70,7 +70,7 @@ client-within form u s v x e = go (eqb form 1) e
     go true h = within maxValue u (s .at) s v x h
     go false h =
         let c = s .client in
-        omega (arith, ap value h, drawn-within (c .to) (nextNumber (take (c .to) u) (c .place)) (λ d. withClient d s) (number-held (take (c .to) u) (c .place)))
+        omega (arith, ap value h, drawn-within (c .to) (nextNumber (take (c .to) u) (c .place)) (λ d. clientMoved d s) (number-held (take (c .to) u) (c .place)))
 
 -- ---- a head
 

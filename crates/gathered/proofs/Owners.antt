@@ -10,7 +10,7 @@ use Rattle.block.specs.Rows.{plain}
 use Rattle.block.specs.Kinds.{maxType, isNamed}
 use Rattle.grammar.specs.Grammar as answers
 use Rattle.grammar.specs.Grammar.{Field, Answer, Number, Grammar, stop}
-use Rattle.grammar.specs.GrammarInner.{_>>=_}
+use Rattle.grammar.specs.Grammar.{_>>=_}
 use Rattle.grammar.specs.Course.{Drawn, got, not, Reader, run, things}
 use Rattle.grammar.specs.Blocks as grammar
 use Rattle.readings.specs.Sound.{All}

@@ -15,7 +15,7 @@ use Rattle.numbers.specs.Limits.{maxBlocks}
 use Rattle.numbers.proofs.Output.{take-sets}
 use Rattle.block.specs.declared.Block.{Block}
 use Rattle.grammar.specs.Course as course
-use Rattle.grammar.specs.Course.{Run, thing, over, stopped, run, things, ending}
+use Rattle.grammar.specs.Course.{CourseTo, thing, over, stopped, run, things, ending}
 use Rattle.grammar.specs.Blocks.{blocks, sections}
 use Rattle.grammar.proofs.Runs.{andThen, run-bind}
 use Rattle.decoder.specs.States.{State}
@@ -41,14 +41,14 @@ use Rattle.gathered.proofs.Clients.{or, descends-put, among-put, of-app
 
 -- ---- one run, and then another
 
-module _ (F : Unit {0} → State → Run State Block (Unit {0})) where
-  items-then : (c : Run State Block (Unit {0})) → things (andThen c F) ≡ things c ++ ending c (λ s. things (F tt s)) (λ _. [])
+module _ (F : Unit {0} → State → CourseTo State Block (Unit {0})) where
+  items-then : (c : CourseTo State Block (Unit {0})) → things (andThen c F) ≡ things c ++ ending c (λ s. things (F tt s)) (λ _. [])
   unfolding things andThen ending
   items-then (thing b p c) = ap (λ (l : List Block). b ∷ l) (items-then c)
   items-then (over a s) = refl
   items-then (stopped why) = refl
 
-  ending-then : {X : Type 0} (f : State → X) (g : Refusal → X) (c : Run State Block (Unit {0})) → ending (andThen c F) f g ≡ ending c (λ s. ending (F tt s) f g) g
+  ending-then : {X : Type 0} (f : State → X) (g : Refusal → X) (c : CourseTo State Block (Unit {0})) → ending (andThen c F) f g ≡ ending c (λ s. ending (F tt s) f g) g
   unfolding andThen ending
   ending-then f g (thing b p c) = ending-then f g c
   ending-then f g (over a s) = refl
@@ -56,13 +56,13 @@ module _ (F : Unit {0} → State → Run State Block (Unit {0})) where
 
 -- by how it ends
 module _ {X : Type 0} (f : State → X) (g : Refusal → X) where
-  ends-got : (c : Run State Block (Unit {0})) (s : State) → outcome c ≡ course.got tt s → ending c f g ≡ f s
+  ends-got : (c : CourseTo State Block (Unit {0})) (s : State) → outcome c ≡ course.got tt s → ending c f g ≡ f s
   unfolding outcome ending
   ends-got (thing b p c) s e = ends-got c s e
   ends-got (over a t) s e = ap f (let z : t ≡ s = cc in z)
   ends-got (stopped why) s e = absurd (let z : _≡_ {A = ℕ} 0 1 = cc in omega arith)
 
-  ends-not : (c : Run State Block (Unit {0})) (why : Refusal) → outcome c ≡ course.not why → ending c f g ≡ g why
+  ends-not : (c : CourseTo State Block (Unit {0})) (why : Refusal) → outcome c ≡ course.not why → ending c f g ≡ g why
   unfolding outcome ending
   ends-not (thing b p c) why e = ends-not c why e
   ends-not (over a t) why e = absurd (let z : _≡_ {A = ℕ} 0 1 = cc in omega arith)
@@ -205,7 +205,7 @@ opens form u w o seen room w₁ o₁ x k c t h e = subst (Headed form u w o seen
 
 -- ---- the walk: c is what was to come at first
 
-pub record Walked (form : ℕ) (u : List ℕ) (c : Run State Block (Unit {0})) (w rows order : List ℕ) (left room seen : ℕ) : Type 0 where
+pub record Walked (form : ℕ) (u : List ℕ) (c : CourseTo State Block (Unit {0})) (w rows order : List ℕ) (left room seen : ℕ) : Type 0 where
   pub blocks : List Block
   pub clients : List ℕ
   pub all : things c ≡ blocks ++ things (sectionsFrom form u left clients room w)
@@ -246,7 +246,7 @@ walk-begins form u w rows order n small few size words can =
       names = tt;
     }
 
-module _ (form : ℕ) (u : List ℕ) (c₀ : Run State Block (Unit {0})) (w rows order : List ℕ) (left room seen : ℕ) (i : Walked form u c₀ w rows order left room seen) where
+module _ (form : ℕ) (u : List ℕ) (c₀ : CourseTo State Block (Unit {0})) (w rows order : List ℕ) (left room seen : ℕ) (i : Walked form u c₀ w rows order left room seen) where
   refused-by : (why : Refusal) → outcome c₀ ≡ course.not why → Scans c₀ rows order (scanned.Refused why)
   unfolding Scans endOf
   refused-by why e = ends-not (λ s. checked.Done (s .at)) checked.Refused c₀ why e
@@ -256,7 +256,7 @@ module _ (form : ℕ) (u : List ℕ) (c₀ : Run State Block (Unit {0})) (w rows
   unfolding Scans endOf sectionsFrom sections run outcome ending things stateIn
   at-end z =
       let none : sectionsFrom form u left (i .clients) room w ≡ over tt (stateIn w) = ap (λ (n : ℕ). sectionsFrom form u n (i .clients) room w) (let y : left ≡ 0 = omega (arith, z) in y) in
-      let all : things c₀ ≡ i .blocks = i .all ∙ ap (λ (d : Run State Block (Unit {0})). i .blocks ++ things d) none ∙ append-nil (i .blocks) in
+      let all : things c₀ ≡ i .blocks = i .all ∙ ap (λ (d : CourseTo State Block (Unit {0})). i .blocks ++ things d) none ∙ append-nil (i .blocks) in
       let rows-are-in : rowsIn (length (i .clients)) rows ≡ map (rowOf (i .blocks)) (i .clients) =
       rows-are (length (i .clients)) rows (map (rowOf (i .blocks)) (i .clients)) (length-map (i .clients) (rowOf (i .blocks))) (ap (λ (n : ℕ). take (4 * n) rows) (i .count) ∙ i .table) in (
         omega (arith, i .few),
@@ -269,7 +269,7 @@ module _ (form : ℕ) (u : List ℕ) (c₀ : Run State Block (Unit {0})) (w rows
     one-more : left ≡ suc (left - 1)
     one-more = omega (arith, some)
 
-    at-head : {x : Run State Block (Unit {0})} → sectionsFrom form u (suc (left - 1)) (i .clients) room w ≡ x → sectionsFrom form u left (i .clients) room w ≡ x
+    at-head : {x : CourseTo State Block (Unit {0})} → sectionsFrom form u (suc (left - 1)) (i .clients) room w ≡ x → sectionsFrom form u left (i .clients) room w ≡ x
     at-head e = ap (λ (n : ℕ). sectionsFrom form u n (i .clients) room w) one-more ∙ e
 
     pub no-head : (w₁ o₁ : List ℕ) (x : Head) (why : Refusal) → Headed form u w order seen room w₁ o₁ x → x ≡ head.Refused why → Scans c₀ rows o₁ (scanned.Refused why)
@@ -278,7 +278,7 @@ module _ (form : ℕ) (u : List ℕ) (c₀ : Run State Block (Unit {0})) (w rows
         refused-by why (i .ends ∙ ap outcome (at-head (subst (Headed form u w order seen room w₁ o₁) e h (left - 1) (i .clients) (i .same))))
 
     module _ (w₁ o₁ : List ℕ) (k c t : ℕ) (o : Opens form u w order seen room w₁ o₁ k c t) where
-      then-come : Unit {0} → State → Run State Block (Unit {0})
+      then-come : Unit {0} → State → CourseTo State Block (Unit {0})
       then-come _ s = run (fields form u) (sections (left - 1) (i .clients ++ (c ∷ [])) (room - k)) s
 
       here : sectionsFrom form u left (i .clients) room w ≡ andThen (blocksFrom form u k c t w₁) then-come

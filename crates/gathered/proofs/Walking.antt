@@ -7,9 +7,9 @@ use lib.ListN.{length, take, set, length-append}
 use Rattle.numbers.specs.declared.Refusal.{Refusal}
 use Rattle.numbers.specs.Limits.{maxClock, maxBlocks}
 use Rattle.block.specs.declared.Block.{Block}
-use Rattle.grammar.specs.GrammarInner.{_>>=_}
+use Rattle.grammar.specs.Grammar.{_>>=_}
 use Rattle.grammar.specs.Course as course
-use Rattle.grammar.specs.Course.{Run, thing, over, stopped, run, things, ending}
+use Rattle.grammar.specs.Course.{CourseTo, thing, over, stopped, run, things, ending}
 use Rattle.grammar.specs.Blocks.{blocks, sections}
 use Rattle.grammar.proofs.Runs.{andThen, run-bind}
 use Rattle.decoder.specs.States.{State, movedTo}
@@ -32,7 +32,7 @@ abbrev pub alone : ℕ → ℕ → ℕ → Spot
 alone k c t = record { sections = 0; blocks = k; room = 0; seen = 0; client = c; clock = t }
 
 module _ (form : ℕ) (u w m : List ℕ) (k c t : ℕ) where
-  then-nothing : (r : Run State Block (Unit {0})) → andThen r (λ a s. run (fields form u) (sections 0 (take 0 m) 0) s) ≡ r
+  then-nothing : (r : CourseTo State Block (Unit {0})) → andThen r (λ a s. run (fields form u) (sections 0 (take 0 m) 0) s) ≡ r
   unfolding andThen run sections
   then-nothing (thing b p r) = ap (thing b p) (then-nothing r)
   then-nothing (over a s) = refl
@@ -71,7 +71,7 @@ end-of (x ∷ bs) b cs h = end-of bs b cs (h .1)
 
 -- ---- the walk: c is what was to come at first, in k steps at most
 
-pub record Walking (form : ℕ) (u : List ℕ) (c : Run State Block (Unit {0})) (k : ℕ) (w r m : List ℕ) (s : Spot) (f e n : ℕ) : Type 0 where
+pub record Walking (form : ℕ) (u : List ℕ) (c : CourseTo State Block (Unit {0})) (k : ℕ) (w r m : List ℕ) (s : Spot) (f e n : ℕ) : Type 0 where
   pub seen : List Block
   pub all : things c ≡ seen ++ things (reads form u m w s)
   pub ends : outcome c ≡ outcome (reads form u m w s)
@@ -106,14 +106,14 @@ walk-begins form u w r m k c t small row one few low can =
       count = refl;
     }
 
-module _ (form : ℕ) (u : List ℕ) (c : Run State Block (Unit {0})) (k : ℕ) (w r m : List ℕ) (s : Spot) (f e n : ℕ) (i : Walking form u c k w r m s f e n) where
+module _ (form : ℕ) (u : List ℕ) (c : CourseTo State Block (Unit {0})) (k : ℕ) (w r m : List ℕ) (s : Spot) (f e n : ℕ) (i : Walking form u c k w r m s f e n) where
   pub countable : n ≤ maxBlocks
   countable = omega (arith, i .count, i .steps, i .few)
 
   tallied-all : (s₁ : State) (w₁ : List ℕ) → reads form u m w s ≡ over tt s₁ → s₁ ≡ stateIn w₁ → Tallies c w₁ (tallied.Blocks f e n)
   unfolding Tallies outcome ending things
   tallied-all s₁ w₁ q z =
-      let all : things c ≡ i .seen = i .all ∙ ap (λ (d : Run State Block (Unit {0})). i .seen ++ things d) q ∙ append-nil (i .seen) in
+      let all : things c ≡ i .seen = i .all ∙ ap (λ (d : CourseTo State Block (Unit {0})). i .seen ++ things d) q ∙ append-nil (i .seen) in
       (i .first ∙ ap firstClock (sym all), i .end ∙ ap lastEnd (sym all), i .count ∙ ap length (sym all), i .ends ∙ ap outcome q ∙ ap (course.got tt) z)
 
   -- no block is left
@@ -131,7 +131,7 @@ module _ (form : ℕ) (u : List ℕ) (c : Run State Block (Unit {0})) (k : ℕ) 
 
       split : things c ≡ i .seen ++ (rowIn r₁ ∷ things (reads form u m₁ w₁ t))
       unfolding things
-      split = i .all ∙ ap (λ (d : Run State Block (Unit {0})). i .seen ++ things d) here
+      split = i .all ∙ ap (λ (d : CourseTo State Block (Unit {0})). i .seen ++ things d) here
 
       pub its-end : rowIn r₁ .clock + rowIn r₁ .length .0 ≤ maxClock
       its-end = end-of (i .seen) (rowIn r₁) (things (reads form u m₁ w₁ t)) (subst Ends split (i .can))
@@ -166,7 +166,7 @@ module _ (form : ℕ) (u : List ℕ) (c : Run State Block (Unit {0})) (k : ℕ) 
       goes-on =
           record {
             seen = i .seen;
-            all = i .all ∙ ap (λ (d : Run State Block (Unit {0})). i .seen ++ things d) on-here;
+            all = i .all ∙ ap (λ (d : CourseTo State Block (Unit {0})). i .seen ++ things d) on-here;
             ends = i .ends ∙ ap outcome on-here;
             steps = omega (arith, i .steps, on-less);
             few = i .few;

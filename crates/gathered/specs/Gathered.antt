@@ -9,9 +9,9 @@ use Rattle.numbers.specs.Number.{none}
 use Rattle.numbers.specs.Words.{among}
 use Rattle.numbers.specs.Limits.{maxClock, maxClients, maxBlocks}
 use Rattle.block.specs.declared.Block.{Block}
-use Rattle.grammar.specs.GrammarInner.{_>>=_}
+use Rattle.grammar.specs.Grammar.{_>>=_}
 use Rattle.grammar.specs.Course as course
-use Rattle.grammar.specs.Course.{Run, stopped, run, things, ending}
+use Rattle.grammar.specs.Course.{CourseTo, stopped, run, things, ending}
 use Rattle.grammar.specs.Blocks.{blocks, sections}
 use Rattle.decoder.specs.States.{State}
 use Rattle.decoder.specs.ColumnedInner.{fields}
@@ -46,19 +46,19 @@ pub record Gatherable (bs : List Block) : Type 0 where
 -- ---- what is to come
 
 -- n sections, with these clients seen and room for so many blocks, from the words w on
-unfoldable pub sectionsFrom : ℕ → List ℕ → ℕ → List ℕ → ℕ → List ℕ → Run State Block (Unit {0})
+unfoldable pub sectionsFrom : ℕ → List ℕ → ℕ → List ℕ → ℕ → List ℕ → CourseTo State Block (Unit {0})
 sectionsFrom form u n cs room w = run (fields form u) (sections n cs room) (stateIn w)
 
 -- k blocks of client c from clock t on
-unfoldable pub blocksFrom : ℕ → List ℕ → ℕ → ℕ → ℕ → List ℕ → Run State Block (Unit {0})
+unfoldable pub blocksFrom : ℕ → List ℕ → ℕ → ℕ → ℕ → List ℕ → CourseTo State Block (Unit {0})
 blocksFrom form u k c t w = run (fields form u) (blocks k c t) (stateIn w)
 
 -- how it ends: the state after it, or why not
-unfoldable pub outcome : Run State Block (Unit {0}) → course.Drawn State (Unit {0})
+unfoldable pub outcome : CourseTo State Block (Unit {0}) → course.Drawn State (Unit {0})
 outcome c = ending c (λ s. course.got tt s) (λ why. course.not why)
 
 -- and the place of that state
-unfoldable pub endOf : Run State Block (Unit {0}) → Checked
+unfoldable pub endOf : CourseTo State Block (Unit {0}) → Checked
 endOf c = ending c (λ s. checked.Done (s .at)) (λ why. checked.Refused why)
 
 -- the section count of an update, to the words w
@@ -87,14 +87,14 @@ Headed form u w o seen room w₁ o₁ (head.Refused why) =
 
 -- ---- its blocks, to the words w: the first's clock, the last's end, how many
 
-unfoldable pub Tallies : Run State Block (Unit {0}) → List ℕ → Tallied → Type 0
+unfoldable pub Tallies : CourseTo State Block (Unit {0}) → List ℕ → Tallied → Type 0
 Tallies c w (tallied.Blocks f e n) =
     (f ≡ firstClock (things c)) × (e ≡ lastEnd (things c)) × (n ≡ length (things c)) × (outcome c ≡ course.got tt (stateIn w))
 Tallies c w (tallied.Refused why) = outcome c ≡ course.not why
 
 -- ---- all sections, into rows w in the order of the words o
 
-unfoldable pub Scans : Run State Block (Unit {0}) → List ℕ → List ℕ → Scanned → Type 0
+unfoldable pub Scans : CourseTo State Block (Unit {0}) → List ℕ → List ℕ → Scanned → Type 0
 Scans c w o (scanned.Sections n at) = (n ≤ 64) × (kept (rowsBy w (take n o)) ≡ rowsOf (things c)) × (endOf c ≡ checked.Done at)
 Scans c w o (scanned.Refused why) = endOf c ≡ checked.Refused why
 

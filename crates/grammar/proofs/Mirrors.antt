@@ -3,7 +3,7 @@ use Prim.Native.Nat.{ℕ}
 use mathlib.Core.Path.{_≡_, refl, sym, ap, subst, _∙_}
 use Rattle.numbers.specs.declared.Refusal.{Refusal}
 use Rattle.grammar.specs.Grammar.{Field, Answer, Grammar, ask, emit, stop, done}
-use Rattle.grammar.specs.Course.{Drawn, got, not, Reader, Run, thing, over, stopped, onDrawn, run}
+use Rattle.grammar.specs.Course.{Drawn, got, not, Reader, CourseTo, thing, over, stopped, onDrawn, run}
 
 -- states are alike by R; refusals of which Q holds are kept
 module _ {S T : Type 0} (R : S → T → Type 0) (Q : Refusal → Type 0) where
@@ -11,8 +11,8 @@ module _ {S T : Type 0} (R : S → T → Type 0) (Q : Refusal → Type 0) where
   Follows (got x s) d = (t : T) × (d ≡ got x t) × R s t
   Follows (not why) d = Q why → d ≡ not why
 
-  unfoldable pub Mirrors : {E A : Type 0} → Run S E A → Run T E A → Type 0
-  Mirrors {E} {A} (thing e p c) d = (d′ : Run T E A) × (d ≡ thing e p d′) × Mirrors c d′
+  unfoldable pub Mirrors : {E A : Type 0} → CourseTo S E A → CourseTo T E A → Type 0
+  Mirrors {E} {A} (thing e p c) d = (d′ : CourseTo T E A) × (d ≡ thing e p d′) × Mirrors c d′
   Mirrors (over a s) d = (t : T) × (d ≡ over a t) × R s t
   Mirrors (stopped why) d = Q why → d ≡ stopped why
 

@@ -11,8 +11,8 @@ use Rattle.block.specs.declared.Block.{Block}
 use Rattle.block.specs.Rows.{plain}
 use Rattle.block.specs.Kinds.{maxType, isNamed}
 use Rattle.grammar.specs.Grammar.{Number, Field, Answer, Grammar, ask, emit, stop, done}
-use Rattle.grammar.specs.GrammarInner.{_>>=_}
-use Rattle.grammar.specs.Course.{Drawn, got, not, Reader, Run, onDrawn, run}
+use Rattle.grammar.specs.Grammar.{_>>=_}
+use Rattle.grammar.specs.Course.{Drawn, got, not, Reader, CourseTo, onDrawn, run}
 use Rattle.grammar.specs.Blocks as grammar
 use Rattle.grammar.specs.Deletes as deletes
 use Rattle.grammar.specs.Numbered.{Low, Stops, Refuses, Owns}

@@ -4,15 +4,15 @@ use mathlib.Core.Path.{_≡_, refl, sym, ap, _∙_}
 use mathlib.Core.Bool.{Bool, true, false}
 use Rattle.numbers.specs.Number.{pick}
 use Rattle.grammar.specs.Grammar.{Field, Answer, Grammar, ask, emit, stop, done}
-use Rattle.grammar.specs.GrammarInner.{_>>=_}
-use Rattle.grammar.specs.Course.{Drawn, got, not, Reader, Run, thing, over, stopped, onDrawn, run}
+use Rattle.grammar.specs.Grammar.{_>>=_}
+use Rattle.grammar.specs.Course.{Drawn, got, not, Reader, CourseTo, thing, over, stopped, onDrawn, run}
 
 -- a choice that is made on both sides alike
 pub both : {A B : Type 0} (R : A → B → Type 0) (b : Bool) {x x′ : A} {y y′ : B} → R x y → R x′ y′ → R (pick b x x′) (pick b y y′)
 both R true p q = p
 both R false p q = q
 
-unfoldable pub andThen : {S E A B : Type 0} → Run S E A → (A → S → Run S E B) → Run S E B
+unfoldable pub andThen : {S E A B : Type 0} → CourseTo S E A → (A → S → CourseTo S E B) → CourseTo S E B
 andThen (thing e p c) f = thing e p (andThen c f)
 andThen (over a s) f = f a s
 andThen (stopped why) f = stopped why

@@ -13,7 +13,7 @@ use Rattle.block.specs.Rows.{plain, withLeft, withRight, withParent, withName, 
 use Rattle.block.specs.Kinds.{GC, SKIP, DELETED, BINARY, TEXT, FORMAT, TYPE, ANY, isItem, maxType, isNamed}
 use Rattle.grammar.specs.Grammar as fields
 use Rattle.grammar.specs.Grammar.{Number, upTo, client, leftClock, rightClock, info, parentInfo, len, typeNumber, number, text, bytes, value, values, Grammar, emit, stop, done, draw}
-use Rattle.grammar.specs.GrammarInner.{_>>=_}
+use Rattle.grammar.specs.Grammar.{_>>=_}
 
 -- ---- a block, and the place of its info byte; nothing of it is kept yet
 

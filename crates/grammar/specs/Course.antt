@@ -14,16 +14,16 @@ pub data Drawn (S X : Type 0) : Type 0 where
 abbrev pub Reader : Type 0 → Type 0
 Reader S = (f : Field) → S → Drawn S (Answer f)
 
-pub data Run (S E A : Type 0) : Type 0 where
-  thing : E → ℕ → Run S E A → Run S E A
-  over : A → S → Run S E A
-  stopped : Refusal → Run S E A
+pub data CourseTo (S E A : Type 0) : Type 0 where
+  thing : E → ℕ → CourseTo S E A → CourseTo S E A
+  over : A → S → CourseTo S E A
+  stopped : Refusal → CourseTo S E A
 
-unfoldable pub onDrawn : {S E A X : Type 0} → Drawn S X → (X → S → Run S E A) → Run S E A
+unfoldable pub onDrawn : {S E A X : Type 0} → Drawn S X → (X → S → CourseTo S E A) → CourseTo S E A
 onDrawn (got x s) then = then x s
 onDrawn (not why) then = stopped why
 
-unfoldable pub run : {S E A : Type 0} → Reader S → Grammar E A → S → Run S E A
+unfoldable pub run : {S E A : Type 0} → Reader S → Grammar E A → S → CourseTo S E A
 run r (ask f k) s = onDrawn (r f s) (λ a t. run r (k a) t)
 run r (emit e p x) s = thing e p (run r x s)
 run r (stop n p) s = stopped (record { number = n; place = p })
@@ -32,23 +32,23 @@ run r (done a) s = over a s
 -- ---- what comes out of an update, up to a place in it
 
 abbrev pub Course : Type 0 → Type 0
-Course E = Run ℕ E (Unit {0})
+Course E = CourseTo ℕ E (Unit {0})
 
 -- what n rows take: one thing more is refused with 8
-unfoldable pub fit : {S E A : Type 0} → ℕ → Run S E A → Run S E A
+unfoldable pub fit : {S E A : Type 0} → ℕ → CourseTo S E A → CourseTo S E A
 fit zero (thing a p c) = stopped (record { number = 8; place = p })
 fit (suc n) (thing a p c) = thing a p (fit n c)
 fit n (over a s) = over a s
 fit n (stopped why) = stopped why
 
 -- the things themselves
-unfoldable pub things : {S E A : Type 0} → Run S E A → List E
+unfoldable pub things : {S E A : Type 0} → CourseTo S E A → List E
 things (thing a p c) = a ∷ things c
 things (over a s) = []
 things (stopped why) = []
 
 -- what follows the last of them
-unfoldable pub ending : {S E A X : Type 0} → Run S E A → (S → X) → (Refusal → X) → X
+unfoldable pub ending : {S E A X : Type 0} → CourseTo S E A → (S → X) → (Refusal → X) → X
 ending (thing a p c) read refused = ending c read refused
 ending (over a s) read refused = read s
 ending (stopped why) read refused = refused why

@@ -6,7 +6,7 @@ use Rattle.numbers.specs.Limits.{maxClock, maxValue, maxClients}
 use Rattle.ranges.specs.Ranges.{Range}
 use Rattle.ranges.specs.Table.{range}
 use Rattle.grammar.specs.Grammar.{upTo, any, deleteClock, deleteLen, number, Grammar, emit, stop, done, draw}
-use Rattle.grammar.specs.GrammarInner.{_>>=_}
+use Rattle.grammar.specs.Grammar.{_>>=_}
 
 -- the last k ranges of a client, the range before them ended at `end`; an empty range is none, but has an end, which is a clock
 unfoldable pub ranges : ℕ → ℕ → ℕ → Grammar Range (Unit {0})

@@ -47,3 +47,11 @@ pub data Grammar (E A : Type 0) : Type 0 where
 
 abbrev pub draw : {E : Type 0} (f : Field) → Grammar E (Answer f)
 draw f = ask f done
+
+-- one grammar, then another
+infixl 10 _>>=_
+unfoldable pub _>>=_ : {E A B : Type 0} → Grammar E A → (A → Grammar E B) → Grammar E B
+_>>=_ (ask f k) g = ask f (λ a. k a >>= g)
+_>>=_ (emit e p x) g = emit e p (x >>= g)
+_>>=_ (stop n p) g = stop n p
+_>>=_ (done a) g = g a

@@ -1,6 +1,5 @@
 -- The grammar of an update as data, how it is read, and its interpreters.
 pub mod Grammar
-pub mod GrammarInner
 pub mod Course
 pub mod Blocks
 pub mod Deletes

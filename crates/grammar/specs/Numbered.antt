@@ -1,10 +1,10 @@
 -- Of each refusal that a run ends with, and of each that a grammar has of its own, P holds.
 use Prim.Native.Nat.{ℕ, _≤_}
 use Rattle.grammar.specs.Grammar.{Grammar, ask, emit, stop, done, Answer}
-use Rattle.grammar.specs.Course.{Drawn, got, not, Run, thing, over, stopped}
+use Rattle.grammar.specs.Course.{Drawn, got, not, CourseTo, thing, over, stopped}
 
 module _ (P : ℕ → Type 0) where
-  unfoldable pub Stops : {S E A : Type 0} → Run S E A → Type 0
+  unfoldable pub Stops : {S E A : Type 0} → CourseTo S E A → Type 0
   Stops (thing e p c) = Stops c
   Stops (over a s) = Unit {0}
   Stops (stopped why) = P (why .number)

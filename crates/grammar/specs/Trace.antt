@@ -2,7 +2,7 @@
 use Prim.Native.Nat.{ℕ}
 use Rattle.grammar.specs.Grammar as grammar
 use Rattle.grammar.specs.Grammar.{Field, Answer, Grammar, ask, emit, stop, done}
-use Rattle.grammar.specs.Course.{Run, thing, over, stopped}
+use Rattle.grammar.specs.Course.{CourseTo, thing, over, stopped}
 
 pub data Event (E : Type 0) : Type 0 where
   drew : (f : Field) → Answer f → Event E
@@ -24,7 +24,7 @@ traced (stop n p) = stop n p
 traced (done a) = done a
 
 -- the draws left out again
-unfoldable pub forget : {S E A : Type 0} → Run S (Event E) A → Run S E A
+unfoldable pub forget : {S E A : Type 0} → CourseTo S (Event E) A → CourseTo S E A
 forget (thing (drew f a) p c) = forget c
 forget (thing (kept e) p c) = thing e p (forget c)
 forget (over a s) = over a s

@@ -2,7 +2,7 @@
 use Rattle.block.specs.declared.Block.{Block}
 use Rattle.ranges.specs.Ranges.{Range}
 use Rattle.grammar.specs.Grammar.{Grammar, ask, emit, stop, done}
-use Rattle.grammar.specs.GrammarInner.{_>>=_}
+use Rattle.grammar.specs.Grammar.{_>>=_}
 use Rattle.grammar.specs.Blocks.{allBlocks}
 use Rattle.grammar.specs.Deletes.{allRanges}
 

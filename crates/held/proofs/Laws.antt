@@ -8,8 +8,8 @@ use Rattle.block.specs.Rows.{withMark}
 use Rattle.text.specs.declared.Part.{Part}
 use Rattle.text.specs.declared.Units.{Units}
 use Rattle.grammar.specs.Grammar.{Number, Field, number, text, key, Answer, Grammar, stop, done, draw}
-use Rattle.grammar.specs.GrammarInner.{_>>=_}
-use Rattle.grammar.specs.Course.{Drawn, got, not, Reader, Run, over, stopped, onDrawn, run}
+use Rattle.grammar.specs.Grammar.{_>>=_}
+use Rattle.grammar.specs.Course.{Drawn, got, not, Reader, CourseTo, over, stopped, onDrawn, run}
 use Rattle.grammar.proofs.Runs.{andThen, run-bind}
 use Rattle.decoder.specs.ColumnedInner.{fields}
 use Rattle.cells.specs.declared.Drawn.the-variants as drawn
@@ -40,11 +40,11 @@ module _ {S E A : Type 0} (r : Reader S) where
 module _ {S E A B : Type 0} (r : Reader S) (x : Grammar E A) (g : A → Grammar E B) (s : S) where
   pub bind-over : (a : A) (t : S) → run r x s ≡ over a t → run r (x >>= g) s ≡ run r (g a) t
   unfolding andThen
-  bind-over a t e = run-bind r x g s ∙ ap (λ (c : Run S E A). andThen c (λ a t. run r (g a) t)) e
+  bind-over a t e = run-bind r x g s ∙ ap (λ (c : CourseTo S E A). andThen c (λ a t. run r (g a) t)) e
 
   pub bind-stopped : (why : Refusal) → run r x s ≡ stopped why → run r (x >>= g) s ≡ stopped why
   unfolding andThen
-  bind-stopped why e = run-bind r x g s ∙ ap (λ (c : Run S E A). andThen c (λ a t. run r (g a) t)) e
+  bind-stopped why e = run-bind r x g s ∙ ap (λ (c : CourseTo S E A). andThen c (λ a t. run r (g a) t)) e
 
 -- ---- from words w to words v
 

@@ -10,7 +10,7 @@ use Rattle.block.specs.Row.{noBlock}
 use Rattle.block.specs.Rows.{headIs, idsAre, rootIs, withPart, markIs}
 use Rattle.grammar.specs.Grammar.{Grammar}
 use Rattle.grammar.specs.Course as course
-use Rattle.grammar.specs.Course.{Run, run}
+use Rattle.grammar.specs.Course.{CourseTo, run}
 use Rattle.decoder.specs.States.{State}
 use Rattle.decoder.specs.ColumnedInner.{fields}
 use Rattle.cells.specs.declared.Field as cells-field
@@ -38,12 +38,12 @@ pub record Narrow (r : List ℕ) : Type 0 where
   pub type : getD r 23 0 ≤ 65535
 
 -- an answer, with the words v and the row q that it leaves
-unfoldable pub onto : List ℕ → List ℕ → cells-field.Field → Run State Block Block
+unfoldable pub onto : List ℕ → List ℕ → cells-field.Field → CourseTo State Block Block
 onto v q field.Done = course.over (rowIn q) (stateIn v)
 onto v q field.Refused = course.stopped (whyIn v)
 
 -- what the grammar x reads of either form, from words w
-abbrev pub Reads : {A : Type 0} → ℕ → List ℕ → List ℕ → Grammar Block A → Run State Block A
+abbrev pub Reads : {A : Type 0} → ℕ → List ℕ → List ℕ → Grammar Block A → CourseTo State Block A
 Reads form u w x = run (fields form u) x (stateIn w)
 
 -- a part of a block that the grammar x says

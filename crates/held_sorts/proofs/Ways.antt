@@ -33,7 +33,7 @@ use Rattle.held_answers.specs.declared.HeldRead.{HeldRead}
 use Rattle.held_answers.specs.declared.SortedHeld.{SortedHeld}
 use Rattle.held_answers.specs.Answers.{SortHeld, refusedWith, answered}
 use Rattle.held_answers.specs.AnswersInner.{given, notGiven, readHeld, wordsGiven, answerTo}
-use Rattle.held_sorts.specs.Promises.{lent, Found, Finder, sortedAll, whySort, fitting, against, afterReading, sortHeldBy, Leaves}
+use Rattle.held_sorts.specs.Promises.{lent, Findings, Finder, sortedAll, whySort, fitting, against, afterReading, sortHeldBy, Leaves}
 
 -- ---- held ids that were refused, and those that were read
 
@@ -194,7 +194,7 @@ module _ (F : Finder) (form : ℕ) (u v : List ℕ) (rows₀ : List Block) (rang
 
       -- ---- what it finds
 
-      abbrev found : Found
+      abbrev found : Findings
       found = F bs rs
 
       abbrev made : Sorting

@@ -24,13 +24,13 @@ lent order counts pending = record { order = length order; counts = length count
 -- ---- an update of a form, sorted by held ids, with so many rows and words lent
 
 -- what a sorter finds of blocks, by what ranges hold: the numbers of the blocks that are taken, in order, and the reports
-pub record Found : Type 0 where
+pub record Findings : Type 0 where
   pub order : List ℕ
   pub counts : List ℕ
   pub pending : List ℕ
 
 abbrev pub Finder : Type 0
-Finder = List Block → List Range → Found
+Finder = List Block → List Range → Findings
 
 -- the order that takes the highest client at each step (another sorter's order is W-211's)
 abbrev pub quickly : Finder

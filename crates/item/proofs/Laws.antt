@@ -6,7 +6,7 @@ use lib.ListN.{length, set}
 use Rattle.block.specs.declared.Id.{Id}
 use Rattle.block.specs.declared.Block.{Block}
 use Rattle.grammar.specs.Grammar.{Grammar, done}
-use Rattle.grammar.specs.GrammarInner.{_>>=_}
+use Rattle.grammar.specs.Grammar.{_>>=_}
 use Rattle.grammar.specs.Course.{stopped, run}
 use Rattle.decoder.specs.ColumnedInner.{fields}
 use Rattle.cells.specs.declared.Field.the-variants as field

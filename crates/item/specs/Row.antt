@@ -9,7 +9,7 @@ use Rattle.block.specs.Rows.{plain}
 use Rattle.grammar.specs.Grammar.{Number, Grammar}
 use Rattle.grammar.specs.Blocks.{bare, body}
 use Rattle.grammar.specs.Course as course
-use Rattle.grammar.specs.Course.{Run}
+use Rattle.grammar.specs.Course.{CourseTo}
 use Rattle.decoder.specs.States.{State}
 use Rattle.cells.specs.declared.Drawn as cells-drawn
 use Rattle.cells.specs.declared.Drawn.the-variants as drawn
@@ -32,12 +32,12 @@ bodyIn r info place = body (rowIn r .client) (rowIn r .clock) info place
 -- ---- an answer, with the words v and the row q that it leaves
 
 -- the block, and the place of its info byte
-unfoldable pub blockOnto : List ℕ → List ℕ → cells-drawn.Drawn → Run State Block (Block × ℕ)
+unfoldable pub blockOnto : List ℕ → List ℕ → cells-drawn.Drawn → CourseTo State Block (Block × ℕ)
 blockOnto v q (drawn.Number p) = course.over (rowIn q, p) (stateIn v)
 blockOnto v q drawn.Refused = course.stopped (whyIn v)
 
 -- the id in words k and k + 1 of the row
-unfoldable pub idOnto : ℕ → List ℕ → List ℕ → cells-field.Field → Run State Block Id
+unfoldable pub idOnto : ℕ → List ℕ → List ℕ → cells-field.Field → CourseTo State Block Id
 idOnto k v q field.Done = course.over (idIn q k) (stateIn v)
 idOnto k v q field.Refused = course.stopped (whyIn v)
 

@@ -13,7 +13,7 @@ use Rattle.numbers.specs.declared.Read.the-variants as read
 use Rattle.numbers.specs.Number.{pick, Spelt, got, short, long, spelt, answerAt, readUnsigned}
 use Rattle.numbers.specs.Limits.{maxClients, maxValue, maxClock}
 use Rattle.grammar.specs.Grammar.{Grammar}
-use Rattle.grammar.specs.GrammarInner.{_>>=_}
+use Rattle.grammar.specs.Grammar.{_>>=_}
 use Rattle.grammar.specs.Course.{Drawn, got as drew, not, Course, thing, over, stopped, onDrawn, run, things, ending}
 use Rattle.decoder.specs.Line.{numberAt, varAt, bounded, upTo, numberBy, line}
 use Rattle.vector.specs.Vector.{Entry, entry, holds, entries, aVector, vectorOf}

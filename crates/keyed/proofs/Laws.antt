@@ -23,7 +23,7 @@ use Rattle.anys.proofs.Laws.{anys-none, anys-ends}
 use Rattle.grammar.specs.Grammar as grammar
 use Rattle.grammar.specs.Course.{Drawn, got, not}
 use Rattle.decoder.specs.Line.{wordOf, spanned, valuesAt, line}
-use Rattle.decoder.specs.States.{maxKeys, State, movedTo, withKey, withText, withKeys}
+use Rattle.decoder.specs.States.{maxKeys, State, movedTo, keyMoved, textMoved, withKeys}
 use Rattle.decoder.specs.Columned.{onto, textDrawn, textIn, joining, keyByNumber, keyIn, columned}
 use Rattle.decoder.specs.ColumnedInner.{fields}
 use Rattle.decoder.proofs.Laws.{fields-columned}
@@ -106,7 +106,7 @@ module _ (form : ℕ) (u w : List ℕ) (blame n : ℕ) where
 -- which is drawn from its column
 pub key-drawn : (u w v : List ℕ) (r : cells-drawn.Drawn) → DifferenceDrawn u 0 w v r → keyByNumber u (given v r) ≡ keyIn u (stateIn w)
 unfolding keyIn stateIn
-key-drawn u w v r d = ap (keyByNumber u) (difference-onto u w v 0 r (λ c. withKey c (stateIn w)) (state-key w v (d .1)) d)
+key-drawn u w v r d = ap (keyByNumber u) (difference-onto u w v 0 r (λ c. keyMoved c (stateIn w)) (state-key w v (d .1)) d)
 
 module _ (u v : List ℕ) where
   pub key-none : not (whyIn v) ≡ keyByNumber u (given v drawn.Refused)
@@ -151,7 +151,7 @@ word-keys : (u : List ℕ) (s : State) → keysAfter (s .keys) (wordOf (textIn u
 unfolding keysAfter wordOf textDrawn
 word-keys u s = go (nextText (take (s .text .to) u) (s .text .place))
   where
-    go : (a : string-answer.Answer) → keysAfter (s .keys) (wordOf (textDrawn (λ c. withText c s) (s .text .to) a)) ≡ s .keys
+    go : (a : string-answer.Answer) → keysAfter (s .keys) (wordOf (textDrawn (λ c. textMoved c s) (s .text .to) a)) ≡ s .keys
     go (string.Next p c) = refl
     go (string.Bad why) = refl
 

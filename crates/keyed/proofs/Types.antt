@@ -14,7 +14,7 @@ use Rattle.numbers.specs.Number.{pick, Spelt, got, short, long, lowPart, spelt,
 use Rattle.numbers.proofs.Laws.{pow7}
 use Rattle.grammar.specs.Grammar as grammar
 use Rattle.decoder.specs.Line.{numberAt, varAt, bounded, upTo, line, numberBy}
-use Rattle.decoder.specs.States.{withTypes}
+use Rattle.decoder.specs.States.{typesMoved}
 use Rattle.decoder.specs.Columned.{onto, numberIn, columned}
 use Rattle.decoder.specs.ColumnedInner.{fields}
 use Rattle.decoder.proofs.Laws.{fields-columned}
@@ -72,5 +72,5 @@ module _ (u : List ℕ) (bytes : (j : ℕ) → getD u j 0 < 256) where
 pub type-drawn : (form : ℕ) (u w v : List ℕ) (r : Drawn) → form ≢ 1 → NumberDrawn u 7 w v r → given v r ≡ fields form u (grammar.number grammar.typeNumber) (stateIn w)
 unfolding columned numberIn stateIn
 type-drawn form u w v r other d =
-    number-onto u w v 7 r (λ c. withTypes c (stateIn w)) (state-types w v (d .1)) d
+    number-onto u w v 7 r (λ c. typesMoved c (stateIn w)) (state-types w v (d .1)) d
     ∙ sym (fields-columned form u other (grammar.number grammar.typeNumber) (stateIn w))

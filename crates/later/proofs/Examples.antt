@@ -9,7 +9,7 @@ use Rattle.numbers.specs.Output.{verdict}
 use Rattle.block.specs.declared.Block.{Block}
 use Rattle.block.specs.Kinds as kinds
 use Rattle.grammar.specs.Grammar as grammar
-use Rattle.grammar.specs.GrammarInner as grammar-inner
+use Rattle.grammar.specs.Grammar as grammar-inner
 use Rattle.grammar.specs.Course as course
 use Rattle.grammar.specs.Blocks as blocks
 use Rattle.grammar.specs.Deletes as deletes

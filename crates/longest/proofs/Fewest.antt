@@ -11,8 +11,8 @@ use lib.ListN.{length, replicate}
 use borrow.Author.Tests.{eq-eqb, eqb-true, eqb-false, leb-true}
 use Rattle.numbers.specs.Number.{pick}
 use Rattle.numbers.specs.Limits.{maxValue, maxClock}
-use Rattle.runs.specs.declared.Column.{Column}
-use Rattle.runs.specs.declared.Column.the-variants.{Number, Difference, Byte}
+use Rattle.runs.specs.declared.ColumnKind.{ColumnKind}
+use Rattle.runs.specs.declared.ColumnKind.the-variants.{Number, Difference, Byte}
 use Rattle.runs.specs.Difference.{zeroKey}
 use Rattle.runs.specs.Runs.{Coding, coding, runsOn, runsAfter, column, within}
 use Rattle.longest.specs.Longest.{Run, expanded, Rule, Stand, AtLeastOnce, Says, leadsIn, leadsBy, spelled, Apart, Longest, OfCodings, OfColumns}
@@ -294,13 +294,13 @@ stands-as leads also m p (k ∷ ks) (v ∷ vs) same low h s =
     let inside = within-cons m v vs h in
     (same p k v low (s .0), stands-as leads also m v ks vs same (inside .0) (inside .1) (s .1))
 
-key-leads : (col : Column) (p k v : ℕ) → p ≤ coding col .most → leadsIn col p k v → leadsBy (coding col) p k v
+key-leads : (col : ColumnKind) (p k v : ℕ) → p ≤ coding col .most → leadsIn col p k v → leadsBy (coding col) p k v
 unfolding leadsIn coding
 key-leads Number p k v low h = h
 key-leads Difference p k v low h = omega arith
 key-leads Byte p k v low h = h
 
-leads-key : (col : Column) (p k v : ℕ) → p ≤ coding col .most → leadsBy (coding col) p k v → leadsIn col p k v
+leads-key : (col : ColumnKind) (p k v : ℕ) → p ≤ coding col .most → leadsBy (coding col) p k v → leadsIn col p k v
 unfolding leadsIn coding
 leads-key Number p k v low h = h
 leads-key Difference p k v low h = omega arith

@@ -4,8 +4,8 @@ use mathlib.Core.Path.{_≡_}
 use mathlib.Core.Bool.{true}
 use mathlib.Core.List.{List, [], _∷_, _++_}
 use lib.ListN.{length, replicate}
-use Rattle.runs.specs.declared.Column.{Column}
-use Rattle.runs.specs.declared.Column.the-variants.{Number, Difference, Byte}
+use Rattle.runs.specs.declared.ColumnKind.{ColumnKind}
+use Rattle.runs.specs.declared.ColumnKind.the-variants.{Number, Difference, Byte}
 use Rattle.runs.specs.Difference.{zeroKey}
 use Rattle.runs.specs.Runs.{Coding, coding, column, within}
 
@@ -42,7 +42,7 @@ abbrev pub Says : Rule → List Run → List ℕ → Type 0
 Says leads rs vs = AtLeastOnce rs × Stand leads 0 (expanded rs) vs
 
 -- the three columns: a value is its key; in the difference column the value before and the difference, whose key is 2^31 more
-unfoldable pub leadsIn : Column → Rule
+unfoldable pub leadsIn : ColumnKind → Rule
 leadsIn Number p k v = v ≡ k
 leadsIn Difference p k v = v + zeroKey ≡ p + k
 leadsIn Byte p k v = v ≡ k
@@ -81,4 +81,4 @@ abbrev pub OfCodings : Type 0
 OfCodings = (c : Coding) (vs : List ℕ) → Longest (leadsBy c) c vs
 
 abbrev pub OfColumns : Type 0
-OfColumns = (col : Column) (vs : List ℕ) → within (coding col .most) vs ≡ true → Longest (leadsIn col) (coding col) vs
+OfColumns = (col : ColumnKind) (vs : List ℕ) → within (coding col .most) vs ≡ true → Longest (leadsIn col) (coding col) vs

@@ -17,8 +17,8 @@ use Rattle.numbers.specs.Limits.{maxValue, maxClock}
 use Rattle.numbers.specs.Output.{padded, written, put}
 use Rattle.numbers.specs.OutputInner.{refusal}
 use Rattle.numbers.proofs.Output.{verdict-why, verdict-room, refused-answer, refused-bytes}
-use Rattle.runs.specs.declared.Column.{Column}
-use Rattle.runs.specs.declared.Column.the-variants.{Number, Difference, Byte}
+use Rattle.runs.specs.declared.ColumnKind.{ColumnKind}
+use Rattle.runs.specs.declared.ColumnKind.the-variants.{Number, Difference, Byte}
 use Rattle.runs.specs.declared.writer.Writer.{Writer}
 use Rattle.runs.specs.Difference.{keyBetween}
 use Rattle.runs.specs.Runs.{coding, nearKey, columnOf, whyOf}
@@ -56,7 +56,7 @@ signed-run-length m x n = go (eqb n 0)
     go true = omega (arith, length-append (signed m x) [], signed-length m x)
     go false = omega (arith, length-append (signed m x) (spell 10 (n - 1)), signed-length m x, spell-length 10 (n - 1))
 
-pub run-short : (col : Column) (k n : ℕ) → length (coding col .spell k n) ≤ 21
+pub run-short : (col : ColumnKind) (k n : ℕ) → length (coding col .spell k n) ≤ 21
 unfolding coding unsigned
 run-short Number k n = rw (number-run k n) (signed-run-length _ _ n)
 run-short Difference k n = rw (difference-run k n) (signed-run-length _ _ n)
@@ -100,11 +100,11 @@ out-none out at = go (leb (at + 0) (length out))
     go false = refl
 
 module _ (key count k : ℕ) where
-  pub ended-none : (col : Column) → endsRun key count k ≡ false → endedRun col key count k ≡ []
+  pub ended-none : (col : ColumnKind) → endsRun key count k ≡ false → endedRun col key count k ≡ []
   unfolding endedRun
   ended-none col e = rw e
 
-  pub ended-some : (col : Column) → endsRun key count k ≡ true → endedRun col key count k ≡ coding col .spell key (count - 1)
+  pub ended-some : (col : ColumnKind) → endsRun key count k ≡ true → endedRun col key count k ≡ coding col .spell key (count - 1)
   unfolding endedRun
   ended-some col e = rw e
 
@@ -146,22 +146,22 @@ module _ (out : List ℕ) (w : Writer) (far : Bool) where
 
 -- ---- the loop
 
-abbrev pub state : Column → ℕ → ℕ → ℕ → ℕ → Writer
+abbrev pub state : ColumnKind → ℕ → ℕ → ℕ → ℕ → Writer
 state col at last key count = record { column = col; at = at; last = last; key = key; count = count }
 
 -- of the values vs, i were judged, and are put into what was e, from a place on; or e is too short for all
-pub record Wrote (col : Column) (e : List ℕ) (from : ℕ) (vs : List ℕ) (i at last key count : ℕ) (far : Bool) (out : List ℕ) : Type 0 where
+pub record Wrote (col : ColumnKind) (e : List ℕ) (from : ℕ) (vs : List ℕ) (i at last key count : ℕ) (far : Bool) (out : List ℕ) : Type 0 where
   pub judged-so : JudgedTo col vs i (judgedSo (state col at last key count) far)
   pub size : length out ≡ length e
   pub near : at ≤ length e + 1
   pub put-so : at ≤ length e → PutTo col e from vs i (state col at last key count) out
   pub short : length e < at → length e < from + length (columnOf col vs)
 
-judge-from : (col : Column) (vs : List ℕ) (at : ℕ) → JudgedTo col vs 0 (judgedSo (state col at 0 0 0) false)
+judge-from : (col : ColumnKind) (vs : List ℕ) (at : ℕ) → JudgedTo col vs 0 (judgedSo (state col at 0 0 0) false)
 unfolding whyAhead
 judge-from col vs at = let b = judge-begin col vs in record { same = b .same; sound = b .sound; few = b .few; here = b .here }
 
-pub wrote-begin : (col : Column) (e : List ℕ) (from : ℕ) (vs : List ℕ) → from ≤ length e + 1 → Wrote col e from vs 0 from 0 0 0 false e
+pub wrote-begin : (col : ColumnKind) (e : List ℕ) (from : ℕ) (vs : List ℕ) → from ≤ length e + 1 → Wrote col e from vs 0 from 0 0 0 false e
 wrote-begin col e from vs n = record {
   judged-so = judge-from col vs from;
   size = refl;
@@ -170,7 +170,7 @@ wrote-begin col e from vs n = record {
   short = λ h. omega arith;
 }
 
-module _ (col : Column) (e : List ℕ) (from : ℕ) (vs : List ℕ) (i at last key count : ℕ) (far : Bool) (out : List ℕ)
+module _ (col : ColumnKind) (e : List ℕ) (from : ℕ) (vs : List ℕ) (i at last key count : ℕ) (far : Bool) (out : List ℕ)
     (h : Wrote col e from vs i at last key count far out) where
   abbrev w : Writer
   w = state col at last key count
@@ -299,7 +299,7 @@ module _ (col : Column) (e : List ℕ) (from : ℕ) (vs : List ℕ) (i at last k
           (r .0, rw (h .size) (r .1))
 
 -- the same of a column by itself
-module _ (col : Column) (e vs : List ℕ) (i at last key count : ℕ) (far : Bool) (out : List ℕ) (h : Wrote col e 0 vs i at last key count far out) where
+module _ (col : ColumnKind) (e vs : List ℕ) (i at last key count : ℕ) (far : Bool) (out : List ℕ) (h : Wrote col e 0 vs i at last key count far out) where
   pub wrote-whole : length vs ≤ i
       → (endAnswer out (state col at last key count) far ≡ written (whyOf col vs) (length e) (columnOf col vs)) × (endBytes out (state col at last key count) far ≡ put (whyOf col vs) (length e) (columnOf col vs))
   wrote-whole l = wrote-end col e 0 vs i at last key count far out h (columnOf col vs) (λ f. refl) (λ f. omega arith) l

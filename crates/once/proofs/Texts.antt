@@ -20,7 +20,7 @@ use Rattle.text.specs.declared.Taken.{Taken}
 use Rattle.text.specs.declared.Taken.the-variants as units
 use Rattle.text.specs.Utf8.{wellFormed, takeUnits}
 use Rattle.text.proofs.Cutting.{cut}
-use Rattle.runs.specs.declared.Column.the-variants.{Number}
+use Rattle.runs.specs.declared.ColumnKind.the-variants.{Number}
 use Rattle.runs.specs.declared.writer.Writer.{Writer}
 use Rattle.runs.specs.Runs.{columnOf, whyOf}
 use Rattle.runs.specs.Writer.{lastFitsIn, sentence}

@@ -11,7 +11,7 @@ use Rattle.numbers.specs.declared.Written.{Written}
 use Rattle.numbers.specs.Number.{pick}
 use Rattle.numbers.specs.Output.{padded, written, put}
 use Rattle.numbers.specs.OutputInner.{refusal}
-use Rattle.runs.specs.declared.Column.{Column}
+use Rattle.runs.specs.declared.ColumnKind.{ColumnKind}
 use Rattle.runs.specs.declared.writer.Writer.{Writer}
 use Rattle.runs.specs.Runs.{coding, columnOf, whyOf}
 use Rattle.runs.specs.Writer.{Judge, finished, sentence}
@@ -21,7 +21,7 @@ unfoldable pub endsRun : ℕ → ℕ → ℕ → Bool
 endsRun key count k = pick (eqb count 0) false (pick (eqb k key) false true)
 
 -- the bytes of the run that k ends, if it ends one
-unfoldable pub endedRun : Column → ℕ → ℕ → ℕ → List ℕ
+unfoldable pub endedRun : ColumnKind → ℕ → ℕ → ℕ → List ℕ
 endedRun col key count k = pick (endsRun key count k) (coding col .spell key (count - 1)) []
 
 -- bytes b put at a place of n bytes: the place after them, or the one past the end
@@ -51,6 +51,6 @@ endBytes out w far =
     (pick (leb (w .at) (length out)) (put 0 (length out) (take (w .at) out ++ finished w)) (padded (length out) [])) (padded (length out) [])
 
 -- the writer of a column: its answer, and what the bytes lent hold then
-abbrev pub Writes : Column → List ℕ → List ℕ → Written → List ℕ → Type 0
+abbrev pub Writes : ColumnKind → List ℕ → List ℕ → Written → List ℕ → Type 0
 Writes col vs e r x =
     (r ≡ written (whyOf col vs) (length e) (columnOf col vs)) × (x ≡ put (whyOf col vs) (length e) (columnOf col vs))

@@ -1,7 +1,7 @@
 // Whole slices in one pass: values are judged as they are written, for a refusal leaves zeros anyway. Where room ends nothing more is written, and the
 // judging goes on, so that 3 comes before 13 and 13 before 10. The state is words of its own, not a `Writer`: so it stays in registers.
 use numbers::Written;
-use runs::Column;
+use runs::ColumnKind;
 use runs::writer::Writer;
 use text::Taken;
 use text::Units;
@@ -33,7 +33,7 @@ fn is_ended(key: u64, count: u64, k: u64) -> bool
 }
 
 // Whether the run that k ends, if it ends one, can be stored.
-fn is_storable(column: Column, key: u64, count: u64, k: u64) -> bool
+fn is_storable(column: ColumnKind, key: u64, count: u64, k: u64) -> bool
     ensures { λ r. ⌜ r ≡ pick (endsRun key count k) (coding column .fits (count - 1)) true ⌝ }
 {
     if !is_ended(key, count, k) {
@@ -41,9 +41,9 @@ fn is_storable(column: Column, key: u64, count: u64, k: u64) -> bool
     }
     let n = count - 1;
     match column {
-        Column::Number => n <= numbers::MAX_COUNT + 1,
-        Column::Difference => n <= numbers::MAX_COUNT + 1,
-        Column::Byte => n <= numbers::MAX_COUNT,
+        ColumnKind::Number => n <= numbers::MAX_COUNT + 1,
+        ColumnKind::Difference => n <= numbers::MAX_COUNT + 1,
+        ColumnKind::Byte => n <= numbers::MAX_COUNT,
     }
 }
 
@@ -59,7 +59,7 @@ fn count_with(key: u64, count: u64, k: u64) -> u64
 }
 
 // A run, if there is room: the place after it, or the one past the end. How long it is, is asked only near the end: no run has more than 21 bytes.
-fn put_within(out: &mut [u8], column: Column, at: usize, k: u64, n: u64) -> usize
+fn put_within(out: &mut [u8], column: ColumnKind, at: usize, k: u64, n: u64) -> usize
     requires { ⌜ k ≤ keyMost column ⌝ }
     ensures { λ r. ⌜ PutAt (now (out .entry)) at (coding column .spell k n) r (now (out .exit)) ⌝ }
 {
@@ -79,7 +79,7 @@ fn put_within(out: &mut [u8], column: Column, at: usize, k: u64, n: u64) -> usiz
 }
 
 // The run that k ends, if it ends one.
-fn put_ended(out: &mut [u8], column: Column, at: usize, key: u64, count: u64, k: u64) -> usize
+fn put_ended(out: &mut [u8], column: ColumnKind, at: usize, key: u64, count: u64, k: u64) -> usize
     requires { ⌜ (key ≤ keyMost column) × (at ≤ length (now out) + 1) ⌝ }
     ensures { λ r. ⌜ PutAt (now (out .entry)) at (endedRun column key count k) r (now (out .exit)) ⌝ }
 {
@@ -112,7 +112,7 @@ fn end(out: &mut [u8], w: Writer, far: bool) -> Written
 
 // Clocks: 3, 13, then 10. A run's key is held to its limit where the run begins.
 pub fn write_differences(out: &mut [u8], values: &[u64]) -> Written
-    ensures { λ r. ⌜ Writes Column.Difference (now (values .entry)) (now (out .entry)) r (now (out .exit)) ⌝ }
+    ensures { λ r. ⌜ Writes ColumnKind.Difference (now (values .entry)) (now (out .entry)) r (now (out .exit)) ⌝ }
 {
     let mut at: usize = 0;
     let mut last: u64 = 0;
@@ -132,18 +132,18 @@ pub fn write_differences(out: &mut [u8], values: &[u64]) -> Written
             count += 1;
             continue;
         }
-        if !is_storable(Column::Difference, key, count, k) {
+        if !is_storable(ColumnKind::Difference, key, count, k) {
             return numbers::refuse(out, 3);
         }
-        far = runs::judge::far_with(Column::Difference, far, k);
-        at = put_ended(out, Column::Difference, at, key, count, k);
+        far = runs::judge::far_with(ColumnKind::Difference, far, k);
+        at = put_ended(out, ColumnKind::Difference, at, key, count, k);
         count = 1;
         key = k;
     }
     end(
         out,
         Writer {
-            column: Column::Difference,
+            column: ColumnKind::Difference,
             at,
             last,
             key,
@@ -155,7 +155,7 @@ pub fn write_differences(out: &mut [u8], values: &[u64]) -> Written
 
 // Numbers, each its own key: 3, then 10.
 pub fn write_numbers(out: &mut [u8], values: &[u64]) -> Written
-    ensures { λ r. ⌜ Writes Column.Number (now (values .entry)) (now (out .entry)) r (now (out .exit)) ⌝ }
+    ensures { λ r. ⌜ Writes ColumnKind.Number (now (values .entry)) (now (out .entry)) r (now (out .exit)) ⌝ }
 {
     let mut at: usize = 0;
     let mut key: u64 = 0;
@@ -167,17 +167,17 @@ pub fn write_numbers(out: &mut [u8], values: &[u64]) -> Written
         if numbers::MAX_VALUE < v {
             return numbers::refuse(out, 3);
         }
-        if !is_storable(Column::Number, key, count, v) {
+        if !is_storable(ColumnKind::Number, key, count, v) {
             return numbers::refuse(out, 3);
         }
-        at = put_ended(out, Column::Number, at, key, count, v);
+        at = put_ended(out, ColumnKind::Number, at, key, count, v);
         count = count_with(key, count, v);
         key = v;
     }
     end(
         out,
         Writer {
-            column: Column::Number,
+            column: ColumnKind::Number,
             at,
             last: key,
             key,
@@ -195,7 +195,7 @@ fn wide(b: u8) -> u64
 
 // Bytes: each is its own key, and none is over the limit.
 pub fn write_bytes(out: &mut [u8], values: &[u8]) -> Written
-    ensures { λ r. ⌜ Writes Column.Byte (now (values .entry)) (now (out .entry)) r (now (out .exit)) ⌝ }
+    ensures { λ r. ⌜ Writes ColumnKind.Byte (now (values .entry)) (now (out .entry)) r (now (out .exit)) ⌝ }
 {
     let mut at: usize = 0;
     let mut key: u64 = 0;
@@ -204,17 +204,17 @@ pub fn write_bytes(out: &mut [u8], values: &[u8]) -> Written
     while i < values.len() {
         let v = wide(values[i]);
         i += 1;
-        if !is_storable(Column::Byte, key, count, v) {
+        if !is_storable(ColumnKind::Byte, key, count, v) {
             return numbers::refuse(out, 3);
         }
-        at = put_ended(out, Column::Byte, at, key, count, v);
+        at = put_ended(out, ColumnKind::Byte, at, key, count, v);
         count = count_with(key, count, v);
         key = v;
     }
     end(
         out,
         Writer {
-            column: Column::Byte,
+            column: ColumnKind::Byte,
             at,
             last: key,
             key,
@@ -343,17 +343,17 @@ pub fn write_texts(out: &mut [u8], text: &[u8], units: &[u64]) -> Written
             let number = six_or(text, t.at, 3);
             return numbers::refuse(out, number);
         }
-        if !is_storable(Column::Number, key, count, u) {
+        if !is_storable(ColumnKind::Number, key, count, u) {
             let number = six_or(text, t.at, 3);
             return numbers::refuse(out, number);
         }
-        at = put_ended(out, Column::Number, at, key, count, u);
+        at = put_ended(out, ColumnKind::Number, at, key, count, u);
         count = count_with(key, count, u);
         key = u;
         t = take_next(text, t, u);
     }
     let w = Writer {
-        column: Column::Number,
+        column: ColumnKind::Number,
         at,
         last: key,
         key,

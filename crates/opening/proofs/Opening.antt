@@ -18,10 +18,10 @@ use Rattle.string.specs.declared.Place as string-place
 use Rattle.string.specs.declared.Opened as string-opened
 use Rattle.string.specs.declared.Opened.the-variants as opened
 use Rattle.string.specs.String as strings
-use Rattle.grammar.specs.GrammarInner.{_>>=_}
+use Rattle.grammar.specs.Grammar.{_>>=_}
 use Rattle.grammar.specs.Course as course
 use Rattle.decoder.specs.Line.{line, numberBy, byteAt, soMany, bytesAt}
-use Rattle.decoder.specs.States.{State, Texts, withText, withKeys, movedTo}
+use Rattle.decoder.specs.States.{State, Texts, textMoved, withKeys, movedTo}
 use Rattle.decoder.specs.Opening.{cut, heads, endOf, numbersFrom, differencesFrom, bytesFrom, standing, withOpened, textOpened, onHeads, openedOf}
 use Rattle.cells.specs.declared.Drawn.{Drawn}
 use Rattle.cells.specs.declared.Drawn.the-variants.{Number, Refused}
@@ -58,7 +58,7 @@ module _ (u w : List ℕ) (s : Small w) where
         let h = text-held p in
         let v = textPut p in (
           held-wide 5 w _ v h (omega arith, (λ q. omega arith), (λ q. omega arith), (λ q. omega arith)) s,
-          rw (text-opened, told) (ap (course.got tt) (state-text w v (h .elsewhere) ∙ ap (λ (c : Texts). withText c (stateIn w)) (texts-held 5 w _ v h ∙ rw text-to refl))),
+          rw (text-opened, told) (ap (course.got tt) (state-text w v (h .elsewhere) ∙ ap (λ (c : Texts). textMoved c (stateIn w)) (texts-held 5 w _ v h ∙ rw text-to refl))),
         )
 
     pub text-not : (v : List ℕ) (r : Drawn) (why : Refusal) → x ≡ opened.Not why → (r ≡ Refused) × Small v × Elsewhere 9 w v × (whyIn v ≡ why)
@@ -172,19 +172,19 @@ module _ (u : List ℕ) where
             rw (List·getD-append (c .parts) (p ∷ []) noPart j (omega (arith, c .many))) (fresh-same w v k j (getD (c .parts) j noPart) (z .elsewhere) (omega arith) h (c .fresh j b))
 
   -- opening the text looks at where its column begins and ends
-  text-alike : (s : State) (t : Texts) → t .to ≡ s .text .to → t .place .units .at ≡ s .text .place .units .at → textOpened u (withText t s) ≡ textOpened u s
+  text-alike : (s : State) (t : Texts) → t .to ≡ s .text .to → t .place .units .at ≡ s .text .place .units .at → textOpened u (textMoved t s) ≡ textOpened u s
   unfolding textOpened withOpened
   text-alike s t a b =
-      ap (λ (n : ℕ). withOpened (withText t s) (strings.openText (take n u) (t .place .units .at))) a
-      ∙ ap (λ (n : ℕ). withOpened (withText t s) (strings.openText (take (s .text .to) u) n)) b
+      ap (λ (n : ℕ). withOpened (textMoved t s) (strings.openText (take n u) (t .place .units .at))) a
+      ∙ ap (λ (n : ℕ). withOpened (textMoved t s) (strings.openText (take (s .text .to) u) n)) b
       ∙ go (strings.openText (take (s .text .to) u) (s .text .place .units .at))
     where
-      go : (x : string-opened.Opened) → withOpened (withText t s) x ≡ withOpened s x
-      go (opened.At c) = ap (λ (n : ℕ). course.got tt (withText (record { place = c; to = n }) s)) a
+      go : (x : string-opened.Opened) → withOpened (textMoved t s) x ≡ withOpened s x
+      go (opened.At c) = ap (λ (n : ℕ). course.got tt (textMoved (record { place = c; to = n }) s)) a
       go (opened.Not why) = refl
 
   module _ (w : List ℕ) (at : ℕ) (c : Cutting u w 9 at) (s : Small w) where
-    stood : withKeys [] (movedTo (stateIn w) at) ≡ withText (textsIn w 5) (standing (c .parts) at)
+    stood : withKeys [] (movedTo (stateIn w) at) ≡ textMoved (textsIn w 5) (standing (c .parts) at)
     unfolding stateIn
     stood = rw (
       fresh-differences w 0 _ (c .fresh 0 (omega arith)),

@@ -27,7 +27,7 @@ use Rattle.block.specs.Row.{noPart}
 use Rattle.grammar.specs.Grammar as grammar
 use Rattle.grammar.specs.Grammar.{Number, Field}
 use Rattle.grammar.specs.Course.{Drawn, got, not}
-use Rattle.decoder.specs.States.{maxKeys, Differences, State, withKey, withLeft, withRight, withText}
+use Rattle.decoder.specs.States.{maxKeys, Differences, State, keyMoved, leftMoved, rightMoved, textMoved}
 use Rattle.decoder.specs.Columned.{differenceDrawn, fromDifferences, textDrawn, textIn, joining, keyByNumber, keyIn, numberIn, columned}
 use Rattle.roles.specs.Roles.{keyText}
 use Rattle.origins.specs.Origins.{rising, baseOf, riseOf, storedLine, textLine, keyLine, keyLines, numberLine, linesIn}
@@ -104,8 +104,8 @@ module _ (u : List ℕ) (code : ℕ) (s : State) where
 
   number-adds : (n : Number) → On (Fine (grammar.number n)) (numberIn u n s)
   unfolding linesIn numberLine riseOf baseOf numberIn Adds AddsAs
-  number-adds grammar.leftClock = on-difference (Fine (grammar.number grammar.leftClock)) (λ c. withLeft c s) u (s .left) (λ v d h e. (h, tt))
-  number-adds grammar.rightClock = on-difference (Fine (grammar.number grammar.rightClock)) (λ c. withRight c s) u (s .right) (λ v d h e. (h, tt))
+  number-adds grammar.leftClock = on-difference (Fine (grammar.number grammar.leftClock)) (λ c. leftMoved c s) u (s .left) (λ v d h e. (h, tt))
+  number-adds grammar.rightClock = on-difference (Fine (grammar.number grammar.rightClock)) (λ c. rightMoved c s) u (s .right) (λ v d h e. (h, tt))
   number-adds grammar.client = on-any (Fine (grammar.number grammar.client)) (numberIn u grammar.client s) (λ a t. (refl, tt))
   number-adds grammar.info = on-any (Fine (grammar.number grammar.info)) (numberIn u grammar.info s) (λ a t. (refl, tt))
   number-adds grammar.parentInfo = on-any (Fine (grammar.number grammar.parentInfo)) (numberIn u grammar.parentInfo s) (λ a t. (refl, tt))
@@ -132,7 +132,7 @@ module _ (u : List ℕ) (code : ℕ) (s : State) where
   key-adds = go (nextDifference (take (s .key .to) u) (s .key .place)) (next-steps (take (s .key .to) u) (s .key .place))
     where
       joined : (t : State) → ((p : Part) (r : State) → r .key ≡ t .key → Fine grammar.key p r) → (a : string-answer.Answer)
-          → On (Fine grammar.key) (joining (textDrawn (λ c. withText c t) (t .text .to) a))
+          → On (Fine grammar.key) (joining (textDrawn (λ c. textMoved c t) (t .text .to) a))
       joined t h (string.Next p c) = h p _ refl
       joined t h (string.Bad why) = tt
 
@@ -142,9 +142,9 @@ module _ (u : List ℕ) (code : ℕ) (s : State) where
       told v t place h false true = joined t h (nextText (take (t .text .to) u) (t .text .place))
       told v t place h false false = tt
 
-      go : (a : Answer) → Steps (s .key .place .last) a → On (Fine grammar.key) (keyByNumber u (differenceDrawn (λ c. withKey c s) (s .key .to) a))
+      go : (a : Answer) → Steps (s .key .place .last) a → On (Fine grammar.key) (keyByNumber u (differenceDrawn (λ c. keyMoved c s) (s .key .to) a))
       go (Next v d) q =
-          told v (withKey (record { place = d; to = s .key .to }) s) (d .from)
+          told v (keyMoved (record { place = d; to = s .key .to }) s) (d .from)
           (λ p r e. key-lines p r v d (rw e refl) (sums v (s .key .place .last) (d .key) (q .0)) (q .1)) (ltb v (length (s .keys))) (ltb (length (s .keys)) maxKeys)
       go (Bad why) q = tt
 

@@ -36,9 +36,9 @@ use Rattle.string.specs.declared.Opened.the-variants as opened-as
 use Rattle.string.specs.String.{placeAt, opened, openText, nextText}
 use Rattle.grammar.specs.Grammar as grammar
 use Rattle.grammar.specs.Grammar.{Number, Field}
-use Rattle.grammar.specs.Course.{Drawn, got, not, Run, thing, over, stopped, run}
+use Rattle.grammar.specs.Course.{Drawn, got, not, CourseTo, thing, over, stopped, run}
 use Rattle.decoder.specs.Line.{line}
-use Rattle.decoder.specs.States.{maxKeys, Numbers, Differences, Bytes, Texts, State, movedTo, withKey, withClient, withLeft, withRight, withInfo, withText, withParent, withTypes, withLen, withKeys}
+use Rattle.decoder.specs.States.{maxKeys, Numbers, Differences, Octets, Texts, State, movedTo, keyMoved, clientMoved, leftMoved, rightMoved, infoMoved, textMoved, parentMoved, typesMoved, lenMoved, withKeys}
 use Rattle.decoder.specs.Columned.{numberDrawn, fromNumbers, differenceDrawn, fromDifferences, byteDrawn, fromBytes, textDrawn, textIn, onto, joining, keyByNumber, keyIn, numberIn, columned}
 use Rattle.decoder.specs.Opening.{heads, standing, withOpened, textOpened, onHeads, openedOf}
 use Rattle.roles.specs.Roles.{keyText}
@@ -85,8 +85,8 @@ module _ {S : Type 0} (u : List ℕ) where
       go (difference.Next v d) q = h v d (omega arith) (numbered-in-run _ _ _ _ q)
       go (difference.Bad why) q = tt
 
-  on-byte : (P : ℕ × ℕ → S → Type 0) (put : Bytes → S) (c : Bytes) → BytesWithin u c
-      → ((v : ℕ) (d : byte-place.Place) → let n : Bytes = record { place = d; to = c .to } in BytesWithin u n → Numbered (byteStand u n) → P (v, d .from) (put n))
+  on-byte : (P : ℕ × ℕ → S → Type 0) (put : Octets → S) (c : Octets) → BytesWithin u c
+      → ((v : ℕ) (d : byte-place.Place) → let n : Octets = record { place = d; to = c .to } in BytesWithin u n → Numbered (byteStand u n) → P (v, d .from) (put n))
       → On P (fromBytes u c put)
   unfolding On byteDrawn LeavesByte byteStand
   on-byte P put c few h = go (nextByte (take (c .to) u) (c .place)) (next-byte (take (c .to) u) (c .place) few)
@@ -102,17 +102,17 @@ module _ {S : Type 0} (u : List ℕ) where
 
 -- a text, of which something is made
 module _ (u : List ℕ) (t : State) (h : Within u t) where
-  with-text : (c : Texts) → TextsWithin u c → Within u (withText c t)
+  with-text : (c : Texts) → TextsWithin u c → Within u (textMoved c t)
   with-text c q = record { key = h .key; client = h .client; left = h .left; right = h .right; info = h .info; text = q; parent = h .parent; types = h .types; len = h .len }
 
   on-text : {X : Type 0} (P : X → State → Type 0) (make : Drawn State (Part × Units) → Drawn State X)
-      → ((p : Part) (n : Units) (c : Texts) → TextsWithin u c → Numbered (textStand u c) → On P (make (got (p, n) (withText c t))))
+      → ((p : Part) (n : Units) (c : Texts) → TextsWithin u c → Numbered (textStand u c) → On P (make (got (p, n) (textMoved c t))))
       → ((why : Refusal) → On P (make (not why)))
       → On P (make (textIn u t))
   unfolding textDrawn LeavesText textStand numberStand
   on-text P make g n = go (nextText (take (t .text .to) u) (t .text .place)) (next-text (take (t .text .to) u) (t .text .place) (h .text))
     where
-      go : (a : string-answer.Answer) → LeavesText (take (t .text .to) u) a → On P (make (textDrawn (λ c. withText c t) (t .text .to) a))
+      go : (a : string-answer.Answer) → LeavesText (take (t .text .to) u) a → On P (make (textDrawn (λ c. textMoved c t) (t .text .to) a))
       go (string.Next p c) q = g p _ (record { place = c; to = t .text .to }) (omega arith) (numbered-in-run _ _ _ _ q)
       go (string.Bad why) q = n why
 
@@ -131,26 +131,26 @@ module _ (u : List ℕ) (code : ℕ) (s : State) (h : Within u s) where
   number-fine : (n : Number) → On (Fine (grammar.number n)) (numberIn u n s)
   unfolding linesIn numberLine standIn numberIn
   number-fine grammar.client =
-      on-number u (Fine (grammar.number grammar.client)) (λ c. withClient c s) (s .client) (h .client)
+      on-number u (Fine (grammar.number grammar.client)) (λ c. clientMoved c s) (s .client) (h .client)
       (λ v d q r. (record { key = h .key; client = q; left = h .left; right = h .right; info = h .info; text = h .text; parent = h .parent; types = h .types; len = h .len }, (r, tt)))
   number-fine grammar.leftClock =
-      on-difference u (Fine (grammar.number grammar.leftClock)) (λ c. withLeft c s) (s .left) (h .left)
+      on-difference u (Fine (grammar.number grammar.leftClock)) (λ c. leftMoved c s) (s .left) (h .left)
       (λ v d q r. (record { key = h .key; client = h .client; left = q; right = h .right; info = h .info; text = h .text; parent = h .parent; types = h .types; len = h .len }, (r, tt)))
   number-fine grammar.rightClock =
-      on-difference u (Fine (grammar.number grammar.rightClock)) (λ c. withRight c s) (s .right) (h .right)
+      on-difference u (Fine (grammar.number grammar.rightClock)) (λ c. rightMoved c s) (s .right) (h .right)
       (λ v d q r. (record { key = h .key; client = h .client; left = h .left; right = q; info = h .info; text = h .text; parent = h .parent; types = h .types; len = h .len }, (r, tt)))
   number-fine grammar.info =
-      on-byte u (Fine (grammar.number grammar.info)) (λ c. withInfo c s) (s .info) (h .info)
+      on-byte u (Fine (grammar.number grammar.info)) (λ c. infoMoved c s) (s .info) (h .info)
       (λ v d q r. (record { key = h .key; client = h .client; left = h .left; right = h .right; info = q; text = h .text; parent = h .parent; types = h .types; len = h .len }, (r, tt)))
   number-fine grammar.parentInfo =
-      on-byte u (Fine (grammar.number grammar.parentInfo)) (λ c. withParent c s) (s .parent) (h .parent)
+      on-byte u (Fine (grammar.number grammar.parentInfo)) (λ c. parentMoved c s) (s .parent) (h .parent)
       (λ v d q r. (record { key = h .key; client = h .client; left = h .left; right = h .right; info = h .info; text = h .text; parent = q; types = h .types; len = h .len }, (r, tt)))
   number-fine grammar.len =
-      on-bounded (Fine (grammar.number grammar.len)) maxClock (fromNumbers u (s .len) (λ c. withLen c s))
-      (on-number u (Fine (grammar.number grammar.len)) (λ c. withLen c s) (s .len) (h .len)
+      on-bounded (Fine (grammar.number grammar.len)) maxClock (fromNumbers u (s .len) (λ c. lenMoved c s))
+      (on-number u (Fine (grammar.number grammar.len)) (λ c. lenMoved c s) (s .len) (h .len)
       (λ v d q r. (record { key = h .key; client = h .client; left = h .left; right = h .right; info = h .info; text = h .text; parent = h .parent; types = h .types; len = q }, (r, tt))))
   number-fine grammar.typeNumber =
-      on-number u (Fine (grammar.number grammar.typeNumber)) (λ c. withTypes c s) (s .types) (h .types)
+      on-number u (Fine (grammar.number grammar.typeNumber)) (λ c. typesMoved c s) (s .types) (h .types)
       (λ v d q r. (record { key = h .key; client = h .client; left = h .left; right = h .right; info = h .info; text = h .text; parent = h .parent; types = q; len = h .len }, (r, tt)))
   number-fine grammar.byte = in-line (grammar.number grammar.byte) (line 2 u (grammar.number grammar.byte) (s .at)) (λ a e. (numbered-in-line (s .at) e, tt))
   number-fine (grammar.upTo most) =
@@ -193,13 +193,13 @@ module _ (u : List ℕ) (code : ℕ) (s : State) (h : Within u s) where
       told v t place w a e true o = (w, known-told _ t a e)
       told v t place w a e false true =
           on-text u t w (Fine grammar.key) joining
-          (λ p n c q r. (keys-within (t .keys ++ (p ∷ [])) (withText c t) (with-text u t w c q), new-told p (withKeys (t .keys ++ (p ∷ [])) (withText c t)) a r))
+          (λ p n c q r. (keys-within (t .keys ++ (p ∷ [])) (textMoved c t) (with-text u t w c q), new-told p (withKeys (t .keys ++ (p ∷ [])) (textMoved c t)) a r))
           (λ why. tt)
       told v t place w a e false false = tt
 
-      go : (a : difference-answer.Answer) → LeavesDifference (take (s .key .to) u) a → On (Fine grammar.key) (keyByNumber u (differenceDrawn (λ c. withKey c s) (s .key .to) a))
+      go : (a : difference-answer.Answer) → LeavesDifference (take (s .key .to) u) a → On (Fine grammar.key) (keyByNumber u (differenceDrawn (λ c. keyMoved c s) (s .key .to) a))
       go (difference.Next v d) q =
-          told v (withKey (record { place = d; to = s .key .to }) s) (d .from)
+          told v (keyMoved (record { place = d; to = s .key .to }) s) (d .from)
           (record { key = omega arith; client = h .client; left = h .left; right = h .right; info = h .info; text = h .text; parent = h .parent; types = h .types; len = h .len })
           (numbered-in-run _ _ _ _ q) refl (ltb v (length (s .keys))) (ltb (length (s .keys)) maxKeys)
       go (difference.Bad why) q = tt
@@ -254,7 +254,7 @@ module _ (u : List ℕ) where
   opened-text s h (opened-as.At c) q = with-text u s h (record { place = c; to = s .text .to }) (omega (arith, q))
   opened-text s h (opened-as.Not why) q = tt
 
-  heads-within : (r : Run ℕ (Unit {0}) (List Part)) → On (λ (a : Unit {0}) (t : State). Within u t) (onHeads u r)
+  heads-within : (r : CourseTo ℕ (Unit {0}) (List Part)) → On (λ (a : Unit {0}) (t : State). Within u t) (onHeads u r)
   unfolding On onHeads textOpened
   heads-within (thing e p c) = heads-within c
   heads-within (over ps at) = let s = standing ps at in opened-text s (standing-within ps at) _ (text-starts (take (s .text .to) u) (s .text .place .units .at))

@@ -10,7 +10,7 @@ use Rattle.numbers.specs.Number.{readUnsigned, readSigned}
 use Rattle.grammar.specs.Grammar as grammar
 use Rattle.grammar.specs.Grammar.{Number, Field}
 use Rattle.grammar.specs.Course.{Drawn, got, not}
-use Rattle.decoder.specs.States.{Numbers, Differences, Bytes, Texts, State}
+use Rattle.decoder.specs.States.{Numbers, Differences, Octets, Texts, State}
 use Rattle.origins.specs.declared.Stand.{Stand}
 use Rattle.origins.specs.declared.Rise.{Rise}
 use Rattle.origins.specs.declared.Line.{Line}
@@ -78,7 +78,7 @@ NumbersWithin u c = let s = take (c .to) u in c .place .count ≤ numberTimes s 
 abbrev pub DifferencesWithin : List ℕ → Differences → Type 0
 DifferencesWithin u c = let s = take (c .to) u in c .place .count ≤ differenceTimes s (readSigned s (c .place .from))
 
-abbrev pub BytesWithin : List ℕ → Bytes → Type 0
+abbrev pub BytesWithin : List ℕ → Octets → Type 0
 BytesWithin u c = c .place .endless ≡ false → c .place .count ≤ byteTimes (take (c .to) u) (c .place .from)
 
 abbrev pub TextsWithin : List ℕ → Texts → Type 0

@@ -15,7 +15,7 @@ use Rattle.block.specs.Row.{noPart}
 use Rattle.runs.specs.Difference.{zeroKey}
 use Rattle.grammar.specs.Grammar as grammar
 use Rattle.grammar.specs.Grammar.{Number, Field, Answer}
-use Rattle.decoder.specs.States.{Numbers, Differences, Bytes, Texts, State}
+use Rattle.decoder.specs.States.{Numbers, Differences, Octets, Texts, State}
 use Rattle.roles.specs.Roles.{keyText}
 use Rattle.origins.specs.declared.Stand.{Stand}
 use Rattle.origins.specs.declared.Rise.{Rise}
@@ -68,7 +68,7 @@ differenceStand u c =
     let p = c .place in
     inRun (p .from) (p .at) (differenceTimes s (readSigned s (p .from))) (p .count)
 
-unfoldable pub byteStand : List ℕ → Bytes → Stand
+unfoldable pub byteStand : List ℕ → Octets → Stand
 byteStand u c =
     let p = c .place in
     pick (p .endless) (endless (p .from) (p .at)) (inRun (p .from) (p .at) (byteTimes (take (c .to) u) (p .from)) (p .count))

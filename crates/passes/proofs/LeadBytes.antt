@@ -10,8 +10,8 @@ use lib.Seq.{sets}
 use borrow.Author.Tests.{le-leb}
 use Rattle.numbers.specs.Number.{pick}
 use Rattle.parts.specs.Brim.{brim}
-use Rattle.runs.specs.declared.Column.{Column}
-use Rattle.runs.specs.declared.Column.the-variants.{Number, Difference, Byte}
+use Rattle.runs.specs.declared.ColumnKind.{ColumnKind}
+use Rattle.runs.specs.declared.ColumnKind.the-variants.{Number, Difference, Byte}
 use Rattle.runs.specs.Runs.{coding, spellable}
 use Rattle.tokens.specs.Tokens.{Token, var, keys, texts, whole, takenAll, inLine, columnIn}
 use Rattle.tokens.specs.Bytes.{nearIn}
@@ -97,9 +97,9 @@ module _ (k at : ℕ) (ts : List Token) (fits : Fits k at ts) where
   unfolding nearIn
   far-difference i c = rw (← c) (lane-far k at ts fits i)
 
-  far-like : (c : Column) → inLine k ≡ false → columnIn k ≡ c → spellable (coding c) 0 (takenAll k ts) ≡ true → far ≡ false
+  far-like : (c : ColumnKind) → inLine k ≡ false → columnIn k ≡ c → spellable (coding c) 0 (takenAll k ts) ≡ true → far ≡ false
   far-like c i e h =
-      lane-far k at ts fits i ∙ ap (λ (c : Column). pick (spellable (coding c) 0 (takenAll k ts)) false true) e ∙ ap (λ (b : Bool). pick b false true) h
+      lane-far k at ts fits i ∙ ap (λ (c : ColumnKind). pick (spellable (coding c) 0 (takenAll k ts)) false true) e ∙ ap (λ (b : Bool). pick b false true) h
 
   pub far-number : inLine k ≡ false → columnIn k ≡ Number → closed (putAll (freshLane k at) ts) .far ≡ false
   far-number i e = far-like Number i e (always-number 0 (takenAll k ts))

@@ -15,7 +15,7 @@ use Rattle.numbers.proofs.Laws.{unsigned-last}
 use Rattle.numbers.proofs.Output.{sets-append}
 use Rattle.readings.specs.Sound.{All}
 use Rattle.parts.specs.Brim.{brim}
-use Rattle.runs.specs.declared.Column.the-variants.{Difference}
+use Rattle.runs.specs.declared.ColumnKind.the-variants.{Difference}
 use Rattle.runs.specs.Runs.{coding, spellable}
 use Rattle.tokens.specs.Keys.{numbered}
 use Rattle.tokens.specs.KeysInner.{spelled}

@@ -8,7 +8,7 @@ use Rattle.columns.specs.Byte as byte
 use Rattle.columns.specs.Difference as difference
 use Rattle.string.specs.String as strings
 use Rattle.anys.specs.Any as anys
-use Rattle.grammar.specs.GrammarInner.{_>>=_}
+use Rattle.grammar.specs.Grammar.{_>>=_}
 use Rattle.grammar.specs.Course.{things, onDrawn, run}
 use Rattle.grammar.specs.Blocks.{anId, left, right, parentAfter, parent, key, place, deleted, binary, string, format, contentOf, content, anItem, bare, body, block, dropped, unlessDropped, blocks, sections, allBlocks}
 use Rattle.grammar.specs.Trace.{placeOf, traced}

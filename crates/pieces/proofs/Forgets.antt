@@ -26,7 +26,7 @@ use Rattle.anys.proofs.More.{anys-forgets}
 use Rattle.grammar.specs.Grammar as grammar
 use Rattle.grammar.specs.Grammar.{Number, Field, Grammar}
 use Rattle.grammar.specs.Course as course
-use Rattle.grammar.specs.Course.{Drawn, not, Run, thing, over, stopped, run}
+use Rattle.grammar.specs.Course.{Drawn, not, CourseTo, thing, over, stopped, run}
 use Rattle.grammar.proofs.Mirrors.{Follows, Mirrors, mirrors}
 use Rattle.decoder.specs.Line.{numberAt, varAt, bounded, upTo, byteAt, restored, deleteAt, numberBy, soMany, bytesAt, checked, wordOf, spanned, valuesAt, line}
 
@@ -220,7 +220,7 @@ module _ (u u′ : List ℕ) (n : ℕ) (len : length u ≡ length u′) (same : 
         go false = values blame 1
     field form (grammar.values blame k) = values blame k
 
-  all-same : {E A : Type 0} (c d : Run ℕ E A) → Mirrors Stands All c d → d ≡ c
+  all-same : {E A : Type 0} (c d : CourseTo ℕ E A) → Mirrors Stands All c d → d ≡ c
   unfolding Mirrors
   all-same (thing e p c) d h = h .1 ∙ ap (thing e p) (all-same c (h .0) (h .2))
   all-same (over a s) d h = h .1 ∙ ap (over a) (h .2 .0)

@@ -5,7 +5,7 @@ use mathlib.Core.Logic.{_≢_}
 use mathlib.Core.List.{List, _++_}
 use lib.Dec.{eqb}
 use Rattle.numbers.specs.declared.Refusal.{Refusal}
-use Rattle.grammar.specs.Course.{Run, thing, over, stopped, fit, ending}
+use Rattle.grammar.specs.Course.{CourseTo, thing, over, stopped, fit, ending}
 use Rattle.grammar.specs.Blocks.{allBlocks}
 use Rattle.grammar.specs.Deletes.{allRanges}
 use Rattle.grammar.proofs.Runs.{both}
@@ -24,7 +24,7 @@ ranges-stay form u w at = line-stays form u w allRanges at
 
 -- ---- what rows take of a run, and what follows it
 
-pub fit-stays : {S E A : Type 0} (n : ℕ) (x y : Run S E A) → Stays x y → Stays (fit n x) (fit n y)
+pub fit-stays : {S E A : Type 0} (n : ℕ) (x y : CourseTo S E A) → Stays x y → Stays (fit n x) (fit n y)
 unfolding fit Stays
 fit-stays zero (thing e p c) y h = λ q. ap (fit zero) (h .1)
 fit-stays (suc n) (thing e p c) y h = (fit n (h .0), ap (fit (suc n)) (h .1), fit-stays n c (h .0) (h .2))
@@ -33,9 +33,9 @@ fit-stays n (stopped why) y h = λ q. ap (fit n) (h q)
 
 -- what P holds of is no refusal with 1: there the runs are the same, and so is what follows them, if it is the same then
 module _ {S E A X : Type 0} (f f′ : S → X) (g : Refusal → X) (P : X → Type 0) (other : (why : Refusal) → P (g why) → why .number ≢ 1) where
-  pub ending-stays : (x y : Run S E A) → Stays x y → (y ≡ x → (s : S) → P (f s) → f′ s ≡ f s) → P (ending x f g) → ending y f′ g ≡ ending x f g
+  pub ending-stays : (x y : CourseTo S E A) → Stays x y → (y ≡ x → (s : S) → P (f s) → f′ s ≡ f s) → P (ending x f g) → ending y f′ g ≡ ending x f g
   unfolding ending Stays
   ending-stays (thing e p c) y h next q =
-      ap (λ (z : Run S E A). ending z f′ g) (h .1) ∙ ending-stays c (h .0) (h .2) (λ same. next (h .1 ∙ ap (thing e p) same)) q
-  ending-stays (over a s) y h next q = ap (λ (z : Run S E A). ending z f′ g) h ∙ next h s q
-  ending-stays (stopped why) y h next q = ap (λ (z : Run S E A). ending z f′ g) (h (other why q))
+      ap (λ (z : CourseTo S E A). ending z f′ g) (h .1) ∙ ending-stays c (h .0) (h .2) (λ same. next (h .1 ∙ ap (thing e p) same)) q
+  ending-stays (over a s) y h next q = ap (λ (z : CourseTo S E A). ending z f′ g) h ∙ next h s q
+  ending-stays (stopped why) y h next q = ap (λ (z : CourseTo S E A). ending z f′ g) (h (other why q))

@@ -30,13 +30,13 @@ use Rattle.columns.specs.Byte.{nextByte}
 use Rattle.string.specs.String.{openText, nextText}
 use Rattle.grammar.specs.Grammar as grammar
 use Rattle.grammar.specs.Grammar.{Number, Field}
-use Rattle.grammar.specs.GrammarInner.{_>>=_}
-use Rattle.grammar.specs.Course.{Drawn, got, not, Run, thing, over, stopped, onDrawn, run}
+use Rattle.grammar.specs.Grammar.{_>>=_}
+use Rattle.grammar.specs.Course.{Drawn, got, not, CourseTo, thing, over, stopped, onDrawn, run}
 use Rattle.grammar.specs.Blocks.{allBlocks}
 use Rattle.grammar.proofs.Runs.{both}
 use Rattle.grammar.proofs.Fragments.{Firm}
 use Rattle.decoder.specs.Line.{bounded, byteAt, bytesAt, line, numberBy}
-use Rattle.decoder.specs.States.{maxKeys, Numbers, Differences, Bytes, State, withText}
+use Rattle.decoder.specs.States.{maxKeys, Numbers, Differences, Octets, State, textMoved}
 use Rattle.decoder.specs.Columned.{numberDrawn, fromNumbers, differenceDrawn, fromDifferences, byteDrawn, fromBytes, textDrawn, onto, numberIn, textIn, joining, keyByNumber, keyIn, columned}
 use Rattle.decoder.specs.Opening.{cut, heads, endOf, standing, withOpened, textOpened, onHeads, openedOf}
 use Rattle.decoder.specs.Update.{restPlaces, inColumns}
@@ -62,7 +62,7 @@ Within n s =
     AtMost n (s .key .to) (s .client .to) (s .left .to) (s .right .to) (s .info .to) (s .text .to) (s .parent .to) (s .types .to) (s .len .to)
 
 -- of a state its place
-placed-stays : {E A : Type 0} (x y : Run State E A) → Stays x y → Stays (restPlaces x) (restPlaces y)
+placed-stays : {E A : Type 0} (x y : CourseTo State E A) → Stays x y → Stays (restPlaces x) (restPlaces y)
 unfolding restPlaces Stays
 placed-stays (thing e p c) y h = (restPlaces (h .0), ap restPlaces (h .1), placed-stays c (h .0) (h .2))
 placed-stays (over a s) y h = ap restPlaces h
@@ -92,7 +92,7 @@ module _ (u w : List ℕ) where
         go (difference.Next v p) = (refl, h p)
         go (difference.Bad why) = λ q. refl
 
-  module _ (c : Bytes) (put : Bytes → State) (l : c .to ≤ length u) (h : (p : byte-place.Place) → I (put (record { place = p; to = c .to }))) where
+  module _ (c : Octets) (put : Octets → State) (l : c .to ≤ length u) (h : (p : byte-place.Place) → I (put (record { place = p; to = c .to }))) where
     bytes-keep : Keeps I (fromBytes u c put) (fromBytes (u ++ w) c put)
     unfolding byteDrawn
     bytes-keep = rw (take-append-le (c .to) u w l) (go (nextByte (take (c .to) u) (c .place)))
@@ -113,7 +113,7 @@ module _ (u w : List ℕ) where
     unfolding textDrawn
     text-keeps = rw (take-append-le (s .text .to) u w (h .text)) (go (nextText (take (s .text .to) u) (s .text .place)))
       where
-        go : (r : string-answer.Answer) → Keeps I (textDrawn (λ c. withText c s) (s .text .to) r) (textDrawn (λ c. withText c s) (s .text .to) r)
+        go : (r : string-answer.Answer) → Keeps I (textDrawn (λ c. textMoved c s) (s .text .to) r) (textDrawn (λ c. textMoved c s) (s .text .to) r)
         go (string.Next v p) = (refl, h)
         go (string.Bad why) = λ q. refl
 

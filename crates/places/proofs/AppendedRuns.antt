@@ -6,7 +6,7 @@ use mathlib.Core.Logic.{_≢_}
 use mathlib.Core.List.{List, _++_}
 use borrow.Author.Tests.{ne-eqb}
 use Rattle.grammar.specs.Grammar.{Field, Grammar, ask, emit, stop, done}
-use Rattle.grammar.specs.Course.{Drawn, got, not, Reader, Run, onDrawn, run}
+use Rattle.grammar.specs.Course.{Drawn, got, not, Reader, CourseTo, onDrawn, run}
 use Rattle.grammar.proofs.Fragments.{Firm}
 use Rattle.decoder.specs.Line.{line}
 use Rattle.pieces.proofs.Firm.{line-firm}
@@ -17,7 +17,7 @@ abbrev pub Keeps : {S X : Type 0} → (S → Type 0) → Drawn S X → Drawn S X
 Keeps I (got x s) d = (d ≡ got x s) × I s
 Keeps I (not why) d = (why .number ≢ 1) → d ≡ not why
 
-pub drawn-stays : {S E A X : Type 0} (I : S → Type 0) (f g : X → S → Run S E A) (x y : Drawn S X) → Keeps I x y
+pub drawn-stays : {S E A X : Type 0} (I : S → Type 0) (f g : X → S → CourseTo S E A) (x y : Drawn S X) → Keeps I x y
     → ((a : X) (s : S) → I s → Stays (f a s) (g a s)) → Stays (onDrawn x f) (onDrawn y g)
 unfolding onDrawn Stays
 drawn-stays I f g (got a s) y h more = subst (λ (z : Drawn _ _). Stays (f a s) (onDrawn z g)) (sym (h .0)) (more a s (h .1))

@@ -16,7 +16,7 @@ use Rattle.text.specs.Utf8.{wellFormed}
 use Rattle.string.specs.declared.Opened.{Opened}
 use Rattle.string.specs.String.{opened, openText}
 use Rattle.grammar.specs.Grammar.{Grammar}
-use Rattle.grammar.specs.Course.{Drawn, got, not, Run, thing, over, stopped, onDrawn, run, fit}
+use Rattle.grammar.specs.Course.{Drawn, got, not, CourseTo, thing, over, stopped, onDrawn, run, fit}
 use Rattle.grammar.specs.Blocks.{allBlocks}
 use Rattle.grammar.specs.Deletes.{allRanges}
 use Rattle.decoder.specs.Line.{line}
@@ -72,7 +72,7 @@ module _ (u : List ℕ) where
   unfolding openedOf onHeads BlamesIn Gives
   opened-gives = go (run (line 2 u) heads 0) (line-blames 2 heads (heads-point u) 0)
     where
-      go : (c : Run ℕ _ _) → BlamesIn u c → Gives u Any (Stands u) (onHeads u c)
+      go : (c : CourseTo ℕ _ _) → BlamesIn u c → Gives u Any (Stands u) (onHeads u c)
       go (thing e p c) h = go c (h .1)
       go (over ps at) h = text-opened ps at
       go (stopped why) h = h
@@ -87,7 +87,7 @@ module _ (u : List ℕ) where
       go (got x s) h = run-blames u (Stands u) (columned u) (columned-gives u) Any allBlocks (all-blocks-point u) s (h .1)
       go (not why) h = h
 
-  placed-blames : {E A : Type 0} (c : Run State E A) → BlamesIn u c → BlamesIn u (restPlaces c)
+  placed-blames : {E A : Type 0} (c : CourseTo State E A) → BlamesIn u c → BlamesIn u (restPlaces c)
   unfolding restPlaces BlamesIn
   placed-blames (thing e p c) h = (h .0, placed-blames c (h .1))
   placed-blames (over a s) h = tt
@@ -103,7 +103,7 @@ unfolding deleteSet
 ranges-blame form u at = line-blames u form allRanges (all-ranges-point u) at
 
 -- what so many rows take of it
-pub fit-blames : {S E A : Type 0} (u : List ℕ) (n : ℕ) (c : Run S E A) → BlamesIn u c → BlamesIn u (fit n c)
+pub fit-blames : {S E A : Type 0} (u : List ℕ) (n : ℕ) (c : CourseTo S E A) → BlamesIn u c → BlamesIn u (fit n c)
 unfolding fit BlamesIn Blames
 fit-blames u zero (thing e p c) h = inl (h .0)
 fit-blames u (suc n) (thing e p c) h = (h .0, fit-blames u n c (h .1))

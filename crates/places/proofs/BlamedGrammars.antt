@@ -14,7 +14,7 @@ use Rattle.block.specs.Rows.{plain}
 use Rattle.block.specs.Kinds.{maxType, isNamed}
 use Rattle.grammar.specs.Grammar as fields
 use Rattle.grammar.specs.Grammar.{Number, Field, Answer, Grammar, ask, emit, stop, done}
-use Rattle.grammar.specs.GrammarInner.{_>>=_}
+use Rattle.grammar.specs.Grammar.{_>>=_}
 use Rattle.grammar.specs.Course.{Drawn, got, not, Reader, onDrawn, run}
 use Rattle.grammar.specs.Blocks as grammar
 use Rattle.grammar.specs.Deletes as deletes

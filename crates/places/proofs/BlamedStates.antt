@@ -22,7 +22,7 @@ use Rattle.grammar.specs.Grammar as grammar
 use Rattle.grammar.specs.Grammar.{Number, Field}
 use Rattle.grammar.specs.Course.{Drawn, got, not}
 use Rattle.decoder.specs.Line.{line}
-use Rattle.decoder.specs.States.{maxKeys, Numbers, Differences, Bytes, Texts, State}
+use Rattle.decoder.specs.States.{maxKeys, Numbers, Differences, Octets, Texts, State}
 use Rattle.decoder.specs.Columned.{numberDrawn, fromNumbers, differenceDrawn, fromDifferences, byteDrawn, fromBytes, textDrawn, fromTexts, onto, numberIn, textIn, joining, keyByNumber, keyIn, columned}
 use Rattle.pieces.proofs.Forgets.{chosen}
 use Rattle.places.specs.Places.{Blames}
@@ -68,7 +68,7 @@ module _ (u : List ℕ) where
         difference-next u (take (c .to) u) (front (c .to)) 0 (λ r. Gives u (Byte u) Inv (differenceDrawn put (c .to) r)) (λ _ b. b)
         (λ _ _ k. (k .2, keep _ (k .0, λ _. k))) (c .place) h
 
-    bytes-give : (c : Bytes) (put : Bytes → S) → ByteHolds u 0 (c .place) → ((d : Bytes) → ByteHolds u 0 (d .place) → Inv (put d))
+    bytes-give : (c : Octets) (put : Octets → S) → ByteHolds u 0 (c .place) → ((d : Octets) → ByteHolds u 0 (d .place) → Inv (put d))
         → Gives u (Byte u) Inv (fromBytes u c put)
     unfolding byteDrawn Gives
     bytes-give c put h keep =

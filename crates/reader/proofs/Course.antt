@@ -10,7 +10,7 @@ use Rattle.numbers.specs.declared.Refusal.{Refusal}
 use Rattle.block.specs.declared.Block.{Block}
 use Rattle.block.specs.Row.{noBlock}
 use Rattle.table.specs.Rows.{clearedFrom, filledFrom}
-use Rattle.grammar.specs.Course.{Run, Course, thing, over, stopped, fit, things, ending}
+use Rattle.grammar.specs.Course.{CourseTo, Course, thing, over, stopped, fit, things, ending}
 use Rattle.decoder.specs.States.{State, movedTo}
 use Rattle.cells.specs.Cells.{stateIn}
 use Rattle.reader.specs.declared.Filled.{Filled}
@@ -147,8 +147,8 @@ module _ (N : ℕ) (c₀ : Course Block) where
 
 -- ---- where the words stand: with n of N rows filled and c to come, words that stand where c ends stand where all of it does
 
-module _ (N : ℕ) (c₀ : Run State Block (Unit {0})) where
-  abbrev pub Onward : ℕ → Run State Block (Unit {0}) → Type 0
+module _ (N : ℕ) (c₀ : CourseTo State Block (Unit {0})) where
+  abbrev pub Onward : ℕ → CourseTo State Block (Unit {0}) → Type 0
   Onward n c = (v : List ℕ) → Stands (fit (N - n) c) v → Stands (fit N c₀) v
 
   pub onward-first : Onward 0 c₀
@@ -163,13 +163,13 @@ module _ (N : ℕ) (c₀ : Run State Block (Unit {0})) where
   stands-stopped (suc k) why v = tt
 
   pub stands-none : (why : Refusal) → c₀ ≡ stopped why → (v : List ℕ) → Stands (fit N c₀) v
-  stands-none why e v = subst (λ (x : Run State Block (Unit {0})). Stands (fit N x) v) (sym e) (stands-stopped N why v)
+  stands-none why e v = subst (λ (x : CourseTo State Block (Unit {0})). Stands (fit N x) v) (sym e) (stands-stopped N why v)
 
-  module _ (n : ℕ) (c : Run State Block (Unit {0})) (on : Onward n c) where
-    pub onward-passed : (rest : Run State Block (Unit {0})) → c ≡ rest → Onward n rest
-    onward-passed rest e v h = on v (subst (λ (x : Run State Block (Unit {0})). Stands (fit (N - n) x) v) (sym e) h)
+  module _ (n : ℕ) (c : CourseTo State Block (Unit {0})) (on : Onward n c) where
+    pub onward-passed : (rest : CourseTo State Block (Unit {0})) → c ≡ rest → Onward n rest
+    onward-passed rest e v h = on v (subst (λ (x : CourseTo State Block (Unit {0})). Stands (fit (N - n) x) v) (sym e) h)
 
-    module _ (b : Block) (p : ℕ) (rest : Run State Block (Unit {0})) (e : c ≡ thing b p rest) where
+    module _ (b : Block) (p : ℕ) (rest : CourseTo State Block (Unit {0})) (e : c ≡ thing b p rest) where
       pub onward-kept : n < N → Onward (n + 1) rest
       unfolding fit Stands
       onward-kept l v h = onward-passed (thing b p rest) e v (subst (λ (k : ℕ). Stands (fit k (thing b p rest)) v) less h)

@@ -19,7 +19,7 @@ use Rattle.block.specs.KindsInner.{isBare, isBlock, hasPart, isMarked}
 use Rattle.block.specs.Rows.{plain, withLeft, withRight, withKey, markIs, withContent}
 use Rattle.grammar.specs.Grammar as fields
 use Rattle.grammar.specs.Grammar.{Number, Grammar}
-use Rattle.grammar.specs.GrammarInner.{_>>=_}
+use Rattle.grammar.specs.Grammar.{_>>=_}
 use Rattle.grammar.specs.Blocks as grammar
 use Rattle.readings.specs.Sound.{bytesIn, linked}
 use Rattle.readings.specs.SoundInner.{Lies, SoundId, SoundText, Shape, Stored, Sound, Valued}

@@ -40,9 +40,9 @@ use Rattle.string.specs.String.{openText, nextText}
 use Rattle.string.proofs.Texts.{read-ends}
 use Rattle.grammar.specs.Grammar as grammar
 use Rattle.grammar.specs.Grammar.{Number, Field, Answer}
-use Rattle.grammar.specs.Course.{Drawn, got, not, Run, thing, over, stopped, run}
+use Rattle.grammar.specs.Course.{Drawn, got, not, CourseTo, thing, over, stopped, run}
 use Rattle.decoder.specs.Line.{bounded, upTo, varAt, numberBy, soMany, bytesAt, checked, wordOf, spanned, valuesAt, line}
-use Rattle.decoder.specs.States.{maxKeys, Numbers, Differences, Bytes, State, withText}
+use Rattle.decoder.specs.States.{maxKeys, Numbers, Differences, Octets, State, textMoved}
 use Rattle.decoder.specs.Columned.{numberDrawn, fromNumbers, differenceDrawn, fromDifferences, byteDrawn, fromBytes, textDrawn, onto, numberIn, textIn, joining, keyByNumber, keyIn, columned}
 use Rattle.decoder.specs.Opening.{heads, withOpened, textOpened, onHeads, openedOf}
 use Rattle.readings.specs.Sound.{bytesIn, All}
@@ -222,7 +222,7 @@ module _ (u : List ℕ) where
         go (difference.Next v d) k = (k, h _)
         go (difference.Bad why) k = tt
 
-    bytes-drawn : (c : Bytes) (put : Bytes → S) → ((d : Bytes) → Inv (put d)) → Gives Any Inv (fromBytes u c put)
+    bytes-drawn : (c : Octets) (put : Octets → S) → ((d : Octets) → Inv (put d)) → Gives Any Inv (fromBytes u c put)
     unfolding byteDrawn Gives
     bytes-drawn c put h = go (nextByte (take (c .to) u) (c .place))
       where
@@ -263,7 +263,7 @@ module _ (u : List ℕ) where
     unfolding textDrawn Gives
     text-gives = go (nextText (take (s .text .to) u) (s .text .place)) (text-held (take (s .text .to) u) (s .text .place) (h .0))
       where
-        go : (r : string-answer.Answer) → TextHeld (take (s .text .to) u) r → Gives AText Inside (textDrawn (λ c. withText c s) (s .text .to) r)
+        go : (r : string-answer.Answer) → TextHeld (take (s .text .to) u) r → Gives AText Inside (textDrawn (λ c. textMoved c s) (s .text .to) r)
         go (string.Next p c) k = (whole-of (s .text .to) u p (c .units .last) (k .0), (k .1, h .1))
         go (string.Bad why) k = tt
 
@@ -310,7 +310,7 @@ module _ (u : List ℕ) where
   unfolding openedOf onHeads Gives
   opened-gives = go (run (line 2 u) heads 0)
     where
-      go : (c : Run ℕ _ _) → Gives Any Inside (onHeads u c)
+      go : (c : CourseTo ℕ _ _) → Gives Any Inside (onHeads u c)
       go (thing e p c) = go c
       go (over ps at) = text-opened _ tt
       go (stopped why) = tt

@@ -11,7 +11,7 @@ use borrow.Author.Tests.{ltb-false, eqb-false}
 use Rattle.numbers.specs.Number.{pick}
 use Rattle.numbers.specs.Limits.{maxClock, maxValue, maxClients}
 use Rattle.grammar.specs.Grammar.{Grammar, emit, stop}
-use Rattle.grammar.specs.GrammarInner.{_>>=_}
+use Rattle.grammar.specs.Grammar.{_>>=_}
 use Rattle.grammar.specs.Course.{fit, things}
 use Rattle.grammar.specs.Deletes as grammar
 use Rattle.decoder.specs.Line.{line}

@@ -12,8 +12,8 @@ use Rattle.numbers.specs.Number.{pick}
 use Rattle.numbers.specs.Limits.{maxValue, maxClock, maxClients, maxBlocks}
 use Rattle.block.specs.declared.Block.{Block}
 use Rattle.grammar.specs.Grammar.{Grammar, stop}
-use Rattle.grammar.specs.GrammarInner.{_>>=_}
-use Rattle.grammar.specs.Course.{Drawn, got, not, Run, thing, over, stopped, onDrawn, run, things}
+use Rattle.grammar.specs.Grammar.{_>>=_}
+use Rattle.grammar.specs.Course.{Drawn, got, not, CourseTo, thing, over, stopped, onDrawn, run, things}
 use Rattle.grammar.specs.Blocks as grammar
 use Rattle.decoder.specs.Line.{line}
 use Rattle.decoder.specs.States.{State}
@@ -48,7 +48,7 @@ pub record Holds (form : ℕ) (u : List ℕ) (Whole : OfSections) (Part : OfPart
       → b .client ≡ client → b .clock ≡ clock → Part n seen room k client (clock + b .length .0) bs → Part n seen room (suc k) client clock (b ∷ bs)
 
 -- the place alone is other
-items-placed : (c : Run State Block (Unit {0})) → things (restPlaces c) ≡ things c
+items-placed : (c : CourseTo State Block (Unit {0})) → things (restPlaces c) ≡ things c
 unfolding things restPlaces
 items-placed (thing e p c) = ap (λ (l : List Block). e ∷ l) (items-placed c)
 items-placed (over a s) = refl
@@ -140,5 +140,5 @@ module _ (form : ℕ) (u : List ℕ) (Whole : OfSections) (Part : OfPart) (hold 
   pub blocks-by : AllBlocks (things (blocksOf form u))
   unfolding blocksOf
   blocks-by =
-      chosen (λ (c : Run ℕ Block (Unit {0})). AllBlocks (things c)) (eqb form 1) in-line
+      chosen (λ (c : CourseTo ℕ Block (Unit {0})). AllBlocks (things c)) (eqb form 1) in-line
       (λ e. subst AllBlocks (sym (items-placed (inColumns u))) (in-columns e))

@@ -1,7 +1,7 @@
 -- What is shown of everything that a grammar reads, for any reader: where answers are good, each thing that a grammar comes to has what good answers give.
 use mathlib.Core.List.{List, [], _∷_}
 use Rattle.grammar.specs.Grammar.{Field, Answer, Grammar, ask, emit, stop, done}
-use Rattle.grammar.specs.GrammarInner.{_>>=_}
+use Rattle.grammar.specs.Grammar.{_>>=_}
 use Rattle.grammar.specs.Course.{Drawn, got, not, Reader, onDrawn, run, things}
 
 -- what is drawn has P, and the state after it has Inv

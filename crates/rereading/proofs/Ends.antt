@@ -12,7 +12,7 @@ use Rattle.numbers.specs.Number.{pick, nowhere, none, spelt, lowPart, answerAt,
 use Rattle.numbers.specs.Output.{verdict}
 use Rattle.runs.specs.Runs.{spellable}
 use Rattle.grammar.specs.Grammar as grammar
-use Rattle.grammar.specs.GrammarInner as grammar-inner
+use Rattle.grammar.specs.Grammar as grammar-inner
 use Rattle.grammar.specs.Course.{onDrawn, run, things}
 use Rattle.decoder.specs.Line.{numberAt, varAt, bounded, upTo, numberBy, line}
 use Rattle.vector.specs.Vector.{Entry, entries, aVector, vectorOf}

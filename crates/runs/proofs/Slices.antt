@@ -12,7 +12,7 @@ use borrow.Author.Tests.{leb-true, leb-false, le-leb, lt-leb, ltb-false}
 use Rattle.numbers.specs.Number.{pick}
 use Rattle.numbers.specs.Output.{verdict}
 use Rattle.numbers.proofs.Output.{verdict-room, take-sets}
-use Rattle.runs.specs.declared.Column.{Column}
+use Rattle.runs.specs.declared.ColumnKind.{ColumnKind}
 use Rattle.runs.specs.declared.writer.Writer.{Writer}
 use Rattle.runs.specs.Runs.{coding, within, storable, spellable, columnOf, whyOf, why}
 use Rattle.runs.specs.Writer.{fresh, keyAfter, emitted, finished, moved, pushed, Sound, Judge, unjudged, runFits, overLimit, goesOn, judged, sentence}
@@ -21,13 +21,13 @@ use Rattle.runs.proofs.Standing.{Holds, whyAhead, moved-count, pushed-a
 
 -- ---- judging
 
-pub record JudgedTo (col : Column) (vs : List ℕ) (i : ℕ) (j : Judge) : Type 0 where
+pub record JudgedTo (col : ColumnKind) (vs : List ℕ) (i : ℕ) (j : Judge) : Type 0 where
   pub same : whyAhead j (drop i vs) ≡ whyOf col vs
   pub sound : Sound (j .writer)
   pub few : j .writer .count ≤ i
   pub here : i ≤ length vs
 
-pub judge-begin : (col : Column) (vs : List ℕ) → JudgedTo col vs 0 (unjudged col)
+pub judge-begin : (col : ColumnKind) (vs : List ℕ) → JudgedTo col vs 0 (unjudged col)
 judge-begin col vs = record { same = why-start col vs; sound = (omega arith, omega arith); few = omega arith; here = omega arith }
 
 -- a value more keeps the state sound, and its run at most one longer
@@ -58,7 +58,7 @@ module _ (j : Judge) (v : ℕ) (s : Sound (j .writer)) where
       over true = (s, omega arith)
       over false = limit (ltb (coding (j .writer .column) .most) v) refl
 
-module _ (col : Column) (vs : List ℕ) (i : ℕ) (j : Judge) (t : JudgedTo col vs i j) where
+module _ (col : ColumnKind) (vs : List ℕ) (i : ℕ) (j : Judge) (t : JudgedTo col vs i j) where
   pub judge-on : i < length vs → JudgedTo col vs (i + 1) (judged j (getD vs i 0))
   judge-on l =
       let k = judged-kept j (getD vs i 0) (t .sound) in
@@ -74,16 +74,16 @@ module _ (col : Column) (vs : List ℕ) (i : ℕ) (j : Judge) (t : JudgedTo col 
 
 -- ---- putting
 
-pub record PutTo (col : Column) (e : List ℕ) (start : ℕ) (vs : List ℕ) (i : ℕ) (w : Writer) (out : List ℕ) : Type 0 where
+pub record PutTo (col : ColumnKind) (e : List ℕ) (start : ℕ) (vs : List ℕ) (i : ℕ) (w : Writer) (out : List ℕ) : Type 0 where
   pub holds : Holds col e start (take i vs) w out
   pub size : length out ≡ length e
   pub room : w .at ≤ length out
   pub here : i ≤ length vs
 
-pub put-begin : (col : Column) (e : List ℕ) (start : ℕ) (vs : List ℕ) → start ≤ length e → PutTo col e start vs 0 (fresh col start) e
+pub put-begin : (col : ColumnKind) (e : List ℕ) (start : ℕ) (vs : List ℕ) → start ≤ length e → PutTo col e start vs 0 (fresh col start) e
 put-begin col e start vs h = record { holds = holds-fresh col e start; size = refl; room = h; here = omega arith }
 
-module _ (col : Column) (e : List ℕ) (start : ℕ) (vs : List ℕ) (i : ℕ) (w : Writer) (out : List ℕ) (t : PutTo col e start vs i w out) where
+module _ (col : ColumnKind) (e : List ℕ) (start : ℕ) (vs : List ℕ) (i : ℕ) (w : Writer) (out : List ℕ) (t : PutTo col e start vs i w out) where
   pub put-on : i < length vs → getD vs i 0 ≤ coding col .most → w .at + length (emitted w (getD vs i 0)) ≤ length out
       → PutTo col e start vs (i + 1) (pushed w (getD vs i 0)) (sets out (w .at) (emitted w (getD vs i 0)))
   put-on l m h = record {

@@ -11,7 +11,7 @@ use lib.Seq.{sets}
 use borrow.Author.Tests.{ne-eqb, eqb-true, ltb-true, ltb-false, lt-leb, le-leb}
 use Rattle.numbers.specs.Number.{pick}
 use Rattle.numbers.proofs.Output.{sets-append}
-use Rattle.runs.specs.declared.Column.{Column}
+use Rattle.runs.specs.declared.ColumnKind.{ColumnKind}
 use Rattle.runs.specs.declared.writer.Writer.{Writer}
 use Rattle.runs.specs.Runs.{Coding, coding, runsOn, runsAfter, column, within, overFits, storable, spellable, why}
 use Rattle.runs.specs.Writer.{fresh, ends, keyAfter, emitted, finished, moved, pushed, Sound, Judge, unjudged, runFits, lastFitsIn, overLimit, goesOn, judged, sentence}
@@ -29,7 +29,7 @@ lastOf p (v ∷ vs) = lastOf v vs
 
 -- A state stands for the values vs, of a column that began at `start`: the bytes `done` are written, and whatever comes,
 -- they and what the state has yet to write are the column.
-pub record Stands (col : Column) (start : ℕ) (vs : List ℕ) (done : List ℕ) (w : Writer) : Type 0 where
+pub record Stands (col : ColumnKind) (start : ℕ) (vs : List ℕ) (done : List ℕ) (w : Writer) : Type 0 where
   pub kind : w .column ≡ col
   pub place : w .at ≡ start + length done
   pub newest : w .last ≡ lastOf 0 vs
@@ -38,7 +38,7 @@ pub record Stands (col : Column) (start : ℕ) (vs : List ℕ) (done : List ℕ)
   pub whole : (rest : List ℕ) → column (coding col) (vs ++ rest) ≡ done ++ ahead (coding col) (w .last) (w .key) (w .count) rest
 
 -- The same with the buffer: `out` is `e` with the bytes done.
-pub record Holds (col : Column) (e : List ℕ) (start : ℕ) (vs : List ℕ) (w : Writer) (out : List ℕ) : Type 0 where
+pub record Holds (col : ColumnKind) (e : List ℕ) (start : ℕ) (vs : List ℕ) (w : Writer) (out : List ℕ) : Type 0 where
   pub done : List ℕ
   pub stands : Stands col start vs done w
   pub bytes : out ≡ sets e start done
@@ -123,14 +123,14 @@ last-snoc (x ∷ vs) p v = last-snoc vs x v
 -- ---- what a state stands for
 
 -- a new state stands for nothing
-pub stands-fresh : (col : Column) (start : ℕ) → Stands col start [] [] (fresh col start)
+pub stands-fresh : (col : ColumnKind) (start : ℕ) → Stands col start [] [] (fresh col start)
 unfolding column ahead lastOf
 stands-fresh col start = record { kind = refl; place = rw add-zero; newest = refl; few = omega arith; sound = (omega arith, omega arith); whole = λ rest. refl }
 
-module _ (col : Column) (start : ℕ) (vs done : List ℕ) (w : Writer) (s : Stands col start vs done w) where
+module _ (col : ColumnKind) (start : ℕ) (vs done : List ℕ) (w : Writer) (s : Stands col start vs done w) where
   on-push : (v : ℕ) (rest : List ℕ) → ahead (coding col) (w .last) (w .key) (w .count) (v ∷ rest)
       ≡ emitted w v ++ ahead (coding col) (pushed w v .last) (pushed w v .key) (pushed w v .count) rest
-  on-push v rest = subst (λ (k : Column). ahead (coding k) (w .last) (w .key) (w .count) (v ∷ rest)
+  on-push v rest = subst (λ (k : ColumnKind). ahead (coding k) (w .last) (w .key) (w .count) (v ∷ rest)
       ≡ emitted w v ++ ahead (coding k) (pushed w v .last) (pushed w v .key) (pushed w v .count) rest) (s .kind) (ahead-push w v rest)
 
   -- a push: the new state stands for the values with v
@@ -155,7 +155,7 @@ module _ (col : Column) (start : ℕ) (vs done : List ℕ) (w : Writer) (s : Sta
   stands-end = ap (column (coding col)) (sym (append-nil vs)) ∙ s .whole [] ∙ ap (λ (l : List ℕ). done ++ l) end
     where
       end : ahead (coding col) (w .last) (w .key) (w .count) [] ≡ finished w
-      end = subst (λ (k : Column). ahead (coding k) (w .last) (w .key) (w .count) [] ≡ finished w) (s .kind) (ahead-end w)
+      end = subst (λ (k : ColumnKind). ahead (coding k) (w .last) (w .key) (w .count) [] ≡ finished w) (s .kind) (ahead-end w)
 
   pub stands-size : w .at + length (finished w) ≡ start + length (column (coding col) vs)
   stands-size = omega (arith, s .place, ap length stands-end, length-append done (finished w))
@@ -179,10 +179,10 @@ module _ (col : Column) (start : ℕ) (vs done : List ℕ) (w : Writer) (s : Sta
       )
 
 -- the same with the buffer
-pub holds-fresh : (col : Column) (e : List ℕ) (start : ℕ) → Holds col e start [] (fresh col start) e
+pub holds-fresh : (col : ColumnKind) (e : List ℕ) (start : ℕ) → Holds col e start [] (fresh col start) e
 holds-fresh col e start = record { done = []; stands = stands-fresh col start; bytes = refl }
 
-module _ (col : Column) (e : List ℕ) (start : ℕ) (vs : List ℕ) (w : Writer) (out : List ℕ) (h : Holds col e start vs w out) where
+module _ (col : ColumnKind) (e : List ℕ) (start : ℕ) (vs : List ℕ) (w : Writer) (out : List ℕ) (h : Holds col e start vs w out) where
   pub holds-push : (v : ℕ) → v ≤ coding col .most → Holds col e start (vs ++ (v ∷ [])) (pushed w v) (sets out (w .at) (emitted w v))
   holds-push v l = record {
     done = h .done ++ emitted w v;
@@ -206,7 +206,7 @@ pick-same true x = refl
 pick-same false x = refl
 
 -- before any value: the refusal of all of them
-pub why-start : (col : Column) (vs : List ℕ) → whyAhead (unjudged col) vs ≡ why (coding col) vs
+pub why-start : (col : ColumnKind) (vs : List ℕ) → whyAhead (unjudged col) vs ≡ why (coding col) vs
 unfolding whyAhead why fitsAhead
 why-start col vs = refl
 

@@ -9,8 +9,8 @@ use lib.Dec.{ltb, eqb}
 use lib.ListN.{length, length-append}
 use borrow.Author.Tests.{eq-eqb, ne-eqb, eqb-false, lt-ltb}
 use Rattle.numbers.specs.Number.{pick, unsigned, signed}
-use Rattle.runs.specs.declared.Column.{Column}
-use Rattle.runs.specs.declared.Column.the-variants.{Number, Difference, Byte}
+use Rattle.runs.specs.declared.ColumnKind.{ColumnKind}
+use Rattle.runs.specs.declared.ColumnKind.the-variants.{Number, Difference, Byte}
 use Rattle.runs.specs.declared.writer.Writer.{Writer}
 use Rattle.runs.specs.Number as number
 use Rattle.runs.specs.Difference as difference
@@ -108,7 +108,7 @@ unfolding coding
 most-byte = refl
 
 -- a key of two values within the limit
-pub key-most : (col : Column) (p v : ℕ) → v ≤ coding col .most → coding col .keyOf p v ≤ keyMost col
+pub key-most : (col : ColumnKind) (p v : ℕ) → v ≤ coding col .most → coding col .keyOf p v ≤ keyMost col
 unfolding coding keyMost
 key-most Number p v h = h
 key-most Difference p v h = omega arith

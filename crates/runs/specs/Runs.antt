@@ -5,8 +5,8 @@ use mathlib.Core.Bool.{Bool, true, false}
 use lib.Dec.{ltb, leb, eqb}
 use Rattle.numbers.specs.Number.{pick}
 use Rattle.numbers.specs.Limits.{maxValue, maxClock, maxCount}
-use Rattle.runs.specs.declared.Column.{Column}
-use Rattle.runs.specs.declared.Column.the-variants.{Number, Difference, Byte}
+use Rattle.runs.specs.declared.ColumnKind.{ColumnKind}
+use Rattle.runs.specs.declared.ColumnKind.the-variants.{Number, Difference, Byte}
 use Rattle.runs.specs.Number as number
 use Rattle.runs.specs.Difference as difference
 use Rattle.runs.specs.Byte as byte
@@ -86,7 +86,7 @@ nearKey k = pick (leb 1073741824 k) (ltb k 3221225472) false
 abbrev pub onlyByte : ℕ → ℕ → List ℕ
 onlyByte k n = k ∷ []
 
-unfoldable pub coding : Column → Coding
+unfoldable pub coding : ColumnKind → Coding
 coding Number =
     let run = number.runBytes in
     record { keyOf = itself; spell = run; final = run; most = maxValue; fits = fitsLessTwo; lastFits = fitsLessTwo; near = always }
@@ -96,8 +96,8 @@ coding Difference =
 coding Byte = record { keyOf = itself; spell = byte.runBytes; final = onlyByte; most = 255; fits = fitsLessOne; lastFits = always; near = always }
 
 -- the bytes of values, and their refusal
-abbrev pub columnOf : Column → List ℕ → List ℕ
+abbrev pub columnOf : ColumnKind → List ℕ → List ℕ
 columnOf col vs = column (coding col) vs
 
-abbrev pub whyOf : Column → List ℕ → ℕ
+abbrev pub whyOf : ColumnKind → List ℕ → ℕ
 whyOf col vs = why (coding col) vs

@@ -4,8 +4,8 @@ use mathlib.Core.List.{List, [], _++_}
 use mathlib.Core.Bool.{Bool}
 use lib.Dec.{eqb}
 use Rattle.numbers.specs.Number.{pick, signed, unsigned}
-use Rattle.runs.specs.declared.Column.{Column}
-use Rattle.runs.specs.declared.Column.the-variants.{Number, Difference, Byte}
+use Rattle.runs.specs.declared.ColumnKind.{ColumnKind}
+use Rattle.runs.specs.declared.ColumnKind.the-variants.{Number, Difference, Byte}
 
 -- ---- the three columns of numbers
 
@@ -14,7 +14,7 @@ unfoldable pub signedRun : Bool → ℕ → ℕ → List ℕ
 signedRun m x n = signed m x ++ pick (eqb n 0) [] (unsigned (n - 1))
 
 -- the largest key of a column
-unfoldable pub keyMost : Column → ℕ
+unfoldable pub keyMost : ColumnKind → ℕ
 keyMost Number = 9007199254740991
 keyMost Difference = 4294967295
 keyMost Byte = 255

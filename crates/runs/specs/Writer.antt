@@ -8,12 +8,12 @@ use lib.ListN.{length, take}
 use Rattle.numbers.specs.declared.Written.{Written}
 use Rattle.numbers.specs.Number.{pick}
 use Rattle.numbers.specs.Output.{written, put}
-use Rattle.runs.specs.declared.Column.{Column}
+use Rattle.runs.specs.declared.ColumnKind.{ColumnKind}
 use Rattle.runs.specs.declared.writer.Writer.{Writer}
 use Rattle.runs.specs.Runs.{coding, runsOn, column}
 use Rattle.runs.specs.RunsInner.{keyMost}
 
-abbrev pub fresh : Column → ℕ → Writer
+abbrev pub fresh : ColumnKind → ℕ → Writer
 fresh column at = record { column = column; at = at; last = 0; key = 0; count = 0 }
 
 -- the key k ends the run that is under way
@@ -50,7 +50,7 @@ pub record Judge : Type 0 where
   pub far : Bool
   pub over : Bool
 
-abbrev pub unjudged : Column → Judge
+abbrev pub unjudged : ColumnKind → Judge
 unjudged col = record { writer = fresh col 0; far = false; over = false }
 
 -- the run that k ends, if it ends one, can be stored; so can the last

@@ -1,5 +1,5 @@
 // The refusals of values that come one at a time, by number and not by position.
-use crate::Column;
+use crate::ColumnKind;
 use crate::writer::Writer;
 ghost use mathlib.Core.Path.{_≡_};
 ghost use mathlib.Core.Bool.{true};
@@ -17,19 +17,19 @@ pub fn last_fits(w: Writer) -> bool
     }
     let n = w.count - 1;
     match column {
-        Column::Number => n <= numbers::MAX_COUNT + 1,
-        Column::Difference => n <= numbers::MAX_COUNT + 1,
-        Column::Byte => true,
+        ColumnKind::Number => n <= numbers::MAX_COUNT + 1,
+        ColumnKind::Difference => n <= numbers::MAX_COUNT + 1,
+        ColumnKind::Byte => true,
     }
 }
 
 // Whether a key was out of reach before, or k is: a difference outside -2^30 to 2^30-1.
-pub fn far_with(column: Column, far: bool, k: u64) -> bool
+pub fn far_with(column: ColumnKind, far: bool, k: u64) -> bool
     ensures { λ r. ⌜ r ≡ pick (coding column .near k) far true ⌝ }
 {
     match column {
-        Column::Number => far,
-        Column::Difference => {
+        ColumnKind::Number => far,
+        ColumnKind::Difference => {
             if k < 1073741824 {
                 return true;
             }
@@ -38,6 +38,6 @@ pub fn far_with(column: Column, far: bool, k: u64) -> bool
             }
             far
         }
-        Column::Byte => far,
+        ColumnKind::Byte => far,
     }
 }

@@ -15,7 +15,7 @@ ghost use Rattle.runs.specs.Runs.{coding};
 ghost use Rattle.runs.specs.RunsInner.{keyMost, signedRun};
 
 // The columns of numbers.
-pub enum Column {
+pub enum ColumnKind {
     Number,
     Difference,
     Byte,
@@ -43,46 +43,46 @@ pub fn put_counted(out: &mut [u8], at: usize, minus: bool, x: u64, n: u64) -> us
     numbers::write_unsigned(out, mid, n - 1)
 }
 
-pub fn run_size(column: Column, k: u64, n: u64) -> usize
+pub fn run_size(column: ColumnKind, k: u64, n: u64) -> usize
     requires { ⌜ k ≤ keyMost column ⌝ }
     ensures { λ r. ⌜ (r ≡ length (coding column .spell k n)) × (r ≤ 20) ⌝ }
 {
     match column {
-        Column::Number => crate::number::run_size(k, n),
-        Column::Difference => crate::difference::run_size(k, n),
-        Column::Byte => crate::byte::run_size(k, n),
+        ColumnKind::Number => crate::number::run_size(k, n),
+        ColumnKind::Difference => crate::difference::run_size(k, n),
+        ColumnKind::Byte => crate::byte::run_size(k, n),
     }
 }
 
-pub fn last_size(column: Column, k: u64, n: u64) -> usize
+pub fn last_size(column: ColumnKind, k: u64, n: u64) -> usize
     requires { ⌜ k ≤ keyMost column ⌝ }
     ensures { λ r. ⌜ (r ≡ length (coding column .final k n)) × (r ≤ 20) ⌝ }
 {
     match column {
-        Column::Number => crate::number::run_size(k, n),
-        Column::Difference => crate::difference::run_size(k, n),
-        Column::Byte => 1,
+        ColumnKind::Number => crate::number::run_size(k, n),
+        ColumnKind::Difference => crate::difference::run_size(k, n),
+        ColumnKind::Byte => 1,
     }
 }
 
-pub fn put_run(out: &mut [u8], column: Column, at: usize, k: u64, n: u64) -> usize
+pub fn put_run(out: &mut [u8], column: ColumnKind, at: usize, k: u64, n: u64) -> usize
     requires { ⌜ (at + length (coding column .spell k n) ≤ length (now out)) × (k ≤ keyMost column) ⌝ }
     ensures { λ r. ⌜ (r ≡ at + length (coding column .spell k n)) × (now (out .exit) ≡ sets (now (out .entry)) at (coding column .spell k n)) ⌝ }
 {
     match column {
-        Column::Number => crate::number::put_run(out, at, k, n),
-        Column::Difference => crate::difference::put_run(out, at, k, n),
-        Column::Byte => crate::byte::put_run(out, at, k, n),
+        ColumnKind::Number => crate::number::put_run(out, at, k, n),
+        ColumnKind::Difference => crate::difference::put_run(out, at, k, n),
+        ColumnKind::Byte => crate::byte::put_run(out, at, k, n),
     }
 }
 
-pub fn put_last(out: &mut [u8], column: Column, at: usize, k: u64, n: u64) -> usize
+pub fn put_last(out: &mut [u8], column: ColumnKind, at: usize, k: u64, n: u64) -> usize
     requires { ⌜ (at + length (coding column .final k n) ≤ length (now out)) × (k ≤ keyMost column) ⌝ }
     ensures { λ r. ⌜ (r ≡ at + length (coding column .final k n)) × (now (out .exit) ≡ sets (now (out .entry)) at (coding column .final k n)) ⌝ }
 {
     match column {
-        Column::Number => crate::number::put_run(out, at, k, n),
-        Column::Difference => crate::difference::put_run(out, at, k, n),
-        Column::Byte => crate::byte::put_last(out, at, k),
+        ColumnKind::Number => crate::number::put_run(out, at, k, n),
+        ColumnKind::Difference => crate::difference::put_run(out, at, k, n),
+        ColumnKind::Byte => crate::byte::put_last(out, at, k),
     }
 }

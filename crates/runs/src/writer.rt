@@ -1,5 +1,5 @@
 // The state of a column that is being written: what it has not written yet is its run. Here is the end of one.
-use crate::Column;
+use crate::ColumnKind;
 use numbers::Written;
 ghost use mathlib.Core.Path.{_≡_};
 ghost use Prim.Native.Nat.{_+_, _≤_};
@@ -9,7 +9,7 @@ ghost use Rattle.runs.specs.Writer.{finished, Sound, Closes};
 
 // The next place, the last value, its key, and how often that key stood so far.
 pub struct Writer {
-    pub column: Column,
+    pub column: ColumnKind,
     pub at: usize,
     pub last: u64,
     pub key: u64,

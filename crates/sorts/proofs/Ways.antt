@@ -23,7 +23,7 @@ use Rattle.updates.specs.Promises.{Reading, refused, reading, answer, tableOf, 
 use Rattle.updates.proofs.Read.{rows-length, words-length}
 use Rattle.sort_answers.specs.declared.Sorted.{Sorted}
 use Rattle.sort_answers.specs.Answers.{isRule, Sort, refusedWith, Room, whyNot}
-use Rattle.sorts.specs.Promises.{lent, Found, Finder, sortedAll, whySort, fitting, against, afterReading, sortBy, Leaves}
+use Rattle.sorts.specs.Promises.{lent, Findings, Finder, sortedAll, whySort, fitting, against, afterReading, sortBy, Leaves}
 use Rattle.sort_answers.specs.Answers.{answered}
 use Rattle.sort_answers.specs.AnswersInner.{judged, answerTo}
 
@@ -97,7 +97,7 @@ module _ (F : Finder) (rule form : ℕ) (u v : List ℕ) (rows₀ : List Block) 
   bs = R .blocks
 
   -- what the sorter finds
-  abbrev found : Found
+  abbrev found : Findings
   found = F (ruleOf rule) bs es
 
   -- the vector's refusal, then that of the room

@@ -22,14 +22,14 @@ lent order counts reaches pending = record { order = length order; counts = leng
 -- ---- an update of a form, sorted by a rule against a vector, with so many rows and words lent
 
 -- what a sorter finds of blocks by a rule, against the entries of a vector: the numbers of the blocks that are taken, in order, and the reports
-pub record Found : Type 0 where
+pub record Findings : Type 0 where
   pub order : List ℕ
   pub counts : List ℕ
   pub reaches : List ℕ
   pub pending : List ℕ
 
 abbrev pub Finder : Type 0
-Finder = Rule ℕ → List Block → List Entry → Found
+Finder = Rule ℕ → List Block → List Entry → Findings
 
 -- the order that takes the highest client at each step (another sorter's order is W-211's)
 abbrev pub quickly : Finder

@@ -12,7 +12,7 @@ use Rattle.numbers.specs.declared.Refusal.{Refusal}
 use Rattle.numbers.specs.Number.{pick, none, nowhere}
 use Rattle.block.specs.declared.Block.{Block}
 use Rattle.table.specs.Rows.{clearedFrom}
-use Rattle.grammar.specs.Course.{Run, thing, over, stopped, Course, fit, ending}
+use Rattle.grammar.specs.Course.{CourseTo, thing, over, stopped, Course, fit, ending}
 use Rattle.grammar.specs.Numbered as numbered
 use Rattle.decoder.specs.States.{State}
 use Rattle.decoder.specs.Update.{restPlaces, inColumns, blocksOf, deleteSet}
@@ -81,7 +81,7 @@ module _ {Y : Type 0} (tell : ℕ → Y) (no : Refusal → Y) (y : Y) where
     ends-at f g (suc n) (stopped why) e = absurd (not why e)
 
     -- and the words stand at its state
-    columns-at : {E : Type 0} (n : ℕ) (c : Run State E (Unit {0})) (v : List ℕ) → ending (fit n (restPlaces c)) tell no ≡ y → Stands (fit n c) v
+    columns-at : {E : Type 0} (n : ℕ) (c : CourseTo State E (Unit {0})) (v : List ℕ) → ending (fit n (restPlaces c)) tell no ≡ y → Stands (fit n c) v
         → ending c columnsAt (λ why. []) ≡ columnsAt (stateIn v)
     unfolding fit ending restPlaces Stands columnsAt
     columns-at zero (thing a p c) v e h = absurd (not _ e)

@@ -18,7 +18,7 @@ use Rattle.text.specs.declared.Taken.the-variants as units
 use Rattle.text.specs.Utf8.{unitsOf}
 use Rattle.text.proofs.Cutting.{found}
 use Rattle.text.proofs.Slices.{slice-front, slice-rest}
-use Rattle.runs.specs.declared.Column.the-variants as columns
+use Rattle.runs.specs.declared.ColumnKind.the-variants as columns
 use Rattle.runs.specs.Runs.{coding, why, columnOf}
 use Rattle.columns.specs.declared.number.Place as number-place
 use Rattle.columns.specs.declared.difference.Place as difference-place

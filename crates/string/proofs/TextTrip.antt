@@ -22,7 +22,7 @@ use Rattle.columns.specs.declared.number.Answer as number-answer
 use Rattle.columns.specs.declared.number.Answer.the-variants as number
 use Rattle.string.specs.declared.Place.{Place}
 use Rattle.string.specs.declared.Opened.the-variants.{At}
-use Rattle.runs.specs.declared.Column.the-variants as columns
+use Rattle.runs.specs.declared.ColumnKind.the-variants as columns
 use Rattle.columns.specs.Number.{startAt, nextNumber}
 use Rattle.runs.specs.Runs.{columnOf, whyOf}
 use Rattle.columns.specs.Reading as reading

@@ -16,7 +16,7 @@ use Rattle.numbers.proofs.Laws.{below-or, at-end}
 use Rattle.numbers.proofs.Inside.{Reads, unsigned-inside}
 use Rattle.text.specs.Utf8.{wellFormed, took, takeUnits}
 use Rattle.text.proofs.Cutting.{cut-at}
-use Rattle.runs.specs.declared.Column.the-variants as columns
+use Rattle.runs.specs.declared.ColumnKind.the-variants as columns
 use Rattle.runs.specs.Runs.{coding, within, storable, spellable, why, columnOf, whyOf}
 use Rattle.string.specs.String.{takesAll, textHead, textColumn, whyTexts}
 

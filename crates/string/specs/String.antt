@@ -19,7 +19,7 @@ use Rattle.string.specs.declared.Opened.{Opened}
 use Rattle.string.specs.declared.Opened.the-variants.{At, Not}
 use Rattle.string.specs.declared.Answer.{Answer}
 use Rattle.string.specs.declared.Answer.the-variants.{Next, Bad}
-use Rattle.runs.specs.declared.Column.the-variants.{Number}
+use Rattle.runs.specs.declared.ColumnKind.the-variants.{Number}
 use Rattle.columns.specs.Number.{startAt, nextNumber}
 use Rattle.runs.specs.Runs.{columnOf, whyOf}
 

@@ -111,13 +111,13 @@ module _ (form : ℕ) (u : List ℕ) (n : ℕ) where
 
 -- ---- read
 
-pub read-some : (f : summary.Found) (r : rows.Rows) (n : ℕ) → r ≡ answerOf f → r ≡ rows-are.Read n → record { refusal = nowhere 0; count = n } ≡ rowsAnswer f
+pub read-some : (f : summary.RowsFound) (r : rows.Rows) (n : ℕ) → r ≡ answerOf f → r ≡ rows-are.Read n → record { refusal = nowhere 0; count = n } ≡ rowsAnswer f
 unfolding answerOf rowsAnswer
 read-some (summary.read rs) r n e h =
     ap (λ (k : ℕ). record { refusal = nowhere 0; count = k }) (let y : rows-are.Read n ≡ rows-are.Read (length rs) = sym h ∙ e in let z : n ≡ length rs = cc in z)
 read-some (summary.refused v) r n e h = absurd (let y : rows-are.Read n ≡ rows-are.Refused v = sym h ∙ e in let z : _≡_ {A = ℕ} 0 1 = cc in omega arith)
 
-pub read-none : (f : summary.Found) (r : rows.Rows) (v : ℕ) → r ≡ answerOf f → r ≡ rows-are.Refused v → record { refusal = nowhere v; count = 0 } ≡ rowsAnswer f
+pub read-none : (f : summary.RowsFound) (r : rows.Rows) (v : ℕ) → r ≡ answerOf f → r ≡ rows-are.Refused v → record { refusal = nowhere v; count = 0 } ≡ rowsAnswer f
 unfolding answerOf rowsAnswer
 read-none (summary.read rs) r v e h = absurd (let y : rows-are.Refused v ≡ rows-are.Read (length rs) = sym h ∙ e in let z : _≡_ {A = ℕ} 0 1 = cc in omega arith)
 read-none (summary.refused w) r v e h =

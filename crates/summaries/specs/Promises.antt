@@ -53,7 +53,7 @@ WriteSummary form u out r out₁ =
 
 -- ---- read: how many rows, or a refusal, which blames no byte
 
-unfoldable pub rowsAnswer : summary.Found → SummaryRows
+unfoldable pub rowsAnswer : summary.RowsFound → SummaryRows
 rowsAnswer (summary.read rs) = record { refusal = none; count = length rs }
 rowsAnswer (summary.refused n) = record { refusal = nowhere n; count = 0 }
 

@@ -17,17 +17,17 @@ use Rattle.summary.specs.declared.Taken.{Taken}
 use Rattle.summary.specs.declared.Taken.the-variants as taken
 use Rattle.summary.specs.declared.Rows as rows
 use Rattle.summary.specs.declared.Rows.the-variants as rows-are
-use Rattle.summary.specs.Summary.{one, Found, read, refused, filled, rowsAfter, afterVersion, readOf}
+use Rattle.summary.specs.Summary.{one, RowsFound, read, refused, filled, rowsAfter, afterVersion, readOf}
 use Rattle.summary.specs.Words.{wordsOf}
 use Rattle.summary.specs.WordsInner.{All, Took, answerOf, Answers}
 use Rattle.summary.proofs.Taking.{field-got, field-short}
 
 -- a refusal, whatever the words were before
-pub refused-answers : (found : Found) (v : ℕ) (w₀ w₁ w₂ : List ℕ) (r : rows.Rows) → found ≡ refused v → length w₁ ≡ length w₀ → Answers (refused v) w₁ w₂ r → Answers found w₀ w₂ r
-refused-answers found v w₀ w₁ w₂ r e l a = (a .0 ∙ ap answerOf (sym e), a .1 ∙ ap₂ (λ (n : ℕ) (f : Found). padded n (wordsOf f)) l (sym e))
+pub refused-answers : (found : RowsFound) (v : ℕ) (w₀ w₁ w₂ : List ℕ) (r : rows.Rows) → found ≡ refused v → length w₁ ≡ length w₀ → Answers (refused v) w₁ w₂ r → Answers found w₀ w₂ r
+refused-answers found v w₀ w₁ w₂ r e l a = (a .0 ∙ ap answerOf (sym e), a .1 ∙ ap₂ (λ (n : ℕ) (f : RowsFound). padded n (wordsOf f)) l (sym e))
 
-pub same-answers : (found was : Found) (w₀ w₁ : List ℕ) (r : rows.Rows) → found ≡ was → Answers was w₀ w₁ r → Answers found w₀ w₁ r
-same-answers found was w₀ w₁ r e a = subst (λ (f : Found). Answers f w₀ w₁ r) (sym e) a
+pub same-answers : (found was : RowsFound) (w₀ w₁ : List ℕ) (r : rows.Rows) → found ≡ was → Answers was w₀ w₁ r → Answers found w₀ w₁ r
+same-answers found was w₀ w₁ r e a = subst (λ (f : RowsFound). Answers f w₀ w₁ r) (sym e) a
 
 -- ---- behind bit 11
 
@@ -50,7 +50,7 @@ module _ (s : List ℕ) (n room : ℕ) (w : List ℕ) where
     is-read w₀ v l e c =
         let found : rowsAfter n room [] (drop 11 (ofBytes s)) ≡ read (a .rows) = a .told ∙ rw e in (
           sym (ap answerOf found ∙ ap rows-are.Read (a .count)),
-          c ∙ padded-some w (4 * n) (a .fits) ∙ ap₂ padded l (a .words) ∙ sym (ap (λ (f : Found). padded (length w₀) (wordsOf f)) found),
+          c ∙ padded-some w (4 * n) (a .fits) ∙ ap₂ padded l (a .words) ∙ sym (ap (λ (f : RowsFound). padded (length w₀) (wordsOf f)) found),
         )
 
 -- ---- before bit 11

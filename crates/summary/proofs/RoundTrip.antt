@@ -15,7 +15,7 @@ use Rattle.bits.proofs.Laws.{number-none, number-lt, length-in-bits}
 use Rattle.bits.proofs.Inverse.{number-back, bits-back, zeros-are, filling, packed-back, filling-short, length-packed, packed-of, number-zeros}
 use Rattle.summary.specs.Rows.{Row}
 use Rattle.summary.specs.RowsInner.{Fits, AllFit}
-use Rattle.summary.specs.Summary.{Version, one, rowBits, rowsBits, summaryBits, summaryOf, Found, read, refused, field, aRow, legal, filled, rowsAfter, afterVersion, readOf}
+use Rattle.summary.specs.Summary.{Version, one, rowBits, rowsBits, summaryBits, summaryOf, RowsFound, read, refused, field, aRow, legal, filled, rowsAfter, afterVersion, readOf}
 use Rattle.summary.specs.Words.{summaryRow}
 use Rattle.summary.proofs.Laws.{length-row-bits}
 use Rattle.summary.proofs.Taking.{field-got}
@@ -46,12 +46,12 @@ most-make-1050 rows e = length-summary one rows ∙ rw e
 
 -- ---- written and read
 
-field-back : (k x : ℕ) (t : List Bool) (then : ℕ → List Bool → Found) → x < 2 ^ k → field k (inBits k x ++ t) then ≡ then x t
+field-back : (k x : ℕ) (t : List Bool) (then : ℕ → List Bool → RowsFound) → x < 2 ^ k → field k (inBits k x ++ t) then ≡ then x t
 field-back k x t then h =
     field-got k (inBits k x ++ t) then (rw (length-append (inBits k x) t, length-in-bits k x) (omega arith))
     ∙ ap₂ then (number-back k x t h) (drop-at (inBits k x) t k (length-in-bits k x))
 
-row-back : (r : Row) (t : List Bool) (then : Row → List Bool → Found) → Fits r → aRow (rowBits r ++ t) then ≡ then r t
+row-back : (r : Row) (t : List Bool) (then : Row → List Bool → RowsFound) → Fits r → aRow (rowBits r ++ t) then ≡ then r t
 unfolding rowBits aRow
 row-back r t then f =
     rw (
@@ -93,7 +93,7 @@ read-back rows room f g m h =
 -- ---- read, so written
 
 -- a field of rows that are read is there, and stands for its number
-field-read : (k : ℕ) (b : List Bool) (then : ℕ → List Bool → Found) (rows : List Row) → field k b then ≡ read rows
+field-read : (k : ℕ) (b : List Bool) (then : ℕ → List Bool → RowsFound) (rows : List Row) → field k b then ≡ read rows
     → (b ≡ inBits k (valueOf k b) ++ drop k b) × (then (valueOf k b) (drop k b) ≡ read rows)
 unfolding field
 field-read k b then rows e = go (ltb (length b) k) refl e
@@ -104,14 +104,14 @@ field-read k b then rows e = go (ltb (length b) k) refl e
     go false t e = (sym (take-append-drop k b) ∙ ap (λ (l : List Bool). l ++ drop k b) (sym (bits-back k b (ltb-false (length b) k t))), e)
 
 -- a row that is read
-pub record RowRead (b : List Bool) (then : Row → List Bool → Found) (rows : List Row) : Type 0 where
+pub record RowRead (b : List Bool) (then : Row → List Bool → RowsFound) (rows : List Row) : Type 0 where
   pub row : Row
   pub rest : List Bool
   pub fits : Fits row
   pub bits : b ≡ rowBits row ++ rest
   pub told : then row rest ≡ read rows
 
-row-read : (b : List Bool) (then : Row → List Bool → Found) (rows : List Row) → aRow b then ≡ read rows → RowRead b then rows
+row-read : (b : List Bool) (then : Row → List Bool → RowsFound) (rows : List Row) → aRow b then ≡ read rows → RowRead b then rows
 unfolding aRow rowBits
 row-read b then rows e =
     let p = field-read 53 b _ rows e in

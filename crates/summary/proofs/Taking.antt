@@ -14,23 +14,23 @@ use Rattle.numbers.proofs.Output.{take-sets}
 use Rattle.bits.specs.Bits.{valueOf, ofBytes}
 use Rattle.bits.proofs.Laws.{length-of-bytes}
 use Rattle.summary.specs.Rows.{Row}
-use Rattle.summary.specs.Summary.{Found, read, refused, field, aRow, inOrder, legal, filled, rowsAfter}
+use Rattle.summary.specs.Summary.{RowsFound, read, refused, field, aRow, inOrder, legal, filled, rowsAfter}
 use Rattle.summary.specs.Words.{summaryRow, wordsIn}
 use Rattle.summary.specs.WordsInner.{fine, All}
 use Rattle.summary.proofs.Laws.{length-words, words-append}
 
 -- ---- fields
 
-pub field-got : (k : ℕ) (b : List Bool) (then : ℕ → List Bool → Found) → k ≤ length b → field k b then ≡ then (valueOf k b) (drop k b)
+pub field-got : (k : ℕ) (b : List Bool) (then : ℕ → List Bool → RowsFound) → k ≤ length b → field k b then ≡ then (valueOf k b) (drop k b)
 unfolding field
 field-got k b then h = rw (le-ltb (length b) k h)
 
-pub field-short : (k : ℕ) (b : List Bool) (then : ℕ → List Bool → Found) → length b < k → field k b then ≡ refused 1
+pub field-short : (k : ℕ) (b : List Bool) (then : ℕ → List Bool → RowsFound) → length b < k → field k b then ≡ refused 1
 unfolding field
 field-short k b then h = rw (lt-ltb (length b) k h)
 
 -- refused, if what follows is
-field-or : (k : ℕ) (b : List Bool) (then : ℕ → List Bool → Found) → (k ≤ length b → then (valueOf k b) (drop k b) ≡ refused 1) → field k b then ≡ refused 1
+field-or : (k : ℕ) (b : List Bool) (then : ℕ → List Bool → RowsFound) → (k ≤ length b → then (valueOf k b) (drop k b) ≡ refused 1) → field k b then ≡ refused 1
 unfolding field
 field-or k b then h = go (ltb (length b) k) refl
   where
@@ -44,7 +44,7 @@ field-or k b then h = go (ltb (length b) k) refl
 abbrev pub rowFrom : ℕ → List Bool → Row
 rowFrom o b = summaryRow (valueOf 53 (drop o b)) (valueOf 31 (drop (o + 53) b)) (valueOf 31 (drop (o + 84) b)) (valueOf 16 (drop (o + 115) b))
 
-module _ (o : ℕ) (b : List Bool) (then : Row → List Bool → Found) where
+module _ (o : ℕ) (b : List Bool) (then : Row → List Bool → RowsFound) where
   pub row-short : length b - o < 131 → aRow (drop o b) then ≡ refused 1
   unfolding aRow
   row-short h =

@@ -35,15 +35,15 @@ summaryOf v rows = packed (summaryBits v rows)
 
 -- ---- read: the rows, or the number of a refusal
 
-pub data Found : Type 0 where
-  read : List Row → Found
-  refused : ℕ → Found
+pub data RowsFound : Type 0 where
+  read : List Row → RowsFound
+  refused : ℕ → RowsFound
 
 -- a number of k bits, and the bits behind it; 1 where there are not so many
-unfoldable pub field : ℕ → List Bool → (ℕ → List Bool → Found) → Found
+unfoldable pub field : ℕ → List Bool → (ℕ → List Bool → RowsFound) → RowsFound
 field k bits then = pick (ltb (length bits) k) (refused 1) (then (valueOf k bits) (drop k bits))
 
-unfoldable pub aRow : List Bool → (Row → List Bool → Found) → Found
+unfoldable pub aRow : List Bool → (Row → List Bool → RowsFound) → RowsFound
 aRow bits then =
     field 53 bits λ client bits. field 31 bits λ first bits. field 31 bits λ end bits. field 16 bits λ blocks bits.
     then (record { client = client; first = first; end = end; blocks = blocks }) bits
@@ -62,14 +62,14 @@ unfoldable pub filled : List Bool → Bool
 filled bits = ltb (length bits) 8 && eqb (valueOf (length bits) bits) 0
 
 -- n rows more, behind those seen, into so many rows lent: 8 where a row is complete and none is left for it; last of all 17
-unfoldable pub rowsAfter : ℕ → ℕ → List Row → List Bool → Found
+unfoldable pub rowsAfter : ℕ → ℕ → List Row → List Bool → RowsFound
 rowsAfter zero room seen bits = pick (legal seen && filled bits) (read seen) (refused 17)
 rowsAfter (suc n) room seen bits = aRow bits λ row rest. pick (eqb room 0) (refused 8) (rowsAfter n (room - 1) (seen ++ (row ∷ [])) rest)
 
 -- what stands behind the version: the row count, 3 over the limit, and the rows
-unfoldable pub afterVersion : Version → ℕ → List Bool → Found
+unfoldable pub afterVersion : Version → ℕ → List Bool → RowsFound
 afterVersion v room bits = field (v .bits) bits λ n rest. pick (ltb (v .most) n) (refused 3) (rowsAfter n room [] rest)
 
 -- a summary's bytes, into so many rows: 16 for a version that is unknown
-unfoldable pub readOf : ℕ → List ℕ → Found
+unfoldable pub readOf : ℕ → List ℕ → RowsFound
 readOf room s = field 4 (ofBytes s) λ version rest. pick (eqb version 1) (afterVersion one room rest) (refused 16)

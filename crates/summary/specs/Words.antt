@@ -2,7 +2,7 @@
 use Prim.Native.Nat.{ℕ}
 use mathlib.Core.List.{List, [], _∷_}
 use Rattle.summary.specs.Rows.{Row}
-use Rattle.summary.specs.Summary.{Found, read, refused}
+use Rattle.summary.specs.Summary.{RowsFound, read, refused}
 
 abbrev pub summaryRow : ℕ → ℕ → ℕ → ℕ → Row
 summaryRow c f e n = record { client = c; first = f; end = e; blocks = n }
@@ -13,6 +13,6 @@ wordsIn (r ∷ rows) = r .client ∷ (r .first ∷ (r .end ∷ (r .blocks ∷ wo
 
 -- ---- an answer: how many rows, and their words
 
-unfoldable pub wordsOf : Found → List ℕ
+unfoldable pub wordsOf : RowsFound → List ℕ
 wordsOf (read rs) = wordsIn rs
 wordsOf (refused v) = []

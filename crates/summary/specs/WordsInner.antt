@@ -9,7 +9,7 @@ use Rattle.numbers.specs.Number.{pick}
 use Rattle.numbers.specs.Output.{padded}
 use Rattle.bits.specs.Bits.{ofBytes}
 use Rattle.summary.specs.Rows.{Row}
-use Rattle.summary.specs.Summary.{Found, read, refused, filled, rowsAfter}
+use Rattle.summary.specs.Summary.{RowsFound, read, refused, filled, rowsAfter}
 use Rattle.summary.specs.declared.Taken.{Taken}
 use Rattle.summary.specs.declared.Taken.the-variants as taken
 use Rattle.summary.specs.declared.Rows as rows
@@ -43,10 +43,10 @@ Took s n room w (taken.Refused v) = rowsAfter n room [] (drop 11 (ofBytes s)) �
 
 -- ---- an answer: how many rows, and their words
 
-unfoldable pub answerOf : Found → rows.Rows
+unfoldable pub answerOf : RowsFound → rows.Rows
 answerOf (read rs) = rows-are.Read (length rs)
 answerOf (refused v) = rows-are.Refused v
 
 -- what is found, as an answer r and from the words v to the words w
-abbrev pub Answers : Found → List ℕ → List ℕ → rows.Rows → Type 0
+abbrev pub Answers : RowsFound → List ℕ → List ℕ → rows.Rows → Type 0
 Answers found v w r = (r ≡ answerOf found) × (w ≡ padded (length v) (wordsOf found))

@@ -5,7 +5,7 @@ use mathlib.Core.Path.{_≡_}
 use mathlib.Core.List.{List, [], _∷_}
 use Rattle.grammar.specs.Grammar as grammar
 use Rattle.grammar.specs.Grammar.{Field, Answer}
-use Rattle.grammar.specs.Course.{Run, thing, over, stopped}
+use Rattle.grammar.specs.Course.{CourseTo, thing, over, stopped}
 use Rattle.origins.specs.declared.Line.{Line}
 use Rattle.origins.specs.Origins.{lineAt}
 use Rattle.explainer.specs.Watch.{Seen, drew, kept}
@@ -30,7 +30,7 @@ Tiles from (kept e ∷ rest) to = Tiles from rest to
 Tiles from (drew f a s t ∷ rest) to = (s ≡ from) × (s ≤ t) × ((code : ℕ) → Has f (lineAt code f a s t) s t) × Tiles t rest to
 
 -- a run that comes to its end, at a place
-unfoldable pub Ends : {S E A : Type 0} → Run S E A → S → Type 0
+unfoldable pub Ends : {S E A : Type 0} → CourseTo S E A → S → Type 0
 Ends (thing e p c) t = Ends c t
 Ends (over a s) t = s ≡ t
 Ends (stopped why) t = ⊥

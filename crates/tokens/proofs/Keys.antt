@@ -9,7 +9,7 @@ use lib.Dec.{ltb, eqb}
 use lib.ListN.{length, length-append}
 use borrow.Author.Tests.{lt-ltb, ltb-true, le-leb}
 use Rattle.numbers.specs.Number.{pick}
-use Rattle.runs.specs.declared.Column.the-variants.{Difference}
+use Rattle.runs.specs.declared.ColumnKind.the-variants.{Difference}
 use Rattle.runs.specs.Runs.{coding, nearKey, spellable}
 use Rattle.tokens.specs.Tokens.{Token, field, text, var, buf, key, value, values, keys, texts, units, whole, taken, takenAll, columnIn}
 use Rattle.decoder.specs.States.{maxKeys}

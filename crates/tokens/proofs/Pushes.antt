@@ -10,8 +10,8 @@ use lib.Dec.{ltb, leb, eqb}
 use lib.ListN.{length, getD}
 use borrow.Author.Tests.{le-leb, lt-leb, eq-eqb, ne-eqb}
 use Rattle.numbers.specs.Number.{pick}
-use Rattle.runs.specs.declared.Column.{Column}
-use Rattle.runs.specs.declared.Column.the-variants.{Number, Difference, Byte}
+use Rattle.runs.specs.declared.ColumnKind.{ColumnKind}
+use Rattle.runs.specs.declared.ColumnKind.the-variants.{Number, Difference, Byte}
 use Rattle.runs.specs.declared.writer.Writer.{Writer}
 use Rattle.runs.specs.Runs.{coding}
 use Rattle.runs.specs.RunsInner.{keyMost}
@@ -206,7 +206,7 @@ unfolding laneIn keyAfter
 far-difference w k v h w₁ key e a =
     alone-is k (record { lane = k; run = laneIn w k .run; far = pick (coding Difference .near key) (laneIn w k .far) true }) (farNoted w k v) w w₁ a
     (ap (λ (b : Bool). record { lane = k; run = laneIn w k .run; far = pick b (laneIn w k .far) true })
-    (ap (λ (c : Column). coding c .near key) (sym h) ∙ ap (coding (columnIn k) .near) e))
+    (ap (λ (c : ColumnKind). coding c .near key) (sym h) ∙ ap (coding (columnIn k) .near) e))
 
 -- as the code tests it
 pub far-of : (near : Bool) → pick near false true ≡ true → near ≡ false

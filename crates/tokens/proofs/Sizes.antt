@@ -8,8 +8,8 @@ use lib.Dec.{ltb, eqb}
 use lib.ListN.{length, length-append}
 use Rattle.numbers.specs.Number.{pick, unsigned, signed}
 use Rattle.numbers.proofs.Laws.{unsigned-le}
-use Rattle.runs.specs.declared.Column.{Column}
-use Rattle.runs.specs.declared.Column.the-variants.{Number, Difference, Byte}
+use Rattle.runs.specs.declared.ColumnKind.{ColumnKind}
+use Rattle.runs.specs.declared.ColumnKind.the-variants.{Number, Difference, Byte}
 use Rattle.runs.specs.declared.writer.Writer.{Writer}
 use Rattle.runs.specs.Runs.{coding, runsOn, runsAfter, column, columnOf}
 use Rattle.runs.specs.RunsInner.{signedRun}
@@ -34,13 +34,13 @@ run-le m x n = omega (arith, length-append (signed m x) (pick (eqb n 0) [] (unsi
     go true = omega arith
     go false = unsigned-le (n - 1)
 
-pub spell-le : (col : Column) (k n : ℕ) → length (coding col .spell k n) ≤ 21
+pub spell-le : (col : ColumnKind) (k n : ℕ) → length (coding col .spell k n) ≤ 21
 unfolding coding
 spell-le Number k n = omega (arith, ap length (number-run k n), run-le (ltb 0 n) k n)
 spell-le Difference k n = omega (arith, ap length (difference-run k n), run-le (ltb k zeroKey) (magnitude k (odd n)) n)
 spell-le Byte k n = omega (arith, byte-length k n, unsigned-le n)
 
-pub final-le : (col : Column) (k n : ℕ) → length (coding col .final k n) ≤ 21
+pub final-le : (col : ColumnKind) (k n : ℕ) → length (coding col .final k n) ≤ 21
 unfolding coding
 final-le Number k n = spell-le Number k n
 final-le Difference k n = spell-le Difference k n
@@ -54,7 +54,7 @@ emitted-le w v = go (ends (keyAfter w v) w)
     go true = spell-le (w .column) (w .key) (w .count - 1)
     go false = omega arith
 
-over-le : (col : Column) (p k n : ℕ) (vs : List ℕ) → length (runsOn (coding col) p k n vs) ≤ 21 * suc (length vs)
+over-le : (col : ColumnKind) (p k n : ℕ) (vs : List ℕ) → length (runsOn (coding col) p k n vs) ≤ 21 * suc (length vs)
 unfolding runsOn
 over-le col p k n [] = omega (arith, final-le col k n)
 over-le col p k n (v ∷ vs) = go (eqb (coding col .keyOf p v) k) (λ p k n. over-le col p k n vs)
@@ -66,7 +66,7 @@ over-le col p k n (v ∷ vs) = go (eqb (coding col .keyOf p v) k) (λ p k n. ove
         let next = coding col .keyOf p v in
         omega (arith, length-append (coding col .spell k n) (runsOn (coding col) v next 0 vs), spell-le col k n, more v next 0)
 
-pub column-le : (col : Column) (vs : List ℕ) → length (columnOf col vs) ≤ 21 * length vs
+pub column-le : (col : ColumnKind) (vs : List ℕ) → length (columnOf col vs) ≤ 21 * length vs
 unfolding column runsAfter
 column-le col [] = omega arith
 column-le col (v ∷ vs) = over-le col v (coding col .keyOf 0 v) 0 vs

@@ -9,7 +9,7 @@ use lib.ListN.{length}
 use lib.Seq.{length-sets}
 use borrow.Author.Tests.{lt-ltb, le-leb, leb-true}
 use Rattle.numbers.specs.Number.{pick}
-use Rattle.runs.specs.declared.Column.{Column}
+use Rattle.runs.specs.declared.ColumnKind.{ColumnKind}
 use Rattle.runs.specs.declared.writer.Writer.{Writer}
 use Rattle.runs.specs.Runs.{coding, column, within, spellable}
 use Rattle.runs.specs.Writer.{keyAfter, emitted, pushed}
@@ -85,7 +85,7 @@ far-all e (v ∷ vs) r =
 
 -- ---- what the state stands for, and what the bytes lent hold
 
-pub holds-all : (col : Column) (o : List ℕ) (start : ℕ) (us : List ℕ) (e : Lane) (out : List ℕ) (vs : List ℕ) → Ready e vs
+pub holds-all : (col : ColumnKind) (o : List ℕ) (start : ℕ) (us : List ℕ) (e : Lane) (out : List ℕ) (vs : List ℕ) → Ready e vs
     → start + length (column (coding col) (us ++ vs)) ≤ length o → Holds col o start us (e .run) out
     → Holds col o start (us ++ vs) (pushedAll e vs .run) (laidValues out e vs)
 unfolding pushedAll laidValues

@@ -5,7 +5,7 @@ use mathlib.Core.Bool.{Bool, true, false}
 use mathlib.Core.List.{List, [], _∷_, _++_}
 use lib.Dec.{eqb}
 use Rattle.numbers.specs.Number.{pick}
-use Rattle.runs.specs.declared.Column.the-variants.{Difference}
+use Rattle.runs.specs.declared.ColumnKind.the-variants.{Difference}
 use Rattle.runs.specs.Runs.{coding, spellable}
 use Rattle.tokens.specs.Tokens.{Token, led, takenAll, lane, keys, clients, lefts, rights, infos, texts, units, parents, types, lens, rest, whole}
 use Rattle.tokens.specs.Keys.{numbered}

@@ -6,8 +6,8 @@ use mathlib.Core.List.{List, [], _∷_, _++_}
 use lib.Dec.{eqb}
 use lib.ListN.{length}
 use Rattle.numbers.specs.Number.{pick, unsigned}
-use Rattle.runs.specs.declared.Column.{Column}
-use Rattle.runs.specs.declared.Column.the-variants.{Number, Difference, Byte}
+use Rattle.runs.specs.declared.ColumnKind.{ColumnKind}
+use Rattle.runs.specs.declared.ColumnKind.the-variants.{Number, Difference, Byte}
 use Rattle.runs.specs.Runs.{columnOf}
 
 -- ---- the lanes: of form 2, in the order in which they stand, and of form 1
@@ -106,7 +106,7 @@ takenAll k (t ∷ ts) = taken k t ++ takenAll k ts
 unfoldable pub inLine : ℕ → Bool
 inLine k = pick (eqb k texts) true (pick (eqb k rest) true (eqb k whole))
 
-unfoldable pub columnIn : ℕ → Column
+unfoldable pub columnIn : ℕ → ColumnKind
 columnIn k =
     pick (eqb k keys) Difference (pick (eqb k lefts) Difference (pick (eqb k rights) Difference
     (pick (eqb k infos) Byte (pick (eqb k parents) Byte Number))))

@@ -6,7 +6,7 @@ ghost use mathlib.Core.Path.{_≡_};
 ghost use mathlib.Core.List.{[], _∷_};
 ghost use Prim.Native.Nat.{_<_};
 ghost use Rattle.readings.specs.Sound.{bytesIn};
-ghost use Rattle.runs.specs.declared.Column.the-variants.{Number, Difference, Byte};
+ghost use Rattle.runs.specs.declared.ColumnKind.the-variants.{Number, Difference, Byte};
 ghost use Rattle.tokens.specs.Tokens.{client, left, right, info, parentInfo, text, len, value};
 ghost use Rattle.tokens.specs.TokensInner.{typeNumber};
 ghost use Rattle.tokens.specs.Desk.{Tidy, Wrote};

@@ -9,7 +9,7 @@ ghost use lib.ListN.{length};
 ghost use Rattle.numbers.specs.Number.{pick};
 ghost use Rattle.runs.specs.Runs.{coding};
 ghost use Rattle.runs.specs.RunsInner.{keyMost};
-ghost use Rattle.runs.specs.declared.Column.the-variants.{Number, Difference, Byte};
+ghost use Rattle.runs.specs.declared.ColumnKind.the-variants.{Number, Difference, Byte};
 ghost use Rattle.parts.specs.Brim.{brim};
 ghost use Rattle.readings.specs.Sound.{bytesIn};
 ghost use Rattle.tokens.specs.Tokens.{inLine, columnIn};

@@ -17,8 +17,8 @@ use Rattle.numbers.specs.Limits.{maxClock, maxClients, maxBlocks}
 use Rattle.block.specs.declared.Block as row
 use Rattle.grammar.specs.Grammar as grammar
 use Rattle.grammar.specs.Grammar.{Number, Grammar, ask, stop, draw}
-use Rattle.grammar.specs.GrammarInner.{_>>=_}
-use Rattle.grammar.specs.Course.{Drawn, got, not, Run, thing, stopped, onDrawn, run}
+use Rattle.grammar.specs.Grammar.{_>>=_}
+use Rattle.grammar.specs.Course.{Drawn, got, not, CourseTo, thing, stopped, onDrawn, run}
 use Rattle.grammar.specs.Blocks.{block, dropped, unlessDropped, blocks, sections, allBlocks}
 use Rattle.grammar.proofs.Runs.{andThen, run-bind}
 use Rattle.decoder.specs.Line.{bounded, varAt, upTo, line}
@@ -121,7 +121,7 @@ module _ (form : ℕ) (u m w : List ℕ) (s : Spot) (none : s .blocks ≡ 0) (so
       one-more : s .sections ≡ suc (s .sections - 1)
       one-more = omega (arith, some)
 
-  from-here : {x : Run State row.Block (Unit {0})} → run (fields form u) start (stateIn w) ≡ x → reads form u m w s ≡ x
+  from-here : {x : CourseTo State row.Block (Unit {0})} → run (fields form u) start (stateIn w) ≡ x → reads form u m w s ≡ x
   unfolding reads
   from-here e = ap (λ (x : Grammar row.Block (Unit {0})). run (fields form u) x (stateIn w)) at-section ∙ e
 
@@ -184,7 +184,7 @@ module _ (form : ℕ) (u m w : List ℕ) (s : Spot) (some : 1 ≤ s .blocks) whe
   abbrev behind : Unit {0} → Grammar row.Block (Unit {0})
   behind x = sections (s .sections) (take (s .seen) m) (s .room)
 
-  abbrev Behind : Unit {0} → State → Run State row.Block (Unit {0})
+  abbrev Behind : Unit {0} → State → CourseTo State row.Block (Unit {0})
   Behind x t = run (fields form u) (behind x) t
 
   -- what follows a block
@@ -196,7 +196,7 @@ module _ (form : ℕ) (u m w : List ℕ) (s : Spot) (some : 1 ≤ s .blocks) whe
   at-block =
       ap (λ (j : ℕ). run (fields form u) (blocks j (s .client) (s .clock) >>= behind) (stateIn w)) one-more
       ∙ run-bind (fields form u) (blocks (suc (s .blocks - 1)) (s .client) (s .clock)) behind (stateIn w)
-      ∙ ap (λ (x : Run State row.Block (Unit {0})). andThen x Behind) (run-bind (fields form u) (block (s .client) (s .clock)) next (stateIn w))
+      ∙ ap (λ (x : CourseTo State row.Block (Unit {0})). andThen x Behind) (run-bind (fields form u) (block (s .client) (s .clock)) next (stateIn w))
     where
       one-more : s .blocks ≡ suc (s .blocks - 1)
       one-more = omega (arith, some)

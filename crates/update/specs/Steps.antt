@@ -7,8 +7,8 @@ use lib.ListN.{length, take}
 use Rattle.numbers.specs.Limits.{maxClock, maxBlocks}
 use Rattle.block.specs.declared.Block as row
 use Rattle.grammar.specs.Grammar.{Grammar}
-use Rattle.grammar.specs.GrammarInner.{_>>=_}
-use Rattle.grammar.specs.Course.{Course, Run, thing, over, stopped, run}
+use Rattle.grammar.specs.Grammar.{_>>=_}
+use Rattle.grammar.specs.Course.{Course, CourseTo, thing, over, stopped, run}
 use Rattle.grammar.specs.Blocks.{blocks, sections, allBlocks}
 use Rattle.decoder.specs.States.{State, movedTo}
 use Rattle.decoder.specs.ColumnedInner.{fields}
@@ -26,7 +26,7 @@ unfoldable pub toCome : List ℕ → Spot → Grammar row.Block (Unit {0})
 toCome m s = blocks (s .blocks) (s .client) (s .clock) >>= λ _. sections (s .sections) (take (s .seen) m) (s .room)
 
 -- read from the words w on, up to a state; and up to that state's place
-unfoldable pub reads : ℕ → List ℕ → List ℕ → List ℕ → Spot → Run State row.Block (Unit {0})
+unfoldable pub reads : ℕ → List ℕ → List ℕ → List ℕ → Spot → CourseTo State row.Block (Unit {0})
 reads form u m w s = run (fields form u) (toCome m s) (stateIn w)
 
 unfoldable pub comes : ℕ → List ℕ → List ℕ → List ℕ → Spot → Course row.Block
@@ -34,13 +34,13 @@ comes form u m w s = restPlaces (reads form u m w s)
 
 -- ---- what a step gives, with the memory m, the words w and the row r that it leaves
 
-unfoldable pub after : ℕ → List ℕ → List ℕ → List ℕ → List ℕ → Step → Run State row.Block (Unit {0})
+unfoldable pub after : ℕ → List ℕ → List ℕ → List ℕ → List ℕ → Step → CourseTo State row.Block (Unit {0})
 after form u m w r (Block p t) = thing (rowIn r) p (reads form u m w t)
 after form u m w r (On t) = reads form u m w t
 after form u m w r (Done at) = over tt (movedTo (stateIn w) at)
 after form u m w r (Refused why) = stopped why
 
-unfoldable pub begins : ℕ → List ℕ → List ℕ → List ℕ → Begun → Run State row.Block (Unit {0})
+unfoldable pub begins : ℕ → List ℕ → List ℕ → List ℕ → Begun → CourseTo State row.Block (Unit {0})
 begins form u m w (begun.At s) = reads form u m w s
 begins form u m w (begun.Refused why) = stopped why
 

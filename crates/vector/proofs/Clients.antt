@@ -13,16 +13,16 @@ use Rattle.numbers.specs.Words.{among}
 use Rattle.numbers.specs.Limits.{maxClock, maxClients}
 use Rattle.grammar.specs.Grammar as grammar
 use Rattle.grammar.specs.Grammar.{number, stop, ask, emit}
-use Rattle.grammar.specs.GrammarInner.{_>>=_}
-use Rattle.grammar.specs.Course.{Drawn, got, not, Reader, Run, thing, over, stopped, onDrawn, run, things}
+use Rattle.grammar.specs.Grammar.{_>>=_}
+use Rattle.grammar.specs.Course.{Drawn, got, not, Reader, CourseTo, thing, over, stopped, onDrawn, run, things}
 use Rattle.decoder.specs.Line.{upTo, line, numberBy}
 use Rattle.vector.specs.Vector.{Entry, entry, clientsIn, holds, entries, aVector, vectorOf}
 use Rattle.vector.proofs.Laws.{bounded-low, clients-more}
 
 -- what holds of every run of entries: after those seen an entry is of a client that has none
-module _ {S : Type 0} (r : Reader S) (P : ℕ → List Entry → Run S Entry (Unit {0}) → Type 0) (at-end : (seen : List Entry) (s : S) → P 0 seen (over tt s))
+module _ {S : Type 0} (r : Reader S) (P : ℕ → List Entry → CourseTo S Entry (Unit {0}) → Type 0) (at-end : (seen : List Entry) (s : S) → P 0 seen (over tt s))
     (at-stop : (n : ℕ) (seen : List Entry) (why : Refusal) → P n seen (stopped why))
-    (at-item : (n : ℕ) (seen : List Entry) (e : Entry) (p : ℕ) (x : Run S Entry (Unit {0})) → among (e .client) (clientsIn seen) ≡ false → P n (seen ++ (e ∷ [])) x → P (suc n) seen (thing e p x)) where
+    (at-item : (n : ℕ) (seen : List Entry) (e : Entry) (p : ℕ) (x : CourseTo S Entry (Unit {0})) → among (e .client) (clientsIn seen) ≡ false → P n (seen ++ (e ∷ [])) x → P (suc n) seen (thing e p x)) where
   each : (n : ℕ) (seen : List Entry) (s : S) → P n seen (run r (entries n seen) s)
   unfolding entries holds _>>=_ run onDrawn
   each zero seen s = at-end seen s

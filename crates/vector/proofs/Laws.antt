@@ -21,7 +21,7 @@ use Rattle.numbers.specs.Limits.{maxClients, maxValue, maxClock}
 use Rattle.numbers.specs.Output.{padded}
 use Rattle.numbers.proofs.Output.{padded-some}
 use Rattle.grammar.specs.Grammar.{Grammar}
-use Rattle.grammar.specs.GrammarInner.{_>>=_}
+use Rattle.grammar.specs.Grammar.{_>>=_}
 use Rattle.grammar.specs.Course.{Drawn, got, not, Course, thing, over, stopped, onDrawn, run, things, ending}
 use Rattle.decoder.specs.Line.{numberAt, bounded, upTo, numberBy, line}
 use Rattle.vector.specs.declared.Entries.{Entries}

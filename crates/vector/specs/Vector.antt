@@ -9,7 +9,7 @@ use Rattle.numbers.specs.Words.{among}
 use Rattle.numbers.specs.Limits.{maxClock, maxClients}
 use Rattle.numbers.specs.Output.{padded}
 use Rattle.grammar.specs.Grammar.{client, upTo, number, Grammar, emit, stop, done, draw}
-use Rattle.grammar.specs.GrammarInner.{_>>=_}
+use Rattle.grammar.specs.Grammar.{_>>=_}
 use Rattle.grammar.specs.Course.{Course, run, things, ending}
 use Rattle.decoder.specs.Line.{line}
 use Rattle.vector.specs.declared.Vector.{Vector}

@@ -17,7 +17,7 @@ use Rattle.text.specs.declared.Units.{Units}
 use Rattle.text.specs.declared.Taken.{Taken}
 use Rattle.text.specs.declared.Taken.the-variants as taken
 use Rattle.text.specs.Utf8.{wellFormed, unitsIn, takeUnits}
-use Rattle.runs.specs.declared.Column.the-variants as column
+use Rattle.runs.specs.declared.ColumnKind.the-variants as column
 use Rattle.runs.specs.Runs.{columnOf, whyOf}
 use Rattle.columns.specs.declared.number.Place as number-place
 use Rattle.columns.specs.declared.number.Answer as number-answer

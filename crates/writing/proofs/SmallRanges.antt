@@ -18,7 +18,7 @@ use Rattle.ranges.specs.Ranges.{Range, normal}
 use Rattle.ranges.specs.Table.{range}
 use Rattle.ranges.proofs.Theory.{normal-length}
 use Rattle.grammar.specs.Grammar.{Grammar}
-use Rattle.grammar.specs.GrammarInner.{_>>=_}
+use Rattle.grammar.specs.Grammar.{_>>=_}
 use Rattle.grammar.specs.Course.{Drawn, got, not, Course, thing, over, stopped, onDrawn, run, fit, things}
 use Rattle.grammar.specs.Deletes.{ranges, deletedClients, allRanges}
 use Rattle.decoder.specs.Line.{numberAt, varAt, bounded, upTo, restored, deleteAt, numberBy, line}

@@ -15,7 +15,7 @@ use Rattle.block.specs.KindsInner.{hasPart, isMarked}
 use Rattle.block.proofs.OfKinds.{AnItem, item-kinds}
 use Rattle.grammar.specs.Grammar as grammar
 use Rattle.grammar.specs.Grammar.{draw, done}
-use Rattle.grammar.specs.GrammarInner.{_>>=_}
+use Rattle.grammar.specs.Grammar.{_>>=_}
 use Rattle.grammar.specs.Course.{Reader, over, run}
 use Rattle.grammar.specs.Blocks.{deleted, binary, string, format, node, type, anyList, contentOf, content}
 use Rattle.readings.specs.Sound.{bytesIn}

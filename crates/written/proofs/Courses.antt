@@ -8,8 +8,8 @@ use Rattle.numbers.specs.declared.Refusal.{Refusal}
 use Rattle.block.specs.declared.Block.{Block}
 use Rattle.grammar.specs.Grammar as grammar
 use Rattle.grammar.specs.Grammar.{Field, Answer, Grammar, draw}
-use Rattle.grammar.specs.GrammarInner.{_>>=_}
-use Rattle.grammar.specs.Course.{got, Reader, Run, thing, over, onDrawn, run, Course, fit, things, ending}
+use Rattle.grammar.specs.Grammar.{_>>=_}
+use Rattle.grammar.specs.Course.{got, Reader, CourseTo, thing, over, onDrawn, run, Course, fit, things, ending}
 use Rattle.grammar.proofs.Runs.{andThen, run-bind}
 use Rattle.draws.specs.Draws.{Lined}
 use Rattle.draws.proofs.Fields.{bounded-in}
@@ -33,32 +33,32 @@ module _ {S : Type 0} (r : Reader S) where
 -- ---- a reading as told
 
 module _ {S A B : Type 0} (R : A → B → Type 0) where
-  pub goes-from : (bs : List B) (b c rest : Run S A (Unit {0})) → b ≡ c → Goes R bs c rest → Goes R bs b rest
-  goes-from bs b c rest e g = subst (λ (x : Run S A (Unit {0})). Goes R bs x rest) (sym e) g
+  pub goes-from : (bs : List B) (b c rest : CourseTo S A (Unit {0})) → b ≡ c → Goes R bs c rest → Goes R bs b rest
+  goes-from bs b c rest e g = subst (λ (x : CourseTo S A (Unit {0})). Goes R bs x rest) (sym e) g
 
   -- one reading after another
-  pub goes-then : (bs cs : List B) (c rest : Run S A (Unit {0})) (m : S) (f : Unit {0} → S → Run S A (Unit {0}))
+  pub goes-then : (bs cs : List B) (c rest : CourseTo S A (Unit {0})) (m : S) (f : Unit {0} → S → CourseTo S A (Unit {0}))
       → Goes R bs c (over tt m) → Goes R cs (f tt m) rest → Goes R (bs ++ cs) (andThen c f) rest
   unfolding Goes andThen
-  goes-then [] cs c rest m f g h = goes-from cs (andThen c f) (f tt m) rest (ap (λ (x : Run S A (Unit {0})). andThen x f) g) h
+  goes-then [] cs c rest m f g h = goes-from cs (andThen c f) (f tt m) rest (ap (λ (x : CourseTo S A (Unit {0})). andThen x f) g) h
   goes-then (b ∷ bs) cs c rest m f g h =
-      (g .0, g .1, andThen (g .2) f, ap (λ (x : Run S A (Unit {0})). andThen x f) (g .3), g .4, goes-then bs cs (g .2) rest m f (g .5) h)
+      (g .0, g .1, andThen (g .2) f, ap (λ (x : CourseTo S A (Unit {0})). andThen x f) (g .3), g .4, goes-then bs cs (g .2) rest m f (g .5) h)
 
   -- left at a place
-  pub goes-left : (place : S → ℕ) (leave : Run S A (Unit {0}) → Course A)
-      → ((a : A) (p : ℕ) (c : Run S A (Unit {0})) → leave (thing a p c) ≡ thing a p (leave c)) → ((s : S) → leave (over tt s) ≡ over tt (place s))
-      → (bs : List B) (c : Run S A (Unit {0})) (m : S) → Goes R bs c (over tt m) → Goes R bs (leave c) (over tt (place m))
+  pub goes-left : (place : S → ℕ) (leave : CourseTo S A (Unit {0}) → Course A)
+      → ((a : A) (p : ℕ) (c : CourseTo S A (Unit {0})) → leave (thing a p c) ≡ thing a p (leave c)) → ((s : S) → leave (over tt s) ≡ over tt (place s))
+      → (bs : List B) (c : CourseTo S A (Unit {0})) (m : S) → Goes R bs c (over tt m) → Goes R bs (leave c) (over tt (place m))
   unfolding Goes
   goes-left place leave on end [] c m g = ap leave g ∙ end m
   goes-left place leave on end (b ∷ bs) c m g =
       (g .0, g .1, leave (g .2), ap leave (g .3) ∙ on (g .0) (g .1) (g .2), g .4, goes-left place leave on end bs (g .2) m (g .5))
 
 module _ {S A B : Type 0} (R : A → B → Type 0) (m : S) where
-  pub goes-ending : {X : Type 0} (done : S → X) (refused : Refusal → X) (bs : List B) (c : Run S A (Unit {0})) → Goes R bs c (over tt m)
+  pub goes-ending : {X : Type 0} (done : S → X) (refused : Refusal → X) (bs : List B) (c : CourseTo S A (Unit {0})) → Goes R bs c (over tt m)
       → ending c done refused ≡ done m
   unfolding Goes ending
-  goes-ending done refused [] c g = ap (λ (x : Run S A (Unit {0})). ending x done refused) g
-  goes-ending done refused (b ∷ bs) c g = ap (λ (x : Run S A (Unit {0})). ending x done refused) (g .3) ∙ goes-ending done refused bs (g .2) (g .5)
+  goes-ending done refused [] c g = ap (λ (x : CourseTo S A (Unit {0})). ending x done refused) g
+  goes-ending done refused (b ∷ bs) c g = ap (λ (x : CourseTo S A (Unit {0})). ending x done refused) (g .3) ∙ goes-ending done refused bs (g .2) (g .5)
 
 module _ {A B : Type 0} (R : A → B → Type 0) (m : ℕ) where
   pub goes-fit : (bs : List B) (n : ℕ) (c : Course A) → length bs ≤ n → Goes R bs c (over tt m) → fit n c ≡ c

@@ -10,7 +10,7 @@ use borrow.Author.Tests.{le-ltb, ne-eqb}
 use Rattle.numbers.specs.Number.{pick}
 use Rattle.numbers.specs.Limits.{maxClock, maxClients, maxValue}
 use Rattle.grammar.specs.Grammar as grammar
-use Rattle.grammar.specs.GrammarInner.{_>>=_}
+use Rattle.grammar.specs.Grammar.{_>>=_}
 use Rattle.grammar.specs.Course.{got, Reader, thing, over, run}
 use Rattle.grammar.specs.Deletes.{ranges, deletedClients, allRanges}
 use Rattle.grammar.proofs.Runs.{run-bind}

@@ -11,7 +11,7 @@ use Rattle.block.specs.Row.{noId}
 use Rattle.block.specs.Rows.{idsAre, plain}
 use Rattle.grammar.specs.Grammar as grammar
 use Rattle.grammar.specs.Grammar.{Number, Grammar}
-use Rattle.grammar.specs.GrammarInner.{_>>=_}
+use Rattle.grammar.specs.Grammar.{_>>=_}
 use Rattle.grammar.specs.Course.{got, Reader, over, onDrawn, run}
 use Rattle.grammar.specs.Blocks as blocks
 use Rattle.grammar.specs.Blocks.{anId}

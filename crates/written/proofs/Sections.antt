@@ -12,7 +12,7 @@ use Rattle.numbers.specs.Number.{pick}
 use Rattle.numbers.specs.Limits.{maxClock}
 use Rattle.numbers.specs.Words.{among}
 use Rattle.grammar.specs.Grammar as grammar
-use Rattle.grammar.specs.GrammarInner.{_>>=_}
+use Rattle.grammar.specs.Grammar.{_>>=_}
 use Rattle.grammar.specs.Course.{Reader, over, run}
 use Rattle.grammar.specs.Blocks.{blocks, sections}
 use Rattle.grammar.proofs.Runs.{run-bind}

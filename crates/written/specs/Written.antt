@@ -9,7 +9,7 @@ use Rattle.block.specs.Row.{noPart}
 use Rattle.block.specs.Rows.{nameIs, keyIs, withMark, withPart}
 use Rattle.block.specs.RowsInner.{withoutKey}
 use Rattle.ranges.specs.Ranges.{Range}
-use Rattle.grammar.specs.Course.{Run, thing, over}
+use Rattle.grammar.specs.Course.{CourseTo, thing, over}
 use Rattle.decoder.specs.Update.{blocksOf, deleteSet}
 use Rattle.leftover.specs.Leftover.{columnsLeft}
 use Rattle.leftover.specs.LeftoverInner.{Spent}
@@ -63,9 +63,9 @@ sectionsRead u (s ∷ ss) = piecesRead u (s .pieces) ++ sectionsRead u ss
 -- ---- a reading
 
 -- the run c gives something for each of these, each as R says, and goes on with `rest`
-unfoldable pub Goes : {S A B : Type 0} → (A → B → Type 0) → List B → Run S A (Unit {0}) → Run S A (Unit {0}) → Type 0
+unfoldable pub Goes : {S A B : Type 0} → (A → B → Type 0) → List B → CourseTo S A (Unit {0}) → CourseTo S A (Unit {0}) → Type 0
 Goes R [] c rest = c ≡ rest
-Goes {S} {A} R (b ∷ bs) c rest = (a : A) × (p : ℕ) × (on : Run S A (Unit {0})) × (c ≡ thing a p on) × R a b × Goes R bs on rest
+Goes {S} {A} R (b ∷ bs) c rest = (a : A) × (p : ℕ) × (on : CourseTo S A (Unit {0})) × (c ≡ thing a p on) × R a b × Goes R bs on rest
 
 abbrev pub AlikeIn : List ℕ → List ℕ → Block → Block → Type 0
 AlikeIn d u b c = Alike d b u c

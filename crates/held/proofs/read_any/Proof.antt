@@ -5,7 +5,7 @@ use lib.ListN.{length-set}
 use Rattle.block.specs.Rows.{withContent}
 use Rattle.block.specs.Kinds.{ANY}
 use Rattle.grammar.specs.Grammar.{len, values, done, draw}
-use Rattle.grammar.specs.GrammarInner.{_>>=_}
+use Rattle.grammar.specs.Grammar.{_>>=_}
 use Rattle.grammar.specs.Blocks.{anyList}
 use Rattle.cells.specs.Cells.{partIn, given}
 use Rattle.fields.specs.Fields.{partGiven}

@@ -6,7 +6,7 @@ use Rattle.block.specs.declared.Block.{Block}
 use Rattle.block.specs.Rows.{withMark, withContent}
 use Rattle.block.specs.Kinds.{FORMAT}
 use Rattle.grammar.specs.Grammar.{key, value, done, draw}
-use Rattle.grammar.specs.GrammarInner.{_>>=_}
+use Rattle.grammar.specs.Grammar.{_>>=_}
 use Rattle.grammar.specs.Blocks.{format}
 use Rattle.cells.specs.Cells.{partIn}
 use Rattle.fields.specs.Fields.{partGiven}

@@ -3,7 +3,7 @@ use mathlib.Core.Path.{sym, ap, _∙_}
 use Prim.Native.Nat.{ℕ}
 use Rattle.block.specs.declared.Block.{Block}
 use Rattle.grammar.specs.Grammar.{info, done}
-use Rattle.grammar.specs.GrammarInner.{_>>=_}
+use Rattle.grammar.specs.Grammar.{_>>=_}
 use Rattle.grammar.specs.Blocks.{body, block}
 use Rattle.decoder.specs.ColumnedInner.{fields}
 use Rattle.cells.specs.Cells.{stateIn, placeIn, given}

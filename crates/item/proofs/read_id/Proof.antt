@@ -2,7 +2,7 @@
 use mathlib.Core.Path.{sym, ap, _∙_}
 use native.Mathlib.Omega.{arith}
 use Rattle.grammar.specs.Grammar.{client, number, draw, done}
-use Rattle.grammar.specs.GrammarInner.{_>>=_}
+use Rattle.grammar.specs.Grammar.{_>>=_}
 use Rattle.grammar.specs.Blocks.{anId}
 use Rattle.cells.specs.Cells.{given, placeIn, stateIn}
 use Rattle.cells.proofs.States.{beside-none, beside-put, row-second}

@@ -5,7 +5,7 @@ use mathlib.Core.Bool.{true, false}
 use native.Mathlib.Omega.{arith}
 use lib.ListN.{length}
 use borrow.Author.Tests.{not-true, not-false}
-use Rattle.runs.specs.declared.Column.the-variants.{Byte}
+use Rattle.runs.specs.declared.ColumnKind.the-variants.{Byte}
 use Rattle.runs.specs.Runs.{columnOf, whyOf}
 use Rattle.once.proofs.Laws.{refused-by, Wrote, wrote-begin, byte-unfit, byte-on, wrote-whole}
 use borrow.Author.Needs.{needs}

@@ -6,7 +6,7 @@ use mathlib.Core.Bool.{true, false}
 use native.Mathlib.Omega.{arith}
 use lib.ListN.{length}
 use borrow.Author.Tests.{not-true, not-false}
-use Rattle.runs.specs.declared.Column.the-variants.{Difference}
+use Rattle.runs.specs.declared.ColumnKind.the-variants.{Difference}
 use Rattle.numbers.specs.Limits.{maxClock}
 use Rattle.runs.specs.Runs.{coding, columnOf, whyOf}
 use Rattle.once.proofs.Laws.{refused-by, Wrote, FarSo, far-so, wrote-begin, difference-over, difference-unfit, difference-same, difference-new, wrote-whole}

@@ -7,7 +7,7 @@ use lib.ListN.{length}
 use borrow.Author.Tests.{not-true, not-false}
 use Rattle.numbers.specs.Number.{pick}
 use Rattle.text.specs.Utf8.{wellFormed}
-use Rattle.runs.specs.declared.Column.the-variants.{Number}
+use Rattle.runs.specs.declared.ColumnKind.the-variants.{Number}
 use Rattle.runs.proofs.Slices.{judge-over}
 use Rattle.string.specs.String.{textColumn, whyTexts}
 use Rattle.once.proofs.Laws.{refused-by, state, Wrote, wrote-begin, number-over, number-unfit, number-on, wrote-end}

@@ -50,7 +50,7 @@ use mathlib.Core.Logic.{_≢_}
 use Rattle.update.specs.declared.Spot.{Spot}
 use Rattle.update.specs.declared.Begun.{Begun}
 use Rattle.update.specs.declared.Begun.the-variants as begun-variants
-use Rattle.grammar.specs.Course.{Run}
+use Rattle.grammar.specs.Course.{CourseTo}
 use Rattle.decoder.specs.States.{State}
 use Rattle.update.proofs.Answers.{begun-at, begun-refused, columns-at, columns-refused}
 use Rattle.reader.proofs.Course.{on-none, stands-none}
@@ -127,7 +127,7 @@ module _ {M : Type 1} (𝓤 : URA M) (H : Heap 𝓤) (A : Atoms 𝓤) (W : Given
       let same = sym (begun-at form₀ update₀ w x st (replicate 64 0) (omega (arith)) first e .0) in (
         h .0 ∙ ap (filledOf (length rows₀)) same,
         h .1 ∙ ap (rowsOf (length rows₀)) same,
-        λ other. subst (λ (c : Run State Block (Unit {0})). Stands (fit (length rows₀) c) v) (sym (columns-at form₀ update₀ w x st (replicate 64 0) first other e)) (h .2),
+        λ other. subst (λ (c : CourseTo State Block (Unit {0})). Stands (fit (length rows₀) c) v) (sym (columns-at form₀ update₀ w x st (replicate 64 0) first other e)) (h .2),
         h .3,
       )
 

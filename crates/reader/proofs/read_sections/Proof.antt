@@ -51,7 +51,7 @@ use Rattle.reader.specs.Reader.{filledOf, rowsOf, Stands}
 use Rattle.table.specs.Rows.{clearedFrom}
 use Rattle.update.specs.Steps.{Fine, reads, comes, left}
 use Rattle.decoder.specs.States.{State}
-use Rattle.grammar.specs.Course.{Course, Run, fit}
+use Rattle.grammar.specs.Course.{Course, CourseTo, fit}
 use Rattle.update.proofs.Answers.{on-block, on-on, on-done, on-refused, reads-block, reads-on, reads-done, reads-refused}
 use Rattle.reader.proofs.Course.{Known, at-first, passed, kept, on-full, on-end, on-refusal, Onward, onward-first, onward-passed, onward-kept, stands-full, stands-refused, stands-end}
 use Rattle.reader.proofs.Sorts.{update·spot, refusal, refusal-has, update·step, update·step·block-0, update·step·block-1, update·step·on-0, update·step·done-0, update·step·refused-0, update·step-cases, filled, filled·rows-has, filled·refused-has}
@@ -159,10 +159,10 @@ module _ {M : Type 1} (𝓤 : URA M) (H : Heap 𝓤) (A : Atoms 𝓤) (W : Given
   abbrev now-comes : X → Course Block
   now-comes t = comes form₀ update₀ (t .memory) (t .w) (t .v10)
 
-  abbrev r₀ : Run State Block (Unit {0})
+  abbrev r₀ : CourseTo State Block (Unit {0})
   r₀ = reads form₀ update₀ (replicate 64 0) w₀ first₀
 
-  abbrev now-reads : X → Run State Block (Unit {0})
+  abbrev now-reads : X → CourseTo State Block (Unit {0})
   now-reads t = reads form₀ update₀ (t .memory) (t .w) (t .v10)
 
   -- the contract, where the rows and the words are told apart

@@ -6,7 +6,7 @@ use mathlib.Core.Bool.{true}
 use borrow.Author.Tests.{not-true, not-false, leb-true, le-leb}
 use lib.Dec.{leb}
 use lib.ListN.{length}
-use Rattle.runs.specs.declared.Column.the-variants.{Byte}
+use Rattle.runs.specs.declared.ColumnKind.the-variants.{Byte}
 use Rattle.runs.specs.Runs.{coding}
 use Rattle.runs.specs.RunsInner.{keyMost}
 use Rattle.runs.specs.Byte.{runBytes}

@@ -2,7 +2,7 @@
 use Prim.Native.Nat.{_+_, _-_, _*_}
 use native.Mathlib.Omega.{arith}
 use lib.ListN.{getD}
-use Rattle.runs.specs.declared.Column.the-variants.{Number}
+use Rattle.runs.specs.declared.ColumnKind.the-variants.{Number}
 use Rattle.runs.specs.Runs.{coding}
 use Rattle.tokens.proofs.Ends.{end-brim, end-none, end-low}
 use borrow.Author.Needs.{needs}

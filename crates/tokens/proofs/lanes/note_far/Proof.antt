@@ -1,7 +1,7 @@
 -- `note_far` meets its contract: a store where a difference is far, none where it is not.
 use mathlib.Core.Path.{sym, _∙_}
 use native.Mathlib.Omega.{arith}
-use Rattle.runs.specs.declared.Column.the-variants.{Difference}
+use Rattle.runs.specs.declared.ColumnKind.the-variants.{Difference}
 use Rattle.runs.specs.Runs.{coding}
 use Rattle.tokens.specs.Desk.{laneIn}
 use Rattle.tokens.proofs.Words.{alone-none, notes-far}
