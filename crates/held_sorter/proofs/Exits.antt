@@ -23,6 +23,7 @@ use Rattle.placing.specs.Placing.{rowBy, rowsBy}
 use Rattle.chaining.specs.Chaining.{lookedBy}
 use Rattle.chaining.proofs.Light.{offered-same}
 use Rattle.awaited.specs.Awaited.{isLeft, firstUnmet, waitingWords, waitingOf, waitingFrom}
+use Rattle.sorter.specs.declared.Sorting.{Sorting}
 use Rattle.sorter.specs.Sorter.{maxReaches, slotWords, frontWords, frontsAt, cleared, sortingOf, notedBy, slotsFor}
 use Rattle.sorter.proofs.Looking.{Looking, begins, turns, falls, ended}
 use Rattle.sorter.proofs.Exits.{here}
@@ -156,7 +157,7 @@ module _ (w : List ℕ) (h : ℕ) (ss : List Slot) (rows : List Block) where
 
 -- ---- the words of slots
 
-module _ (w : List ℕ) (h : ℕ) (rows : List Block) (blocks : ℕ) (order counts pending : List ℕ) where
+module _ (rows : List Block) (blocks : ℕ) where
   abbrev zeros : List ℕ
   zeros = replicate slotWords 0
 
@@ -166,20 +167,24 @@ module _ (w : List ℕ) (h : ℕ) (rows : List Block) (blocks : ℕ) (order coun
   abbrev slots : List Slot
   slots = slotsFor maxReaches (take blocks rows) []
 
-  found-is : found ≡ slots
+  pub found-is : found ≡ slots
   unfolding slotsFor namedAll
   found-is =
       let e : length zeros / 3 ≡ maxReaches = ap (λ (n : ℕ). n / 3) (length-replicate {A = ℕ} slotWords 0) in
       here zeros (take blocks rows) ∙ ap (λ (k : ℕ). notedAll k 0 (take blocks rows) []) e
 
-  pub exit-kept : (sortingBy w h found rows blocks order ≡ sortingBy w h slots rows blocks order) × (orderBy w h found rows blocks order ≡ orderBy w h slots rows blocks order)
-      × (fitted (length counts) (countsBy w h found rows blocks order) ≡ fitted (length counts) (countsBy w h slots rows blocks order))
-      × (fitted (length pending) (pendingBy w h found rows blocks order) ≡ fitted (length pending) (pendingBy w h slots rows blocks order))
+module _ (w : List ℕ) (h : ℕ) (rows : List Block) (blocks : ℕ) (order counts pending : List ℕ) where
+  abbrev pub Kept : Sorting → List ℕ → List ℕ → List ℕ → Type 0
+  Kept r order₁ counts₁ pending₁ =
+      (r ≡ sortingBy w h (slots rows blocks) rows blocks order) × (order₁ ≡ orderBy w h (slots rows blocks) rows blocks order) × (counts₁ ≡ fitted (length counts) (countsBy w h (slots rows blocks) rows blocks order))
+      × (pending₁ ≡ fitted (length pending) (pendingBy w h (slots rows blocks) rows blocks order))
+
+  pub exit-kept : Kept (sortingBy w h (found rows blocks) rows blocks order) (orderBy w h (found rows blocks) rows blocks order) (fitted (length counts) (countsBy w h (found rows blocks) rows blocks order)) (fitted (length pending) (pendingBy w h (found rows blocks) rows blocks order))
   exit-kept = (
-    ap (λ (ss : List Slot). sortingBy w h ss rows blocks order) found-is,
-    ap (λ (ss : List Slot). orderBy w h ss rows blocks order) found-is,
-    ap (λ (ss : List Slot). fitted (length counts) (countsBy w h ss rows blocks order)) found-is,
-    ap (λ (ss : List Slot). fitted (length pending) (pendingBy w h ss rows blocks order)) found-is,
+    ap (λ (ss : List Slot). sortingBy w h ss rows blocks order) (found-is rows blocks),
+    ap (λ (ss : List Slot). orderBy w h ss rows blocks order) (found-is rows blocks),
+    ap (λ (ss : List Slot). fitted (length counts) (countsBy w h ss rows blocks order)) (found-is rows blocks),
+    ap (λ (ss : List Slot). fitted (length pending) (pendingBy w h ss rows blocks order)) (found-is rows blocks),
   )
 
 -- ---- the loop over slots

@@ -53,9 +53,7 @@ use Rattle.held_answers.proofs.done.Symbol.{name as #held-answers·done}
 use Rattle.held_sorts.proofs.Ways.{exit-unread, exit-ungiven, asks, exit-refused, exit-done}
 use mathlib.Core.Bool.{false}
 use Prim.Native.Nat.{_≤_, _*_}
-use mir.Syntax.{Name, named, imm, mut as mutably, w8, w64, tyInt, tyBool, tyRef, field, place, Opd as Operand, copy, int, rvOpd, aggregate, Body, seq, assign, cond, skip, call, Local, Fn}
-use denote.Memory.{pointee}
-use denote.Slice.{sliceTy}
+use mir.Syntax.{Name, imm, mut as mutably, w64, tyBool, field, place, Opd as Operand, copy, int, rvOpd, aggregate, Body, seq, assign, cond, skip, call, Local, Fn}
 use denote.Triple.Entry.{Args, Vals, onEntry}
 use Rattle.walks.proofs.Refs.{read, Card}
 use Rattle.picker.specs.Picker.{nowhere as noRow}
@@ -64,14 +62,11 @@ use Rattle.held_answers.specs.declared.HeldRead.{HeldRead}
 use Rattle.updates.specs.Promises.{Reading}
 use Rattle.held_sorts.specs.Promises.{lent, Finder, sortHeldBy, Leaves}
 use Rattle.held_sorts.proofs.Ways.{Gives}
-use Rattle.sorts.proofs.Pieces.{of, plainly, again, shown, at, lend, lend4, long, unless-zero, gives as last-call}
+use Rattle.sorter.proofs.Pieces.{of, plainly, a-slice, words-at, again, shown, at, lend, lend4, long, unless-zero, gives as last-call}
 use Rattle.held_sorts.proofs.sort_held as f
 
 abbrev pub fs : List (Form 8)
 fs = by-value byte ∷ by-ref 0 tt byte ∷ by-ref 1 tt byte ∷ by-mut 2 tt block ∷ by-mut 3 tt word ∷ by-mut 4 tt word ∷ by-mut 5 tt word ∷ by-mut 6 tt word ∷ by-mut 7 tt word ∷ []
-
-abbrev words : ℕ → Local
-words j = of (sliceTy (tyRef (named j) mutably (tyInt w64)))
 
 abbrev three-again : List Local → List Local
 three-again ls = again word (again word (again word ls))
@@ -82,8 +77,8 @@ all-again ls = again block (again word (again word (three-again ls)))
 -- the result; the parameters; what was read, given and sorted, and a number; then those in which slices are lent again, a test, and lengths and refusals
 abbrev ls : List Local
 ls =
-    plainly sortedheld ∷ plainly byte ∷ of (sliceTy (tyRef (named 0) imm (tyInt w8))) ∷ of (sliceTy (tyRef (named 1) imm (tyInt w8))) ∷ of (sliceTy (tyRef (named 2) mutably (pointee (block .row .written))))
-    ∷ words 3 ∷ words 4 ∷ words 5 ∷ words 6 ∷ words 7 ∷ plainly update ∷ plainly heldread ∷ plainly sorting ∷ plainly byte
+    plainly sortedheld ∷ plainly byte ∷ a-slice byte 0 imm ∷ a-slice byte 1 imm ∷ a-slice block 2 mutably
+    ∷ words-at 3 ∷ words-at 4 ∷ words-at 5 ∷ words-at 6 ∷ words-at 7 ∷ plainly update ∷ plainly heldread ∷ plainly sorting ∷ plainly byte
     ∷ again block (again word (of tyBool ∷ all-again (again word (all-again (plainly refusal ∷ shown block (shown word (three-again (plainly word ∷ plainly word ∷ plainly word ∷ all-again (plainly refusal ∷ [])))))))))
 
 abbrev refuses : ℕ → ℕ → ℕ → ℕ → ℕ → ℕ → Operand → Body

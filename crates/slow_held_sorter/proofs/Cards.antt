@@ -70,8 +70,8 @@ module _ {M : Type 1} (𝓤 : URA M) (H : Heap 𝓤) (A : Atoms 𝓤) (mem : Mem
       said = λ ns r ws. since 𝓤 (λ e. (e .0, (e .1, tt)));
     }
 
-    pub slow-held-sorter·sweep-slots-slots! : Triple 𝓤 (C #slow-held-sorter·sweep-slots) Slow-held-sorter·sweep-slots → (at-rows : Seat) (rows₀ : List Block) (at-slots : Seat) (slots₀ : List ℕ) (n₀ : ℕ) (g-n : Has word n₀) (at-held : Seat) (held₀ : List ℕ) (ranges₀ : ℕ) (g-ranges : Has word ranges₀) (at-order : Seat) (order₀ : List ℕ) (at-counts : Seat) (counts₀ : List ℕ) (at-pending : Seat) (pending₀ : List ℕ) → ((3 * n₀ ≤ length slots₀) × Falling (slotsFrom slots₀ 0 n₀) × (n₀ ≤ maxReaches) × (3 * ranges₀ ≤ length held₀)) → Card 𝓤 H A C #slow-held-sorter·sweep-slots (pass block at-rows rows₀ ∷ read word at-slots slots₀ ∷ val word n₀ g-n ∷ pass word at-held held₀ ∷ val word ranges₀ g-ranges ∷ mut word at-order order₀ (orderBy held₀ ranges₀ (slotsFrom slots₀ 0 n₀) rows₀ order₀) ∷ mut word at-counts counts₀ (fitted (length counts₀) (countsBy held₀ ranges₀ (slotsFrom slots₀ 0 n₀) rows₀ order₀)) ∷ mut word at-pending pending₀ (fitted (length pending₀) (pendingBy held₀ ranges₀ (slotsFrom slots₀ 0 n₀) rows₀ order₀)) ∷ []) sorting (sortingAt held₀ ranges₀ (slotsFrom slots₀ 0 n₀) rows₀ order₀)
-    slow-held-sorter·sweep-slots-slots! known at-rows rows₀ at-slots slots₀ n₀ g-n at-held held₀ ranges₀ g-ranges at-order order₀ at-counts counts₀ at-pending pending₀ h = record {
+    pub slow-held-sorter·sweep-slots-slots! : Triple 𝓤 (C #slow-held-sorter·sweep-slots) Slow-held-sorter·sweep-slots → (at-rows : Seat) (rows₀ : List Block) (blocks₀ : ℕ) (g-blocks : Has word blocks₀) (at-slots : Seat) (slots₀ : List ℕ) (n₀ : ℕ) (g-n : Has word n₀) (at-held : Seat) (held₀ : List ℕ) (ranges₀ : ℕ) (g-ranges : Has word ranges₀) (at-order : Seat) (order₀ : List ℕ) (at-counts : Seat) (counts₀ : List ℕ) (at-pending : Seat) (pending₀ : List ℕ) → ((3 * n₀ ≤ length slots₀) × Falling (slotsFrom slots₀ 0 n₀) × (n₀ ≤ maxReaches) × (3 * ranges₀ ≤ length held₀)) → Card 𝓤 H A C #slow-held-sorter·sweep-slots (pass block at-rows rows₀ ∷ val word blocks₀ g-blocks ∷ read word at-slots slots₀ ∷ val word n₀ g-n ∷ pass word at-held held₀ ∷ val word ranges₀ g-ranges ∷ mut word at-order order₀ (orderBy held₀ ranges₀ (slotsFrom slots₀ 0 n₀) rows₀ order₀) ∷ mut word at-counts counts₀ (fitted (length counts₀) (countsBy held₀ ranges₀ (slotsFrom slots₀ 0 n₀) rows₀ order₀)) ∷ mut word at-pending pending₀ (fitted (length pending₀) (pendingBy held₀ ranges₀ (slotsFrom slots₀ 0 n₀) rows₀ order₀)) ∷ []) sorting (sortingAt held₀ ranges₀ (slotsFrom slots₀ 0 n₀) rows₀ order₀)
+    slow-held-sorter·sweep-slots-slots! known at-rows rows₀ blocks₀ g-blocks at-slots slots₀ n₀ g-n at-held held₀ ranges₀ g-ranges at-order order₀ at-counts counts₀ at-pending pending₀ h = record {
       contract = Slow-held-sorter·sweep-slots;
       known = known;
       ghost = λ x. (x, tt);

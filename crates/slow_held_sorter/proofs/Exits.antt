@@ -19,6 +19,7 @@ use Rattle.reports.specs.Reports.{fitted}
 use Rattle.reports.proofs.Turns.{Report, Underway, begun, turn, ended-place, ended-words}
 use Rattle.placing.specs.Placing.{rowBy, rowsBy}
 use Rattle.awaited.specs.Awaited.{firstUnmet, waitingWords}
+use Rattle.sorter.specs.declared.Sorting.{Sorting}
 use Rattle.sorter.specs.Sorter.{maxReaches, slotWords, cleared, notedBy, slotsFor}
 use Rattle.sorter.proofs.Exits.{here, open-asks, held-fits}
 use Rattle.sweeper.specs.Sweeper.{frontRow, Board, board, seenBy, sweptAll}
@@ -26,7 +27,7 @@ use Rattle.sweeper.proofs.Seen.{seen-length}
 use Rattle.sweep_reports.specs.Reports.{takenFrom}
 use Rattle.slow_sorter.specs.Slowly.{sortingBy}
 use Rattle.slow_sorter.proofs.Exits.{all-room}
-use Rattle.held_sorter.proofs.Exits.{row-at}
+use Rattle.held_sorter.proofs.Exits.{row-at, found-is}
 use Rattle.slow_held_sorter.specs.SlowHeld.{awaitedAt, awaitedFrom, boardBy, countsBy, pendingBy, orderBy, sortingAt}
 
 module _ (w : List ℕ) (h : ℕ) (ss : List Slot) (rows : List Block) where
@@ -118,21 +119,17 @@ module _ (w : List ℕ) (h : ℕ) (rows : List Block) (blocks : ℕ) (order coun
   pub kept-asks : 3 * h ≤ length w → (3 * n ≤ length noted) × Falling (slotsFrom noted 0 n) × (n ≤ maxReaches) × (3 * h ≤ length w)
   kept-asks fits = let o = open-asks zeros (take blocks rows) fits in (o .0, o .1, most, fits)
 
-  found-is : slotsFrom noted 0 n ≡ slots
-  unfolding slotsFor namedAll
-  found-is =
-      let e : length zeros / 3 ≡ maxReaches = ap (λ (k : ℕ). k / 3) (length-replicate {A = ℕ} slotWords 0) in
-      here zeros (take blocks rows) ∙ ap (λ (k : ℕ). notedAll k 0 (take blocks rows) []) e
+  abbrev pub Kept : Sorting → List ℕ → List ℕ → List ℕ → Type 0
+  Kept r order₁ counts₁ pending₁ =
+      (r ≡ sortingAt w h slots rows order) × (order₁ ≡ orderBy w h slots rows order) × (counts₁ ≡ fitted (length counts) (countsBy w h slots rows order))
+      × (pending₁ ≡ fitted (length pending) (pendingBy w h slots rows order))
 
-  pub exit-kept : (sortingAt w h (slotsFrom noted 0 n) rows order ≡ sortingAt w h slots rows order)
-      × (orderBy w h (slotsFrom noted 0 n) rows order ≡ orderBy w h slots rows order)
-      × (fitted (length counts) (countsBy w h (slotsFrom noted 0 n) rows order) ≡ fitted (length counts) (countsBy w h slots rows order))
-      × (fitted (length pending) (pendingBy w h (slotsFrom noted 0 n) rows order) ≡ fitted (length pending) (pendingBy w h slots rows order))
+  pub exit-kept : Kept (sortingAt w h (slotsFrom noted 0 n) rows order) (orderBy w h (slotsFrom noted 0 n) rows order) (fitted (length counts) (countsBy w h (slotsFrom noted 0 n) rows order)) (fitted (length pending) (pendingBy w h (slotsFrom noted 0 n) rows order))
   exit-kept = (
-    ap (λ (ss : List Slot). sortingAt w h ss rows order) found-is,
-    ap (λ (ss : List Slot). orderBy w h ss rows order) found-is,
-    ap (λ (ss : List Slot). fitted (length counts) (countsBy w h ss rows order)) found-is,
-    ap (λ (ss : List Slot). fitted (length pending) (pendingBy w h ss rows order)) found-is,
+    ap (λ (ss : List Slot). sortingAt w h ss rows order) (found-is rows blocks),
+    ap (λ (ss : List Slot). orderBy w h ss rows order) (found-is rows blocks),
+    ap (λ (ss : List Slot). fitted (length counts) (countsBy w h ss rows order)) (found-is rows blocks),
+    ap (λ (ss : List Slot). fitted (length pending) (pendingBy w h ss rows order)) (found-is rows blocks),
   )
 
 -- ---- the loop over slots

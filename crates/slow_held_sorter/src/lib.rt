@@ -74,8 +74,10 @@ fn report_pending(
 }
 
 // The rows, swept by held ranges, in n slots. How far a client reaches is how many of its blocks were taken, words of up to 128 clients (`maxReaches`).
+// How many rows are blocks is not asked: it is told as the quick sorter is, so that one walk proves the callers of both.
 fn sweep_slots(
     rows: &[Block],
+    blocks: usize,
     slots: &[u64],
     n: usize,
     held: &[u64],
@@ -128,6 +130,7 @@ pub fn sweep_kept(
     let noted = sorter::note_rows(rows, blocks, slots);
     sweep_slots(
         rows,
+        blocks,
         slots,
         noted.slots,
         held,

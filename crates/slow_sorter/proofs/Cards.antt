@@ -94,8 +94,8 @@ module _ {M : Type 1} (𝓤 : URA M) (H : Heap 𝓤) (A : Atoms 𝓤) (mem : Mem
       said = λ ns r ws. since 𝓤 (λ e. (e, tt));
     }
 
-    pub slow-sorter·sweep-slots-slots! : Triple 𝓤 (C #slow-sorter·sweep-slots) Slow-sorter·sweep-slots → (rule₀ : ℕ) (g-rule : Has byte rule₀) (at-rows : Seat) (rows₀ : List Block) (at-slots : Seat) (slots₀ : List ℕ) (n₀ : ℕ) (g-n : Has word n₀) (at-clients : Seat) (clients₀ : List ℕ) (at-clocks : Seat) (clocks₀ : List ℕ) (m₀ : ℕ) (g-m : Has word m₀) (at-order : Seat) (order₀ : List ℕ) (at-counts : Seat) (counts₀ : List ℕ) (at-reaches : Seat) (reaches₀ : List ℕ) (at-pending : Seat) (pending₀ : List ℕ) → ((3 * n₀ ≤ length slots₀) × Falling (slotsFrom slots₀ 0 n₀) × (n₀ ≤ maxReaches)) → Card 𝓤 H A C #slow-sorter·sweep-slots (val byte rule₀ g-rule ∷ pass block at-rows rows₀ ∷ read word at-slots slots₀ ∷ val word n₀ g-n ∷ pass word at-clients clients₀ ∷ pass word at-clocks clocks₀ ∷ val word m₀ g-m ∷ mut word at-order order₀ ((sweptOn rule₀ (slotsFrom slots₀ 0 n₀) rows₀ (entriesOf m₀ clients₀ clocks₀) order₀ counts₀ reaches₀ pending₀) .order) ∷ mut word at-counts counts₀ ((sweptOn rule₀ (slotsFrom slots₀ 0 n₀) rows₀ (entriesOf m₀ clients₀ clocks₀) order₀ counts₀ reaches₀ pending₀) .counts) ∷ mut word at-reaches reaches₀ ((sweptOn rule₀ (slotsFrom slots₀ 0 n₀) rows₀ (entriesOf m₀ clients₀ clocks₀) order₀ counts₀ reaches₀ pending₀) .reaches) ∷ mut word at-pending pending₀ ((sweptOn rule₀ (slotsFrom slots₀ 0 n₀) rows₀ (entriesOf m₀ clients₀ clocks₀) order₀ counts₀ reaches₀ pending₀) .pending) ∷ []) sorting ((sweptOn rule₀ (slotsFrom slots₀ 0 n₀) rows₀ (entriesOf m₀ clients₀ clocks₀) order₀ counts₀ reaches₀ pending₀) .sorting)
-    slow-sorter·sweep-slots-slots! known rule₀ g-rule at-rows rows₀ at-slots slots₀ n₀ g-n at-clients clients₀ at-clocks clocks₀ m₀ g-m at-order order₀ at-counts counts₀ at-reaches reaches₀ at-pending pending₀ h = record {
+    pub slow-sorter·sweep-slots-slots! : Triple 𝓤 (C #slow-sorter·sweep-slots) Slow-sorter·sweep-slots → (rule₀ : ℕ) (g-rule : Has byte rule₀) (at-rows : Seat) (rows₀ : List Block) (blocks₀ : ℕ) (g-blocks : Has word blocks₀) (at-slots : Seat) (slots₀ : List ℕ) (n₀ : ℕ) (g-n : Has word n₀) (at-clients : Seat) (clients₀ : List ℕ) (at-clocks : Seat) (clocks₀ : List ℕ) (m₀ : ℕ) (g-m : Has word m₀) (at-order : Seat) (order₀ : List ℕ) (at-counts : Seat) (counts₀ : List ℕ) (at-reaches : Seat) (reaches₀ : List ℕ) (at-pending : Seat) (pending₀ : List ℕ) → ((3 * n₀ ≤ length slots₀) × Falling (slotsFrom slots₀ 0 n₀) × (n₀ ≤ maxReaches)) → Card 𝓤 H A C #slow-sorter·sweep-slots (val byte rule₀ g-rule ∷ pass block at-rows rows₀ ∷ val word blocks₀ g-blocks ∷ read word at-slots slots₀ ∷ val word n₀ g-n ∷ pass word at-clients clients₀ ∷ pass word at-clocks clocks₀ ∷ val word m₀ g-m ∷ mut word at-order order₀ ((sweptOn rule₀ (slotsFrom slots₀ 0 n₀) rows₀ (entriesOf m₀ clients₀ clocks₀) order₀ counts₀ reaches₀ pending₀) .order) ∷ mut word at-counts counts₀ ((sweptOn rule₀ (slotsFrom slots₀ 0 n₀) rows₀ (entriesOf m₀ clients₀ clocks₀) order₀ counts₀ reaches₀ pending₀) .counts) ∷ mut word at-reaches reaches₀ ((sweptOn rule₀ (slotsFrom slots₀ 0 n₀) rows₀ (entriesOf m₀ clients₀ clocks₀) order₀ counts₀ reaches₀ pending₀) .reaches) ∷ mut word at-pending pending₀ ((sweptOn rule₀ (slotsFrom slots₀ 0 n₀) rows₀ (entriesOf m₀ clients₀ clocks₀) order₀ counts₀ reaches₀ pending₀) .pending) ∷ []) sorting ((sweptOn rule₀ (slotsFrom slots₀ 0 n₀) rows₀ (entriesOf m₀ clients₀ clocks₀) order₀ counts₀ reaches₀ pending₀) .sorting)
+    slow-sorter·sweep-slots-slots! known rule₀ g-rule at-rows rows₀ blocks₀ g-blocks at-slots slots₀ n₀ g-n at-clients clients₀ at-clocks clocks₀ m₀ g-m at-order order₀ at-counts counts₀ at-reaches reaches₀ at-pending pending₀ h = record {
       contract = Slow-sorter·sweep-slots;
       known = known;
       ghost = λ x. (x, tt);

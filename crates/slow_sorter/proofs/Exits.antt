@@ -10,22 +10,19 @@ use Rattle.numbers.specs.declared.Refusal.{Refusal}
 use Rattle.numbers.specs.Number.{pick}
 use Rattle.numbers.specs.Output.{padded}
 use Rattle.block.specs.declared.Block.{Block}
-use Rattle.grammar.specs.Course.{Course, things, ending}
+use Rattle.grammar.specs.Course.{Course}
 use Rattle.vector.specs.declared.Entries.the-variants.{Read, Refused}
 use Rattle.vector.specs.Vector.{Entry, clientsIn}
 use Rattle.vector.specs.VectorInner.{clocksIn, kept}
-use Rattle.vector.specs.Vector as vector
 use Rattle.vector.specs.VectorInner as vector-inner
 use Rattle.kept.specs.Plan.{entriesOf}
-use Rattle.kept.proofs.VectorRead.{was-read, was-refused}
+use Rattle.kept.proofs.VectorRead.{was-refused}
 use Rattle.slots.specs.Slots.{Slot, slotsFrom, stored, Falling}
-use Rattle.slots.proofs.Words.{stored-slots, stored-length}
 use Rattle.picker.specs.Fronts.{filledFrom}
 use Rattle.picker.specs.Picker.{nowhere}
 use Rattle.reports.specs.Reports.{reachesFrom, fitted}
-use Rattle.sorter.specs.declared.Sorting.{Sorting}
 use Rattle.sorter.specs.Sorter.{slotsFor, maxReaches, slotWords, reachesAt, cleared, noSorting}
-use Rattle.sorter.proofs.Exits.{held-asks, held-fits}
+use Rattle.sorter.proofs.Exits.{held-asks, held-fits, held-is, by-read}
 use Rattle.sweeper.specs.Sweeper.{Board, board, swept, sweptBy, leftBelow, sweptAll}
 use Rattle.sweeper.proofs.Sweeps.{sweep-room}
 use Rattle.sweep_reports.specs.Reports.{takenFrom, waitsFrom}
@@ -80,47 +77,27 @@ module _ (rule : ℕ) (rows : List Block) (blocks : ℕ) (names : List ℕ) (v :
   abbrev found : List Slot
   found = slotsFor (length zeros / 3) (take blocks rows) names
 
-  abbrev held : List Slot
-  held = slotsFrom (stored zeros found) 0 (length found)
-
   pub kept-asks : (3 * length found ≤ length (stored zeros found)) × Falling (slotsFrom (stored zeros found) 0 (length found)) × (length found ≤ maxReaches)
   kept-asks =
       let h = held-asks zeros (take blocks rows) names in
       let z : length zeros ≡ slotWords = length-replicate {A = ℕ} slotWords 0 in
       (h .0, h .1, omega (arith, held-fits zeros (take blocks rows) names))
 
-  held-is : held ≡ slotsFor maxReaches (take blocks rows) names
-  held-is =
-      let e : length zeros / 3 ≡ maxReaches = ap (λ (n : ℕ). n / 3) (length-replicate {A = ℕ} slotWords 0) in
-      stored-slots zeros found ∙ ap (λ (k : ℕ). slotsFor k (take blocks rows) names) e
-
-  pub exit-kept : let l = sweptOn rule held rows v order counts reaches pending in
+  pub exit-kept : let l = sweptOn rule (slotsFrom (stored zeros found) 0 (length found)) rows v order counts reaches pending in
       Leaves (sweptOn rule (slotsFor maxReaches (take blocks rows) names) rows v order counts reaches pending) (l .sorting) (l .order) (l .counts) (l .reaches) (l .pending)
-  exit-kept = leaves _ _ (ap (λ (ss : List Slot). sweptOn rule ss rows v order counts reaches pending) held-is)
+  exit-kept = leaves _ _ (ap (λ (ss : List Slot). sweptOn rule ss rows v order counts reaches pending) (held-is rows blocks names))
 
 -- ---- a vector that was read, or refused
 
 module _ (rule : ℕ) (c : Course Entry) (rows : List Block) (blocks : ℕ) (order counts reaches pending : List ℕ) where
-  module _ (m k l : ℕ) (e : vector-inner.entriesOf c ≡ Read m) where
-    abbrev names : List ℕ
-    names = take m (padded k (clientsIn (kept c)))
+  abbrev by : List ℕ → List Entry → Left
+  by ns v = sweptOn rule (slotsFor maxReaches (take blocks rows) ns) rows v order counts reaches pending
 
-    abbrev entries : List Entry
-    entries = entriesOf m (padded k (clientsIn (kept c))) (padded l (clocksIn (kept c)))
-
-    abbrev by : List ℕ → List Entry → Left
-    by ns v = sweptOn rule (slotsFor maxReaches (take blocks rows) ns) rows v order counts reaches pending
-
-    pub names-fit : m ≤ length (padded k (clientsIn (kept c)))
-    names-fit = was-read c m e .room k
-
-    pub exit-read : Leaves (sweptRead rule c rows blocks order counts reaches pending) (by names entries .sorting) (by names entries .order) (by names entries .counts)
-        (by names entries .reaches) (by names entries .pending)
-    unfolding sweptRead
-    exit-read =
-        let r = was-read c m e in
-        leaves _ _ (ap (λ (v : List Entry). by names v) (r .entries k l) ∙ ap (λ (ns : List ℕ). by ns (things c)) (r .clients k)
-        ∙ sym (r .ends-so (λ (s : ℕ). by (clientsIn (things c)) (things c)) (λ why. unswept (why .number) order counts reaches pending)))
+  pub exit-read : (m k : ℕ) → vector-inner.entriesOf c ≡ Read m
+      → let l = by (take m (padded k (clientsIn (kept c)))) (entriesOf m (padded k (clientsIn (kept c))) (padded k (clocksIn (kept c)))) in
+      Leaves (sweptRead rule c rows blocks order counts reaches pending) (l .sorting) (l .order) (l .counts) (l .reaches) (l .pending)
+  unfolding sweptRead
+  exit-read m k e = leaves _ _ (by-read c m k e by (λ why. unswept (why .number) order counts reaches pending))
 
   pub exit-refused : (why : Refusal) → vector-inner.entriesOf c ≡ Refused why
       → Leaves (sweptRead rule c rows blocks order counts reaches pending) (noSorting (why .number)) order counts reaches pending

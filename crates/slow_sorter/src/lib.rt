@@ -25,10 +25,11 @@ pub fn sorted(steps: usize, counts: usize, reaches: usize, pending: usize) -> So
 }
 
 // The rows, swept against m entries, in n slots. Reaches and counts of blocks taken are words of up to 128 clients (`maxReaches`). Rows are seen as they are:
-// of no words 0 ranges are held.
+// of no words 0 ranges are held. How many rows are blocks is not asked: it is told as the quick sorter is, so that one walk proves the callers of both.
 fn sweep_slots(
     rule: u8,
     rows: &[Block],
+    blocks: usize,
     slots: &[u64],
     n: usize,
     clients: &[u64],
@@ -81,6 +82,7 @@ fn sweep_kept(
     sweep_slots(
         rule,
         rows,
+        blocks,
         slots,
         n,
         clients,

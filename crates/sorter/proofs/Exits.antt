@@ -11,7 +11,6 @@ use Rattle.grammar.specs.Course.{Course, things, ending}
 use Rattle.vector.specs.declared.Entries.the-variants.{Read, Refused}
 use Rattle.vector.specs.Vector.{Entry, clientsIn}
 use Rattle.vector.specs.VectorInner.{clocksIn, kept}
-use Rattle.vector.specs.Vector as vector
 use Rattle.vector.specs.VectorInner as vector-inner
 use Rattle.kept.specs.Plan.{entriesOf}
 use Rattle.kept.proofs.VectorRead.{was-read, was-refused}
@@ -108,7 +107,7 @@ module _ (rule : ℕ) (ss : List Slot) (rows : List Block) (blocks : ℕ) (v : L
 
 -- ---- the words of slots
 
-module _ (rule : ℕ) (rows : List Block) (blocks : ℕ) (names : List ℕ) (v : List Entry) (order counts reaches pending : List ℕ) where
+module _ (rows : List Block) (blocks : ℕ) (names : List ℕ) where
   abbrev zeros : List ℕ
   zeros = replicate slotWords 0
 
@@ -118,61 +117,77 @@ module _ (rule : ℕ) (rows : List Block) (blocks : ℕ) (names : List ℕ) (v :
   abbrev slots : List Slot
   slots = slotsFor maxReaches (take blocks rows) names
 
-  held-is : held ≡ slots
+  pub held-is : held ≡ slots
   held-is =
       let e : length zeros / 3 ≡ maxReaches = ap (λ (n : ℕ). n / 3) (length-replicate {A = ℕ} slotWords 0) in
       stored-slots zeros (slotsFor (length zeros / 3) (take blocks rows) names) ∙ ap (λ (k : ℕ). slotsFor k (take blocks rows) names) e
 
-  pub exit-kept : (sortingOn rule held rows blocks v order ≡ sortingOn rule slots rows blocks v order) × (orderOn rule held rows blocks v order ≡ orderOn rule slots rows blocks v order)
-      × (fitted (length counts) (countsOn rule held rows blocks v order) ≡ fitted (length counts) (countsOn rule slots rows blocks v order))
-      × (fitted (length reaches) (reachesOn rule held rows blocks v order) ≡ fitted (length reaches) (reachesOn rule slots rows blocks v order))
-      × (fitted (length pending) (pendingOn rule held rows blocks v order) ≡ fitted (length pending) (pendingOn rule slots rows blocks v order))
+module _ (rule : ℕ) (rows : List Block) (blocks : ℕ) (names : List ℕ) (v : List Entry) (order counts reaches pending : List ℕ) where
+  abbrev in-words : List Slot
+  in-words = held rows blocks names
+
+  abbrev wanted : List Slot
+  wanted = slots rows blocks names
+
+  abbrev pub Kept : Sorting → List ℕ → List ℕ → List ℕ → List ℕ → Type 0
+  Kept r order₁ counts₁ reaches₁ pending₁ =
+      (r ≡ sortingOn rule wanted rows blocks v order) × (order₁ ≡ orderOn rule wanted rows blocks v order) × (counts₁ ≡ fitted (length counts) (countsOn rule wanted rows blocks v order))
+      × (reaches₁ ≡ fitted (length reaches) (reachesOn rule wanted rows blocks v order)) × (pending₁ ≡ fitted (length pending) (pendingOn rule wanted rows blocks v order))
+
+  pub exit-kept : Kept (sortingOn rule in-words rows blocks v order) (orderOn rule in-words rows blocks v order) (fitted (length counts) (countsOn rule in-words rows blocks v order))
+      (fitted (length reaches) (reachesOn rule in-words rows blocks v order)) (fitted (length pending) (pendingOn rule in-words rows blocks v order))
   exit-kept = (
-    ap (λ (ss : List Slot). sortingOn rule ss rows blocks v order) held-is,
-    ap (λ (ss : List Slot). orderOn rule ss rows blocks v order) held-is,
-    ap (λ (ss : List Slot). fitted (length counts) (countsOn rule ss rows blocks v order)) held-is,
-    ap (λ (ss : List Slot). fitted (length reaches) (reachesOn rule ss rows blocks v order)) held-is,
-    ap (λ (ss : List Slot). fitted (length pending) (pendingOn rule ss rows blocks v order)) held-is,
+    ap (λ (ss : List Slot). sortingOn rule ss rows blocks v order) (held-is rows blocks names),
+    ap (λ (ss : List Slot). orderOn rule ss rows blocks v order) (held-is rows blocks names),
+    ap (λ (ss : List Slot). fitted (length counts) (countsOn rule ss rows blocks v order)) (held-is rows blocks names),
+    ap (λ (ss : List Slot). fitted (length reaches) (reachesOn rule ss rows blocks v order)) (held-is rows blocks names),
+    ap (λ (ss : List Slot). fitted (length pending) (pendingOn rule ss rows blocks v order)) (held-is rows blocks names),
   )
 
 -- ---- a vector that was read, or refused
 
+module _ (c : Course Entry) (m k : ℕ) (e : vector-inner.entriesOf c ≡ Read m) where
+  abbrev names : List ℕ
+  names = take m (padded k (clientsIn (kept c)))
+
+  abbrev entries : List Entry
+  entries = entriesOf m (padded k (clientsIn (kept c))) (padded k (clocksIn (kept c)))
+
+  pub by-read : {X : Type 0} (f : List ℕ → List Entry → X) (g : Refusal → X) → f names entries ≡ ending c (λ s. f (clientsIn (things c)) (things c)) g
+  by-read f g =
+      let r = was-read c m e in
+      ap (λ (v : List Entry). f names v) (r .entries k k) ∙ ap (λ (ns : List ℕ). f ns (things c)) (r .clients k)
+      ∙ sym (r .ends-so (λ (s : ℕ). f (clientsIn (things c)) (things c)) g)
+
+  pub names-fit : m ≤ length (padded k (clientsIn (kept c)))
+  names-fit = was-read c m e .room k
+
 module _ (rule : ℕ) (c : Course Entry) (rows : List Block) (blocks : ℕ) (order counts reaches pending : List ℕ) where
-  abbrev Right : Sorting → List ℕ → List ℕ → List ℕ → List ℕ → Type 0
+  abbrev pub Right : Sorting → List ℕ → List ℕ → List ℕ → List ℕ → Type 0
   Right r order₁ counts₁ reaches₁ pending₁ =
       (r ≡ sortingRead rule c rows blocks order) × (order₁ ≡ orderRead rule c rows blocks order) × (counts₁ ≡ countsRead rule c rows blocks order counts)
       × (reaches₁ ≡ reachesRead rule c rows blocks order reaches) × (pending₁ ≡ pendingRead rule c rows blocks order pending)
 
-  module _ (m k l : ℕ) (e : vector-inner.entriesOf c ≡ Read m) where
-    abbrev names : List ℕ
-    names = take m (padded k (clientsIn (kept c)))
-
-    abbrev entries : List Entry
-    entries = entriesOf m (padded k (clientsIn (kept c))) (padded l (clocksIn (kept c)))
-
-    by-read : {X : Type 0} (f : List ℕ → List Entry → X) (g : Refusal → X) → f names entries ≡ ending c (λ s. f (clientsIn (things c)) (things c)) g
-    by-read f g =
-        let r = was-read c m e in
-        ap (λ (v : List Entry). f names v) (r .entries k l) ∙ ap (λ (ns : List ℕ). f ns (things c)) (r .clients k)
-        ∙ sym (r .ends-so (λ (s : ℕ). f (clientsIn (things c)) (things c)) g)
-
-    pub names-fit : m ≤ length (padded k (clientsIn (kept c)))
-    names-fit = was-read c m e .room k
-
+  module _ (m k : ℕ) (e : vector-inner.entriesOf c ≡ Read m) where
     abbrev slotsOf : List ℕ → List Slot
     slotsOf ns = slotsFor maxReaches (take blocks rows) ns
 
-    pub exit-read : Right (sortingOn rule (slotsOf names) rows blocks entries order) (orderOn rule (slotsOf names) rows blocks entries order)
-        (fitted (length counts) (countsOn rule (slotsOf names) rows blocks entries order))
-        (fitted (length reaches) (reachesOn rule (slotsOf names) rows blocks entries order))
-        (fitted (length pending) (pendingOn rule (slotsOf names) rows blocks entries order))
+    abbrev named : List Slot
+    named = slotsOf (names c m k e)
+
+    abbrev read : List Entry
+    read = entries c m k e
+
+    pub exit-read : Right (sortingOn rule named rows blocks read order) (orderOn rule named rows blocks read order)
+        (fitted (length counts) (countsOn rule named rows blocks read order)) (fitted (length reaches) (reachesOn rule named rows blocks read order))
+        (fitted (length pending) (pendingOn rule named rows blocks read order))
     unfolding sortingRead orderRead countsRead reachesRead pendingRead
     exit-read = (
-      by-read (λ ns v. sortingOn rule (slotsOf ns) rows blocks v order) (λ why. noSorting (why .number)),
-      by-read (λ ns v. orderOn rule (slotsOf ns) rows blocks v order) (λ why. order),
-      by-read (λ ns v. fitted (length counts) (countsOn rule (slotsOf ns) rows blocks v order)) (λ why. counts),
-      by-read (λ ns v. fitted (length reaches) (reachesOn rule (slotsOf ns) rows blocks v order)) (λ why. reaches),
-      by-read (λ ns v. fitted (length pending) (pendingOn rule (slotsOf ns) rows blocks v order)) (λ why. pending),
+      by-read c m k e (λ ns v. sortingOn rule (slotsOf ns) rows blocks v order) (λ why. noSorting (why .number)),
+      by-read c m k e (λ ns v. orderOn rule (slotsOf ns) rows blocks v order) (λ why. order),
+      by-read c m k e (λ ns v. fitted (length counts) (countsOn rule (slotsOf ns) rows blocks v order)) (λ why. counts),
+      by-read c m k e (λ ns v. fitted (length reaches) (reachesOn rule (slotsOf ns) rows blocks v order)) (λ why. reaches),
+      by-read c m k e (λ ns v. fitted (length pending) (pendingOn rule (slotsOf ns) rows blocks v order)) (λ why. pending),
     )
 
   pub exit-refused : (why : Refusal) → vector-inner.entriesOf c ≡ Refused why → Right (noSorting (why .number)) order counts reaches pending

@@ -1,7 +1,6 @@
 -- What the sorter gives and leaves (Answers), the ways out whatever the order (Ways) and for this one (Exits), that the promise is demand 3 (Demand), that no other
--- answer fits (Unique), the walk whatever the sorter (Walk, Pieces) and of a refusal whatever the answer (Refusing), and what the walks share (Sorts, Cards).
+-- answer fits (Unique), the walk whatever the sorter (Walk) and of a refusal whatever the answer (Refusing), and what the walks share (Sorts, Cards).
 pub mod Answers
-pub mod Pieces
 pub mod Walk
 pub mod Refusing
 pub mod Ways

@@ -47,7 +47,7 @@ use Rattle.table.proofs.Cards.{Table·clear, table·clear! }
 use Rattle.numbers.proofs.Output.{padded-none}
 use Rattle.updates.proofs.Laws.{rows-none, words-none}
 use Rattle.updates.proofs.Cards.{Numbers·words·clear, numbers·words·clear! }
-use Rattle.sorts.proofs.Pieces.{of, plainly, again, at, lend, gives}
+use Rattle.sorter.proofs.Pieces.{of, plainly, again, at, lend, gives}
 use Rattle.table.proofs.clear.Symbol.{name as #table·clear}
 use Rattle.numbers.proofs.words.clear.Symbol.{name as #numbers·words·clear}
 

@@ -74,7 +74,7 @@ use Rattle.slow_held_sorter.proofs.sweep_slots.Code as code
 use Rattle.slow_held_sorter.proofs.Exits.{few, exit-slots}
 
 abbrev fs : List (Form 6)
-fs = by-ref 0 tt block ∷ by-ref 1 tt word ∷ by-value word ∷ by-ref 2 tt word ∷ by-value word ∷ by-mut 3 tt word ∷ by-mut 4 tt word ∷ by-mut 5 tt word ∷ []
+fs = by-ref 0 tt block ∷ by-value word ∷ by-ref 1 tt word ∷ by-value word ∷ by-ref 2 tt word ∷ by-value word ∷ by-mut 3 tt word ∷ by-mut 4 tt word ∷ by-mut 5 tt word ∷ []
 
 -- the function, its large types in their shape of quick computing
 abbrev fn : Fn
@@ -88,45 +88,48 @@ module _ {M : Type 1} (𝓤 : URA M) (H : Heap 𝓤) (A : Atoms 𝓤) (W : Given
   abbrev rows₀ : List Block
   rows₀ = a .0 .now
 
+  abbrev blocks₀ : ℕ
+  blocks₀ = a .1 .0
+
   abbrev at-slots : Seat
-  at-slots = seatOf (κs .1 .0) (qs .1 .0) (a .1 .0)
+  at-slots = seatOf (κs .1 .0) (qs .1 .0) (a .1 .1 .0)
 
   abbrev slots₀ : List ℕ
-  slots₀ = a .1 .0 .now
+  slots₀ = a .1 .1 .0 .now
 
   abbrev n₀ : ℕ
-  n₀ = a .1 .1 .0
+  n₀ = a .1 .1 .1 .0
 
   abbrev at-held : Seat
-  at-held = seatOf (κs .1 .1 .0) (qs .1 .1 .0) (a .1 .1 .1 .0)
+  at-held = seatOf (κs .1 .1 .0) (qs .1 .1 .0) (a .1 .1 .1 .1 .0)
 
   abbrev held₀ : List ℕ
-  held₀ = a .1 .1 .1 .0 .now
+  held₀ = a .1 .1 .1 .1 .0 .now
 
   abbrev ranges₀ : ℕ
-  ranges₀ = a .1 .1 .1 .1 .0
+  ranges₀ = a .1 .1 .1 .1 .1 .0
 
   abbrev at-order : Seat
-  at-order = seatOf (κs .1 .1 .1 .0) (qs .1 .1 .1 .0) (a .1 .1 .1 .1 .1 .0)
+  at-order = seatOf (κs .1 .1 .1 .0) (qs .1 .1 .1 .0) (a .1 .1 .1 .1 .1 .1 .0)
 
   abbrev order₀ : List ℕ
-  order₀ = a .1 .1 .1 .1 .1 .0 .now
+  order₀ = a .1 .1 .1 .1 .1 .1 .0 .now
 
   abbrev at-counts : Seat
-  at-counts = seatOf (κs .1 .1 .1 .1 .0) (qs .1 .1 .1 .1 .0) (a .1 .1 .1 .1 .1 .1 .0)
+  at-counts = seatOf (κs .1 .1 .1 .1 .0) (qs .1 .1 .1 .1 .0) (a .1 .1 .1 .1 .1 .1 .1 .0)
 
   abbrev counts₀ : List ℕ
-  counts₀ = a .1 .1 .1 .1 .1 .1 .0 .now
+  counts₀ = a .1 .1 .1 .1 .1 .1 .1 .0 .now
 
   abbrev at-pending : Seat
-  at-pending = seatOf (κs .1 .1 .1 .1 .1 .0) (qs .1 .1 .1 .1 .1 .0) (a .1 .1 .1 .1 .1 .1 .1 .0)
+  at-pending = seatOf (κs .1 .1 .1 .1 .1 .0) (qs .1 .1 .1 .1 .1 .0) (a .1 .1 .1 .1 .1 .1 .1 .1 .0)
 
   abbrev pending₀ : List ℕ
-  pending₀ = a .1 .1 .1 .1 .1 .1 .1 .0 .now
+  pending₀ = a .1 .1 .1 .1 .1 .1 .1 .1 .0 .now
 
   -- the parameters, with the lists at exit
   abbrev ps : List ℕ → List ℕ → List ℕ → List Arg
-  ps order₁ counts₁ pending₁ = pass block at-rows rows₀ ∷ pass word at-slots slots₀ ∷ val word n₀ (are .1 .1 .0) ∷ pass word at-held held₀ ∷ val word ranges₀ (are .1 .1 .1 .1 .0) ∷ mut word at-order order₀ order₁ ∷ mut word at-counts counts₀ counts₁ ∷ mut word at-pending pending₀ pending₁ ∷ []
+  ps order₁ counts₁ pending₁ = pass block at-rows rows₀ ∷ val word blocks₀ (are .1 .0) ∷ pass word at-slots slots₀ ∷ val word n₀ (are .1 .1 .1 .0) ∷ pass word at-held held₀ ∷ val word ranges₀ (are .1 .1 .1 .1 .1 .0) ∷ mut word at-order order₀ order₁ ∷ mut word at-counts counts₀ counts₁ ∷ mut word at-pending pending₀ pending₁ ∷ []
 
   abbrev hs : List ℕ → List ℕ → List ℕ → List Held
   hs order₁ counts₁ pending₁ = back (ps order₁ counts₁ pending₁)
@@ -154,51 +157,51 @@ module _ {M : Type 1} (𝓤 : URA M) (H : Heap 𝓤) (A : Atoms 𝓤) (W : Given
     walk : ((3 * n₀ ≤ length slots₀) × Falling (slotsFrom slots₀ 0 n₀) × (n₀ ≤ maxReaches) × (3 * ranges₀ ≤ length held₀)) → ent 𝓤 (onEntry 𝓤 H A f.signature κs qs a at-entry) (WpFn 𝓤 H (𝓣 .C) (𝓣 .Λ) fn (vals (ps order₀ counts₀ pending₀)) Post)
     walk req =
         qed W (raw (onEntry 𝓤 H A f.signature κs qs a at-entry) ∷ []) ∵ use1 W (‵ (refs (hs order₀ counts₀ pending₀))) (enters 𝓤 H A W (ps order₀ counts₀ pending₀)) $ enter ! (𝓣 .C) (𝓣 .Λ) fn (vals (ps order₀ counts₀ pending₀)) _ $
-        alloc-all ! (fn .locals) (λ l₀ l₁ l₂ l₃ l₄ l₅ l₆ l₇ l₈ l₉ l₁₀ l₁₁ l₁₂ l₁₃ l₁₄ l₁₅ l₁₆ l₁₇ l₁₈ l₁₉ l₂₀ l₂₁ l₂₂ l₂₃ l₂₄ l₂₅ l₂₆ l₂₇ l₂₈ l₂₉ l₃₀ l₃₁ l₃₂ l₃₃ l₃₄ l₃₅ l₃₆. let ls : List ℕ = l₀ ∷ l₁ ∷ l₂ ∷ l₃ ∷ l₄ ∷ l₅ ∷ l₆ ∷ l₇ ∷ l₈ ∷ l₉ ∷ l₁₀ ∷ l₁₁ ∷ l₁₂ ∷ l₁₃ ∷ l₁₄ ∷ l₁₅ ∷ l₁₆ ∷ l₁₇ ∷ l₁₈ ∷ l₁₉ ∷ l₂₀ ∷ l₂₁ ∷ l₂₂ ∷ l₂₃ ∷ l₂₄ ∷ l₂₅ ∷ l₂₆ ∷ l₂₇ ∷ l₂₈ ∷ l₂₉ ∷ l₃₀ ∷ l₃₁ ∷ l₃₂ ∷ l₃₃ ∷ l₃₄ ∷ l₃₅ ∷ l₃₆ ∷ [] in let En : Envs = envOf (fn .locals) ls in
-        params1 ! $ pass1 ! (init ! 70 refl (tt, (tt, (record { fits = are .0 .0 .1 .0 }, tt)))) $ pass1 ! (init ! 68 refl (tt, (tt, (record { fits = are .1 .0 .0 .1 .0 }, tt)))) $ pass1 ! (init ! 66 refl (word .lawful M 𝓤 H A W .typed n₀ _ (are .1 .1 .0) .0)) $ pass1 ! (init ! 64 refl (tt, (tt, (record { fits = are .1 .1 .1 .0 .0 .1 .0 }, tt)))) $ pass1 ! (init ! 62 refl (word .lawful M 𝓤 H A W .typed ranges₀ _ (are .1 .1 .1 .1 .0) .0)) $ pass1 ! (init ! 60 refl (tt, (tt, (record { fits = are .1 .1 .1 .1 .1 .0 .0 .1 .0 }, tt)))) $ pass1 ! (init ! 58 refl (tt, (tt, (record { fits = are .1 .1 .1 .1 .1 .1 .0 .0 .1 .0 }, tt)))) $ pass1 ! (init ! 56 refl (tt, (tt, (record { fits = are .1 .1 .1 .1 .1 .1 .1 .0 .0 .1 .0 }, tt)))) $ pass0 ! $ move ! (74 ∷ []) $
-        -- [the references; _36 at 1; _35 at 3; _34 at 5; _33 at 7; _32 at 9; _31 at 11; _30 at 13; _29 at 15; _28 at 17; _27 at 19; _26 at 21; _25 at 23; _24 at 25; _23 at 27; _22 at 29; _21 at 31; _20 at 33; _19 at 35; _18 at 37; _17 at 39; _16 at 41; _15 at 43; _14 at 45; _13 at 47; _12 at 49; _11 at 51; _10 at 53; _9 at 55; _8 at 57; _7 at 59; _6 at 61; _5 at 63; _4 at 65; _3 at 67; _2 at 69; _1 at 71; _0 at 73]
-        array-typed ! word 128 0 (refl, lit< tt) (λ ty₉.
-        assigns ! (rep ! 128 (lit ! tt)) (from ! (stop !)) (init ! 55 refl (ty₉ .0)) $
+        alloc-all ! (fn .locals) (λ l₀ l₁ l₂ l₃ l₄ l₅ l₆ l₇ l₈ l₉ l₁₀ l₁₁ l₁₂ l₁₃ l₁₄ l₁₅ l₁₆ l₁₇ l₁₈ l₁₉ l₂₀ l₂₁ l₂₂ l₂₃ l₂₄ l₂₅ l₂₆ l₂₇ l₂₈ l₂₉ l₃₀ l₃₁ l₃₂ l₃₃ l₃₄ l₃₅ l₃₆ l₃₇. let ls : List ℕ = l₀ ∷ l₁ ∷ l₂ ∷ l₃ ∷ l₄ ∷ l₅ ∷ l₆ ∷ l₇ ∷ l₈ ∷ l₉ ∷ l₁₀ ∷ l₁₁ ∷ l₁₂ ∷ l₁₃ ∷ l₁₄ ∷ l₁₅ ∷ l₁₆ ∷ l₁₇ ∷ l₁₈ ∷ l₁₉ ∷ l₂₀ ∷ l₂₁ ∷ l₂₂ ∷ l₂₃ ∷ l₂₄ ∷ l₂₅ ∷ l₂₆ ∷ l₂₇ ∷ l₂₈ ∷ l₂₉ ∷ l₃₀ ∷ l₃₁ ∷ l₃₂ ∷ l₃₃ ∷ l₃₄ ∷ l₃₅ ∷ l₃₆ ∷ l₃₇ ∷ [] in let En : Envs = envOf (fn .locals) ls in
+        params1 ! $ pass1 ! (init ! 72 refl (tt, (tt, (record { fits = are .0 .0 .1 .0 }, tt)))) $ pass1 ! (init ! 70 refl (word .lawful M 𝓤 H A W .typed blocks₀ _ (are .1 .0) .0)) $ pass1 ! (init ! 68 refl (tt, (tt, (record { fits = are .1 .1 .0 .0 .1 .0 }, tt)))) $ pass1 ! (init ! 66 refl (word .lawful M 𝓤 H A W .typed n₀ _ (are .1 .1 .1 .0) .0)) $ pass1 ! (init ! 64 refl (tt, (tt, (record { fits = are .1 .1 .1 .1 .0 .0 .1 .0 }, tt)))) $ pass1 ! (init ! 62 refl (word .lawful M 𝓤 H A W .typed ranges₀ _ (are .1 .1 .1 .1 .1 .0) .0)) $ pass1 ! (init ! 60 refl (tt, (tt, (record { fits = are .1 .1 .1 .1 .1 .1 .0 .0 .1 .0 }, tt)))) $ pass1 ! (init ! 58 refl (tt, (tt, (record { fits = are .1 .1 .1 .1 .1 .1 .1 .0 .0 .1 .0 }, tt)))) $ pass1 ! (init ! 56 refl (tt, (tt, (record { fits = are .1 .1 .1 .1 .1 .1 .1 .1 .0 .0 .1 .0 }, tt)))) $ pass0 ! $ move ! (76 ∷ []) $
+        -- [the references; _37 at 1; _36 at 3; _35 at 5; _34 at 7; _33 at 9; _32 at 11; _31 at 13; _30 at 15; _29 at 17; _28 at 19; _27 at 21; _26 at 23; _25 at 25; _24 at 27; _23 at 29; _22 at 31; _21 at 33; _20 at 35; _19 at 37; _18 at 39; _17 at 41; _16 at 43; _15 at 45; _14 at 47; _13 at 49; _12 at 51; _11 at 53; _10 at 55; _9 at 57; _8 at 59; _7 at 61; _6 at 63; _5 at 65; _4 at 67; _3 at 69; _2 at 71; _1 at 73; _0 at 75]
+        array-typed ! word 128 0 (refl, lit< tt) (λ ty₁₀.
+        assigns ! (rep ! 128 (lit ! tt)) (from ! (stop !)) (init ! 55 refl (ty₁₀ .0)) $
         assigns ! (addr ! (from ! (stop !))) (from ! (stop !)) (init ! 41 refl (tt, tt)) $
         assigns ! (agg ! (and-then ! (load ! (from ! (stop !)) (look ! 41 refl)) (and-then ! (lit ! tt) (no-more !)))) (from ! (stop !)) (init ! 53 refl (tt, (tt, (record { fits = lit< tt }, tt)))) $
-        move ! (0 ∷ 55 ∷ []) $ own-lends ! tt word tt 128 128 (omega (arith)) 0 l₉ (refl, lit< tt) (lit< tt, lit< tt) (hs order₀ counts₀ pending₀) (λ ν₉ δ₉. move ! (0 ∷ 2 ∷ 3 ∷ 4 ∷ 5 ∷ 6 ∷ 7 ∷ 8 ∷ 9 ∷ 10 ∷ 11 ∷ 12 ∷ 13 ∷ 14 ∷ 15 ∷ 16 ∷ 17 ∷ 18 ∷ 19 ∷ 20 ∷ 21 ∷ 22 ∷ 23 ∷ 24 ∷ 25 ∷ 26 ∷ 27 ∷ 28 ∷ 29 ∷ 30 ∷ 31 ∷ 32 ∷ 33 ∷ 34 ∷ 35 ∷ 36 ∷ 37 ∷ 38 ∷ 39 ∷ 40 ∷ 41 ∷ 42 ∷ 43 ∷ 44 ∷ 45 ∷ 46 ∷ 47 ∷ 48 ∷ 49 ∷ 50 ∷ 51 ∷ 52 ∷ 53 ∷ 54 ∷ 55 ∷ 1 ∷ []) $
-        array-typed ! word 128 0 (refl, lit< tt) (λ ty₁₁.
-        assigns ! (rep ! 128 (lit ! tt)) (from ! (stop !)) (init ! 51 refl (ty₁₁ .0)) $
+        move ! (0 ∷ 55 ∷ []) $ own-lends ! tt word tt 128 128 (omega (arith)) 0 l₁₀ (refl, lit< tt) (lit< tt, lit< tt) (hs order₀ counts₀ pending₀) (λ ν₁₀ δ₁₀. move ! (0 ∷ 2 ∷ 3 ∷ 4 ∷ 5 ∷ 6 ∷ 7 ∷ 8 ∷ 9 ∷ 10 ∷ 11 ∷ 12 ∷ 13 ∷ 14 ∷ 15 ∷ 16 ∷ 17 ∷ 18 ∷ 19 ∷ 20 ∷ 21 ∷ 22 ∷ 23 ∷ 24 ∷ 25 ∷ 26 ∷ 27 ∷ 28 ∷ 29 ∷ 30 ∷ 31 ∷ 32 ∷ 33 ∷ 34 ∷ 35 ∷ 36 ∷ 37 ∷ 38 ∷ 39 ∷ 40 ∷ 41 ∷ 42 ∷ 43 ∷ 44 ∷ 45 ∷ 46 ∷ 47 ∷ 48 ∷ 49 ∷ 50 ∷ 51 ∷ 52 ∷ 53 ∷ 54 ∷ 55 ∷ 1 ∷ []) $
+        array-typed ! word 128 0 (refl, lit< tt) (λ ty₁₂.
+        assigns ! (rep ! 128 (lit ! tt)) (from ! (stop !)) (init ! 51 refl (ty₁₂ .0)) $
         assigns ! (addr ! (from ! (stop !))) (from ! (stop !)) (init ! 39 refl (tt, tt)) $
         assigns ! (agg ! (and-then ! (load ! (from ! (stop !)) (look ! 39 refl)) (and-then ! (lit ! tt) (no-more !)))) (from ! (stop !)) (init ! 49 refl (tt, (tt, (record { fits = lit< tt }, tt)))) $
-        move ! (0 ∷ 51 ∷ []) $ own-lends ! tt word tt 128 128 (omega (arith)) 0 l₁₁ (refl, lit< tt) (lit< tt, lit< tt) (tab word (own-seat l₉ 128 ν₉ δ₉) (replicate 128 0) ∷ hs order₀ counts₀ pending₀) (λ ν₁₁ δ₁₁. move ! (0 ∷ 2 ∷ 3 ∷ 4 ∷ 5 ∷ 6 ∷ 7 ∷ 8 ∷ 9 ∷ 10 ∷ 11 ∷ 12 ∷ 13 ∷ 14 ∷ 15 ∷ 16 ∷ 17 ∷ 18 ∷ 19 ∷ 20 ∷ 21 ∷ 22 ∷ 23 ∷ 24 ∷ 25 ∷ 26 ∷ 27 ∷ 28 ∷ 29 ∷ 30 ∷ 31 ∷ 32 ∷ 33 ∷ 34 ∷ 35 ∷ 36 ∷ 37 ∷ 38 ∷ 39 ∷ 40 ∷ 41 ∷ 42 ∷ 43 ∷ 44 ∷ 45 ∷ 46 ∷ 47 ∷ 48 ∷ 49 ∷ 50 ∷ 51 ∷ 1 ∷ []) $
+        move ! (0 ∷ 51 ∷ []) $ own-lends ! tt word tt 128 128 (omega (arith)) 0 l₁₂ (refl, lit< tt) (lit< tt, lit< tt) (tab word (own-seat l₁₀ 128 ν₁₀ δ₁₀) (replicate 128 0) ∷ hs order₀ counts₀ pending₀) (λ ν₁₂ δ₁₂. move ! (0 ∷ 2 ∷ 3 ∷ 4 ∷ 5 ∷ 6 ∷ 7 ∷ 8 ∷ 9 ∷ 10 ∷ 11 ∷ 12 ∷ 13 ∷ 14 ∷ 15 ∷ 16 ∷ 17 ∷ 18 ∷ 19 ∷ 20 ∷ 21 ∷ 22 ∷ 23 ∷ 24 ∷ 25 ∷ 26 ∷ 27 ∷ 28 ∷ 29 ∷ 30 ∷ 31 ∷ 32 ∷ 33 ∷ 34 ∷ 35 ∷ 36 ∷ 37 ∷ 38 ∷ 39 ∷ 40 ∷ 41 ∷ 42 ∷ 43 ∷ 44 ∷ 45 ∷ 46 ∷ 47 ∷ 48 ∷ 49 ∷ 50 ∷ 51 ∷ 1 ∷ []) $
         assigns ! (addr ! (from ! (fld ! refl (hop ! (look-in ! 53 (sub ! 0 refl (whole !))) (stop !))))) (from ! (stop !)) (init ! 37 refl (tt, tt)) $
         assigns ! (agg ! (and-then ! (load ! (from ! (stop !)) (look ! 37 refl)) (and-then ! (load ! (from ! (fld ! refl (stop !))) (look-in ! 53 (sub ! 1 refl (whole !)))) (no-more !)))) (from ! (stop !)) (init ! 35 refl (tt, (tt, (record { fits = lit< tt }, tt)))) $
         assigns ! (addr ! (from ! (fld ! refl (hop ! (look-in ! 49 (sub ! 0 refl (whole !))) (stop !))))) (from ! (stop !)) (init ! 33 refl (tt, tt)) $
         assigns ! (agg ! (and-then ! (load ! (from ! (stop !)) (look ! 33 refl)) (and-then ! (load ! (from ! (fld ! refl (stop !))) (look-in ! 49 (sub ! 1 refl (whole !)))) (no-more !)))) (from ! (stop !)) (init ! 31 refl (tt, (tt, (record { fits = lit< tt }, tt)))) $
         assigns ! (addr ! (from ! (fld ! refl (hop ! (look-in ! 61 (sub ! 0 refl (whole !))) (stop !))))) (from ! (stop !)) (init ! 29 refl (tt, tt)) $
-        assigns ! (agg ! (and-then ! (load ! (from ! (stop !)) (look ! 29 refl)) (and-then ! (load ! (from ! (fld ! refl (stop !))) (look-in ! 61 (sub ! 1 refl (whole !)))) (no-more !)))) (from ! (stop !)) (init ! 27 refl (tt, (tt, (record { fits = are .1 .1 .1 .1 .1 .0 .0 .1 .0 }, tt)))) $
-        calls-by ! (fmOf 𝓤 H (W .laws) 𝓣) (2 ∷ 3 ∷ 4 ∷ 1 ∷ 0 ∷ 5 ∷ []) (tab word (own-seat l₁₁ 128 ν₁₁ δ₁₁) (replicate 128 0) ∷ tab word (own-seat l₉ 128 ν₉ δ₉) (replicate 128 0) ∷ hs order₀ counts₀ pending₀) (sweeper·sweep-all! 𝓤 H A mem run (𝓣 .C) known-sweeper·sweep-all 28 (refl, lit< tt) true refl at-rows rows₀ at-slots slots₀ n₀ (are .1 .1 .0) at-held held₀ ranges₀ (are .1 .1 .1 .1 .0) (own-seat l₉ 128 ν₉ δ₉) (replicate 128 0) (own-seat l₁₁ 128 ν₁₁ δ₁₁) (replicate 128 0) at-order order₀ (req .0, req .1, omega (arith, req .2, length-replicate {A = ℕ} 128 0), req .3)) refl (λ P. and-then ! (lit ! tt) (and-then ! (true-lit !) (and-then ! (load ! (from ! (stop !)) (look ! 71 refl)) (and-then ! (load ! (from ! (stop !)) (look ! 69 refl)) (and-then ! (load ! (from ! (stop !)) (look ! 67 refl)) (and-then ! (load ! (from ! (stop !)) (look ! 65 refl)) (and-then ! (load ! (from ! (stop !)) (look ! 63 refl)) (and-then ! (load ! (from ! (stop !)) (look ! 35 refl)) (and-then ! (load ! (from ! (stop !)) (look ! 31 refl)) (and-then ! (load ! (from ! (stop !)) (look ! 27 refl)) (no-more !))))))))))) (λ g₁.
+        assigns ! (agg ! (and-then ! (load ! (from ! (stop !)) (look ! 29 refl)) (and-then ! (load ! (from ! (fld ! refl (stop !))) (look-in ! 61 (sub ! 1 refl (whole !)))) (no-more !)))) (from ! (stop !)) (init ! 27 refl (tt, (tt, (record { fits = are .1 .1 .1 .1 .1 .1 .0 .0 .1 .0 }, tt)))) $
+        calls-by ! (fmOf 𝓤 H (W .laws) 𝓣) (2 ∷ 3 ∷ 4 ∷ 1 ∷ 0 ∷ 5 ∷ []) (tab word (own-seat l₁₂ 128 ν₁₂ δ₁₂) (replicate 128 0) ∷ tab word (own-seat l₁₀ 128 ν₁₀ δ₁₀) (replicate 128 0) ∷ hs order₀ counts₀ pending₀) (sweeper·sweep-all! 𝓤 H A mem run (𝓣 .C) known-sweeper·sweep-all 28 (refl, lit< tt) true refl at-rows rows₀ at-slots slots₀ n₀ (are .1 .1 .1 .0) at-held held₀ ranges₀ (are .1 .1 .1 .1 .1 .0) (own-seat l₁₀ 128 ν₁₀ δ₁₀) (replicate 128 0) (own-seat l₁₂ 128 ν₁₂ δ₁₂) (replicate 128 0) at-order order₀ (req .0, req .1, omega (arith, req .2, length-replicate {A = ℕ} 128 0), req .3)) refl (λ P. and-then ! (lit ! tt) (and-then ! (true-lit !) (and-then ! (load ! (from ! (stop !)) (look ! 73 refl)) (and-then ! (load ! (from ! (stop !)) (look ! 69 refl)) (and-then ! (load ! (from ! (stop !)) (look ! 67 refl)) (and-then ! (load ! (from ! (stop !)) (look ! 65 refl)) (and-then ! (load ! (from ! (stop !)) (look ! 63 refl)) (and-then ! (load ! (from ! (stop !)) (look ! 35 refl)) (and-then ! (load ! (from ! (stop !)) (look ! 31 refl)) (and-then ! (load ! (from ! (stop !)) (look ! 27 refl)) (no-more !))))))))))) (λ g₁.
         land ! (from ! (stop !)) (init ! 47 refl (g₁ .1 .0)) $
         assigns ! (addr ! (from ! (fld ! refl (hop ! (look-in ! 61 (sub ! 0 refl (whole !))) (stop !))))) (from ! (stop !)) (init ! 23 refl (tt, tt)) $
-        assigns ! (agg ! (and-then ! (load ! (from ! (stop !)) (look ! 23 refl)) (and-then ! (load ! (from ! (fld ! refl (stop !))) (look-in ! 61 (sub ! 1 refl (whole !)))) (no-more !)))) (from ! (stop !)) (init ! 21 refl (tt, (tt, (record { fits = are .1 .1 .1 .1 .1 .0 .0 .1 .0 }, tt)))) $
-        calls-by ! (fmOf 𝓤 H (W .laws) 𝓣) (5 ∷ []) (tab word (own-seat l₁₁ 128 ν₁₁ δ₁₁) ((sweptAll 28 (slotsFrom slots₀ 0 n₀) (seenBy true held₀ ranges₀ (slotsFrom slots₀ 0 n₀) rows₀) (board (replicate 128 0) (replicate 128 0) order₀ 0)) .taken) ∷ tab word (own-seat l₉ 128 ν₉ δ₉) ((sweptAll 28 (slotsFrom slots₀ 0 n₀) (seenBy true held₀ ranges₀ (slotsFrom slots₀ 0 n₀) rows₀) (board (replicate 128 0) (replicate 128 0) order₀ 0)) .reach) ∷ hs ((sweptAll 28 (slotsFrom slots₀ 0 n₀) (seenBy true held₀ ranges₀ (slotsFrom slots₀ 0 n₀) rows₀) (board (replicate 128 0) (replicate 128 0) order₀ 0)) .order) counts₀ pending₀) (reports·clear-after! 𝓤 H A mem run (𝓣 .C) known-reports·clear-after at-order ((sweptAll 28 (slotsFrom slots₀ 0 n₀) (seenBy true held₀ ranges₀ (slotsFrom slots₀ 0 n₀) rows₀) (board (replicate 128 0) (replicate 128 0) order₀ 0)) .order) ((sweptAll 28 (slotsFrom slots₀ 0 n₀) (seenBy true held₀ ranges₀ (slotsFrom slots₀ 0 n₀) rows₀) (board (replicate 128 0) (replicate 128 0) order₀ 0)) .steps) (g₁ .0)) refl (λ P. and-then ! (load ! (from ! (stop !)) (look ! 21 refl)) (and-then ! (load ! (from ! (stop !)) (look ! 47 refl)) (no-more !))) (λ g₂.
+        assigns ! (agg ! (and-then ! (load ! (from ! (stop !)) (look ! 23 refl)) (and-then ! (load ! (from ! (fld ! refl (stop !))) (look-in ! 61 (sub ! 1 refl (whole !)))) (no-more !)))) (from ! (stop !)) (init ! 21 refl (tt, (tt, (record { fits = are .1 .1 .1 .1 .1 .1 .0 .0 .1 .0 }, tt)))) $
+        calls-by ! (fmOf 𝓤 H (W .laws) 𝓣) (5 ∷ []) (tab word (own-seat l₁₂ 128 ν₁₂ δ₁₂) ((sweptAll 28 (slotsFrom slots₀ 0 n₀) (seenBy true held₀ ranges₀ (slotsFrom slots₀ 0 n₀) rows₀) (board (replicate 128 0) (replicate 128 0) order₀ 0)) .taken) ∷ tab word (own-seat l₁₀ 128 ν₁₀ δ₁₀) ((sweptAll 28 (slotsFrom slots₀ 0 n₀) (seenBy true held₀ ranges₀ (slotsFrom slots₀ 0 n₀) rows₀) (board (replicate 128 0) (replicate 128 0) order₀ 0)) .reach) ∷ hs ((sweptAll 28 (slotsFrom slots₀ 0 n₀) (seenBy true held₀ ranges₀ (slotsFrom slots₀ 0 n₀) rows₀) (board (replicate 128 0) (replicate 128 0) order₀ 0)) .order) counts₀ pending₀) (reports·clear-after! 𝓤 H A mem run (𝓣 .C) known-reports·clear-after at-order ((sweptAll 28 (slotsFrom slots₀ 0 n₀) (seenBy true held₀ ranges₀ (slotsFrom slots₀ 0 n₀) rows₀) (board (replicate 128 0) (replicate 128 0) order₀ 0)) .order) ((sweptAll 28 (slotsFrom slots₀ 0 n₀) (seenBy true held₀ ranges₀ (slotsFrom slots₀ 0 n₀) rows₀) (board (replicate 128 0) (replicate 128 0) order₀ 0)) .steps) (g₁ .0)) refl (λ P. and-then ! (load ! (from ! (stop !)) (look ! 21 refl)) (and-then ! (load ! (from ! (stop !)) (look ! 47 refl)) (no-more !))) (λ g₂.
         land ! (from ! (stop !)) (init ! 25 refl (g₂ .1 .0)) $
         assigns ! (addr ! (from ! (fld ! refl (hop ! (look-in ! 49 (sub ! 0 refl (whole !))) (stop !))))) (from ! (stop !)) (init ! 19 refl (tt, tt)) $
         assigns ! (agg ! (and-then ! (load ! (from ! (stop !)) (look ! 19 refl)) (and-then ! (load ! (from ! (fld ! refl (stop !))) (look-in ! 49 (sub ! 1 refl (whole !)))) (no-more !)))) (from ! (stop !)) (init ! 17 refl (tt, (tt, (record { fits = lit< tt }, tt)))) $
         assigns ! (addr ! (from ! (fld ! refl (hop ! (look-in ! 59 (sub ! 0 refl (whole !))) (stop !))))) (from ! (stop !)) (init ! 15 refl (tt, tt)) $
-        assigns ! (agg ! (and-then ! (load ! (from ! (stop !)) (look ! 15 refl)) (and-then ! (load ! (from ! (fld ! refl (stop !))) (look-in ! 59 (sub ! 1 refl (whole !)))) (no-more !)))) (from ! (stop !)) (init ! 13 refl (tt, (tt, (record { fits = are .1 .1 .1 .1 .1 .1 .0 .0 .1 .0 }, tt)))) $
-        calls-by ! (fmOf 𝓤 H (W .laws) 𝓣) (3 ∷ 0 ∷ 6 ∷ []) (tab word (own-seat l₁₁ 128 ν₁₁ δ₁₁) ((sweptAll 28 (slotsFrom slots₀ 0 n₀) (seenBy true held₀ ranges₀ (slotsFrom slots₀ 0 n₀) rows₀) (board (replicate 128 0) (replicate 128 0) order₀ 0)) .taken) ∷ tab word (own-seat l₉ 128 ν₉ δ₉) ((sweptAll 28 (slotsFrom slots₀ 0 n₀) (seenBy true held₀ ranges₀ (slotsFrom slots₀ 0 n₀) rows₀) (board (replicate 128 0) (replicate 128 0) order₀ 0)) .reach) ∷ hs (take ((sweptAll 28 (slotsFrom slots₀ 0 n₀) (seenBy true held₀ ranges₀ (slotsFrom slots₀ 0 n₀) rows₀) (board (replicate 128 0) (replicate 128 0) order₀ 0)) .steps) ((sweptAll 28 (slotsFrom slots₀ 0 n₀) (seenBy true held₀ ranges₀ (slotsFrom slots₀ 0 n₀) rows₀) (board (replicate 128 0) (replicate 128 0) order₀ 0)) .order) ++ replicate (length ((sweptAll 28 (slotsFrom slots₀ 0 n₀) (seenBy true held₀ ranges₀ (slotsFrom slots₀ 0 n₀) rows₀) (board (replicate 128 0) (replicate 128 0) order₀ 0)) .order) - ((sweptAll 28 (slotsFrom slots₀ 0 n₀) (seenBy true held₀ ranges₀ (slotsFrom slots₀ 0 n₀) rows₀) (board (replicate 128 0) (replicate 128 0) order₀ 0)) .steps)) 0) counts₀ pending₀) (sweep-reports·report-counts-taken! 𝓤 H A mem run (𝓣 .C) known-sweep-reports·report-counts at-slots slots₀ n₀ (are .1 .1 .0) (own-seat l₁₁ 128 ν₁₁ δ₁₁) ((sweptAll 28 (slotsFrom slots₀ 0 n₀) (seenBy true held₀ ranges₀ (slotsFrom slots₀ 0 n₀) rows₀) (board (replicate 128 0) (replicate 128 0) order₀ 0)) .taken) at-counts counts₀ (req .0, enough req)) refl (λ P. and-then ! (load ! (from ! (stop !)) (look ! 69 refl)) (and-then ! (load ! (from ! (stop !)) (look ! 67 refl)) (and-then ! (load ! (from ! (stop !)) (look ! 17 refl)) (and-then ! (load ! (from ! (stop !)) (look ! 13 refl)) (no-more !))))) (λ g₃.
+        assigns ! (agg ! (and-then ! (load ! (from ! (stop !)) (look ! 15 refl)) (and-then ! (load ! (from ! (fld ! refl (stop !))) (look-in ! 59 (sub ! 1 refl (whole !)))) (no-more !)))) (from ! (stop !)) (init ! 13 refl (tt, (tt, (record { fits = are .1 .1 .1 .1 .1 .1 .1 .0 .0 .1 .0 }, tt)))) $
+        calls-by ! (fmOf 𝓤 H (W .laws) 𝓣) (3 ∷ 0 ∷ 6 ∷ []) (tab word (own-seat l₁₂ 128 ν₁₂ δ₁₂) ((sweptAll 28 (slotsFrom slots₀ 0 n₀) (seenBy true held₀ ranges₀ (slotsFrom slots₀ 0 n₀) rows₀) (board (replicate 128 0) (replicate 128 0) order₀ 0)) .taken) ∷ tab word (own-seat l₁₀ 128 ν₁₀ δ₁₀) ((sweptAll 28 (slotsFrom slots₀ 0 n₀) (seenBy true held₀ ranges₀ (slotsFrom slots₀ 0 n₀) rows₀) (board (replicate 128 0) (replicate 128 0) order₀ 0)) .reach) ∷ hs (take ((sweptAll 28 (slotsFrom slots₀ 0 n₀) (seenBy true held₀ ranges₀ (slotsFrom slots₀ 0 n₀) rows₀) (board (replicate 128 0) (replicate 128 0) order₀ 0)) .steps) ((sweptAll 28 (slotsFrom slots₀ 0 n₀) (seenBy true held₀ ranges₀ (slotsFrom slots₀ 0 n₀) rows₀) (board (replicate 128 0) (replicate 128 0) order₀ 0)) .order) ++ replicate (length ((sweptAll 28 (slotsFrom slots₀ 0 n₀) (seenBy true held₀ ranges₀ (slotsFrom slots₀ 0 n₀) rows₀) (board (replicate 128 0) (replicate 128 0) order₀ 0)) .order) - ((sweptAll 28 (slotsFrom slots₀ 0 n₀) (seenBy true held₀ ranges₀ (slotsFrom slots₀ 0 n₀) rows₀) (board (replicate 128 0) (replicate 128 0) order₀ 0)) .steps)) 0) counts₀ pending₀) (sweep-reports·report-counts-taken! 𝓤 H A mem run (𝓣 .C) known-sweep-reports·report-counts at-slots slots₀ n₀ (are .1 .1 .1 .0) (own-seat l₁₂ 128 ν₁₂ δ₁₂) ((sweptAll 28 (slotsFrom slots₀ 0 n₀) (seenBy true held₀ ranges₀ (slotsFrom slots₀ 0 n₀) rows₀) (board (replicate 128 0) (replicate 128 0) order₀ 0)) .taken) at-counts counts₀ (req .0, enough req)) refl (λ P. and-then ! (load ! (from ! (stop !)) (look ! 69 refl)) (and-then ! (load ! (from ! (stop !)) (look ! 67 refl)) (and-then ! (load ! (from ! (stop !)) (look ! 17 refl)) (and-then ! (load ! (from ! (stop !)) (look ! 13 refl)) (no-more !))))) (λ g₃.
         land ! (from ! (stop !)) (init ! 45 refl (g₃ .1 .0)) $
         assigns ! (addr ! (from ! (fld ! refl (hop ! (look-in ! 53 (sub ! 0 refl (whole !))) (stop !))))) (from ! (stop !)) (init ! 11 refl (tt, tt)) $
         assigns ! (agg ! (and-then ! (load ! (from ! (stop !)) (look ! 11 refl)) (and-then ! (load ! (from ! (fld ! refl (stop !))) (look-in ! 53 (sub ! 1 refl (whole !)))) (no-more !)))) (from ! (stop !)) (init ! 9 refl (tt, (tt, (record { fits = lit< tt }, tt)))) $
         assigns ! (addr ! (from ! (fld ! refl (hop ! (look-in ! 49 (sub ! 0 refl (whole !))) (stop !))))) (from ! (stop !)) (init ! 7 refl (tt, tt)) $
         assigns ! (agg ! (and-then ! (load ! (from ! (stop !)) (look ! 7 refl)) (and-then ! (load ! (from ! (fld ! refl (stop !))) (look-in ! 49 (sub ! 1 refl (whole !)))) (no-more !)))) (from ! (stop !)) (init ! 5 refl (tt, (tt, (record { fits = lit< tt }, tt)))) $
         assigns ! (addr ! (from ! (fld ! refl (hop ! (look-in ! 57 (sub ! 0 refl (whole !))) (stop !))))) (from ! (stop !)) (init ! 3 refl (tt, tt)) $
-        assigns ! (agg ! (and-then ! (load ! (from ! (stop !)) (look ! 3 refl)) (and-then ! (load ! (from ! (fld ! refl (stop !))) (look-in ! 57 (sub ! 1 refl (whole !)))) (no-more !)))) (from ! (stop !)) (init ! 1 refl (tt, (tt, (record { fits = are .1 .1 .1 .1 .1 .1 .1 .0 .0 .1 .0 }, tt)))) $
-        calls-by ! (fmOf 𝓤 H (W .laws) 𝓣) (2 ∷ 3 ∷ 4 ∷ 1 ∷ 0 ∷ 7 ∷ []) (tab word (own-seat l₁₁ 128 ν₁₁ δ₁₁) ((sweptAll 28 (slotsFrom slots₀ 0 n₀) (seenBy true held₀ ranges₀ (slotsFrom slots₀ 0 n₀) rows₀) (board (replicate 128 0) (replicate 128 0) order₀ 0)) .taken) ∷ tab word (own-seat l₉ 128 ν₉ δ₉) ((sweptAll 28 (slotsFrom slots₀ 0 n₀) (seenBy true held₀ ranges₀ (slotsFrom slots₀ 0 n₀) rows₀) (board (replicate 128 0) (replicate 128 0) order₀ 0)) .reach) ∷ hs (take ((sweptAll 28 (slotsFrom slots₀ 0 n₀) (seenBy true held₀ ranges₀ (slotsFrom slots₀ 0 n₀) rows₀) (board (replicate 128 0) (replicate 128 0) order₀ 0)) .steps) ((sweptAll 28 (slotsFrom slots₀ 0 n₀) (seenBy true held₀ ranges₀ (slotsFrom slots₀ 0 n₀) rows₀) (board (replicate 128 0) (replicate 128 0) order₀ 0)) .order) ++ replicate (length ((sweptAll 28 (slotsFrom slots₀ 0 n₀) (seenBy true held₀ ranges₀ (slotsFrom slots₀ 0 n₀) rows₀) (board (replicate 128 0) (replicate 128 0) order₀ 0)) .order) - ((sweptAll 28 (slotsFrom slots₀ 0 n₀) (seenBy true held₀ ranges₀ (slotsFrom slots₀ 0 n₀) rows₀) (board (replicate 128 0) (replicate 128 0) order₀ 0)) .steps)) 0) (fitted (length counts₀) (takenFrom 0 (slotsFrom slots₀ 0 n₀) ((sweptAll 28 (slotsFrom slots₀ 0 n₀) (seenBy true held₀ ranges₀ (slotsFrom slots₀ 0 n₀) rows₀) (board (replicate 128 0) (replicate 128 0) order₀ 0)) .taken))) pending₀) (slow-held-sorter·report-pending-reach-taken! 𝓤 H A mem run (𝓣 .C) known-slow-held-sorter·report-pending at-rows rows₀ at-slots slots₀ n₀ (are .1 .1 .0) at-held held₀ ranges₀ (are .1 .1 .1 .1 .0) (own-seat l₉ 128 ν₉ δ₉) ((sweptAll 28 (slotsFrom slots₀ 0 n₀) (seenBy true held₀ ranges₀ (slotsFrom slots₀ 0 n₀) rows₀) (board (replicate 128 0) (replicate 128 0) order₀ 0)) .reach) (own-seat l₁₁ 128 ν₁₁ δ₁₁) ((sweptAll 28 (slotsFrom slots₀ 0 n₀) (seenBy true held₀ ranges₀ (slotsFrom slots₀ 0 n₀) rows₀) (board (replicate 128 0) (replicate 128 0) order₀ 0)) .taken) at-pending pending₀ (req .0, req .1, req .3, enough req)) refl (λ P. and-then ! (load ! (from ! (stop !)) (look ! 71 refl)) (and-then ! (load ! (from ! (stop !)) (look ! 69 refl)) (and-then ! (load ! (from ! (stop !)) (look ! 67 refl)) (and-then ! (load ! (from ! (stop !)) (look ! 65 refl)) (and-then ! (load ! (from ! (stop !)) (look ! 63 refl)) (and-then ! (load ! (from ! (stop !)) (look ! 9 refl)) (and-then ! (load ! (from ! (stop !)) (look ! 5 refl)) (and-then ! (load ! (from ! (stop !)) (look ! 1 refl)) (no-more !))))))))) (λ g₄.
+        assigns ! (agg ! (and-then ! (load ! (from ! (stop !)) (look ! 3 refl)) (and-then ! (load ! (from ! (fld ! refl (stop !))) (look-in ! 57 (sub ! 1 refl (whole !)))) (no-more !)))) (from ! (stop !)) (init ! 1 refl (tt, (tt, (record { fits = are .1 .1 .1 .1 .1 .1 .1 .1 .0 .0 .1 .0 }, tt)))) $
+        calls-by ! (fmOf 𝓤 H (W .laws) 𝓣) (2 ∷ 3 ∷ 4 ∷ 1 ∷ 0 ∷ 7 ∷ []) (tab word (own-seat l₁₂ 128 ν₁₂ δ₁₂) ((sweptAll 28 (slotsFrom slots₀ 0 n₀) (seenBy true held₀ ranges₀ (slotsFrom slots₀ 0 n₀) rows₀) (board (replicate 128 0) (replicate 128 0) order₀ 0)) .taken) ∷ tab word (own-seat l₁₀ 128 ν₁₀ δ₁₀) ((sweptAll 28 (slotsFrom slots₀ 0 n₀) (seenBy true held₀ ranges₀ (slotsFrom slots₀ 0 n₀) rows₀) (board (replicate 128 0) (replicate 128 0) order₀ 0)) .reach) ∷ hs (take ((sweptAll 28 (slotsFrom slots₀ 0 n₀) (seenBy true held₀ ranges₀ (slotsFrom slots₀ 0 n₀) rows₀) (board (replicate 128 0) (replicate 128 0) order₀ 0)) .steps) ((sweptAll 28 (slotsFrom slots₀ 0 n₀) (seenBy true held₀ ranges₀ (slotsFrom slots₀ 0 n₀) rows₀) (board (replicate 128 0) (replicate 128 0) order₀ 0)) .order) ++ replicate (length ((sweptAll 28 (slotsFrom slots₀ 0 n₀) (seenBy true held₀ ranges₀ (slotsFrom slots₀ 0 n₀) rows₀) (board (replicate 128 0) (replicate 128 0) order₀ 0)) .order) - ((sweptAll 28 (slotsFrom slots₀ 0 n₀) (seenBy true held₀ ranges₀ (slotsFrom slots₀ 0 n₀) rows₀) (board (replicate 128 0) (replicate 128 0) order₀ 0)) .steps)) 0) (fitted (length counts₀) (takenFrom 0 (slotsFrom slots₀ 0 n₀) ((sweptAll 28 (slotsFrom slots₀ 0 n₀) (seenBy true held₀ ranges₀ (slotsFrom slots₀ 0 n₀) rows₀) (board (replicate 128 0) (replicate 128 0) order₀ 0)) .taken))) pending₀) (slow-held-sorter·report-pending-reach-taken! 𝓤 H A mem run (𝓣 .C) known-slow-held-sorter·report-pending at-rows rows₀ at-slots slots₀ n₀ (are .1 .1 .1 .0) at-held held₀ ranges₀ (are .1 .1 .1 .1 .1 .0) (own-seat l₁₀ 128 ν₁₀ δ₁₀) ((sweptAll 28 (slotsFrom slots₀ 0 n₀) (seenBy true held₀ ranges₀ (slotsFrom slots₀ 0 n₀) rows₀) (board (replicate 128 0) (replicate 128 0) order₀ 0)) .reach) (own-seat l₁₂ 128 ν₁₂ δ₁₂) ((sweptAll 28 (slotsFrom slots₀ 0 n₀) (seenBy true held₀ ranges₀ (slotsFrom slots₀ 0 n₀) rows₀) (board (replicate 128 0) (replicate 128 0) order₀ 0)) .taken) at-pending pending₀ (req .0, req .1, req .3, enough req)) refl (λ P. and-then ! (load ! (from ! (stop !)) (look ! 73 refl)) (and-then ! (load ! (from ! (stop !)) (look ! 69 refl)) (and-then ! (load ! (from ! (stop !)) (look ! 67 refl)) (and-then ! (load ! (from ! (stop !)) (look ! 65 refl)) (and-then ! (load ! (from ! (stop !)) (look ! 63 refl)) (and-then ! (load ! (from ! (stop !)) (look ! 9 refl)) (and-then ! (load ! (from ! (stop !)) (look ! 5 refl)) (and-then ! (load ! (from ! (stop !)) (look ! 1 refl)) (no-more !))))))))) (λ g₄.
         land ! (from ! (stop !)) (init ! 43 refl (g₄ .1 .0)) $
-        calls-by ! (fmOf 𝓤 H (W .laws) 𝓣) ([]) (tab word (own-seat l₁₁ 128 ν₁₁ δ₁₁) ((sweptAll 28 (slotsFrom slots₀ 0 n₀) (seenBy true held₀ ranges₀ (slotsFrom slots₀ 0 n₀) rows₀) (board (replicate 128 0) (replicate 128 0) order₀ 0)) .taken) ∷ tab word (own-seat l₉ 128 ν₉ δ₉) ((sweptAll 28 (slotsFrom slots₀ 0 n₀) (seenBy true held₀ ranges₀ (slotsFrom slots₀ 0 n₀) rows₀) (board (replicate 128 0) (replicate 128 0) order₀ 0)) .reach) ∷ hs (take ((sweptAll 28 (slotsFrom slots₀ 0 n₀) (seenBy true held₀ ranges₀ (slotsFrom slots₀ 0 n₀) rows₀) (board (replicate 128 0) (replicate 128 0) order₀ 0)) .steps) ((sweptAll 28 (slotsFrom slots₀ 0 n₀) (seenBy true held₀ ranges₀ (slotsFrom slots₀ 0 n₀) rows₀) (board (replicate 128 0) (replicate 128 0) order₀ 0)) .order) ++ replicate (length ((sweptAll 28 (slotsFrom slots₀ 0 n₀) (seenBy true held₀ ranges₀ (slotsFrom slots₀ 0 n₀) rows₀) (board (replicate 128 0) (replicate 128 0) order₀ 0)) .order) - ((sweptAll 28 (slotsFrom slots₀ 0 n₀) (seenBy true held₀ ranges₀ (slotsFrom slots₀ 0 n₀) rows₀) (board (replicate 128 0) (replicate 128 0) order₀ 0)) .steps)) 0) (fitted (length counts₀) (takenFrom 0 (slotsFrom slots₀ 0 n₀) ((sweptAll 28 (slotsFrom slots₀ 0 n₀) (seenBy true held₀ ranges₀ (slotsFrom slots₀ 0 n₀) rows₀) (board (replicate 128 0) (replicate 128 0) order₀ 0)) .taken))) (fitted (length pending₀) (awaitedFrom (slotsFrom slots₀ 0 n₀) ((sweptAll 28 (slotsFrom slots₀ 0 n₀) (seenBy true held₀ ranges₀ (slotsFrom slots₀ 0 n₀) rows₀) (board (replicate 128 0) (replicate 128 0) order₀ 0)) .reach) rows₀ (rowsBy held₀ ranges₀ (slotsFrom slots₀ 0 n₀) rows₀ 0 rows₀) ((sweptAll 28 (slotsFrom slots₀ 0 n₀) (seenBy true held₀ ranges₀ (slotsFrom slots₀ 0 n₀) rows₀) (board (replicate 128 0) (replicate 128 0) order₀ 0)) .taken) 0 (slotsFrom slots₀ 0 n₀)))) (slow-sorter·sorted! 𝓤 H A mem run (𝓣 .C) known-slow-sorter·sorted ((sweptAll 28 (slotsFrom slots₀ 0 n₀) (seenBy true held₀ ranges₀ (slotsFrom slots₀ 0 n₀) rows₀) (board (replicate 128 0) (replicate 128 0) order₀ 0)) .steps) (g₁ .0) (length (takenFrom 0 (slotsFrom slots₀ 0 n₀) ((sweptAll 28 (slotsFrom slots₀ 0 n₀) (seenBy true held₀ ranges₀ (slotsFrom slots₀ 0 n₀) rows₀) (board (replicate 128 0) (replicate 128 0) order₀ 0)) .taken))) (g₃ .0) 0 (refl, lit< tt) (length (awaitedFrom (slotsFrom slots₀ 0 n₀) ((sweptAll 28 (slotsFrom slots₀ 0 n₀) (seenBy true held₀ ranges₀ (slotsFrom slots₀ 0 n₀) rows₀) (board (replicate 128 0) (replicate 128 0) order₀ 0)) .reach) rows₀ (rowsBy held₀ ranges₀ (slotsFrom slots₀ 0 n₀) rows₀ 0 rows₀) ((sweptAll 28 (slotsFrom slots₀ 0 n₀) (seenBy true held₀ ranges₀ (slotsFrom slots₀ 0 n₀) rows₀) (board (replicate 128 0) (replicate 128 0) order₀ 0)) .taken) 0 (slotsFrom slots₀ 0 n₀))) (g₄ .0)) refl (λ P. and-then ! (load ! (from ! (stop !)) (look ! 47 refl)) (and-then ! (load ! (from ! (stop !)) (look ! 45 refl)) (and-then ! (lit ! tt) (and-then ! (load ! (from ! (stop !)) (look ! 43 refl)) (no-more !))))) (λ g₅.
-        land ! (from ! (stop !)) (init ! 73 refl (g₅ .1 .0)) $
-        move ! (0 ∷ 51 ∷ []) $ own-back ! tt word 128 128 (omega (arith)) 0 ((sweptAll 28 (slotsFrom slots₀ 0 n₀) (seenBy true held₀ ranges₀ (slotsFrom slots₀ 0 n₀) rows₀) (board (replicate 128 0) (replicate 128 0) order₀ 0)) .taken) l₁₁ ν₁₁ δ₁₁ (tab word (own-seat l₉ 128 ν₉ δ₉) ((sweptAll 28 (slotsFrom slots₀ 0 n₀) (seenBy true held₀ ranges₀ (slotsFrom slots₀ 0 n₀) rows₀) (board (replicate 128 0) (replicate 128 0) order₀ 0)) .reach) ∷ hs (take ((sweptAll 28 (slotsFrom slots₀ 0 n₀) (seenBy true held₀ ranges₀ (slotsFrom slots₀ 0 n₀) rows₀) (board (replicate 128 0) (replicate 128 0) order₀ 0)) .steps) ((sweptAll 28 (slotsFrom slots₀ 0 n₀) (seenBy true held₀ ranges₀ (slotsFrom slots₀ 0 n₀) rows₀) (board (replicate 128 0) (replicate 128 0) order₀ 0)) .order) ++ replicate (length ((sweptAll 28 (slotsFrom slots₀ 0 n₀) (seenBy true held₀ ranges₀ (slotsFrom slots₀ 0 n₀) rows₀) (board (replicate 128 0) (replicate 128 0) order₀ 0)) .order) - ((sweptAll 28 (slotsFrom slots₀ 0 n₀) (seenBy true held₀ ranges₀ (slotsFrom slots₀ 0 n₀) rows₀) (board (replicate 128 0) (replicate 128 0) order₀ 0)) .steps)) 0) (fitted (length counts₀) (takenFrom 0 (slotsFrom slots₀ 0 n₀) ((sweptAll 28 (slotsFrom slots₀ 0 n₀) (seenBy true held₀ ranges₀ (slotsFrom slots₀ 0 n₀) rows₀) (board (replicate 128 0) (replicate 128 0) order₀ 0)) .taken))) (fitted (length pending₀) (awaitedFrom (slotsFrom slots₀ 0 n₀) ((sweptAll 28 (slotsFrom slots₀ 0 n₀) (seenBy true held₀ ranges₀ (slotsFrom slots₀ 0 n₀) rows₀) (board (replicate 128 0) (replicate 128 0) order₀ 0)) .reach) rows₀ (rowsBy held₀ ranges₀ (slotsFrom slots₀ 0 n₀) rows₀ 0 rows₀) ((sweptAll 28 (slotsFrom slots₀ 0 n₀) (seenBy true held₀ ranges₀ (slotsFrom slots₀ 0 n₀) rows₀) (board (replicate 128 0) (replicate 128 0) order₀ 0)) .taken) 0 (slotsFrom slots₀ 0 n₀)))) $ move ! (0 ∷ 2 ∷ 3 ∷ 4 ∷ 5 ∷ 6 ∷ 7 ∷ 8 ∷ 9 ∷ 10 ∷ 11 ∷ 12 ∷ 13 ∷ 14 ∷ 15 ∷ 16 ∷ 17 ∷ 18 ∷ 19 ∷ 20 ∷ 21 ∷ 22 ∷ 23 ∷ 24 ∷ 25 ∷ 26 ∷ 27 ∷ 28 ∷ 29 ∷ 30 ∷ 31 ∷ 32 ∷ 33 ∷ 34 ∷ 35 ∷ 36 ∷ 37 ∷ 38 ∷ 39 ∷ 40 ∷ 41 ∷ 42 ∷ 43 ∷ 44 ∷ 45 ∷ 46 ∷ 47 ∷ 48 ∷ 49 ∷ 50 ∷ 51 ∷ 1 ∷ []) $
-        move ! (0 ∷ 55 ∷ []) $ own-back ! tt word 128 128 (omega (arith)) 0 ((sweptAll 28 (slotsFrom slots₀ 0 n₀) (seenBy true held₀ ranges₀ (slotsFrom slots₀ 0 n₀) rows₀) (board (replicate 128 0) (replicate 128 0) order₀ 0)) .reach) l₉ ν₉ δ₉ (hs (take ((sweptAll 28 (slotsFrom slots₀ 0 n₀) (seenBy true held₀ ranges₀ (slotsFrom slots₀ 0 n₀) rows₀) (board (replicate 128 0) (replicate 128 0) order₀ 0)) .steps) ((sweptAll 28 (slotsFrom slots₀ 0 n₀) (seenBy true held₀ ranges₀ (slotsFrom slots₀ 0 n₀) rows₀) (board (replicate 128 0) (replicate 128 0) order₀ 0)) .order) ++ replicate (length ((sweptAll 28 (slotsFrom slots₀ 0 n₀) (seenBy true held₀ ranges₀ (slotsFrom slots₀ 0 n₀) rows₀) (board (replicate 128 0) (replicate 128 0) order₀ 0)) .order) - ((sweptAll 28 (slotsFrom slots₀ 0 n₀) (seenBy true held₀ ranges₀ (slotsFrom slots₀ 0 n₀) rows₀) (board (replicate 128 0) (replicate 128 0) order₀ 0)) .steps)) 0) (fitted (length counts₀) (takenFrom 0 (slotsFrom slots₀ 0 n₀) ((sweptAll 28 (slotsFrom slots₀ 0 n₀) (seenBy true held₀ ranges₀ (slotsFrom slots₀ 0 n₀) rows₀) (board (replicate 128 0) (replicate 128 0) order₀ 0)) .taken))) (fitted (length pending₀) (awaitedFrom (slotsFrom slots₀ 0 n₀) ((sweptAll 28 (slotsFrom slots₀ 0 n₀) (seenBy true held₀ ranges₀ (slotsFrom slots₀ 0 n₀) rows₀) (board (replicate 128 0) (replicate 128 0) order₀ 0)) .reach) rows₀ (rowsBy held₀ ranges₀ (slotsFrom slots₀ 0 n₀) rows₀ 0 rows₀) ((sweptAll 28 (slotsFrom slots₀ 0 n₀) (seenBy true held₀ ranges₀ (slotsFrom slots₀ 0 n₀) rows₀) (board (replicate 128 0) (replicate 128 0) order₀ 0)) .taken) 0 (slotsFrom slots₀ 0 n₀)))) $ move ! (0 ∷ 2 ∷ 3 ∷ 4 ∷ 5 ∷ 6 ∷ 7 ∷ 8 ∷ 9 ∷ 10 ∷ 11 ∷ 12 ∷ 13 ∷ 14 ∷ 15 ∷ 16 ∷ 17 ∷ 18 ∷ 19 ∷ 20 ∷ 21 ∷ 22 ∷ 23 ∷ 24 ∷ 25 ∷ 26 ∷ 27 ∷ 28 ∷ 29 ∷ 30 ∷ 31 ∷ 32 ∷ 33 ∷ 34 ∷ 35 ∷ 36 ∷ 37 ∷ 38 ∷ 39 ∷ 40 ∷ 41 ∷ 42 ∷ 43 ∷ 44 ∷ 45 ∷ 46 ∷ 47 ∷ 48 ∷ 49 ∷ 50 ∷ 51 ∷ 52 ∷ 53 ∷ 54 ∷ 55 ∷ 1 ∷ []) $
-        returns-within ! Post refl (look ! 73 refl) $
-        free-all ! (_ ∷ []) En (has _ ∷ has _ ∷ has _ ∷ has _ ∷ has _ ∷ has _ ∷ has _ ∷ has _ ∷ has _ ∷ has _ ∷ has _ ∷ has _ ∷ has _ ∷ has _ ∷ has _ ∷ has _ ∷ has _ ∷ has _ ∷ has _ ∷ has _ ∷ has _ ∷ has _ ∷ has _ ∷ has _ ∷ has _ ∷ has _ ∷ has _ ∷ has _ ∷ has _ ∷ has _ ∷ has _ ∷ has _ ∷ has _ ∷ has _ ∷ has _ ∷ has _ ∷ has _ ∷ []) [] $ by ! (exits (sortingBy ((sweptAll 28 (slotsFrom slots₀ 0 n₀) (seenBy true held₀ ranges₀ (slotsFrom slots₀ 0 n₀) rows₀) (board (replicate 128 0) (replicate 128 0) order₀ 0)) .steps) (length (takenFrom 0 (slotsFrom slots₀ 0 n₀) ((sweptAll 28 (slotsFrom slots₀ 0 n₀) (seenBy true held₀ ranges₀ (slotsFrom slots₀ 0 n₀) rows₀) (board (replicate 128 0) (replicate 128 0) order₀ 0)) .taken))) 0 (length (awaitedFrom (slotsFrom slots₀ 0 n₀) ((sweptAll 28 (slotsFrom slots₀ 0 n₀) (seenBy true held₀ ranges₀ (slotsFrom slots₀ 0 n₀) rows₀) (board (replicate 128 0) (replicate 128 0) order₀ 0)) .reach) rows₀ (rowsBy held₀ ranges₀ (slotsFrom slots₀ 0 n₀) rows₀ 0 rows₀) ((sweptAll 28 (slotsFrom slots₀ 0 n₀) (seenBy true held₀ ranges₀ (slotsFrom slots₀ 0 n₀) rows₀) (board (replicate 128 0) (replicate 128 0) order₀ 0)) .taken) 0 (slotsFrom slots₀ 0 n₀)))) (take ((sweptAll 28 (slotsFrom slots₀ 0 n₀) (seenBy true held₀ ranges₀ (slotsFrom slots₀ 0 n₀) rows₀) (board (replicate 128 0) (replicate 128 0) order₀ 0)) .steps) ((sweptAll 28 (slotsFrom slots₀ 0 n₀) (seenBy true held₀ ranges₀ (slotsFrom slots₀ 0 n₀) rows₀) (board (replicate 128 0) (replicate 128 0) order₀ 0)) .order) ++ replicate (length ((sweptAll 28 (slotsFrom slots₀ 0 n₀) (seenBy true held₀ ranges₀ (slotsFrom slots₀ 0 n₀) rows₀) (board (replicate 128 0) (replicate 128 0) order₀ 0)) .order) - ((sweptAll 28 (slotsFrom slots₀ 0 n₀) (seenBy true held₀ ranges₀ (slotsFrom slots₀ 0 n₀) rows₀) (board (replicate 128 0) (replicate 128 0) order₀ 0)) .steps)) 0) (fitted (length counts₀) (takenFrom 0 (slotsFrom slots₀ 0 n₀) ((sweptAll 28 (slotsFrom slots₀ 0 n₀) (seenBy true held₀ ranges₀ (slotsFrom slots₀ 0 n₀) rows₀) (board (replicate 128 0) (replicate 128 0) order₀ 0)) .taken))) (fitted (length pending₀) (awaitedFrom (slotsFrom slots₀ 0 n₀) ((sweptAll 28 (slotsFrom slots₀ 0 n₀) (seenBy true held₀ ranges₀ (slotsFrom slots₀ 0 n₀) rows₀) (board (replicate 128 0) (replicate 128 0) order₀ 0)) .reach) rows₀ (rowsBy held₀ ranges₀ (slotsFrom slots₀ 0 n₀) rows₀ 0 rows₀) ((sweptAll 28 (slotsFrom slots₀ 0 n₀) (seenBy true held₀ ranges₀ (slotsFrom slots₀ 0 n₀) rows₀) (board (replicate 128 0) (replicate 128 0) order₀ 0)) .taken) 0 (slotsFrom slots₀ 0 n₀))) (g₅ .0) (exit-slots held₀ ranges₀ (slotsFrom slots₀ 0 n₀) rows₀ order₀ counts₀ pending₀))))))))))))
+        calls-by ! (fmOf 𝓤 H (W .laws) 𝓣) ([]) (tab word (own-seat l₁₂ 128 ν₁₂ δ₁₂) ((sweptAll 28 (slotsFrom slots₀ 0 n₀) (seenBy true held₀ ranges₀ (slotsFrom slots₀ 0 n₀) rows₀) (board (replicate 128 0) (replicate 128 0) order₀ 0)) .taken) ∷ tab word (own-seat l₁₀ 128 ν₁₀ δ₁₀) ((sweptAll 28 (slotsFrom slots₀ 0 n₀) (seenBy true held₀ ranges₀ (slotsFrom slots₀ 0 n₀) rows₀) (board (replicate 128 0) (replicate 128 0) order₀ 0)) .reach) ∷ hs (take ((sweptAll 28 (slotsFrom slots₀ 0 n₀) (seenBy true held₀ ranges₀ (slotsFrom slots₀ 0 n₀) rows₀) (board (replicate 128 0) (replicate 128 0) order₀ 0)) .steps) ((sweptAll 28 (slotsFrom slots₀ 0 n₀) (seenBy true held₀ ranges₀ (slotsFrom slots₀ 0 n₀) rows₀) (board (replicate 128 0) (replicate 128 0) order₀ 0)) .order) ++ replicate (length ((sweptAll 28 (slotsFrom slots₀ 0 n₀) (seenBy true held₀ ranges₀ (slotsFrom slots₀ 0 n₀) rows₀) (board (replicate 128 0) (replicate 128 0) order₀ 0)) .order) - ((sweptAll 28 (slotsFrom slots₀ 0 n₀) (seenBy true held₀ ranges₀ (slotsFrom slots₀ 0 n₀) rows₀) (board (replicate 128 0) (replicate 128 0) order₀ 0)) .steps)) 0) (fitted (length counts₀) (takenFrom 0 (slotsFrom slots₀ 0 n₀) ((sweptAll 28 (slotsFrom slots₀ 0 n₀) (seenBy true held₀ ranges₀ (slotsFrom slots₀ 0 n₀) rows₀) (board (replicate 128 0) (replicate 128 0) order₀ 0)) .taken))) (fitted (length pending₀) (awaitedFrom (slotsFrom slots₀ 0 n₀) ((sweptAll 28 (slotsFrom slots₀ 0 n₀) (seenBy true held₀ ranges₀ (slotsFrom slots₀ 0 n₀) rows₀) (board (replicate 128 0) (replicate 128 0) order₀ 0)) .reach) rows₀ (rowsBy held₀ ranges₀ (slotsFrom slots₀ 0 n₀) rows₀ 0 rows₀) ((sweptAll 28 (slotsFrom slots₀ 0 n₀) (seenBy true held₀ ranges₀ (slotsFrom slots₀ 0 n₀) rows₀) (board (replicate 128 0) (replicate 128 0) order₀ 0)) .taken) 0 (slotsFrom slots₀ 0 n₀)))) (slow-sorter·sorted! 𝓤 H A mem run (𝓣 .C) known-slow-sorter·sorted ((sweptAll 28 (slotsFrom slots₀ 0 n₀) (seenBy true held₀ ranges₀ (slotsFrom slots₀ 0 n₀) rows₀) (board (replicate 128 0) (replicate 128 0) order₀ 0)) .steps) (g₁ .0) (length (takenFrom 0 (slotsFrom slots₀ 0 n₀) ((sweptAll 28 (slotsFrom slots₀ 0 n₀) (seenBy true held₀ ranges₀ (slotsFrom slots₀ 0 n₀) rows₀) (board (replicate 128 0) (replicate 128 0) order₀ 0)) .taken))) (g₃ .0) 0 (refl, lit< tt) (length (awaitedFrom (slotsFrom slots₀ 0 n₀) ((sweptAll 28 (slotsFrom slots₀ 0 n₀) (seenBy true held₀ ranges₀ (slotsFrom slots₀ 0 n₀) rows₀) (board (replicate 128 0) (replicate 128 0) order₀ 0)) .reach) rows₀ (rowsBy held₀ ranges₀ (slotsFrom slots₀ 0 n₀) rows₀ 0 rows₀) ((sweptAll 28 (slotsFrom slots₀ 0 n₀) (seenBy true held₀ ranges₀ (slotsFrom slots₀ 0 n₀) rows₀) (board (replicate 128 0) (replicate 128 0) order₀ 0)) .taken) 0 (slotsFrom slots₀ 0 n₀))) (g₄ .0)) refl (λ P. and-then ! (load ! (from ! (stop !)) (look ! 47 refl)) (and-then ! (load ! (from ! (stop !)) (look ! 45 refl)) (and-then ! (lit ! tt) (and-then ! (load ! (from ! (stop !)) (look ! 43 refl)) (no-more !))))) (λ g₅.
+        land ! (from ! (stop !)) (init ! 75 refl (g₅ .1 .0)) $
+        move ! (0 ∷ 51 ∷ []) $ own-back ! tt word 128 128 (omega (arith)) 0 ((sweptAll 28 (slotsFrom slots₀ 0 n₀) (seenBy true held₀ ranges₀ (slotsFrom slots₀ 0 n₀) rows₀) (board (replicate 128 0) (replicate 128 0) order₀ 0)) .taken) l₁₂ ν₁₂ δ₁₂ (tab word (own-seat l₁₀ 128 ν₁₀ δ₁₀) ((sweptAll 28 (slotsFrom slots₀ 0 n₀) (seenBy true held₀ ranges₀ (slotsFrom slots₀ 0 n₀) rows₀) (board (replicate 128 0) (replicate 128 0) order₀ 0)) .reach) ∷ hs (take ((sweptAll 28 (slotsFrom slots₀ 0 n₀) (seenBy true held₀ ranges₀ (slotsFrom slots₀ 0 n₀) rows₀) (board (replicate 128 0) (replicate 128 0) order₀ 0)) .steps) ((sweptAll 28 (slotsFrom slots₀ 0 n₀) (seenBy true held₀ ranges₀ (slotsFrom slots₀ 0 n₀) rows₀) (board (replicate 128 0) (replicate 128 0) order₀ 0)) .order) ++ replicate (length ((sweptAll 28 (slotsFrom slots₀ 0 n₀) (seenBy true held₀ ranges₀ (slotsFrom slots₀ 0 n₀) rows₀) (board (replicate 128 0) (replicate 128 0) order₀ 0)) .order) - ((sweptAll 28 (slotsFrom slots₀ 0 n₀) (seenBy true held₀ ranges₀ (slotsFrom slots₀ 0 n₀) rows₀) (board (replicate 128 0) (replicate 128 0) order₀ 0)) .steps)) 0) (fitted (length counts₀) (takenFrom 0 (slotsFrom slots₀ 0 n₀) ((sweptAll 28 (slotsFrom slots₀ 0 n₀) (seenBy true held₀ ranges₀ (slotsFrom slots₀ 0 n₀) rows₀) (board (replicate 128 0) (replicate 128 0) order₀ 0)) .taken))) (fitted (length pending₀) (awaitedFrom (slotsFrom slots₀ 0 n₀) ((sweptAll 28 (slotsFrom slots₀ 0 n₀) (seenBy true held₀ ranges₀ (slotsFrom slots₀ 0 n₀) rows₀) (board (replicate 128 0) (replicate 128 0) order₀ 0)) .reach) rows₀ (rowsBy held₀ ranges₀ (slotsFrom slots₀ 0 n₀) rows₀ 0 rows₀) ((sweptAll 28 (slotsFrom slots₀ 0 n₀) (seenBy true held₀ ranges₀ (slotsFrom slots₀ 0 n₀) rows₀) (board (replicate 128 0) (replicate 128 0) order₀ 0)) .taken) 0 (slotsFrom slots₀ 0 n₀)))) $ move ! (0 ∷ 2 ∷ 3 ∷ 4 ∷ 5 ∷ 6 ∷ 7 ∷ 8 ∷ 9 ∷ 10 ∷ 11 ∷ 12 ∷ 13 ∷ 14 ∷ 15 ∷ 16 ∷ 17 ∷ 18 ∷ 19 ∷ 20 ∷ 21 ∷ 22 ∷ 23 ∷ 24 ∷ 25 ∷ 26 ∷ 27 ∷ 28 ∷ 29 ∷ 30 ∷ 31 ∷ 32 ∷ 33 ∷ 34 ∷ 35 ∷ 36 ∷ 37 ∷ 38 ∷ 39 ∷ 40 ∷ 41 ∷ 42 ∷ 43 ∷ 44 ∷ 45 ∷ 46 ∷ 47 ∷ 48 ∷ 49 ∷ 50 ∷ 51 ∷ 1 ∷ []) $
+        move ! (0 ∷ 55 ∷ []) $ own-back ! tt word 128 128 (omega (arith)) 0 ((sweptAll 28 (slotsFrom slots₀ 0 n₀) (seenBy true held₀ ranges₀ (slotsFrom slots₀ 0 n₀) rows₀) (board (replicate 128 0) (replicate 128 0) order₀ 0)) .reach) l₁₀ ν₁₀ δ₁₀ (hs (take ((sweptAll 28 (slotsFrom slots₀ 0 n₀) (seenBy true held₀ ranges₀ (slotsFrom slots₀ 0 n₀) rows₀) (board (replicate 128 0) (replicate 128 0) order₀ 0)) .steps) ((sweptAll 28 (slotsFrom slots₀ 0 n₀) (seenBy true held₀ ranges₀ (slotsFrom slots₀ 0 n₀) rows₀) (board (replicate 128 0) (replicate 128 0) order₀ 0)) .order) ++ replicate (length ((sweptAll 28 (slotsFrom slots₀ 0 n₀) (seenBy true held₀ ranges₀ (slotsFrom slots₀ 0 n₀) rows₀) (board (replicate 128 0) (replicate 128 0) order₀ 0)) .order) - ((sweptAll 28 (slotsFrom slots₀ 0 n₀) (seenBy true held₀ ranges₀ (slotsFrom slots₀ 0 n₀) rows₀) (board (replicate 128 0) (replicate 128 0) order₀ 0)) .steps)) 0) (fitted (length counts₀) (takenFrom 0 (slotsFrom slots₀ 0 n₀) ((sweptAll 28 (slotsFrom slots₀ 0 n₀) (seenBy true held₀ ranges₀ (slotsFrom slots₀ 0 n₀) rows₀) (board (replicate 128 0) (replicate 128 0) order₀ 0)) .taken))) (fitted (length pending₀) (awaitedFrom (slotsFrom slots₀ 0 n₀) ((sweptAll 28 (slotsFrom slots₀ 0 n₀) (seenBy true held₀ ranges₀ (slotsFrom slots₀ 0 n₀) rows₀) (board (replicate 128 0) (replicate 128 0) order₀ 0)) .reach) rows₀ (rowsBy held₀ ranges₀ (slotsFrom slots₀ 0 n₀) rows₀ 0 rows₀) ((sweptAll 28 (slotsFrom slots₀ 0 n₀) (seenBy true held₀ ranges₀ (slotsFrom slots₀ 0 n₀) rows₀) (board (replicate 128 0) (replicate 128 0) order₀ 0)) .taken) 0 (slotsFrom slots₀ 0 n₀)))) $ move ! (0 ∷ 2 ∷ 3 ∷ 4 ∷ 5 ∷ 6 ∷ 7 ∷ 8 ∷ 9 ∷ 10 ∷ 11 ∷ 12 ∷ 13 ∷ 14 ∷ 15 ∷ 16 ∷ 17 ∷ 18 ∷ 19 ∷ 20 ∷ 21 ∷ 22 ∷ 23 ∷ 24 ∷ 25 ∷ 26 ∷ 27 ∷ 28 ∷ 29 ∷ 30 ∷ 31 ∷ 32 ∷ 33 ∷ 34 ∷ 35 ∷ 36 ∷ 37 ∷ 38 ∷ 39 ∷ 40 ∷ 41 ∷ 42 ∷ 43 ∷ 44 ∷ 45 ∷ 46 ∷ 47 ∷ 48 ∷ 49 ∷ 50 ∷ 51 ∷ 52 ∷ 53 ∷ 54 ∷ 55 ∷ 1 ∷ []) $
+        returns-within ! Post refl (look ! 75 refl) $
+        free-all ! (_ ∷ []) En (has _ ∷ has _ ∷ has _ ∷ has _ ∷ has _ ∷ has _ ∷ has _ ∷ has _ ∷ has _ ∷ has _ ∷ has _ ∷ has _ ∷ has _ ∷ has _ ∷ has _ ∷ has _ ∷ has _ ∷ has _ ∷ has _ ∷ has _ ∷ has _ ∷ has _ ∷ has _ ∷ has _ ∷ has _ ∷ has _ ∷ has _ ∷ has _ ∷ has _ ∷ has _ ∷ has _ ∷ has _ ∷ has _ ∷ has _ ∷ has _ ∷ has _ ∷ has _ ∷ has _ ∷ []) [] $ by ! (exits (sortingBy ((sweptAll 28 (slotsFrom slots₀ 0 n₀) (seenBy true held₀ ranges₀ (slotsFrom slots₀ 0 n₀) rows₀) (board (replicate 128 0) (replicate 128 0) order₀ 0)) .steps) (length (takenFrom 0 (slotsFrom slots₀ 0 n₀) ((sweptAll 28 (slotsFrom slots₀ 0 n₀) (seenBy true held₀ ranges₀ (slotsFrom slots₀ 0 n₀) rows₀) (board (replicate 128 0) (replicate 128 0) order₀ 0)) .taken))) 0 (length (awaitedFrom (slotsFrom slots₀ 0 n₀) ((sweptAll 28 (slotsFrom slots₀ 0 n₀) (seenBy true held₀ ranges₀ (slotsFrom slots₀ 0 n₀) rows₀) (board (replicate 128 0) (replicate 128 0) order₀ 0)) .reach) rows₀ (rowsBy held₀ ranges₀ (slotsFrom slots₀ 0 n₀) rows₀ 0 rows₀) ((sweptAll 28 (slotsFrom slots₀ 0 n₀) (seenBy true held₀ ranges₀ (slotsFrom slots₀ 0 n₀) rows₀) (board (replicate 128 0) (replicate 128 0) order₀ 0)) .taken) 0 (slotsFrom slots₀ 0 n₀)))) (take ((sweptAll 28 (slotsFrom slots₀ 0 n₀) (seenBy true held₀ ranges₀ (slotsFrom slots₀ 0 n₀) rows₀) (board (replicate 128 0) (replicate 128 0) order₀ 0)) .steps) ((sweptAll 28 (slotsFrom slots₀ 0 n₀) (seenBy true held₀ ranges₀ (slotsFrom slots₀ 0 n₀) rows₀) (board (replicate 128 0) (replicate 128 0) order₀ 0)) .order) ++ replicate (length ((sweptAll 28 (slotsFrom slots₀ 0 n₀) (seenBy true held₀ ranges₀ (slotsFrom slots₀ 0 n₀) rows₀) (board (replicate 128 0) (replicate 128 0) order₀ 0)) .order) - ((sweptAll 28 (slotsFrom slots₀ 0 n₀) (seenBy true held₀ ranges₀ (slotsFrom slots₀ 0 n₀) rows₀) (board (replicate 128 0) (replicate 128 0) order₀ 0)) .steps)) 0) (fitted (length counts₀) (takenFrom 0 (slotsFrom slots₀ 0 n₀) ((sweptAll 28 (slotsFrom slots₀ 0 n₀) (seenBy true held₀ ranges₀ (slotsFrom slots₀ 0 n₀) rows₀) (board (replicate 128 0) (replicate 128 0) order₀ 0)) .taken))) (fitted (length pending₀) (awaitedFrom (slotsFrom slots₀ 0 n₀) ((sweptAll 28 (slotsFrom slots₀ 0 n₀) (seenBy true held₀ ranges₀ (slotsFrom slots₀ 0 n₀) rows₀) (board (replicate 128 0) (replicate 128 0) order₀ 0)) .reach) rows₀ (rowsBy held₀ ranges₀ (slotsFrom slots₀ 0 n₀) rows₀ 0 rows₀) ((sweptAll 28 (slotsFrom slots₀ 0 n₀) (seenBy true held₀ ranges₀ (slotsFrom slots₀ 0 n₀) rows₀) (board (replicate 128 0) (replicate 128 0) order₀ 0)) .taken) 0 (slotsFrom slots₀ 0 n₀))) (g₅ .0) (exit-slots held₀ ranges₀ (slotsFrom slots₀ 0 n₀) rows₀ order₀ counts₀ pending₀))))))))))))
 
 pub sweep-slots-spec : {M : Type 1} → stated.statement M
 unfolding code.routine tablesOf

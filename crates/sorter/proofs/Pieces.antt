@@ -2,7 +2,7 @@
 -- Assumes nothing.
 use Prim.Native.Nat.{ℕ, suc}
 use mathlib.Core.List.{List, [], _∷_}
-use mir.Syntax.{Name, imm, mut, erased, w8, w64, Ty, tyRef, deref, field, place, Opd, copy, int, ne, op2, rvOpd, addrOf, aggregate, Body, seq, assign, cond, skip, call, return, Local, local, valueLocal}
+use mir.Syntax.{Name, Lifetime, named, erased, Mutability, imm, mut, w8, w64, Ty, tyRef, tyInt, tyArray, deref, field, place, Opd, copy, int, ne, op2, rvOpd, addrOf, aggregate, repeat, Body, seq, assign, cond, skip, call, return, Local, local, valueLocal, memorySlot}
 use denote.Memory.{lone, pointee}
 use denote.Slice.{sliceTy}
 use Rattle.walks.proofs.Rows.{Kind, word}
@@ -15,17 +15,38 @@ of τ = local τ valueLocal
 abbrev pub plainly : Kind → Local
 plainly k = of (lone (k .row .mir))
 
+abbrev pointer : Kind → Lifetime → Mutability → Ty
+pointer k l m = tyRef l m (pointee (k .row .written))
+
+-- a parameter `&[T]` or `&mut [T]`, of lifetime j
+abbrev pub a-slice : Kind → ℕ → Mutability → Local
+a-slice k j m = of (sliceTy (pointer k (named j) m))
+
+abbrev pub words-at : ℕ → Local
+words-at j = a-slice word j mut
+
 -- a `&mut [T]` that is lent again, or shown (as a `&[T]`), takes two: the pointer, and the slice made of it
 abbrev pub again : Kind → List Local → List Local
-again k ls = of (tyRef erased mut (pointee (k .row .written))) ∷ of (sliceTy (tyRef erased mut (pointee (k .row .written)))) ∷ ls
+again k ls = of (pointer k erased mut) ∷ of (sliceTy (pointer k erased mut)) ∷ ls
 
 abbrev pub shown : Kind → List Local → List Local
-shown k ls = of (tyRef erased imm (pointee (k .row .written))) ∷ of (sliceTy (tyRef erased imm (pointee (k .row .written)))) ∷ ls
+shown k ls = of (pointer k erased imm) ∷ of (sliceTy (pointer k erased imm)) ∷ ls
+
+-- n words, and the slice of all of them; elsewhere a pointer to them, of which the slice is made
+abbrev pub array : ℕ → List Local → List Local
+array n ls = local (tyArray (tyInt w64) n) memorySlot ∷ of (sliceTy (pointer word erased mut)) ∷ ls
+
+abbrev pub to-array : ℕ → Local
+to-array n = of (tyRef erased mut (tyArray (tyInt w64) n))
 
 -- ---- statements
 
 abbrev pub at : ℕ → Opd
 at i = copy (place i [])
+
+-- n words are zero in the local i, and their slice is in i + 1, made by the pointer p
+abbrev pub zeros : ℕ → ℕ → ℕ → Body → Body
+zeros n i p rest = seq (assign (place i []) (repeat (int w64 0) n)) (seq (assign (place p []) (addrOf (place i []))) (seq (assign (place (suc i) []) (aggregate (at p ∷ int w64 n ∷ []))) rest))
 
 -- slice i is lent again or shown, in the locals t and t + 1
 abbrev pub lend : Kind → ℕ → ℕ → Body → Body
