@@ -1,5 +1,5 @@
 -- What the functions come to: rows by number, the loops over fronts and slots, and each way out.
-use Prim.Native.Nat.{ℕ, zero, suc, _+_, _-_, _*_, _/_, _≤_, _<_}
+use Prim.Native.Nat.{ℕ, zero, suc, _+_, _-_, _/_, _≤_, _<_}
 use mathlib.Core.Path.{_≡_, refl, sym, ap, subst, _∙_}
 use mathlib.Core.Bool.{Bool, true, false}
 use mathlib.Core.List.{List, [], _∷_, _++_}
@@ -12,13 +12,13 @@ use borrow.Author.Tests.{ltb-true}
 use Rattle.numbers.specs.Number.{pick}
 use Rattle.block.specs.declared.Block.{Block}
 use Rattle.block.specs.Row.{noBlock}
-use Rattle.slots.specs.Slots.{Slot, slotAt, slotsFrom, stored, notedAll, namedAll}
+use Rattle.slots.specs.Slots.{Slot, slotsFrom, stored, notedAll, namedAll}
 use Rattle.picker.specs.declared.Look.{Look}
 use Rattle.picker.specs.declared.fronts.Front.{Front}
 use Rattle.picker.specs.Fronts.{frontAt, openedFrom}
 use Rattle.picker.specs.Picker.{Desk, desk, nowhere, looks, pointed, offered, allPicked}
 use Rattle.reports.specs.Reports.{countsFrom, fitted}
-use Rattle.reports.proofs.Turns.{Report, Underway, begun, turn, ended-place, ended-words}
+use Rattle.reports.proofs.Turns.{Report}
 use Rattle.placing.specs.Placing.{rowBy, rowsBy}
 use Rattle.chaining.specs.Chaining.{lookedBy}
 use Rattle.chaining.proofs.Light.{offered-same}
@@ -186,36 +186,3 @@ module _ (w : List ℕ) (h : ℕ) (rows : List Block) (blocks : ℕ) (order coun
     ap (λ (ss : List Slot). fitted (length counts) (countsBy w h ss rows blocks order)) (found-is rows blocks),
     ap (λ (ss : List Slot). fitted (length pending) (pendingBy w h ss rows blocks order)) (found-is rows blocks),
   )
-
--- ---- the loop over slots
-
-module _ (rows : List Block) (slots : List ℕ) (n : ℕ) (held : List ℕ) (ranges : ℕ) (fronts reach out₀ : List ℕ) where
-  abbrev us : List Slot
-  us = slotsFrom slots 0 n
-
-  abbrev every : ℕ → List Slot → List ℕ
-  every i ss = waitingFrom us reach fronts rows (numberedIn held ranges us rows) i ss
-
-  abbrev one : ℕ → List ℕ
-  one i = waitingOf us reach rows (numberedIn held ranges us rows) (slotAt slots i) (frontAt fronts i)
-
-  pub record Going (out : List ℕ) (at i : ℕ) : Type 0 where
-    pub under : Underway every slots n out₀ out at i
-    pub below : i ≤ n
-    pub most : at ≤ 3 * i
-
-  pub set-out : Going out₀ 0 0
-  set-out = record { under = begun (waitings held ranges us rows reach fronts) slots n out₀; below = omega arith; most = omega arith }
-
-  module _ (out : List ℕ) (at i : ℕ) (g : Going out at i) where
-    pub goes-on : i < n → Going (sets out at (one i)) (at + length (one i)) (i + 1)
-    goes-on l = record {
-      under = turn (waitings held ranges us rows reach fronts) (g .under) l;
-      below = omega arith;
-      most = omega (arith, g .most, waiting-most held ranges us rows reach (slotAt slots i) (frontAt fronts i));
-    }
-
-    pub gone : n ≤ i → (at ≡ length (every 0 us)) × (take at out ++ replicate (length out - at) 0 ≡ fitted (length out₀) (every 0 us))
-    gone l =
-        let e : i ≡ n = omega (arith, g .below) in
-        (ended-place (waitings held ranges us rows reach fronts) (g .under) e, ended-words (waitings held ranges us rows reach fronts) (g .under) e)

@@ -1,5 +1,6 @@
--- What the functions come to (Exits), the walk whatever sorts in slots (KeptWalk), the types and callees that the walks meet.
+-- What the functions come to (Exits), the walks whatever they call (KeptWalk, PendingWalk), the types and callees that the walks meet.
 pub mod Exits
 pub mod Sorts
 pub mod Cards
 pub mod KeptWalk
+pub mod PendingWalk

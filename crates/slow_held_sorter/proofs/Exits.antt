@@ -1,6 +1,6 @@
 -- What the functions come to: the loop over slots, and each way out.
 use Prim.Native.Nat.{ℕ, _+_, _-_, _*_, _/_, _≤_, _<_}
-use mathlib.Core.Path.{_≡_, refl, sym, ap, _∙_}
+use mathlib.Core.Path.{_≡_, refl, sym, ap}
 use mathlib.Core.Bool.{Bool, true, false}
 use mathlib.Core.List.{List, [], _++_}
 use native.Mathlib.Omega.{arith}
@@ -12,11 +12,11 @@ use borrow.Author.Tests.{lt-ltb, le-ltb}
 use Rattle.numbers.specs.Number.{pick}
 use Rattle.block.specs.declared.Block.{Block}
 use Rattle.block.specs.Row.{noBlock}
-use Rattle.slots.specs.Slots.{Slot, slotAt, slotsFrom, Falling, stored, notedAll, namedAll}
+use Rattle.slots.specs.Slots.{Slot, slotsFrom, Falling, stored, notedAll, namedAll}
 use Rattle.slots.proofs.Words.{slots-length}
 use Rattle.picker.specs.Picker.{nowhere}
 use Rattle.reports.specs.Reports.{fitted}
-use Rattle.reports.proofs.Turns.{Report, Underway, begun, turn, ended-place, ended-words}
+use Rattle.reports.proofs.Turns.{Report}
 use Rattle.placing.specs.Placing.{rowBy, rowsBy}
 use Rattle.awaited.specs.Awaited.{firstUnmet, waitingWords}
 use Rattle.sorter.specs.declared.Sorting.{Sorting}
@@ -60,7 +60,7 @@ module _ (w : List ℕ) (h : ℕ) (ss : List Slot) (rows : List Block) where
     front-done l = rw (le-ltb row (length rows) l) (sym (add-zero at), refl)
 
   -- three words at most
-  waits-most : (reach : List ℕ) (s : Slot) (done : ℕ) → length (awaitedAt ss reach rows numbered s done) ≤ 3
+  pub waits-most : (reach : List ℕ) (s : Slot) (done : ℕ) → length (awaitedAt ss reach rows numbered s done) ≤ 3
   unfolding awaitedAt waitingWords
   waits-most reach s done = go (ltb (frontRow s done) (length rows))
     where
@@ -68,7 +68,7 @@ module _ (w : List ℕ) (h : ℕ) (ss : List Slot) (rows : List Block) where
       go true = omega arith
       go false = omega arith
 
-  waitings : (reach taken : List ℕ)
+  pub waitings : (reach taken : List ℕ)
       → Report (λ i s. awaitedAt ss reach rows numbered s (getD taken i 0)) (λ i us. awaitedFrom ss reach rows numbered taken i us)
   unfolding awaitedFrom
   waitings reach taken = record { none = λ i. refl; more = λ i s us. refl }
@@ -131,36 +131,3 @@ module _ (w : List ℕ) (h : ℕ) (rows : List Block) (blocks : ℕ) (order coun
     ap (λ (ss : List Slot). fitted (length counts) (countsBy w h ss rows order)) (found-is rows blocks),
     ap (λ (ss : List Slot). fitted (length pending) (pendingBy w h ss rows order)) (found-is rows blocks),
   )
-
--- ---- the loop over slots
-
-module _ (rows : List Block) (slots : List ℕ) (n : ℕ) (held : List ℕ) (ranges : ℕ) (reach taken out₀ : List ℕ) where
-  abbrev us : List Slot
-  us = slotsFrom slots 0 n
-
-  abbrev every : ℕ → List Slot → List ℕ
-  every i ss = awaitedFrom us reach rows (numbered held ranges us rows) taken i ss
-
-  abbrev one : ℕ → List ℕ
-  one i = awaitedAt us reach rows (numbered held ranges us rows) (slotAt slots i) (getD taken i 0)
-
-  pub record Going (out : List ℕ) (at i : ℕ) : Type 0 where
-    pub under : Underway every slots n out₀ out at i
-    pub below : i ≤ n
-    pub most : at ≤ 3 * i
-
-  pub set-out : Going out₀ 0 0
-  set-out = record { under = begun (waitings held ranges us rows reach taken) slots n out₀; below = omega arith; most = omega arith }
-
-  module _ (out : List ℕ) (at i : ℕ) (g : Going out at i) where
-    pub goes-on : i < n → Going (sets out at (one i)) (at + length (one i)) (i + 1)
-    goes-on l = record {
-      under = turn (waitings held ranges us rows reach taken) (g .under) l;
-      below = omega arith;
-      most = omega (arith, g .most, waits-most held ranges us rows reach (slotAt slots i) (getD taken i 0));
-    }
-
-    pub gone : n ≤ i → (at ≡ length (every 0 us)) × (take at out ++ replicate (length out - at) 0 ≡ fitted (length out₀) (every 0 us))
-    gone l =
-        let e : i ≡ n = omega (arith, g .below) in
-        (ended-place (waitings held ranges us rows reach taken) (g .under) e, ended-words (waitings held ranges us rows reach taken) (g .under) e)
