@@ -10,7 +10,6 @@ use Rattle.columns.specs.Number as number
 use Rattle.columns.specs.Difference as difference
 use Rattle.columns.specs.Byte as byte
 use Rattle.grammar.specs.Grammar as grammar
-use Rattle.grammar.specs.Grammar as grammar-inner
 use Rattle.grammar.specs.Course as course
 use Rattle.grammar.specs.Blocks as blocks
 use Rattle.grammar.specs.Deletes as deletes
@@ -66,7 +65,7 @@ pub record Cases : Type 0 where
   pub reads-run : Reads 2 (0x00 ∷ 0x00 ∷ 0x01 ∷ 0x05 ∷ 0x00 ∷ 0x00 ∷ 0x02 ∷ 0x00 ∷ 0x07 ∷ 0x01 ∷ 0x00 ∷ 0x00 ∷ 0x00 ∷ 0x01 ∷ 0x01 ∷ 0x01 ∷ 0x01 ∷ 0x00 ∷ 0x00 ∷ [])
 
 pub cases : Cases
-unfolding words.among ranges.normal promises.withRanges promises.withBlocks promises.known promises.early promises.reading utf8.charsFrom utf8.chars utf8.widths utf8.unitsOf utf8.lead utf8.next utf8.width utf8.after utf8.settled utf8.wellFormed utf8.gain utf8.takeFrom utf8.takeUnits spelling.lowPart spelt answerAt readUnsigned readSigned speltSigned minusOf withSign number.drawn number.counted number.begun number.nextNumber difference.drawn difference.outside difference.keyRead difference.counted difference.begun difference.nextDifference byte.counted byte.begun byte.nextByte string.opened string.openText string.textEnding string.unitsTaken string.unitsDrawn string.nextText utf8.ended line.numberAt line.varAt line.bounded line.upTo line.byteAt line.restored line.deleteAt line.numberBy line.soMany line.bytesAt line.checked line.line grammar-inner._>>=_ course.onDrawn course.run course.fit course.things course.ending blocks.anId blocks.left blocks.right blocks.parentAfter blocks.parent blocks.key blocks.place blocks.deleted blocks.binary blocks.string blocks.content blocks.contentOf blocks.anItem blocks.bare blocks.body blocks.block blocks.dropped blocks.unlessDropped blocks.blocks blocks.sections blocks.allBlocks deletes.ranges deletes.deletedClients deletes.allRanges columned.numberDrawn columned.differenceDrawn columned.byteDrawn columned.textDrawn columned.onto columned.numberIn columned.columned opening.cut opening.heads opening.withOpened opening.textOpened opening.onHeads opening.openedOf update.restPlaces update.inColumns update.blocksOf update.deleteSet leftover.columnsAt leftover.columnsLeft leftover.setEnd leftover.unreadOf leftover.lower leftover.lowest leftover.lowestLeft strict.flagged strict.beforehand strict.explained strict.strictly
+unfolding words.among ranges.normal promises.withRanges promises.withBlocks promises.known promises.early promises.reading utf8.charsFrom utf8.chars utf8.widths utf8.unitsOf utf8.lead utf8.next utf8.width utf8.after utf8.settled utf8.wellFormed utf8.gain utf8.takeFrom utf8.takeUnits spelling.lowPart spelt answerAt readUnsigned readSigned speltSigned minusOf withSign number.drawn number.counted number.begun number.nextNumber difference.drawn difference.outside difference.keyRead difference.counted difference.begun difference.nextDifference byte.counted byte.begun byte.nextByte string.opened string.openText string.textEnding string.unitsTaken string.unitsDrawn string.nextText utf8.ended line.numberAt line.varAt line.bounded line.upTo line.byteAt line.restored line.deleteAt line.numberBy line.soMany line.bytesAt line.checked line.line grammar._>>=_ course.onDrawn course.run course.fit course.things course.ending blocks.anId blocks.left blocks.right blocks.parentAfter blocks.parent blocks.key blocks.place blocks.deleted blocks.binary blocks.string blocks.content blocks.contentOf blocks.anItem blocks.bare blocks.body blocks.block blocks.dropped blocks.unlessDropped blocks.blocks blocks.sections blocks.allBlocks deletes.ranges deletes.deletedClients deletes.allRanges columned.numberDrawn columned.differenceDrawn columned.byteDrawn columned.textDrawn columned.onto columned.numberIn columned.columned opening.cut opening.heads opening.withOpened opening.textOpened opening.onHeads opening.openedOf update.restPlaces update.inColumns update.blocksOf update.deleteSet leftover.columnsAt leftover.columnsLeft leftover.setEnd leftover.unreadOf leftover.lower leftover.lowest leftover.lowestLeft strict.flagged strict.beforehand strict.explained strict.strictly
 cases = record {
   form = refl;
   no-byte = refl;

@@ -7,7 +7,6 @@ use Rattle.numbers.specs.Number.{spelt, answerAt, readUnsigned}
 use Rattle.numbers.specs.Output.{padded}
 use Rattle.block.specs.declared.Block.{Block}
 use Rattle.grammar.specs.Grammar as grammar
-use Rattle.grammar.specs.Grammar as grammar-inner
 use Rattle.grammar.specs.Course.{onDrawn, run}
 use Rattle.decoder.specs.Line.{numberAt, varAt, bounded, upTo, numberBy, line}
 use Rattle.vector.specs.Vector.{entries, aVector, vectorOf}
@@ -15,7 +14,7 @@ use Rattle.updates.specs.Promises.{tableOf, rangeWords}
 use Rattle.diffs.specs.Promises.{Diffed, diffOf, answered, Diffs, emptyVector}
 
 zeros-none : vectorOf (replicate 16 0) ≡ vectorOf emptyVector
-unfolding vectorOf aVector entries grammar-inner._>>=_ run onDrawn line numberBy upTo varAt numberAt bounded readUnsigned answerAt spelt
+unfolding vectorOf aVector entries grammar._>>=_ run onDrawn line numberBy upTo varAt numberAt bounded readUnsigned answerAt spelt
 zeros-none = refl
 
 pub zeros-empty : (form : ℕ) (u : List ℕ) (to m n room : ℕ) → diffOf form u (replicate 16 0) to m n room ≡ diffOf form u emptyVector to m n room

@@ -9,7 +9,6 @@ use Rattle.numbers.specs.Output.{verdict}
 use Rattle.block.specs.declared.Block.{Block}
 use Rattle.block.specs.Kinds as kinds
 use Rattle.grammar.specs.Grammar as grammar
-use Rattle.grammar.specs.Grammar as grammar-inner
 use Rattle.grammar.specs.Course as course
 use Rattle.grammar.specs.Blocks as blocks
 use Rattle.grammar.specs.Deletes as deletes
@@ -47,7 +46,7 @@ use Rattle.later.specs.Examples.{waiter, second, early, late, units, onl
 -- ---- both are read
 
 read : (reading 1 waiter 1 0 ≡ only (units 0 2 9)) × (reading 1 second 1 0 ≡ only (units 1 1 5))
-unfolding words.among ranges.normal promises.withRanges promises.withBlocks promises.known promises.early promises.reading spelling.lowPart spelt answerAt readUnsigned line.numberAt line.varAt line.bounded line.upTo line.byteAt line.restored line.deleteAt line.numberBy line.soMany line.bytesAt line.checked line.line grammar-inner._>>=_ course.onDrawn course.run course.fit course.things course.ending blocks.anId blocks.left blocks.right blocks.parentAfter blocks.parent blocks.key blocks.place blocks.deleted blocks.content blocks.contentOf blocks.anItem blocks.bare blocks.body blocks.block blocks.dropped blocks.unlessDropped blocks.blocks blocks.sections blocks.allBlocks deletes.ranges deletes.deletedClients deletes.allRanges update.blocksOf update.deleteSet
+unfolding words.among ranges.normal promises.withRanges promises.withBlocks promises.known promises.early promises.reading spelling.lowPart spelt answerAt readUnsigned line.numberAt line.varAt line.bounded line.upTo line.byteAt line.restored line.deleteAt line.numberBy line.soMany line.bytesAt line.checked line.line grammar._>>=_ course.onDrawn course.run course.fit course.things course.ending blocks.anId blocks.left blocks.right blocks.parentAfter blocks.parent blocks.key blocks.place blocks.deleted blocks.content blocks.contentOf blocks.anItem blocks.bare blocks.body blocks.block blocks.dropped blocks.unlessDropped blocks.blocks blocks.sections blocks.allBlocks deletes.ranges deletes.deletedClients deletes.allRanges update.blocksOf update.deleteSet
 read = (refl, refl)
 
 -- ---- and sorted
@@ -62,13 +61,13 @@ Sorted rule =
     × (against rule early (units 1 1 5) ≡ takes (5 ∷ 2 ∷ []) (units 1 1 5))
 
 sorting : Sorted 28 × Sorted 13
-unfolding words.among answers.whyNot sort-promises.sortedAll sort-promises.whySort sort-promises.fitting sort-promises.against sort-promises.afterReading vector.holds vector.entries vector.aVector vector.vectorOf spelling.lowPart spelt answerAt readUnsigned kept.remote outcomes.insert outcomes.insertAll outcomes.allClients outcomes.order outcomes.outcome outcomes.blockNumbersFrom outcomes.numbersBy outcomes.orderOf outcomes.countsIn outcomes.countsOf outcomes.reachesIn outcomes.reachesOf outcomes.pendingIn outcomes.pendingOf quick.chosen quick.remaining quick.best quick.quick steps.can steps.step steps.after rules.queue rules.deps rules.others rules.system rules.unmet rules.waits rules.report rules.byReaches rule28.asks28 rule13.asks13 rule13.idBefore asksOf line.numberAt line.varAt line.bounded line.upTo line.byteAt line.restored line.deleteAt line.numberBy line.soMany line.bytesAt line.checked line.line grammar-inner._>>=_ course.onDrawn course.run course.things course.ending
+unfolding words.among answers.whyNot sort-promises.sortedAll sort-promises.whySort sort-promises.fitting sort-promises.against sort-promises.afterReading vector.holds vector.entries vector.aVector vector.vectorOf spelling.lowPart spelt answerAt readUnsigned kept.remote outcomes.insert outcomes.insertAll outcomes.allClients outcomes.order outcomes.outcome outcomes.blockNumbersFrom outcomes.numbersBy outcomes.orderOf outcomes.countsIn outcomes.countsOf outcomes.reachesIn outcomes.reachesOf outcomes.pendingIn outcomes.pendingOf quick.chosen quick.remaining quick.best quick.quick steps.can steps.step steps.after rules.queue rules.deps rules.others rules.system rules.unmet rules.waits rules.report rules.byReaches rule28.asks28 rule13.asks13 rule13.idBefore asksOf line.numberAt line.varAt line.bounded line.upTo line.byteAt line.restored line.deleteAt line.numberBy line.soMany line.bytesAt line.checked line.line grammar._>>=_ course.onDrawn course.run course.things course.ending
 sorting = ((refl, refl, refl), (refl, refl, refl))
 
 -- ---- the diff
 
 cut-off : diffs.afterReading waiter (vectorOf early) 1 1 9 (only (units 0 2 9)) ≡ record { refusal = spelling.none; bytes = second; reading = only (units 0 2 9) }
-unfolding spelling.lowPart spelt answerAt readUnsigned spell unsigned words.among verdict vector.holds vector.entries vector.aVector vector.vectorOf diffs.whyNot diffs.diffed diffs.against diffs.afterReading written.diffWhy written.turnedFormat keys.manyKeys written.diffBytes written.diffTokens linked groups.join groups.groups kept.remote kept.falls kept.keepFrom kept.withPieces kept.keepEach kept.putSection kept.falling kept.sectionsOf cut.isWhole cut.partOf cut.cutRow cut.torn cut.tornPieces cut.anyTorn tokens.inlined tokens.taken tokens.takenAll tokens.inLine tokens.columnIn tokens.lane bytes.form1 bytes.bytesOf bytes.near records.contentNumber records.infoByte records.leftTokens records.rightTokens records.parentTokens records.keyTokens records.placeTokens records.contentTokens records.blockTokens records.piecesTokens records.sectionStart records.sectionTokens records.sectionsTokens records.clockFrom records.lengthOf records.rangesTokens records.clientTokens records.deleteTokens records.updateTokens line.numberAt line.varAt line.bounded line.upTo line.byteAt line.restored line.deleteAt line.numberBy line.soMany line.bytesAt line.checked line.line grammar-inner._>>=_ course.onDrawn course.run course.things course.ending kinds.isItem
+unfolding spelling.lowPart spelt answerAt readUnsigned spell unsigned words.among verdict vector.holds vector.entries vector.aVector vector.vectorOf diffs.whyNot diffs.diffed diffs.against diffs.afterReading written.diffWhy written.turnedFormat keys.manyKeys written.diffBytes written.diffTokens linked groups.join groups.groups kept.remote kept.falls kept.keepFrom kept.withPieces kept.keepEach kept.putSection kept.falling kept.sectionsOf cut.isWhole cut.partOf cut.cutRow cut.torn cut.tornPieces cut.anyTorn tokens.inlined tokens.taken tokens.takenAll tokens.inLine tokens.columnIn tokens.lane bytes.form1 bytes.bytesOf bytes.near records.contentNumber records.infoByte records.leftTokens records.rightTokens records.parentTokens records.keyTokens records.placeTokens records.contentTokens records.blockTokens records.piecesTokens records.sectionStart records.sectionTokens records.sectionsTokens records.clockFrom records.lengthOf records.rangesTokens records.clientTokens records.deleteTokens records.updateTokens line.numberAt line.varAt line.bounded line.upTo line.byteAt line.restored line.deleteAt line.numberBy line.soMany line.bytesAt line.checked line.line grammar._>>=_ course.onDrawn course.run course.things course.ending kinds.isItem
 cut-off = refl
 
 module _ (rule : ℕ) (is : answers.isRule rule ≡ answers.isRule 28) (s : Sorted rule) where

@@ -15,7 +15,6 @@ use Rattle.numbers.specs.Limits.{maxUpdate}
 use Rattle.block.specs.declared.Block.{Block}
 use Rattle.ranges.specs.Ranges.{Range}
 use Rattle.grammar.specs.Grammar as grammar
-use Rattle.grammar.specs.Grammar as grammar-inner
 use Rattle.grammar.specs.Course as course
 use Rattle.grammar.specs.Course.{Course, got, thing, over, fit}
 use Rattle.grammar.specs.Blocks as blocks
@@ -76,7 +75,7 @@ unfolding readUnsigned spelt answerAt
 zero-read u at e = ap (λ (l : List ℕ). answerAt u at (spelt 9 at l)) e
 
 no-ranges : (u : List ℕ) (at : ℕ) → readUnsigned u at ≡ read.Number 0 (at + 1) → deleteSet 1 u at ≡ over tt (at + 1)
-unfolding deleteSet course.run course.onDrawn grammar-inner._>>=_ deletes.allRanges deletes.deletedClients line.line line.numberBy line.upTo line.bounded line.varAt line.numberAt
+unfolding deleteSet course.run course.onDrawn grammar._>>=_ deletes.allRanges deletes.deletedClients line.line line.numberBy line.upTo line.bounded line.varAt line.numberAt
 no-ranges u at e = rw e refl
 
 -- ---- the update
@@ -117,7 +116,7 @@ module _ (t : List ℕ) (size : length t ≡ most) where
   info-read = rw (lt-leb (length (longest t)) 4 (omega (arith, long))) refl
 
   blocks-read : blocksOf 1 (longest t) ≡ thing binary 4 (over tt 16777214)
-  unfolding blocksOf words.among course.run course.onDrawn grammar-inner._>>=_ blocks.anId blocks.left blocks.right blocks.place blocks.binary blocks.content blocks.contentOf blocks.anItem blocks.bare blocks.body blocks.block blocks.dropped blocks.unlessDropped blocks.blocks blocks.sections blocks.allBlocks line.line line.numberBy line.upTo line.bounded line.varAt line.numberAt readUnsigned spelt answerAt spelling.lowPart longest
+  unfolding blocksOf words.among course.run course.onDrawn grammar._>>=_ blocks.anId blocks.left blocks.right blocks.place blocks.binary blocks.content blocks.contentOf blocks.anItem blocks.bare blocks.body blocks.block blocks.dropped blocks.unlessDropped blocks.blocks blocks.sections blocks.allBlocks line.line line.numberBy line.upTo line.bounded line.varAt line.numberAt readUnsigned spelt answerAt spelling.lowPart longest
   blocks-read = rw (info-read, stored) refl
 
   is-read : reading 1 (longest t) 1 0 ≡ only binary
@@ -134,7 +133,7 @@ Taken rule =
     afterReading quickly (ruleOf rule) (record { order = 1; counts = 2; reaches = 4; pending = 3 }) (vectorOf early) (only binary) ≡ takes (5 ∷ 2 ∷ []) binary
 
 taken : Taken 28 × Taken 13
-unfolding words.among answers.whyNot sort-promises.sortedAll sort-promises.whySort sort-promises.fitting sort-promises.against sort-promises.afterReading vector.holds vector.entries vector.aVector vector.vectorOf spelling.lowPart spelt answerAt readUnsigned kept.remote outcomes.insert outcomes.insertAll outcomes.allClients outcomes.order outcomes.outcome outcomes.blockNumbersFrom outcomes.numbersBy outcomes.orderOf outcomes.countsIn outcomes.countsOf outcomes.reachesIn outcomes.reachesOf outcomes.pendingIn outcomes.pendingOf quick.chosen quick.remaining quick.best quick.quick steps.can steps.step steps.after rules.queue rules.deps rules.others rules.system rules.unmet rules.waits rules.report rules.byReaches rule28.asks28 rule13.asks13 rule13.idBefore asksOf line.numberAt line.varAt line.bounded line.upTo line.byteAt line.restored line.deleteAt line.numberBy line.soMany line.bytesAt line.checked line.line grammar-inner._>>=_ course.onDrawn course.run course.things course.ending
+unfolding words.among answers.whyNot sort-promises.sortedAll sort-promises.whySort sort-promises.fitting sort-promises.against sort-promises.afterReading vector.holds vector.entries vector.aVector vector.vectorOf spelling.lowPart spelt answerAt readUnsigned kept.remote outcomes.insert outcomes.insertAll outcomes.allClients outcomes.order outcomes.outcome outcomes.blockNumbersFrom outcomes.numbersBy outcomes.orderOf outcomes.countsIn outcomes.countsOf outcomes.reachesIn outcomes.reachesOf outcomes.pendingIn outcomes.pendingOf quick.chosen quick.remaining quick.best quick.quick steps.can steps.step steps.after rules.queue rules.deps rules.others rules.system rules.unmet rules.waits rules.report rules.byReaches rule28.asks28 rule13.asks13 rule13.idBefore asksOf line.numberAt line.varAt line.bounded line.upTo line.byteAt line.restored line.deleteAt line.numberBy line.soMany line.bytesAt line.checked line.line grammar._>>=_ course.onDrawn course.run course.things course.ending
 taken = (refl, refl)
 
 -- ---- its diff
@@ -144,7 +143,7 @@ unfoldable tokensWith : List ℕ → List Token
 tokensWith b = var 1 ∷ var 1 ∷ client 5 ∷ var 1 ∷ info 0x83 ∷ client 5 ∷ left 0 ∷ buf b ∷ var 0 ∷ []
 
 tokens-are : (u : List ℕ) → diffTokens 2 u (entriesIn early) (binary ∷ []) [] ≡ tokensWith (bytesIn u (binary .part))
-unfolding tokensWith words.among diffTokens linked groups.join groups.groups kept.remote kept.falls kept.keepFrom kept.withPieces kept.keepEach kept.putSection kept.falling kept.sectionsOf cut.isWhole cut.partOf cut.cutRow records.contentNumber records.infoByte records.leftTokens records.rightTokens records.parentTokens records.keyTokens records.placeTokens records.contentTokens records.blockTokens records.piecesTokens records.sectionStart records.sectionTokens records.sectionsTokens records.clockFrom records.lengthOf records.rangesTokens records.clientTokens records.deleteTokens records.updateTokens kinds.isItem vector.holds vector.entries vector.aVector vector.vectorOf spelling.lowPart spelt answerAt readUnsigned line.numberAt line.varAt line.bounded line.upTo line.byteAt line.restored line.deleteAt line.numberBy line.soMany line.bytesAt line.checked line.line grammar-inner._>>=_ course.onDrawn course.run course.things course.ending
+unfolding tokensWith words.among diffTokens linked groups.join groups.groups kept.remote kept.falls kept.keepFrom kept.withPieces kept.keepEach kept.putSection kept.falling kept.sectionsOf cut.isWhole cut.partOf cut.cutRow records.contentNumber records.infoByte records.leftTokens records.rightTokens records.parentTokens records.keyTokens records.placeTokens records.contentTokens records.blockTokens records.piecesTokens records.sectionStart records.sectionTokens records.sectionsTokens records.clockFrom records.lengthOf records.rangesTokens records.clientTokens records.deleteTokens records.updateTokens kinds.isItem vector.holds vector.entries vector.aVector vector.vectorOf spelling.lowPart spelt answerAt readUnsigned line.numberAt line.varAt line.bounded line.upTo line.byteAt line.restored line.deleteAt line.numberBy line.soMany line.bytesAt line.checked line.line grammar._>>=_ course.onDrawn course.run course.things course.ending
 tokens-are u = refl
 
 -- what stands before the stored bytes
@@ -194,11 +193,11 @@ module _ (t : List ℕ) (size : length t ≡ most) where
   diff-length = ap (λ (ts : List Token). length (bytesOf 2 ts)) diff-tokens ∙ bytes-length (bytesIn (longest t) (binary .part)) b-length
 
   untorn-both : (anyTorn (longest t) (keptBy early (only binary)) ≡ false) × (turnedFormat 1 2 (keptBy early (only binary)) ≡ false)
-  unfolding words.among turnedFormat cut.formatIn cut.anyFormat groups.join groups.groups kept.remote kept.falls kept.keepFrom kept.withPieces kept.keepEach kept.putSection kept.falling kept.sectionsOf cut.isWhole cut.torn cut.tornPieces cut.anyTorn vector.holds vector.entries vector.aVector vector.vectorOf spelling.lowPart spelt answerAt readUnsigned line.numberAt line.varAt line.bounded line.upTo line.numberBy line.line grammar-inner._>>=_ course.onDrawn course.run course.things course.ending
+  unfolding words.among turnedFormat cut.formatIn cut.anyFormat groups.join groups.groups kept.remote kept.falls kept.keepFrom kept.withPieces kept.keepEach kept.putSection kept.falling kept.sectionsOf cut.isWhole cut.torn cut.tornPieces cut.anyTorn vector.holds vector.entries vector.aVector vector.vectorOf spelling.lowPart spelt answerAt readUnsigned line.numberAt line.varAt line.bounded line.upTo line.numberBy line.line grammar._>>=_ course.onDrawn course.run course.things course.ending
   untorn-both = (refl, refl)
 
   reads-early : Reads early
-  unfolding words.among vector.holds vector.entries vector.aVector vector.vectorOf spelling.lowPart spelt answerAt readUnsigned line.numberAt line.varAt line.bounded line.upTo line.numberBy line.line grammar-inner._>>=_ course.onDrawn course.run course.things course.ending
+  unfolding words.among vector.holds vector.entries vector.aVector vector.vectorOf spelling.lowPart spelt answerAt readUnsigned line.numberAt line.varAt line.bounded line.upTo line.numberBy line.line grammar._>>=_ course.onDrawn course.run course.things course.ending
   reads-early = refl
 
   doable : (room : ℕ) → most + 23 ≤ room → Doable 1 (longest t) early 2 1 0 room

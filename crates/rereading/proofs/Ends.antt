@@ -12,7 +12,6 @@ use Rattle.numbers.specs.Number.{pick, nowhere, none, spelt, lowPart, answerAt,
 use Rattle.numbers.specs.Output.{verdict}
 use Rattle.runs.specs.Runs.{spellable}
 use Rattle.grammar.specs.Grammar as grammar
-use Rattle.grammar.specs.Grammar as grammar-inner
 use Rattle.grammar.specs.Course.{onDrawn, run, things}
 use Rattle.decoder.specs.Line.{numberAt, varAt, bounded, upTo, numberBy, line}
 use Rattle.vector.specs.Vector.{Entry, entries, aVector, vectorOf}
@@ -134,7 +133,7 @@ module _ (form : ℕ) (u : List ℕ) (to m n room : ℕ) where
   -- ---- nothing: every block, but for a client's leading Skips and leading blocks that end at 0
 
   no-entries : entriesIn emptyVector ≡ []
-  unfolding vectorOf aVector entries grammar-inner._>>=_ run onDrawn line numberBy upTo varAt numberAt bounded things readUnsigned answerAt spelt lowPart
+  unfolding vectorOf aVector entries grammar._>>=_ run onDrawn line numberBy upTo varAt numberAt bounded things readUnsigned answerAt spelt lowPart
   no-entries = refl
 
   pub against-empty : diffOf form u emptyVector to m n room .refusal .number ≡ 0

@@ -18,7 +18,6 @@ use Rattle.runs.specs.Runs as runs
 use Rattle.columns.specs.Reading.{Reading, andThen, reads, numberDraw, differenceDraw, byteDraw}
 use Rattle.columns.proofs.RoundTrip.{byte-on}
 use Rattle.grammar.specs.Grammar as grammar
-use Rattle.grammar.specs.Grammar as grammar-inner
 use Rattle.grammar.specs.Course as course
 use Rattle.grammar.specs.Blocks as blocks
 use Rattle.grammar.specs.Deletes as deletes
@@ -57,7 +56,7 @@ Updates n m =
     × (reading 1 updateM3 (suc (suc n)) m ≡ blocksRead (after-id 5 9 8 ∷ after-id 9 5 16 ∷ []))
 
 updates : (n m : ℕ) → Updates n m
-unfolding words.among ranges.normal promises.withRanges promises.withBlocks promises.known promises.early promises.reading utf8.charsFrom utf8.chars utf8.widths utf8.unitsOf utf8.lead utf8.next utf8.width utf8.after utf8.settled utf8.wellFormed utf8.gain utf8.takeFrom utf8.takeUnits spelling.lowPart spelt answerAt readUnsigned readSigned speltSigned minusOf withSign number.drawn number.counted number.begun number.nextNumber byte.counted byte.begun byte.nextByte string.opened string.openText string.textEnding string.unitsTaken string.unitsDrawn string.nextText utf8.ended line.numberAt line.varAt line.bounded line.upTo line.byteAt line.restored line.deleteAt line.numberBy line.soMany line.bytesAt line.checked line.line grammar-inner._>>=_ course.onDrawn course.run course.fit course.things course.ending blocks.anId blocks.left blocks.right blocks.parentAfter blocks.parent blocks.key blocks.place blocks.deleted blocks.binary blocks.string blocks.content blocks.contentOf blocks.anItem blocks.bare blocks.body blocks.block blocks.dropped blocks.unlessDropped blocks.blocks blocks.sections blocks.allBlocks deletes.ranges deletes.deletedClients deletes.allRanges columned.numberDrawn columned.differenceDrawn columned.byteDrawn columned.textDrawn columned.onto columned.numberIn columned.columned opening.cut opening.heads opening.withOpened opening.textOpened opening.onHeads opening.openedOf update.restPlaces update.inColumns update.blocksOf update.deleteSet
+unfolding words.among ranges.normal promises.withRanges promises.withBlocks promises.known promises.early promises.reading utf8.charsFrom utf8.chars utf8.widths utf8.unitsOf utf8.lead utf8.next utf8.width utf8.after utf8.settled utf8.wellFormed utf8.gain utf8.takeFrom utf8.takeUnits spelling.lowPart spelt answerAt readUnsigned readSigned speltSigned minusOf withSign number.drawn number.counted number.begun number.nextNumber byte.counted byte.begun byte.nextByte string.opened string.openText string.textEnding string.unitsTaken string.unitsDrawn string.nextText utf8.ended line.numberAt line.varAt line.bounded line.upTo line.byteAt line.restored line.deleteAt line.numberBy line.soMany line.bytesAt line.checked line.line grammar._>>=_ course.onDrawn course.run course.fit course.things course.ending blocks.anId blocks.left blocks.right blocks.parentAfter blocks.parent blocks.key blocks.place blocks.deleted blocks.binary blocks.string blocks.content blocks.contentOf blocks.anItem blocks.bare blocks.body blocks.block blocks.dropped blocks.unlessDropped blocks.blocks blocks.sections blocks.allBlocks deletes.ranges deletes.deletedClients deletes.allRanges columned.numberDrawn columned.differenceDrawn columned.byteDrawn columned.textDrawn columned.onto columned.numberIn columned.columned opening.cut opening.heads opening.withOpened opening.textOpened opening.onHeads opening.openedOf update.restPlaces update.inColumns update.blocksOf update.deleteSet
 updates zero zero = (refl, refl, refl, refl, refl, refl, refl)
 updates zero (suc m) = (refl, refl, refl, refl, refl, refl, refl)
 updates (suc n) zero = (refl, refl, refl, refl, refl, refl, refl)
@@ -79,7 +78,7 @@ against r = afterReading quickly (ruleOf 28) (record { order = 2; counts = 4; re
 sorting : (against (blocksRead (after-id 5 9 8 ∷ in-parent 9 15 17 ∷ [])) ≡ sorted (1 ∷ 0 ∷ []) (9 ∷ 1 ∷ 5 ∷ 1 ∷ []) (9 ∷ 1 ∷ 5 ∷ 1 ∷ []) [] (after-id 5 9 8 ∷ in-parent 9 15 17 ∷ []))
     × (against (blocksRead (after-id 5 9 8 ∷ [])) ≡ sorted [] (5 ∷ 0 ∷ []) (5 ∷ 0 ∷ []) (5 ∷ 9 ∷ 0 ∷ []) (after-id 5 9 8 ∷ []))
     × (against (blocksRead (after-id 5 9 8 ∷ after-id 9 5 16 ∷ [])) ≡ sorted [] (9 ∷ 0 ∷ 5 ∷ 0 ∷ []) (9 ∷ 0 ∷ 5 ∷ 0 ∷ []) (9 ∷ 5 ∷ 0 ∷ 5 ∷ 9 ∷ 0 ∷ []) (after-id 5 9 8 ∷ after-id 9 5 16 ∷ []))
-unfolding sort-answers.whyNot sort-promises.sortedAll sort-promises.whySort sort-promises.fitting sort-promises.against sort-promises.afterReading vector.holds vector.entries vector.aVector vector.vectorOf spelling.lowPart spelt answerAt readUnsigned remote outcomes.insert outcomes.insertAll outcomes.allClients outcomes.order outcomes.outcome outcomes.blockNumbersFrom outcomes.numbersBy outcomes.orderOf outcomes.countsIn outcomes.countsOf outcomes.reachesIn outcomes.reachesOf outcomes.pendingIn outcomes.pendingOf quick.chosen quick.remaining quick.best quick.quick steps.can steps.step steps.after rules.queue rules.deps rules.others rules.system rules.unmet rules.waits rules.report rules.byReaches rule28.asks28 asksOf line.numberAt line.varAt line.bounded line.upTo line.byteAt line.restored line.deleteAt line.numberBy line.soMany line.bytesAt line.checked line.line grammar-inner._>>=_ course.onDrawn course.run course.things course.ending
+unfolding sort-answers.whyNot sort-promises.sortedAll sort-promises.whySort sort-promises.fitting sort-promises.against sort-promises.afterReading vector.holds vector.entries vector.aVector vector.vectorOf spelling.lowPart spelt answerAt readUnsigned remote outcomes.insert outcomes.insertAll outcomes.allClients outcomes.order outcomes.outcome outcomes.blockNumbersFrom outcomes.numbersBy outcomes.orderOf outcomes.countsIn outcomes.countsOf outcomes.reachesIn outcomes.reachesOf outcomes.pendingIn outcomes.pendingOf quick.chosen quick.remaining quick.best quick.quick steps.can steps.step steps.after rules.queue rules.deps rules.others rules.system rules.unmet rules.waits rules.report rules.byReaches rule28.asks28 asksOf line.numberAt line.varAt line.bounded line.upTo line.byteAt line.restored line.deleteAt line.numberBy line.soMany line.bytesAt line.checked line.line grammar._>>=_ course.onDrawn course.run course.things course.ending
 sorting = (refl, refl, refl)
 
 sorts-M : (n m : ℕ) → (sorts updateM1 n m ≡ sorted (1 ∷ 0 ∷ []) (9 ∷ 1 ∷ 5 ∷ 1 ∷ []) (9 ∷ 1 ∷ 5 ∷ 1 ∷ []) [] (after-id 5 9 8 ∷ in-parent 9 15 17 ∷ []))
