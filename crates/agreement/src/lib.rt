@@ -1,1 +1,2 @@
 // No code: proofs/ has theorems about the meaning of an update.
+#![tactic(auto)]

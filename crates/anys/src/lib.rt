@@ -1,5 +1,7 @@
 // Any-values, as lib0 writes them in line: a tag byte, and what the tag says. An object's entries are a key and a value each, an array's are
 // values. They are passed over, not built: what is told is the place after them, or the first refusal. An unknown tag is blamed at `blame`.
+#![tactic(auto)]
+
 ghost use Rattle.std.specs.Prelude.{◌≡◌, ◌≤◌, ◌<◌, length};
 ghost use Rattle.anys.specs.Any.{skip_bytes, skip_led, text_at, signed_at, head_at, anys};
 ghost use Rattle.anys.specs.Steps.{why_skipped, key_at, open_at, entry_at};
@@ -13,21 +15,21 @@ pub const DEEPEST: usize = 16;
 const LEVELS: usize = DEEPEST + 1;
 
 // The place after what was passed over, or why not all of it could be.
-#[derive(Drop)]
+#[derive(Clone, Copy)]
 pub enum Skipped {
     At(usize),
     Refused(Refusal),
 }
 
 // A value by its tag: it stands alone, and ends there or is refused; or it holds others, with keys or without, and their count is next.
-#[derive(Drop)]
+#[derive(Clone, Copy)]
 enum Head {
     Alone(Skipped),
     Holds(bool),
 }
 
 // An entry: it ends there; or it opens a level, of keyed entries or not, so many of them, from there on.
-#[derive(Drop)]
+#[derive(Clone, Copy)]
 enum Next {
     Past(usize),
     Opens(bool, u64, usize),

@@ -1,4 +1,6 @@
 // What a sorter by held ids reports of a client that has blocks left: the first id that is not met, found by the numbers of the blocks that hold its ids.
+#![tactic(auto)]
+
 ghost use Rattle.std.specs.Prelude.{◌≡◌, ◌+◌, ◌*◌, ◌≤◌, length};
 ghost use Rattle.std.proofs.lemmas.List.Edits.{sets};
 ghost use Rattle.slots.specs.Slots.{slot_at, slots_from, Falling};

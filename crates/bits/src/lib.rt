@@ -1,4 +1,6 @@
 // Numbers of so many bits, most significant bit first, put into bytes and taken from them at any bit, by shifts of whole words.
+#![tactic(auto)]
+
 ghost use Rattle.std.specs.Prelude.{◌≡◌, ◌++◌, ◌+◌, ◌-◌, ◌*◌, ◌/◌, ◌%◌, ◌^◌, ◌≤◌, ◌<◌, length, drop};
 ghost use Rattle.std.proofs.lemmas.List.Edits.{sets};
 ghost use Rattle.bits.specs.Bits.{in_bits, value_of, of_bytes};

@@ -1,4 +1,6 @@
 // A row of the block table: one block of an update, in plain data.
+#![tactic(auto)]
+
 ghost use Rattle.std.specs.Prelude.{◌≡◌, ◌≤◌};
 ghost use Rattle.block.specs.Row.{no_block};
 ghost use Rattle.block.specs.Kinds.{is_item, is_named};
@@ -92,7 +94,7 @@ pub fn is_marked(kind: u8, number: u16) -> bool
 }
 
 #[repr(C)]
-#[derive(Drop)]
+#[derive(Clone, Copy)]
 pub struct Id {
     pub client: u64,
     pub clock: u32,
@@ -101,7 +103,7 @@ pub struct Id {
 // `has_left` says whether the left id is there, and so on; what is not there is zero. An id's client and clock stand with their like, and kind, flags and type
 // number side by side behind the numbers: 128 bytes.
 #[repr(C)]
-#[derive(Drop)]
+#[derive(Clone, Copy)]
 pub struct Block {
     pub client: u64,
     pub left_client: u64,

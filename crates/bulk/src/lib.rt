@@ -1,6 +1,8 @@
 // Columns in bulk: as many values as what is lent has room for, or up to the first draw that is refused; zeros behind them. The answer says how many
 // and the place after them, and a refusal only where the very first draw is refused: then the place is as it was, and what was lent is all zero.
 // A draw is written here a second time, beside `columns` and `string`, with one caller each: so it becomes part of its loop (docs/DECISIONS.md).
+#![tactic(auto)]
+
 ghost use Rattle.std.specs.Prelude.{◌≡◌, true, ◌++◌, ◌+◌, ◌-◌, ◌≤◌, ◌<◌, eqb, length, take, drop, replicate};
 ghost use Rattle.numbers.specs.Number.{low_part, spelt, answer_at, read_signed, pick, none};
 ghost use Rattle.columns.specs.Number as numbers;
@@ -30,7 +32,7 @@ fn told(i: usize, why: Refusal) -> Refusal
 // ---- numbers
 
 #[repr(C)]
-#[derive(Drop)]
+#[derive(Clone, Copy)]
 pub struct NumbersRead {
     pub refusal: Refusal,
     pub count: usize,
@@ -299,7 +301,7 @@ pub fn read_numbers(column: &[u8], place: number::Place, out: &mut [u64]) -> Num
 // ---- differences
 
 #[repr(C)]
-#[derive(Drop)]
+#[derive(Clone, Copy)]
 pub struct DifferencesRead {
     pub refusal: Refusal,
     pub count: usize,
@@ -444,7 +446,7 @@ pub fn read_differences(column: &[u8], place: difference::Place, out: &mut [u64]
 // ---- bytes
 
 #[repr(C)]
-#[derive(Drop)]
+#[derive(Clone, Copy)]
 pub struct BytesRead {
     pub refusal: Refusal,
     pub count: usize,
@@ -549,7 +551,7 @@ pub fn read_bytes(column: &[u8], place: byte::Place, out: &mut [u8]) -> BytesRea
 // ---- texts
 
 #[repr(C)]
-#[derive(Drop)]
+#[derive(Clone, Copy)]
 pub struct TextsRead {
     pub refusal: Refusal,
     pub count: usize,

@@ -1,4 +1,6 @@
 // Runs calls of the public library from standard input, a case at a time, and prints a line a case: what the call answered.
+#![tactic(auto)]
+
 use part_cases::{listings, parts, vectors};
 use stream::input::Place;
 use stream::{Done, input, line};

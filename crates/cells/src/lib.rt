@@ -1,5 +1,7 @@
 // Where reading stands, as words that the loop over blocks lends: the columns of form 2, the place in line, and why a field was refused. A draw stores a few
 // words and gives back one, where a state given back by value was 390 bytes.
+#![tactic(auto)]
+
 ghost use Rattle.std.specs.Prelude.{◌≡◌, ◌≢◌, ◌+◌, ◌≤◌, ◌<◌, take, eqb};
 ghost use Rattle.columns.specs.Number as numbers;
 ghost use Rattle.columns.specs.Difference as differences;
@@ -30,14 +32,14 @@ pub const KEYS: usize = 68;
 pub const MAX_KEYS: u64 = 256;
 
 // A number; the words have the place that it is blamed at, or why there is none.
-#[derive(Drop)]
+#[derive(Clone, Copy)]
 pub enum Drawn {
     Number(u64),
     Refused,
 }
 
 // Whether a field is in its row; the words have why not.
-#[derive(Drop)]
+#[derive(Clone, Copy)]
 pub enum Field {
     Done,
     Refused,

@@ -1,5 +1,7 @@
 // The rows of a client that follow on each other, a chain, and where Skips lie among them; and what is seen of an id from where its client's queue stands, so
 // that it need not be sought.
+#![tactic(auto)]
+
 ghost use Rattle.std.specs.Prelude.{◌≡◌, ◌+◌, ◌*◌, ◌≤◌, length};
 ghost use Rattle.slots.specs.Slots.{slots_from, Falling};
 ghost use Rattle.picker.specs.Stages.{stage_at};
@@ -15,7 +17,7 @@ use placing::Span;
 
 // One more than the clock that rows which follow on each other have come to, or 0 if they do not; one more than the clock of the first Skip among them, or
 // SKIPLESS; and the clock after the last Skip, or 0.
-#[derive(Drop)]
+#[derive(Clone, Copy)]
 pub struct Chain {
     pub end: u64,
     pub clear: u64,
@@ -106,7 +108,7 @@ pub fn put_chain(chains: &mut [u64], p: usize, chain: Chain)
 
 // The row of a client's first block; that of its next (the last, if all are taken); how many are taken, and whether that is all (1, or 0); and what is kept of
 // its chain.
-#[derive(Drop)]
+#[derive(Clone, Copy)]
 pub struct Stand {
     pub first: usize,
     pub next: usize,
@@ -252,7 +254,7 @@ pub fn next_number(t: Stand) -> u32
 // ---- what an id waits for, in one word
 
 // A stage of a block, its id taken apart.
-#[derive(Drop)]
+#[derive(Clone, Copy)]
 pub struct Ask {
     pub there: bool,
     pub client: u64,

@@ -9,7 +9,7 @@ use stream::input::Place;
 use stream::{Done, input, line};
 
 // A reading: the refusal that ended it, zeros if every value asked came, and how many came.
-#[derive(Drop)]
+#[derive(Clone, Copy)]
 struct Drawn {
     refusal: Refusal,
     count: usize,

@@ -4,7 +4,7 @@ use stream::input::Place;
 use stream::{Done, input, line};
 
 // Which writer is asked, and the number it writes; the columns' writers take the bytes and the list beside.
-#[derive(Drop)]
+#[derive(Clone, Copy)]
 pub enum Writer {
     Unsigned(u64),
     Signed(bool, u64),

@@ -7,7 +7,7 @@ use numbers::{Read, Refusal};
 
 // The next byte, the run's first byte, its value, and how often that still stands, or that it stands without end.
 #[repr(C)]
-#[derive(Drop)]
+#[derive(Clone, Copy)]
 pub struct Place {
     pub at: usize,
     pub from: usize,
@@ -16,7 +16,7 @@ pub struct Place {
     pub endless: bool,
 }
 
-#[derive(Drop)]
+#[derive(Clone, Copy)]
 pub enum Answer {
     Next(u8, Place),
     Bad(Refusal),

@@ -9,7 +9,7 @@ use numbers::{Read, Refusal, Signed};
 
 // The next byte, the run's first byte, the value before, the difference's key, and how often it still applies.
 #[repr(C)]
-#[derive(Drop)]
+#[derive(Clone, Copy)]
 pub struct Place {
     pub at: usize,
     pub from: usize,
@@ -18,7 +18,7 @@ pub struct Place {
     pub count: u32,
 }
 
-#[derive(Drop)]
+#[derive(Clone, Copy)]
 pub enum Answer {
     Next(u32, Place),
     Bad(Refusal),

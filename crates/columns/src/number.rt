@@ -8,7 +8,7 @@ use numbers::{Read, Refusal, Signed};
 
 // The next byte, the run's first byte, its value, and how often that still stands.
 #[repr(C)]
-#[derive(Drop)]
+#[derive(Clone, Copy)]
 pub struct Place {
     pub at: usize,
     pub from: usize,
@@ -16,7 +16,7 @@ pub struct Place {
     pub count: u32,
 }
 
-#[derive(Drop)]
+#[derive(Clone, Copy)]
 pub enum Answer {
     Next(u64, Place),
     Bad(Refusal),

@@ -1,4 +1,6 @@
 // Where the stored part of a block lies in its update: the whole update is read, with no table.
+#![tactic(auto)]
+
 ghost use Rattle.std.specs.Prelude.{◌≡◌, replicate};
 ghost use Rattle.cells.specs.Cells.{Small};
 ghost use Rattle.update.specs.Steps.{comes, Fine};
@@ -12,7 +14,7 @@ use text::Part;
 use update::{Begun, Spot, Step};
 
 // The row of the block sought, or the row that has none; and the place after all blocks.
-#[derive(Drop)]
+#[derive(Clone, Copy)]
 pub enum Scanned {
     Row(Block, usize),
     Refused(Refusal),
@@ -55,7 +57,7 @@ pub fn scan(form: u8, update: &[u8], w: &mut [u64], s: Spot, n: usize) -> Scanne
     }
 }
 
-#[derive(Drop)]
+#[derive(Clone, Copy)]
 pub enum Found {
     Part(Part),
     Refused(Refusal),

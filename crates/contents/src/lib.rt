@@ -1,4 +1,6 @@
 // The public call `content`: the stored part of a block, as a part of the lent update itself.
+#![tactic(auto)]
+
 pub mod answer;
 
 ghost use Rattle.std.specs.Prelude.{◌≡◌};
@@ -12,7 +14,7 @@ use text::{Bytes, Part};
 
 // A refusal, zeros for done, and where the part lies that is handed back with it.
 #[repr(C)]
-#[derive(Drop)]
+#[derive(Clone, Copy)]
 pub struct Where {
     pub refusal: Refusal,
     pub part: Part,

@@ -1,5 +1,7 @@
 // The delete set of an update, in either form: read into words that are lent, three a range, in normal form; or only checked. All of it is in
 // line, so it is read by its place.
+#![tactic(auto)]
+
 ghost use Rattle.std.specs.Prelude.{◌≡◌, ◌/◌, ◌<◌, eqb, length};
 ghost use Rattle.numbers.specs.Number.{pick, read_unsigned};
 ghost use Rattle.grammar.specs.Course.{fit, ending};
@@ -44,7 +46,7 @@ fn read_at(update: &[u8], at: usize, low: u64, most: u64) -> Read
 }
 
 // Where reading stands: the next byte, how many clients are left, how many ranges of this client, and where its range before ended.
-#[derive(Drop)]
+#[derive(Clone, Copy)]
 struct Spot {
     at: usize,
     clients: u64,
@@ -68,7 +70,7 @@ fn first(clients: u64, at: usize) -> Spot
 
 // A range is its client, clock and length, and the place that its clock is blamed at. `On`: a client's head or an empty range was read.
 // `Done` has the place after the last range.
-#[derive(Drop)]
+#[derive(Clone, Copy)]
 enum Move {
     Range(u64, u64, u64, usize, Spot),
     On(Spot),
@@ -148,7 +150,7 @@ fn move_on(form: u8, update: &[u8], p: Spot) -> Move
     Move::Done(at)
 }
 
-#[derive(Drop)]
+#[derive(Clone, Copy)]
 pub enum Checked {
     Done(usize),
     Refused(Refusal),
@@ -184,7 +186,7 @@ pub fn check_delete_set(form: u8, update: &[u8], at: usize) -> Checked
     }
 }
 
-#[derive(Drop)]
+#[derive(Clone, Copy)]
 enum Collected {
     Rows(usize, usize),
     Refused(Refusal),
@@ -228,7 +230,7 @@ fn collect(form: u8, update: &[u8], at: usize, words: &mut [u64]) -> Collected
 }
 
 // How many ranges the normal form has, and the place after them.
-#[derive(Drop)]
+#[derive(Clone, Copy)]
 pub enum Set {
     Ranges(usize, usize),
     Refused(Refusal),

@@ -1,4 +1,6 @@
 // Operation 16 of the case program: a diff, and the tables that its update was read into.
+#![tactic(auto)]
+
 use block::Block;
 use diffs::Diff;
 use part_cases::listings;
@@ -68,7 +70,7 @@ fn ask(
 }
 
 // What a case asks beside its update and its vector: the forms, and how many rows, words and bytes are lent.
-#[derive(Drop)]
+#[derive(Clone, Copy)]
 struct Asked {
     form: u8,
     to: u8,
@@ -116,7 +118,7 @@ fn lend_room(case: Asked, update: &[u8], vector: &[u8], sink: &mut [u8], used: u
 }
 
 // The form of the update, and the form that the diff is written in.
-#[derive(Drop)]
+#[derive(Clone, Copy)]
 struct Forms {
     form: u8,
     to: u8,

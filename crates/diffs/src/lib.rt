@@ -1,5 +1,7 @@
 // The public calls that write updates. None asks anything of its caller. An answer begins with its refusal, zeros for done; a refusal has zeros for
 // counts and leaves zeros in what was lent.
+#![tactic(auto)]
+
 ghost use Rattle.std.specs.Prelude.{◌≡◌, [], length};
 ghost use Rattle.numbers.specs.Output.{padded};
 ghost use Rattle.updates.specs.Promises.{known, refused, table_of, range_words};
@@ -10,7 +12,7 @@ use numbers::Refusal;
 
 // How many bytes were written, and how many blocks and delete ranges were read.
 #[repr(C)]
-#[derive(Drop)]
+#[derive(Clone, Copy)]
 pub struct Diff {
     pub refusal: Refusal,
     pub bytes: usize,

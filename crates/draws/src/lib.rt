@@ -1,1 +1,2 @@
 // No code: written tokens are drawn again, in either form.
+#![tactic(auto)]

@@ -1,4 +1,6 @@
 // The passes over the block table: a plan of what is kept, the planned rows measured for form 2, and the planned rows written.
+#![tactic(auto)]
+
 pub mod steps;
 
 ghost use Rattle.std.specs.Prelude.{◌≡◌, true, ◌*◌, ◌<◌, ◌≤◌, length, take};

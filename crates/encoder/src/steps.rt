@@ -8,7 +8,7 @@ use block::Block;
 use kept::plan::Planning;
 
 // How many sections are kept, whether a cut would be inside a pair, and whether a format is among them.
-#[derive(Drop)]
+#[derive(Clone, Copy)]
 pub struct Outcome {
     pub sections: usize,
     pub torn: bool,

@@ -1,1 +1,2 @@
 // No code: what an explanation says of a block is what was read of it.
+#![tactic(auto)]

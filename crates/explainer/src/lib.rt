@@ -1,5 +1,7 @@
 // The draws that made a block, each with its origin: the update's blocks are read again, draw by draw, up to the end of the one sought. Its lines lie in a
 // sheet: those of its section's head are lines 0 to 2, that of its clock line 3, its own lines 4 and on.
+#![tactic(auto)]
+
 ghost use Rattle.std.specs.Prelude.{◌≡◌, false, ◌≤◌, length};
 ghost use Rattle.cells.specs.Cells.{state_in, Small};
 ghost use Rattle.origins.specs.Sheets.{lines_from};

@@ -1,5 +1,7 @@
 // The public call `explain`: for a block that was read, where each of its numbers came from. It asks nothing of its caller; after a refusal the words lent
 // are zeros.
+#![tactic(auto)]
+
 ghost use Rattle.std.specs.Prelude.{◌≡◌, ◌≤◌, length};
 ghost use Rattle.std.proofs.Math.Seq.{paste};
 ghost use Rattle.origins.specs.Sheets.{lines_from};
@@ -13,14 +15,14 @@ use update::Begun;
 
 // A refusal, zeros for done, and how many lines of twelve words each were told.
 #[repr(C)]
-#[derive(Drop)]
+#[derive(Clone, Copy)]
 pub struct Explained {
     pub refusal: Refusal,
     pub lines: usize,
 }
 
 // Whether an update reads, from its form to its delete set.
-#[derive(Drop)]
+#[derive(Clone, Copy)]
 pub enum Whole {
     Reads,
     Refused(Refusal),

@@ -1,5 +1,7 @@
 // The fields of an update over the words in which reading stands: in line in form 1, from the columns in any other. Each gives back what it read, or says in
 // the words why not.
+#![tactic(auto)]
+
 ghost use Rattle.std.specs.Prelude.{◌≡◌, ◌+◌, ◌≤◌, ◌<◌, length};
 ghost use Rattle.grammar.specs.Grammar as grammar;
 ghost use Rattle.decoder.specs.Line.{up_to, byte_at, bytes_at, checked};

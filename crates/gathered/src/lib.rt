@@ -1,5 +1,7 @@
 // The rows of an update, gathered while it is read, with no table: a row for each client with kept blocks, highest client first, four words a row. A
 // section has a row, and a word in the order of clients; the same order tells whether a client was seen.
+#![tactic(auto)]
+
 ghost use Rattle.std.specs.Prelude.{◌≡◌, ◌≢◌, [], ◌≤◌, ◌<◌, length, take};
 ghost use Rattle.numbers.specs.Limits.{max_clock, max_clients, max_blocks};
 ghost use Rattle.cells.specs.Cells.{Small, Enough};
@@ -36,7 +38,7 @@ fn begin(form: u8, update: &[u8], w: &mut [u64]) -> Drawn
 }
 
 // A section's head: how many blocks, whose, and from which clock on.
-#[derive(Drop)]
+#[derive(Clone, Copy)]
 pub enum Head {
     At(u64, u64, u64),
     Refused(Refusal),
@@ -73,7 +75,7 @@ fn read_head(
 }
 
 // The blocks of a section: the first's clock, the last's end, how many.
-#[derive(Drop)]
+#[derive(Clone, Copy)]
 pub enum Tallied {
     Blocks(u64, u64, u64),
     Refused(Refusal),
@@ -141,7 +143,7 @@ fn tally_blocks(
 }
 
 // How many sections there are, and the place after all blocks.
-#[derive(Drop)]
+#[derive(Clone, Copy)]
 pub enum Scanned {
     Sections(usize, usize),
     Refused(Refusal),
@@ -182,7 +184,7 @@ fn scan(
     Scanned::Sections(seen, at)
 }
 
-#[derive(Drop)]
+#[derive(Clone, Copy)]
 pub enum Gathered {
     Rows(usize),
     Refused(Refusal),

@@ -1,4 +1,6 @@
 // What an item holds, in either form, read into the words of its row: the length, the kind, the part, the mark and the type number.
+#![tactic(auto)]
+
 ghost use Rattle.std.specs.Prelude.{◌≤◌};
 ghost use Rattle.grammar.specs.Blocks as blocks;
 ghost use Rattle.cells.specs.Cells.{Small};

@@ -1,4 +1,6 @@
 // What the public call that sorts by held ids answers: the held ids read, a refusal, and an answer that is done.
+#![tactic(auto)]
+
 ghost use Rattle.std.specs.Prelude.{◌≡◌, length};
 ghost use Rattle.held_answers.specs.Answers.{refused_with, answered};
 ghost use Rattle.held_answers.specs.AnswersInner.{read_held, words_given, answer_to};
@@ -10,7 +12,7 @@ use updates::Update;
 
 // How many blocks were taken, how many clients each report names, how many blocks and delete ranges were read, and how many held ranges.
 #[repr(C)]
-#[derive(Drop)]
+#[derive(Clone, Copy)]
 pub struct SortedHeld {
     pub refusal: Refusal,
     pub steps: usize,
@@ -22,7 +24,7 @@ pub struct SortedHeld {
 }
 
 // The held ids that a caller gives: how many ranges they are in normal form, or the number of a refusal.
-#[derive(Drop)]
+#[derive(Clone, Copy)]
 pub struct HeldRead {
     pub refused: bool,
     pub number: u8,

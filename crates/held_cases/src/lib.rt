@@ -1,4 +1,6 @@
 // Operations 22 and 27 of the case program: a sort by held ids, its reports, the held ids, and the tables that its update was read into.
+#![tactic(auto)]
+
 use block::Block;
 use held_answers::SortedHeld;
 use stream::input::Place;
@@ -66,7 +68,7 @@ fn ask(
 }
 
 // What a case asks beside its update and its held ids: the sorter, the form, and how many rows and words are lent.
-#[derive(Drop)]
+#[derive(Clone, Copy)]
 struct Asked {
     slowly: bool,
     form: u8,

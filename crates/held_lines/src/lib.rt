@@ -1,4 +1,6 @@
 // What the lines of sorts by held ids have beside rows: the order, the reports, the held ids, and the verdict before them.
+#![tactic(auto)]
+
 use held_answers::SortedHeld;
 use stream::line;
 use update_cases::rows::Told;

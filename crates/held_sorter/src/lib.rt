@@ -1,4 +1,6 @@
 // The sorter by held ids: the rows of an update noted in slots, then one front looked at after another, each row by number, and the reports.
+#![tactic(auto)]
+
 ghost use Rattle.std.specs.Prelude.{◌≡◌, [], ◌+◌, ◌*◌, ◌≤◌, length, take};
 ghost use Rattle.std.proofs.lemmas.List.Edits.{sets};
 ghost use Rattle.slots.specs.Slots.{slot_at, slots_from, Falling};

@@ -1,4 +1,6 @@
 // A block of an update, in either form: one grammar over the words in which reading stands and the words of the row that is being read.
+#![tactic(auto)]
+
 ghost use Rattle.std.specs.Prelude.{◌≡◌, ◌+◌, ◌≤◌, ◌<◌, length, get_or};
 ghost use Rattle.numbers.specs.Limits.{max_clock};
 ghost use Rattle.block.specs.Rows.{plain};

@@ -11,7 +11,7 @@ use text::{Bytes, Part, Units};
 
 // A row to be written, or NOWHERE: how many units and bytes of it fall away; how many pieces its section has, if it is the first of them, else 0;
 // how many rows of the section are left behind it; and the section after it.
-#[derive(Drop)]
+#[derive(Clone, Copy)]
 pub struct Cursor {
     pub row: usize,
     pub from: Units,
@@ -85,7 +85,7 @@ pub fn advance(plan: &[u64], n: usize, c: Cursor) -> Cursor
 }
 
 // Where a piece begins and ends in its row, in units; how many bytes of the row's text or list stand before it, and how many it has.
-#[derive(Drop)]
+#[derive(Clone, Copy)]
 pub struct Ends {
     pub from: Units,
     pub to: Units,

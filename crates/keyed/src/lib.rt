@@ -1,5 +1,7 @@
 // Keys, values and type numbers of an update over the words in which reading stands. In form 2 a key has a number: one that was read is that key again, any
 // other takes the next text, which joins the keys read; so what the words have of a key is its place.
+#![tactic(auto)]
+
 ghost use Rattle.std.specs.Prelude.{◌≡◌, ◌+◌, ◌≤◌, ◌<◌, length, get_or};
 ghost use Rattle.block.specs.Row.{no_part};
 ghost use Rattle.grammar.specs.Grammar as grammar;

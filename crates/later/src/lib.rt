@@ -1,1 +1,2 @@
 // No code: asking later never makes things worse.
+#![tactic(auto)]

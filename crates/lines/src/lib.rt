@@ -1,5 +1,7 @@
 // Text put into lent bytes, a piece after another: each call takes how many bytes the text has so far and gives how many it has then.
 // Bytes past the end are only counted.
+#![tactic(auto)]
+
 ghost use Rattle.std.specs.Prelude.{◌≡◌, ◌+◌, ◌^◌, ◌<◌, [], ◌∷◌, length};
 ghost use Rattle.lines.specs.Lines.{decimal};
 ghost use Rattle.lines.specs.LinesInner.{overlay};

@@ -1,4 +1,6 @@
 // The listing of an update, as text in lent bytes: what the program `listing` prints.
+#![tactic(auto)]
+
 ghost use Rattle.std.specs.Prelude.{◌≡◌, ◌+◌, ◌*◌, ◌^◌, ◌≤◌, ◌<◌, length, take};
 ghost use Rattle.ranges.specs.TableInner.{rows_from};
 ghost use Rattle.lines.specs.LinesInner.{overlay};

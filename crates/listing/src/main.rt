@@ -1,4 +1,6 @@
 // Prints the listing of the update on standard input: a form byte, then the update.
+#![tactic(auto)]
+
 use libc::STDIN_FILENO;
 use stream::line;
 

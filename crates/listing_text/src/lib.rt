@@ -1,4 +1,6 @@
 // The lines of a listing, put into lent bytes: each call takes how many bytes the text has so far and gives how many it has then.
+#![tactic(auto)]
+
 ghost use Rattle.std.specs.Prelude.{◌≡◌, ◌+◌, ◌*◌, ◌^◌, ◌≤◌, ◌<◌, length, take};
 ghost use Rattle.ranges.specs.Table.{range};
 ghost use Rattle.ranges.specs.TableInner.{rows_from};

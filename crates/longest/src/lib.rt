@@ -1,1 +1,2 @@
 // No code: the writers' runs are the longest there are.
+#![tactic(auto)]

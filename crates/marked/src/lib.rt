@@ -1,4 +1,6 @@
 // The contents that have a mark, a type number or plain values, written token by token in either form.
+#![tactic(auto)]
+
 ghost use Rattle.tokens.specs.Desk.{Room, Aliased, WroteKeys};
 ghost use Rattle.marked.specs.Marked.{format_tokens, type_tokens, marked_tokens};
 

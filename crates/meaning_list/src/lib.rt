@@ -1,1 +1,2 @@
 // No code: what `list` prints, over the short reading of an update, and that its promise says the same.
+#![tactic(auto)]

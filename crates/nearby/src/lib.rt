@@ -1,5 +1,7 @@
 // What a sorter by held ids looks up in the block table at a look: the chains of all clients once, then a row by number, hanging only on what is not met. An id
 // is sought only where it is not seen from where its client's queue stands.
+#![tactic(auto)]
+
 ghost use Rattle.std.specs.Prelude.{◌≡◌, ◌*◌, ◌≤◌, ◌<◌, length, get_or};
 ghost use Rattle.block.specs.Row.{no_block};
 ghost use Rattle.slots.specs.Slots.{slots_from, Falling};

@@ -1,4 +1,6 @@
 // Operations 1 to 12 of the case program, told apart: numbers, and columns read and written.
+#![tactic(auto)]
+
 use column_cases::lent::Writer;
 use column_cases::{columns_of, numbers_of};
 use readers::Kind;

@@ -1,1 +1,2 @@
 // No code: sorting by held ids is sorting by the numbers of the blocks that hold them.
+#![tactic(auto)]

@@ -1,5 +1,7 @@
 // Keys in form 2, by number: the keys known stand in lent words behind the lanes, place and bytes of each. A key is looked for among them, at most 256, by its
 // bytes; one that is not there takes the next number, and its text follows. A long key that is named again is known by its part (`aliases`).
+#![tactic(auto)]
+
 pub mod aliases;
 
 ghost use Rattle.std.specs.Prelude.{◌≡◌, [], ◌∷◌, ◌≤◌, ◌<◌, length};

@@ -1,5 +1,7 @@
 // Whole slices in one pass: values are judged as they are written, for a refusal leaves zeros anyway. Where room ends nothing more is written, and the
 // judging goes on, so that 3 comes before 13 and 13 before 10. The state is words of its own, not a `Writer`: so it stays in registers.
+#![tactic(auto)]
+
 ghost use Rattle.std.specs.Prelude.{◌≡◌, true, ◌+◌, ◌-◌, ◌^◌, ◌≤◌, ◌<◌, length, drop};
 ghost use Rattle.std.proofs.lemmas.List.Edits.{sets};
 ghost use Rattle.numbers.specs.Number.{pick};
@@ -224,7 +226,7 @@ pub fn write_bytes(out: &mut [u8], values: &[u8]) -> Written
 // ---- texts
 
 // Where the texts taken so far end, and whether the next was there.
-#[derive(Drop)]
+#[derive(Clone, Copy)]
 pub struct Taking {
     pub at: usize,
     pub found: bool,

@@ -1,4 +1,6 @@
 // Form 2 opened into the words that reading stands in: the flag, the nine columns, the text.
+#![tactic(auto)]
+
 ghost use Rattle.std.specs.Prelude.{◌≡◌, ◌≤◌, ◌<◌, length};
 ghost use Rattle.decoder.specs.Opening.{text_opened};
 ghost use Rattle.cells.specs.Cells.{state_in, Small, Enough};

@@ -1,4 +1,6 @@
 // Where a value that was drawn from an update came from: its bytes, its run, its base and its difference, as a line of words.
+#![tactic(auto)]
+
 ghost use Rattle.std.specs.Prelude.{◌≡◌, ◌+◌, ◌*◌, ◌≤◌, length};
 ghost use Rattle.numbers.specs.Number.{read_unsigned, read_signed};
 ghost use Rattle.block.specs.Row.{no_part};
@@ -13,7 +15,7 @@ use text::{Bytes, Part};
 
 // Where a value stands: the place of its first byte in the update, of a run the run's first byte, and how many bytes it has there. Source 0: in line. 1: a run,
 // of which it is the `which`-th value of so many. 2: a byte that stands without end.
-#[derive(Drop)]
+#[derive(Clone, Copy)]
 pub struct Stand {
     pub place: u64,
     pub bytes: u64,
@@ -23,7 +25,7 @@ pub struct Stand {
 }
 
 // A value that is a difference from a base, the value before: sign 1 plus, 2 minus. Zeros where it is none.
-#[derive(Drop)]
+#[derive(Clone, Copy)]
 pub struct Rise {
     pub base: u64,
     pub sign: u64,
@@ -31,7 +33,7 @@ pub struct Rise {
 }
 
 // A draw: which field (`roles`), its value, where it stands, what it is a difference from, and the stored bytes that it leads to.
-#[derive(Drop)]
+#[derive(Clone, Copy)]
 pub struct Line {
     pub field: u64,
     pub value: u64,
@@ -210,7 +212,7 @@ fn rising(base: u64, key: u64) -> Rise
 // ---- a number that was drawn
 
 // A number: from a column in form 2, or in line, up to so much.
-#[derive(Drop)]
+#[derive(Clone, Copy)]
 pub enum Number {
     Client,
     LeftClock,

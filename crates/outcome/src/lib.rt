@@ -1,1 +1,2 @@
 // No code: the sorter's looks come to the one outcome of sorting.
+#![tactic(auto)]

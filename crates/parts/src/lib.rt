@@ -1,4 +1,6 @@
 // The bytes of a part, as far as the update has them.
+#![tactic(auto)]
+
 ghost use Rattle.std.specs.Prelude.{◌≡◌, ◌-◌, ◌≤◌, length};
 ghost use Rattle.readings.specs.Sound.{bytes_in};
 

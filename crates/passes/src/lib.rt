@@ -1,4 +1,6 @@
 // A form written, all its lanes at once: form 1 in one pass over the planned rows, form 2 in two, the first to measure.
+#![tactic(auto)]
+
 pub mod leads;
 
 ghost use Rattle.std.specs.Prelude.{◌≡◌, [], ◌∷◌, ◌*◌, ◌≤◌, length};
@@ -14,7 +16,7 @@ ghost use Rattle.passes.specs.Measures.{measured_for};
 use block::Block;
 
 // Whether a difference cannot be spelled, and whether there are more keys than form 2 may have.
-#[derive(Drop)]
+#[derive(Clone, Copy)]
 pub struct Measured {
     pub far: bool,
     pub crowded: bool,

@@ -6,7 +6,7 @@ ghost use Rattle.picker.specs.Fronts.{no_front, fresh, front_at, put_front, open
 
 // The row of the client's next block, and how many are left; it waits until the reach of a slot has come to `need` clocks (0: it may be looked at,
 // NEVER: it may not), so many stages of its rule having been looked at; and the client of the one that it waits for.
-#[derive(Drop)]
+#[derive(Clone, Copy)]
 pub struct Front {
     pub next: usize,
     pub left: usize,

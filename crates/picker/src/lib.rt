@@ -1,4 +1,6 @@
 // A sorter looks at one front after another: it takes the front's block, or finds what the front waits for. What a block waits for is a rule's (stages).
+#![tactic(auto)]
+
 pub mod fronts;
 pub mod rule13;
 pub mod rule28;
@@ -15,7 +17,7 @@ use fronts::Front;
 use stages::Dependency;
 
 // The front that is looked at: its slot and its row, or NOWHERE; how many steps were made; how many looks are left.
-#[derive(Drop)]
+#[derive(Clone, Copy)]
 pub struct Look {
     pub slot: usize,
     pub row: usize,

@@ -7,7 +7,7 @@ use crate::{rule13, rule28};
 use block::{Block, Id};
 
 // An id that a block may wait for.
-#[derive(Drop)]
+#[derive(Clone, Copy)]
 pub struct Dependency {
     pub there: bool,
     pub id: Id,

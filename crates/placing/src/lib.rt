@@ -1,5 +1,7 @@
 // What a sorter by held ids finds by halving, and makes of it: whether ranges hold an id; which rows a client has, and which of two halves is left of
 // them; and a block that hangs on the numbers of other blocks in place of ids.
+#![tactic(auto)]
+
 ghost use Rattle.std.specs.Prelude.{◌≡◌, ◌+◌, ◌-◌, ◌*◌, ◌≤◌, ◌<◌, length};
 ghost use Rattle.numbers.specs.Limits.{max_clock};
 ghost use Rattle.ranges.specs.TableInner.{row};
@@ -14,7 +16,7 @@ use text::{Bytes, Part, Units};
 // ---- halving
 
 // The rows from lo on, up to hi.
-#[derive(Drop)]
+#[derive(Clone, Copy)]
 pub struct Span {
     pub lo: usize,
     pub hi: usize,

@@ -1,4 +1,6 @@
 // The blocks of an update, read into lent rows.
+#![tactic(auto)]
+
 ghost use Rattle.std.specs.Prelude.{◌≡◌, ◌≢◌, length, replicate};
 ghost use Rattle.cells.specs.Cells.{Small, Enough};
 ghost use Rattle.grammar.specs.Course.{fit};
@@ -11,7 +13,7 @@ use numbers::Refusal;
 use update::{Begun, Spot, Step};
 
 // How many rows hold a block and the place after the blocks, or why there are none.
-#[derive(Drop)]
+#[derive(Clone, Copy)]
 pub enum Filled {
     Rows(usize, usize),
     Refused(Refusal),

@@ -1,5 +1,7 @@
 // Column readers: a column's bytes with a place in them. A read answers and moves the reader on; a refused read changes nothing in it.
 // One reader serves the four columns: its place says which one it is in. All is decided by value, in `begin` and `step_of`.
+#![tactic(auto)]
+
 ghost use Rattle.std.specs.Prelude.{◌≡◌};
 ghost use Rattle.columns.specs.Number.{next_number};
 ghost use Rattle.columns.specs.Difference.{next_difference};
@@ -12,7 +14,7 @@ use columns::{byte, difference, number};
 use numbers::Refusal;
 use text::{Bytes, Part};
 
-#[derive(Drop)]
+#[derive(Clone, Copy)]
 pub enum Kind {
     Number,
     Difference,
@@ -21,7 +23,7 @@ pub enum Kind {
 }
 
 // A place in a column, by its kind.
-#[derive(Drop)]
+#[derive(Clone, Copy)]
 pub enum Place {
     Number(number::Place),
     Difference(difference::Place),
@@ -29,20 +31,20 @@ pub enum Place {
     Text(string::Place),
 }
 
-#[derive(Drop)]
+#[derive(Clone, Copy)]
 pub struct Column<'a> {
     pub bytes: &'a [u8],
     pub place: Place,
 }
 
-#[derive(Drop)]
+#[derive(Clone, Copy)]
 pub struct Opened<'a> {
     pub refusal: Refusal,
     pub column: Column<'a>,
 }
 
 // The value that was read, or where in the column the text lies that was read; the other is zero.
-#[derive(Drop)]
+#[derive(Clone, Copy)]
 pub struct Answer {
     pub refusal: Refusal,
     pub value: u64,
@@ -80,7 +82,7 @@ fn refuse(why: Refusal) -> Answer
     }
 }
 
-#[derive(Drop)]
+#[derive(Clone, Copy)]
 pub struct Start {
     pub refusal: Refusal,
     pub place: Place,
@@ -154,7 +156,7 @@ fn begin(column: &[u8], kind: Kind) -> Start
 }
 
 // An answer, and the place after it: the same place where the read is refused.
-#[derive(Drop)]
+#[derive(Clone, Copy)]
 pub struct Step {
     pub place: Place,
     pub answer: Answer,

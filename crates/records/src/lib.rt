@@ -1,4 +1,6 @@
 // Records written, token by token, in either form: a block, a row that a plan names, a delete set.
+#![tactic(auto)]
+
 pub mod delete_set;
 
 ghost use Rattle.std.specs.Prelude.{◌≡◌, [], ◌∷◌, ◌+◌, ◌≤◌};

@@ -1,5 +1,7 @@
 // What a sorter reports when no front can be taken, highest client first: how many blocks of each client were taken, how far each client reaches, and what
 // the clients that have blocks left wait for. Where the words lent do not suffice, they are filled, and the words needed are still counted.
+#![tactic(auto)]
+
 ghost use Rattle.std.specs.Prelude.{◌≡◌, ◌+◌, ◌-◌, ◌*◌, ◌≤◌, ◌++◌, eqb, length, get_or, take, replicate};
 ghost use Rattle.std.proofs.lemmas.List.Edits.{sets};
 ghost use Rattle.numbers.specs.Number.{pick};

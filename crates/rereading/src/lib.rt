@@ -1,1 +1,2 @@
 // No code: theorems about diffs that are written.
+#![tactic(auto)]

@@ -1,4 +1,6 @@
 // The plan of an update's blocks, draw by draw: what the next field drawn is of its section or its block, by what was drawn before.
+#![tactic(auto)]
+
 ghost use Rattle.std.specs.Prelude.{◌≡◌, ◌+◌, ◌≤◌};
 ghost use Rattle.roles.specs.Roles as roles;
 ghost use Rattle.roles.specs.RolesInner as roles-inner;
@@ -8,7 +10,7 @@ ghost use Rattle.roles.specs.RolesInner.{is_bare, is_kept};
 
 // What a field is drawn for. A section has its block count, its client and its first clock; a block its info byte, and then what that byte announces. `Ended`:
 // nothing more of a block is drawn. `Over`: nothing more of the update's blocks.
-#[derive(Drop)]
+#[derive(Clone, Copy)]
 pub enum Role {
     Sections,
     Blocks,
@@ -41,7 +43,7 @@ pub enum Role {
 
 // Where the plan stands: what is drawn next; sections still to come, and blocks of this section behind this one; how many blocks may still be announced; the
 // section's first clock; of this block its clock, its info byte and that byte's place, and its length, as far as they are drawn.
-#[derive(Drop)]
+#[derive(Clone, Copy)]
 pub struct Plan {
     pub role: Role,
     pub sections: u64,

@@ -1,5 +1,7 @@
 // Runs: how the columns of numbers are written. Values come one at a time, equal neighbours become the longest run, and a run is spelled
 // by its column's rule. Here are the rules; `writer` has the state, `judge` what may be refused. `once` writes whole slices.
+#![tactic(auto)]
+
 pub mod byte;
 pub mod difference;
 pub mod judge;
@@ -12,7 +14,7 @@ ghost use Rattle.runs.specs.Runs.{coding};
 ghost use Rattle.runs.specs.RunsInner.{key_most, signed_run};
 
 // The columns of numbers.
-#[derive(Drop)]
+#[derive(Clone, Copy)]
 pub enum ColumnKind {
     Number,
     Difference,

@@ -7,7 +7,7 @@ use crate::ColumnKind;
 use numbers::Written;
 
 // The next place, the last value, its key, and how often that key stood so far.
-#[derive(Drop)]
+#[derive(Clone, Copy)]
 pub struct Writer {
     pub column: ColumnKind,
     pub at: usize,

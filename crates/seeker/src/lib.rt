@@ -1,4 +1,6 @@
 // What a sorter by held ids looks up in the block table: the row that holds an id, found by halving, and a row by number.
+#![tactic(auto)]
+
 ghost use Rattle.std.specs.Prelude.{◌≡◌, ◌*◌, ◌≤◌, ◌<◌, length, get_or};
 ghost use Rattle.block.specs.Row.{no_block};
 ghost use Rattle.slots.specs.Slots.{slots_from, Falling};

@@ -1,5 +1,7 @@
 // Most rows of form 2 measured, and not written: a GC, and an item beside others that is deleted, binary or text. Two passes go over a diff's rows, and the
 // first needs no more of a row than what its columns take; any other row is measured by writing it nowhere (`encoder`).
+#![tactic(auto)]
+
 ghost use Rattle.std.specs.Prelude.{◌≡◌, true, []};
 ghost use Rattle.numbers.specs.Number.{pick};
 ghost use Rattle.tokens.specs.Desk.{Tidy, Gauged};

@@ -1,4 +1,6 @@
 // The slow plain sorter by held ids, over the block table (W-211): the rows of an update noted in slots, the sweeps over the rows by number, and the reports.
+#![tactic(auto)]
+
 ghost use Rattle.std.specs.Prelude.{◌≡◌, [], ◌+◌, ◌*◌, ◌≤◌, ◌<◌, length, take, get_or};
 ghost use Rattle.std.proofs.lemmas.List.Edits.{sets};
 ghost use Rattle.slots.specs.Slots.{slot_at, slots_from, Falling};

@@ -1,4 +1,6 @@
 // The slow plain sorter over the block table: the rows of an update noted in slots, the vector's clients too, then the sweeps and the reports.
+#![tactic(auto)]
+
 ghost use Rattle.std.specs.Prelude.{◌≡◌, ◌*◌, ◌≤◌, length, take};
 ghost use Rattle.kept.specs.Plan.{entries_of};
 ghost use Rattle.slots.specs.Slots.{slots_from, Falling};

@@ -1,5 +1,7 @@
 // The public call that sorts slowly (W-211). It asks nothing of its caller. An answer begins with its refusal, zeros for done; a refusal has zeros for counts
 // and leaves zeros in what was lent.
+#![tactic(auto)]
+
 ghost use Rattle.slow_sorts.specs.Promises.{SortSlowly};
 
 use block::Block;

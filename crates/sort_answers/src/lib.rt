@@ -1,4 +1,6 @@
 // What the public call that sorts answers: how a sorting is judged, a refusal, and an answer that is done.
+#![tactic(auto)]
+
 ghost use Rattle.std.specs.Prelude.{◌≡◌};
 ghost use Rattle.sort_answers.specs.Answers.{is_rule, refused_with, answered};
 ghost use Rattle.sort_answers.specs.AnswersInner.{judged, answer_to};
@@ -9,7 +11,7 @@ use updates::Update;
 
 // How many blocks were taken, how many clients each report names, and how many blocks and delete ranges were read.
 #[repr(C)]
-#[derive(Drop)]
+#[derive(Clone, Copy)]
 pub struct Sorted {
     pub refusal: Refusal,
     pub steps: usize,

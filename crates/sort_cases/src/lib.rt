@@ -1,4 +1,6 @@
 // Operations 17, 25 and 26 of the case program: a sort, its reports, and the tables that its update was read into.
+#![tactic(auto)]
+
 use block::Block;
 use sort_answers::Sorted;
 use stream::input::Place;
@@ -112,7 +114,7 @@ fn ask(
 }
 
 // What a case asks beside its update and its vector: the sorter, the rule, the form, and how many rows and words are lent.
-#[derive(Drop)]
+#[derive(Clone, Copy)]
 struct Asked {
     slowly: bool,
     rule: u8,

@@ -1,4 +1,6 @@
 // What the lines of sorts have beside rows: the order, clients with a number each, and what waits.
+#![tactic(auto)]
+
 use part_cases::vectors;
 use sort_answers::Sorted;
 use stream::line;

@@ -1,4 +1,6 @@
 // The sorter: the rows of an update noted in slots, the vector's clients too, then one front looked at after another by a rule, and the reports.
+#![tactic(auto)]
+
 ghost use Rattle.std.specs.Prelude.{◌≡◌, [], ◌*◌, ◌/◌, ◌≤◌, length, take};
 ghost use Rattle.kept.specs.Plan.{entries_of};
 ghost use Rattle.slots.specs.Slots.{slots_from, noted_all, stored, Falling};
@@ -14,7 +16,7 @@ use slots::Noted;
 use vector::Entries;
 
 // How many steps were made, and how many words each report needs; or the number of a refusal.
-#[derive(Drop)]
+#[derive(Clone, Copy)]
 pub struct Sorting {
     pub number: u8,
     pub steps: usize,

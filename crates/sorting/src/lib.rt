@@ -1,1 +1,2 @@
 // No code: what sorting is, and that it has one outcome.
+#![tactic(auto)]

@@ -1,5 +1,7 @@
 // The public call that sorts. It asks nothing of its caller. An answer begins with its refusal, zeros for done; a refusal has zeros for counts and leaves
 // zeros in what was lent.
+#![tactic(auto)]
+
 ghost use Rattle.std.specs.Prelude.{◌≡◌, [], length};
 ghost use Rattle.numbers.specs.Output.{padded};
 ghost use Rattle.updates.specs.Promises.{refused, table_of, range_words};

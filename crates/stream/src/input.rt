@@ -5,34 +5,34 @@ ghost use Rattle.io.specs.Counts.{IsPrefixLen};
 use libc::STDIN_FILENO;
 
 // The buffer's bytes from `at` to `end` are not taken yet. Once an argument can't be had, `good` is false and stays so.
-#[derive(Drop)]
+#[derive(Clone, Copy)]
 pub struct Place {
     pub at: usize,
     pub end: usize,
     pub good: bool,
 }
 
-#[derive(Drop)]
+#[derive(Clone, Copy)]
 pub struct ByteTaken {
     pub value: u8,
     pub place: Place,
 }
 
-#[derive(Drop)]
+#[derive(Clone, Copy)]
 pub struct NumberTaken {
     pub value: u64,
     pub place: Place,
 }
 
 // How many of the lent bytes or numbers were taken.
-#[derive(Drop)]
+#[derive(Clone, Copy)]
 pub struct Taken {
     pub count: usize,
     pub place: Place,
 }
 
 // How many bytes of each of two lent buffers were taken.
-#[derive(Drop)]
+#[derive(Clone, Copy)]
 pub struct TwoTaken {
     pub first: usize,
     pub second: usize,

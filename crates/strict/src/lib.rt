@@ -1,4 +1,6 @@
 // The public call that reads an update for the archive: no byte of it may stay unexplained. It asks nothing of its caller, and answers as `read_update` does.
+#![tactic(auto)]
+
 ghost use Rattle.std.specs.Prelude.{◌≡◌, ◌≢◌};
 ghost use Rattle.cells.specs.Cells.{Small, Enough};
 ghost use Rattle.updates.specs.Promises.{refused, Leaves};

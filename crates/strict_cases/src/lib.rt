@@ -1,4 +1,6 @@
 // Operation 21 of the case program: an update, read strictly, into tables. It asks and prints what operation 14 does.
+#![tactic(auto)]
+
 use stream::input::Place;
 use stream::{Done, input};
 use update_cases::{rows, tables};

@@ -1,5 +1,7 @@
 // The text column: byte length, UTF-8 bytes, then a number column of unit lengths; a text takes whole characters until its units are used.
 // 03 74 68 69 01 02 is "t", "hi".
+#![tactic(auto)]
+
 ghost use Rattle.std.specs.Prelude.{◌≡◌, ◌⊎◌, ◌+◌, ◌≤◌, length};
 ghost use Rattle.std.proofs.Math.Seq.{slice};
 ghost use Rattle.text.specs.Utf8.{take_units};
@@ -12,20 +14,20 @@ use text::{Part, Taken, Units};
 
 // The next text's first byte, the end of all texts, and the place of the next unit length.
 #[repr(C)]
-#[derive(Drop)]
+#[derive(Clone, Copy)]
 pub struct Place {
     pub at: usize,
     pub end: usize,
     pub units: number::Place,
 }
 
-#[derive(Drop)]
+#[derive(Clone, Copy)]
 pub enum Opened {
     At(Place),
     Not(Refusal),
 }
 
-#[derive(Drop)]
+#[derive(Clone, Copy)]
 pub enum Answer {
     Next(Part, Place),
     Bad(Refusal),

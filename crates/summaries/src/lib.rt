@@ -1,4 +1,6 @@
 // The public calls on summaries: who is in an update, from which clock to which, in how many blocks, without opening it. They ask nothing of their callers.
+#![tactic(auto)]
+
 ghost use Rattle.std.specs.Prelude.{◌≡◌, [], ◌*◌, ◌≤◌, length, take};
 ghost use Rattle.numbers.specs.Output.{padded};
 ghost use Rattle.summary.specs.Summary.{one, summary_of};
@@ -11,7 +13,7 @@ use summary::Rows;
 
 // What a summary that is written says: a refusal, zeros for done, and how many bytes.
 #[repr(C)]
-#[derive(Drop)]
+#[derive(Clone, Copy)]
 pub struct Summarized {
     pub refusal: Refusal,
     pub bytes: usize,
@@ -19,7 +21,7 @@ pub struct Summarized {
 
 // What a summary that is read says: a refusal, zeros for done, and how many rows.
 #[repr(C)]
-#[derive(Drop)]
+#[derive(Clone, Copy)]
 pub struct SummaryRows {
     pub refusal: Refusal,
     pub count: usize,

@@ -1,5 +1,7 @@
 // A summary's bytes: version, row count, then client, first clock, last end and blocks of each row, in bits, the most significant first. Rows stand in
 // words, four a row. 10 20 00 00 00 00 00 05 00 00 00 00 00 00 00 08 00 04 says: client 5 from clock 0 up to 2, in one block.
+#![tactic(auto)]
+
 ghost use Rattle.std.specs.Prelude.{◌≡◌, ◌&&◌, [], ◌∷◌, ◌++◌, ◌+◌, ◌*◌, ◌/◌, ◌^◌, ◌≤◌, length, drop};
 ghost use Rattle.std.proofs.lemmas.List.Edits.{sets};
 ghost use Rattle.numbers.specs.Output.{padded};
@@ -134,7 +136,7 @@ pub fn put_words(rows: &mut [u64], k: usize, client: u64, first: u64, end: u64, 
 }
 
 // All rows taken, and whether they are fine; or the number of a refusal.
-#[derive(Drop)]
+#[derive(Clone, Copy)]
 pub enum Taken {
     All(bool),
     Refused(u8),
@@ -191,7 +193,7 @@ fn is_filled(s: &[u8], o: usize) -> bool
 }
 
 // How many rows were read, or the number of a refusal.
-#[derive(Drop)]
+#[derive(Clone, Copy)]
 pub enum Rows {
     Read(usize),
     Refused(u8),

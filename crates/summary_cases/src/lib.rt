@@ -1,4 +1,6 @@
 // Operations 19 and 20 of the case program: summaries, written and read.
+#![tactic(auto)]
+
 ghost use Rattle.std.specs.Prelude.{◌≤◌};
 
 use part_cases::listings;

@@ -1,5 +1,7 @@
 // What the slow plain sorter reports after its sweeps, highest client first: how many blocks of each client were taken, and what the front of each client that
 // has blocks left waits for, asked once more.
+#![tactic(auto)]
+
 ghost use Rattle.std.specs.Prelude.{◌≡◌, ◌+◌, ◌*◌, ◌≤◌, ◌<◌, length, get_or};
 ghost use Rattle.std.proofs.lemmas.List.Edits.{sets};
 ghost use Rattle.slots.specs.Slots.{slot_at, slots_from, Falling};

@@ -2,6 +2,8 @@
 // takes nothing. Slots name the clients, highest first, with the row of each one's first block and how many it has; `reach` has a word for each slot, how
 // far its client reaches, and `taken` another, how many of its blocks were taken. Where ids are held (W-206) a row is seen by number, from `held`, ranges of
 // ids in words; then a client reaches as far as its blocks were taken.
+#![tactic(auto)]
+
 ghost use Rattle.std.specs.Prelude.{◌≡◌, ◌+◌, ◌*◌, ◌≤◌, ◌<◌, length, get_or};
 ghost use Rattle.block.specs.Row.{no_block};
 ghost use Rattle.picker.specs.Picker.{nowhere, holds};

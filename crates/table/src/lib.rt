@@ -1,4 +1,6 @@
 // The block table: the few functions that touch its rows. All else sees one row by value.
+#![tactic(auto)]
+
 ghost use Rattle.std.specs.Prelude.{◌≡◌, ◌<◌, length, get_or, set};
 ghost use Rattle.block.specs.Row.{no_block};
 ghost use Rattle.table.specs.Rows.{filled_from, cleared_from};

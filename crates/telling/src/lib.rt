@@ -1,4 +1,6 @@
 // A draw, told: the field that a plan asks for is drawn, and its lines, with their origins, are put into a sheet.
+#![tactic(auto)]
+
 ghost use Rattle.std.specs.Prelude.{◌≡◌, ◌+◌, ◌*◌, ◌≤◌, length};
 ghost use Rattle.grammar.specs.Grammar as grammar;
 ghost use Rattle.decoder.specs.ColumnedInner.{fields};
@@ -15,7 +17,7 @@ use roles::{Plan, Role};
 use text::{Bytes, Part};
 
 // What the plan hears of a draw: the number, or a text's units; the place that the number is blamed at; and how many lines were told.
-#[derive(Drop)]
+#[derive(Clone, Copy)]
 pub enum Told {
     Lines(u64, u64, usize),
     Refused,
@@ -24,14 +26,14 @@ pub enum Told {
 // ---- what a plan asks for
 
 // Bytes in line: led by their length; a mark's value; so many plain values. These say the place that is blamed.
-#[derive(Drop)]
+#[derive(Clone, Copy)]
 pub enum Stored {
     Bytes,
     Value(u64),
     Values(u64, u64),
 }
 
-#[derive(Drop)]
+#[derive(Clone, Copy)]
 pub enum Asked {
     Number(Number),
     Text,

@@ -1,4 +1,6 @@
 // Operations 30 to 32 of the case program: the units of a text counted, a text taken by its units, a text cut.
+#![tactic(auto)]
+
 use stream::input::Place;
 use stream::{Done, input, line};
 use text::Units;

@@ -1,4 +1,6 @@
 // The lowest byte of an update that stays unread, found in the words that reading stands in.
+#![tactic(auto)]
+
 ghost use Rattle.std.specs.Prelude.{◌≡◌, [], eqb};
 ghost use Rattle.numbers.specs.Number.{pick};
 ghost use Rattle.cells.specs.Cells.{state_in, Small};

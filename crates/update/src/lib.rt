@@ -1,5 +1,7 @@
 // The blocks of an update, in either form, one at a time: each step reads a section's head or a block. A spot moves by value; where reading stands and the
 // row that is being read lie in words that the loop lends.
+#![tactic(auto)]
+
 ghost use Rattle.std.specs.Prelude.{◌≡◌, ◌≢◌, ◌≤◌, length};
 ghost use Rattle.cells.specs.Cells.{Small, Enough};
 ghost use Rattle.update.specs.Steps.{Fine, Stepped, Counted, Starts};
@@ -9,7 +11,7 @@ use numbers::Refusal;
 
 // What is still to come: sections, and blocks of this section; how many blocks may still be announced; how many clients were seen; the client
 // of this section and the clock of its next block.
-#[derive(Drop)]
+#[derive(Clone, Copy)]
 pub struct Spot {
     pub sections: u64,
     pub blocks: u64,
@@ -21,7 +23,7 @@ pub struct Spot {
 
 // A step: the row's words hold a block to keep, whose info byte stands at the place; a section's head, or an item of length 0, which is dropped; the end of
 // all blocks, with the place after it; a refusal.
-#[derive(Drop)]
+#[derive(Clone, Copy)]
 pub enum Step {
     Block(usize, Spot),
     On(Spot),
@@ -124,7 +126,7 @@ pub fn next(
     read_block(form, update, w, r, memory, s)
 }
 
-#[derive(Drop)]
+#[derive(Clone, Copy)]
 pub enum Begun {
     At(Spot),
     Refused(Refusal),

@@ -96,7 +96,7 @@ pub fn row(sink: &mut [u8], used: usize, b: Block) -> usize {
 }
 
 // What was printed of lent words: how much of the output's buffer is used, and where the printed words end.
-#[derive(Drop)]
+#[derive(Clone, Copy)]
 pub struct Listed {
     pub used: usize,
     pub at: usize,

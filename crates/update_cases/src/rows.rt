@@ -7,7 +7,7 @@ use text::{Bytes, Part, Units};
 use updates::Update;
 
 // How much of the output's buffer is used, and whether all rows seen that hold no block are zero.
-#[derive(Drop)]
+#[derive(Clone, Copy)]
 pub struct Told {
     pub used: usize,
     pub zero: bool,

@@ -47,7 +47,7 @@ fn lend(form: u8, update: &[u8], n: usize, lent: usize, sink: &mut [u8], used: u
 }
 
 // What a case asks beside its update: the form, and how many rows and words are lent.
-#[derive(Drop)]
+#[derive(Clone, Copy)]
 pub struct Asked {
     pub form: u8,
     pub rows: usize,

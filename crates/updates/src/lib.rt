@@ -1,5 +1,7 @@
 // The public call that reads an update. It asks nothing of its caller. An answer begins with its refusal, zeros for done; a refusal has zeros for counts
 // and leaves zeros in what was lent.
+#![tactic(auto)]
+
 ghost use Rattle.std.specs.Prelude.{◌≡◌};
 ghost use Rattle.updates.specs.Promises.{early, refused, answer, ReadUpdate};
 
@@ -10,7 +12,7 @@ use reader::Filled;
 
 // How many blocks and how many delete ranges were read.
 #[repr(C)]
-#[derive(Drop)]
+#[derive(Clone, Copy)]
 pub struct Update {
     pub refusal: Refusal,
     pub blocks: usize,

@@ -1,5 +1,7 @@
 // A state vector: how many entries, then a client and its clock each, as in 02 05 03 07 00: client 5 up to 3, client 7 up to 0.
 // What comes after the entries is not read.
+#![tactic(auto)]
+
 ghost use Rattle.std.specs.Prelude.{◌≡◌, [], ◌*◌, ◌≤◌, length, take};
 ghost use Rattle.numbers.specs.Limits.{max_clients};
 ghost use Rattle.numbers.specs.Output.{padded};
@@ -10,7 +12,7 @@ ghost use Rattle.vector.specs.VectorInner.{clocks_in, entries_of, kept, Filled, 
 use numbers::{Read, Refusal, words};
 
 // How many entries were read.
-#[derive(Drop)]
+#[derive(Clone, Copy)]
 pub enum Entries {
     Read(usize),
     Refused(Refusal),
@@ -18,7 +20,7 @@ pub enum Entries {
 
 // What a caller outside is told: how many entries, or a refusal and none. It blames no byte: places are an update's.
 #[repr(C)]
-#[derive(Drop)]
+#[derive(Clone, Copy)]
 pub struct Vector {
     pub refusal: Refusal,
     pub count: usize,

@@ -1,6 +1,8 @@
 // The public calls. None asks anything of its caller: any bytes, any place, any number is answered. An answer of reading begins with its refusal, the
 // number in document 01 and the byte that is blamed, zeros for done; any other with its number. A refusal has zeros for values and leaves zeros in what
 // was lent, and a refused `next_..` gives back its place.
+#![tactic(auto)]
+
 ghost use Rattle.wairokabi.specs.Promises.{ReadUnsigned, ReadSigned, WriteUnsigned, WriteSigned, CountUnits, TakeText, CutText, OpenNumbers, NextNumber, OpenDifferences, NextDifference, OpenBytes, NextByte, OpenText, NextText, WriteNumbers, WriteDifferences, WriteBytes, WriteTexts, ReadStateVector, refused_cut, cut_answer};
 ghost use Rattle.std.specs.Prelude.{◌≡◌};
 
@@ -12,7 +14,7 @@ use vector::Vector;
 // ---- numbers
 
 #[repr(C)]
-#[derive(Drop)]
+#[derive(Clone, Copy)]
 pub struct Unsigned {
     pub refusal: Refusal,
     pub value: u64,
@@ -41,7 +43,7 @@ pub fn read_unsigned(s: &[u8], at: usize) -> Unsigned
 
 // A sign and a size: minus zero keeps its minus.
 #[repr(C)]
-#[derive(Drop)]
+#[derive(Clone, Copy)]
 pub struct Signed {
     pub refusal: Refusal,
     pub minus: bool,
@@ -102,7 +104,7 @@ pub fn write_signed(out: &mut [u8], minus: bool, magnitude: u64) -> Written
 // ---- text
 
 #[repr(C)]
-#[derive(Drop)]
+#[derive(Clone, Copy)]
 pub struct Counted {
     pub number: u8,
     pub units: Units,
@@ -124,7 +126,7 @@ pub fn count_units(text: &[u8]) -> Counted
 }
 
 #[repr(C)]
-#[derive(Drop)]
+#[derive(Clone, Copy)]
 pub struct Cut {
     pub number: u8,
     pub bytes: Bytes,
@@ -189,7 +191,7 @@ pub fn open_numbers(at: usize) -> number::Place
 }
 
 #[repr(C)]
-#[derive(Drop)]
+#[derive(Clone, Copy)]
 pub struct NumberNext {
     pub refusal: Refusal,
     pub value: u64,
@@ -223,7 +225,7 @@ pub fn open_differences(at: usize) -> difference::Place
 }
 
 #[repr(C)]
-#[derive(Drop)]
+#[derive(Clone, Copy)]
 pub struct DifferenceNext {
     pub refusal: Refusal,
     pub value: u32,
@@ -257,7 +259,7 @@ pub fn open_bytes(at: usize) -> byte::Place
 }
 
 #[repr(C)]
-#[derive(Drop)]
+#[derive(Clone, Copy)]
 pub struct ByteNext {
     pub refusal: Refusal,
     pub value: u8,
@@ -285,7 +287,7 @@ pub fn next_byte(column: &[u8], place: byte::Place) -> ByteNext
 }
 
 #[repr(C)]
-#[derive(Drop)]
+#[derive(Clone, Copy)]
 pub struct TextOpened {
     pub refusal: Refusal,
     pub place: string::Place,
@@ -320,7 +322,7 @@ pub fn open_text(column: &[u8], at: usize) -> TextOpened
 }
 
 #[repr(C)]
-#[derive(Drop)]
+#[derive(Clone, Copy)]
 pub struct TextNext {
     pub refusal: Refusal,
     pub part: Part,

@@ -1,4 +1,6 @@
 // What is written of an update that was read: planned, measured, then written.
+#![tactic(auto)]
+
 ghost use Rattle.std.specs.Prelude.{◌≡◌, ◌*◌, ◌≤◌, length};
 ghost use Rattle.ranges.specs.TableInner.{rows_from};
 ghost use Rattle.vector.specs.Vector.{vector_of};

@@ -1,1 +1,2 @@
 // No code: a diff that is written is read again.
+#![tactic(auto)]
