@@ -8,8 +8,7 @@ use native.Mathlib.Nat.{mul-le-mul_right}
 use borrow.Author.Tests.{ltb-true, ltb-false}
 use borrow.Author.Rules.{rules}
 use Rattle.runs.specs.Difference.{zero_key, magnitude}
-use Rattle.runs.proofs.difference.magnitude_of.Statement.{statement}
-use Rattle.runs.proofs.difference.magnitude_of.Tie as tie
+use Rattle.runs.proofs.difference.magnitude_of.Goals as goal
 
 at_most : (h x : ℕ) → h ≤ 1 → h * x ≤ x
 at_most h x l = omega (arith, mul-le-mul_right x l)
@@ -32,36 +31,26 @@ halves : (k one : ℕ) → k < 4294967296 → one ≤ 1
     → k / 2147483648 * (2 * (k % 2147483648) + one) + (1 - k / 2147483648) * (4294967296 - (2 * (k % 2147483648) + one)) ≡ magnitude k one
 halves k one = halves-by k one (ltb k zero_key) refl
 
-mul-result : tie.Need-overflow-mul-result
-mul-result c =
-    let k = c.before.args.k in
+pub overflow_mul-result : goal.overflow_mul-result
+overflow_mul-result c = let k = c.args.k in
     let p : k / 2147483648 ≤ 1 = search rules in
-    let q = at_most (k / 2147483648) (2 * (k % 2147483648) + c.odd-of.result) p in
+    let q = at_most (k / 2147483648) (2 * (k % 2147483648) + c.odd_of-one.result) p in
     search rules
 
-mul-result-2 : tie.Need-overflow-mul-result-2
-mul-result-2 c =
-    let k = c.before.args.k in
+pub overflow_mul-result-2 : goal.overflow_mul-result-2
+overflow_mul-result-2 c = let k = c.args.k in
     let p : 1 - k / 2147483648 ≤ 1 = omega arith in
-    let q = at_most (1 - k / 2147483648) (4294967296 - (2 * (k % 2147483648) + c.odd-of.result)) p in
+    let q = at_most (1 - k / 2147483648) (4294967296 - (2 * (k % 2147483648) + c.odd_of-one.result)) p in
     search rules
 
-add-result : tie.Need-overflow-add-result
-add-result c =
-    let k = c.before.args.k in
+pub overflow_add-result : goal.overflow_add-result
+overflow_add-result c = let k = c.args.k in
     let p : k / 2147483648 ≤ 1 = search rules in
-    let q = at_most (k / 2147483648) (2 * (k % 2147483648) + c.odd-of.result) p in
+    let q = at_most (k / 2147483648) (2 * (k % 2147483648) + c.odd_of-one.result) p in
     let p2 : 1 - k / 2147483648 ≤ 1 = omega arith in
-    let q2 = at_most (1 - k / 2147483648) (4294967296 - (2 * (k % 2147483648) + c.odd-of.result)) p2 in
+    let q2 = at_most (1 - k / 2147483648) (4294967296 - (2 * (k % 2147483648) + c.odd_of-one.result)) p2 in
     search rules
 
-returns : tie.Need-returns
-returns c =
-    let k = c.before.args.k in
-    halves k c.odd-of.result (search rules) c.odd-of.ensures.1 ∙ ap (magnitude k) c.odd-of.ensures.0
-
-pub magnitude-of-spec : {M : Type 1} → statement M
-magnitude-of-spec =
-    tie.close
-    (tie.spec
-    (λ c κs. search rules) (λ c. search rules) (λ c. search rules) mul-result (λ c. search rules) (λ c. search rules) mul-result-2 add-result returns)
+pub returns : goal.returns
+returns c = let k = c.args.k in
+    halves k c.odd_of-one.result (search rules) c.odd_of-one.ensures.1 ∙ ap (magnitude k) c.odd_of-one.ensures.0

@@ -1,0 +1,33 @@
+-- `block::content_number` meets its contract: a kind, a number.
+use native.Mathlib.Omega.{arith}
+use borrow.Author.Tests.{ne_eqb}
+use Rattle.block.specs.KindsInner.{content_number}
+use Rattle.block.proofs.content_number.Goals as goal
+
+pub returns-in-3 : goal.returns-in-3
+unfolding content_number
+returns-in-3 c = (rw c.in-3.is, omega arith)
+
+pub returns-in-4 : goal.returns-in-4
+unfolding content_number
+returns-in-4 c = (rw c.in-4.is, omega arith)
+
+pub returns-in-5 : goal.returns-in-5
+unfolding content_number
+returns-in-5 c = (rw c.in-5.is, omega arith)
+
+pub returns-in-6 : goal.returns-in-6
+unfolding content_number
+returns-in-6 c = (rw c.in-6.is, omega arith)
+
+pub returns-in-7 : goal.returns-in-7
+unfolding content_number
+returns-in-7 c = (rw c.in-7.is, omega arith)
+
+pub returns-in-8 : goal.returns-in-8
+unfolding content_number
+returns-in-8 c = (rw c.in-8.is, omega arith)
+
+pub returns-in_default : goal.returns-in_default
+unfolding content_number
+returns-in_default c = (rw (ne_eqb _ 3 c.in_default.in_default-own.rest.0.0.0.0.0.1, ne_eqb _ 4 c.in_default.in_default-own.rest.0.0.0.0.1, ne_eqb _ 5 c.in_default.in_default-own.rest.0.0.0.1, ne_eqb _ 6 c.in_default.in_default-own.rest.0.0.1, ne_eqb _ 7 c.in_default.in_default-own.rest.0.1, ne_eqb _ 8 c.in_default.in_default-own.rest.1), omega arith)
