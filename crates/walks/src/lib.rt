@@ -1,2 +1,2 @@
-// No code: proofs/ has what walks by hand share, the proofs of functions that hold slices of structs.
+// No code, and no proofs any more: what walks by hand over lent tables shared. The borrow checker follows slices of structs by itself.
 #![tactic(auto)]

@@ -1,4 +1,0 @@
--- Laws, and what walks share.
-pub mod Cards
-pub mod Rows
-pub mod Sorts
