@@ -1,6 +1,6 @@
 -- What is written is read, for any column: by induction on the values, what a run under way still gives and what the bytes after it give are the values to come.
 use Prim.Native.Nat.{ℕ, suc, ◌+◌, ◌≤◌}
-use mathlib.Core.Path.{◌≡◌, refl, ap}
+use mathlib.Core.Path.{◌≡◌, refl, sym, subst, ap}
 use mathlib.Core.Bool.{Bool, true, false}
 use mathlib.Core.List.{List, [], ◌∷◌, ◌++◌, append-nil, append_assoc}
 use native.Mathlib.Nat.{add-zero, zero-add, suc-add}
@@ -98,10 +98,13 @@ module _ {c : Coding} {P : Type 0} {next : List ℕ → P → Draw P} (r : Reade
       let k : ℕ = c.key_of p v in
       let b : List ℕ = spelled c a.ends k a.more in
       let bytes : runs_on c v k 0 vs ≡ b ++ a.rest = rw zero-add at a.bytes in
-      rw bytes (
+      let last : ℕ = get_or (v ∷ vs) (length vs) 0 in
+      let whole : (z : List ℕ) → Type 0 = λ (z : List ℕ). Gives (next (pre ++ z)) (End (pre ++ z) last) (r.place false (length pre) from p l 0) (v ∷ vs) in
+      let more : (z : List ℕ) → Type 0 = λ (z : List ℕ). Gives (next z) (End z last) (r.place a.ends (length (pre ++ b)) (length pre) v k a.more) vs in
+      subst whole (sym bytes) (
         r.place a.ends (length (pre ++ b)) (length pre) v k a.more,
         r.begins pre a.rest a.ends from p l v k a.more a.follows st near (rw zero-add at a.fits),
-        rw (← append_assoc pre b a.rest) (a.gives (pre ++ b) (length pre)),
+        subst more (append_assoc pre b a.rest) (a.gives (pre ++ b) (length pre)),
       )
 
   abbrev All : List ℕ → Type 0
