@@ -1,5 +1,5 @@
 -- Beside Ranges: what inner functions say and proofs need. No promise comes to it.
-use Rattle.std.specs.Prelude.{◌≡◌, List, [], ◌∷◌, ◌⊎◌, ℕ, ◌+◌, ◌-◌, ◌≤◌, ◌<◌}
+use Rattle.std.specs.Prelude.{◌≡◌, List, [], ◌∷◌, ◌⊎◌, ℕ, ◌+◌, ◌≤◌, ◌<◌}
 use Rattle.ranges.specs.Ranges.{Range}
 
 -- the id (c, k) lies in r

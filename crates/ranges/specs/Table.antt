@@ -1,5 +1,5 @@
 -- A table of ranges as words, three a row: client, clock, length.
-use Rattle.std.specs.Prelude.{List, [], ◌∷◌, ℕ, ◌-◌}
+use Rattle.std.specs.Prelude.{List, [], ◌∷◌, ℕ}
 use Rattle.ranges.specs.Ranges.{Range}
 
 abbrev pub range : ℕ → ℕ → ℕ → Range
