@@ -1,5 +1,5 @@
 -- Text put into lent bytes as far as they reach, and a number's decimal digits.
-use Rattle.std.specs.Prelude.{ℕ, zero, suc, ◌+◌, ◌-◌, ◌/◌, ◌%◌, cond, List, [], ◌∷◌, ◌++◌, ltb}
+use Rattle.std.specs.Prelude.{ℕ, zero, suc, ◌+◌, ◌/◌, ◌%◌, cond, List, [], ◌∷◌, ◌++◌, ltb}
 
 -- the last digits of v, at most so many, with no zero in front; 48 is `0`
 unfoldable pub digits : ℕ → ℕ → List ℕ
