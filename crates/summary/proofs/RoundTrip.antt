@@ -5,12 +5,12 @@ use mathlib.Core.Bool.{Bool, true, false, ◌&&◌}
 use mathlib.Core.List.{List, [], ◌∷◌, ◌++◌, append_assoc, append-nil}
 use native.Mathlib.Omega.{arith}
 use lib.Dec.{ltb, eqb}
-use lib.ListN.{length, take, drop, replicate, length-append, length-drop, length-replicate, take-append-drop}
+use lib.ListN.{length, drop, replicate, length-append, take-append-drop}
 use lib.Seq.{drop_at}
 use lib.Pow.{are_bytes}
-use borrow.Author.Tests.{lt-ltb, le-ltb, ltb-true, ltb-false, eq-eqb, ne_eqb, eqb-true, eqb-false}
+use borrow.Author.Tests.{lt-ltb, le-ltb, ltb-true, ltb-false, ne_eqb, eqb-true, eqb-false}
 use Rattle.numbers.specs.Number.{pick}
-use Rattle.bits.specs.Bits.{in_bits, value_of, of_bytes, packed}
+use Rattle.bits.specs.Bits.{in_bits, value_of, of_bytes}
 use Rattle.bits.proofs.Laws.{number-none, number_lt, length-in-bits}
 use Rattle.bits.proofs.Inverse.{number-back, bits_back, zeros-are, filling, packed-back, filling-short, length-packed, packed-of, number-zeros}
 use Rattle.summary.specs.Rows.{Row}
