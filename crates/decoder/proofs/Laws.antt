@@ -1,6 +1,6 @@
 -- Either form over one state: form 1 moves the place alone, so the place is what it reads; any other form is form 2.
 use Prim.Native.Nat.{ℕ}
-use mathlib.Core.Path.{◌≡◌, refl, ap, ◌∙◌}
+use mathlib.Core.Path.{◌≡◌, refl, ap}
 use mathlib.Core.Logic.{◌≢◌}
 use mathlib.Core.List.{List}
 use mathlib.Core.Bool.{Bool, true, false}
@@ -9,7 +9,7 @@ use borrow.Author.Tests.{ne_eqb}
 use Rattle.numbers.specs.Number.{pick}
 use Rattle.grammar.specs.Grammar as grammar
 use Rattle.grammar.specs.Grammar.{Field, Answer, Grammar, ask, emit, stop, done}
-use Rattle.grammar.specs.Course.{Drawn, got, not, CourseTo, thing, over, stopped, on_drawn, run}
+use Rattle.grammar.specs.Course.{Drawn, got, not, thing, on_drawn, run}
 use Rattle.grammar.proofs.Runs.{run-same}
 use Rattle.decoder.specs.Line.{up_to, bytes_at, line, number_by}
 use Rattle.decoder.specs.States.{State, moved_to}
