@@ -1,27 +1,18 @@
 -- Document 01's sentences on columns: a run under way gives its value as often as it is left, and beginning a run is one draw of it.
-use Prim.Native.Nat.{ℕ, zero, suc, ◌+◌, ◌-◌, ◌%◌, ◌≤◌, ◌<◌}
-use mathlib.Core.Path.{◌≡◌, refl, ap, ◌∙◌}
-use mathlib.Core.Bool.{Bool, true, false}
-use mathlib.Core.List.{List, [], ◌∷◌}
+use Prim.Native.Nat.{ℕ, zero, suc, ◌+◌, ◌-◌, ◌%◌, ◌≤◌}
+use mathlib.Core.Path.{◌≡◌, refl}
+use mathlib.Core.List.{List}
 use native.Mathlib.Omega.{arith}
-use lib.Dec.{ltb, leb, eqb}
 use lib.ListN.{length, replicate, get_or}
 use borrow.Author.Tests.{lt-ltb, le-ltb, le-leb, lt-leb, eq-eqb, ne_eqb}
-use Rattle.numbers.specs.declared.Read.TheVariants.{Number}
-use Rattle.numbers.specs.declared.Signed.TheVariants.{Value}
-use Rattle.numbers.specs.Number.{pick, read_unsigned, read_signed}
 use Rattle.numbers.specs.Limits.{max_value, max_clock, max_count}
 use Rattle.runs.specs.Difference.{zero_key}
-use Rattle.columns.specs.declared.number.Place as number-place
-use Rattle.columns.specs.declared.difference.Place as difference-place
-use Rattle.columns.specs.declared.byte.Place as byte-place
 use Rattle.columns.specs.declared.number.Answer.TheVariants as number-answer
 use Rattle.columns.specs.declared.difference.Answer.TheVariants as difference-answer
-use Rattle.columns.specs.declared.byte.Answer.TheVariants as byte-answer
 use Rattle.columns.specs.Number as number
 use Rattle.columns.specs.Difference as difference
 use Rattle.columns.specs.Byte as byte
-use Rattle.columns.specs.Reading.{Draw, drew, number_draw, difference_draw, byte_draw}
+use Rattle.columns.specs.Reading.{drew, number_draw, difference_draw, byte_draw}
 use Rattle.sentences.specs.Sentences.{Draws, a_number, a_difference, a_byte, plus, rising, risen, Legal}
 use Rattle.sentences.specs.Sentences.{NumberOnce, NumberRun, DifferenceOnce, DifferenceRun, ByteRun, ByteEndless}
 use Rattle.sentences.specs.Sentences as sentences
