@@ -34,6 +34,7 @@ at_most n (x ∷ xs) = omega (arith, at_most (lower n x) xs, (lowers n x).most)
 -- no byte that is left lies below
 pub none_below : (n : ℕ) (xs : List Stretch) (p : ℕ) → Among p xs → lowest n xs ≤ p
 unfolding lowest Among
+none_below n [] p x' = elim x' [ ]
 none_below n (x ∷ xs) p (inl h) = omega (arith, at_most (lower n x) xs, (lowers n x).below p h.0 h.1)
 none_below n (x ∷ xs) p (inr h) = none_below (lower n x) xs p h
 
