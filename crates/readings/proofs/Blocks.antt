@@ -5,7 +5,6 @@ use mathlib.Core.Bool.{Bool, true, false}
 use mathlib.Core.List.{List}
 use native.Mathlib.Omega.{arith}
 use lib.Dec.{ltb, eqb}
-use lib.ListN.{length}
 use borrow.Author.Tests.{ltb-true, ltb-false, eqb-true, eqb-false}
 use Rattle.numbers.specs.Number.{pick}
 use Rattle.numbers.specs.Limits.{max_value, max_clock}
@@ -16,7 +15,7 @@ use Rattle.block.specs.declared.Block.{Block}
 use Rattle.block.specs.Row.{no_id, no_part, left_id, right_id, parent_id}
 use Rattle.block.specs.Kinds.{GC, SKIP, DELETED, BINARY, TEXT, FORMAT, TYPE, ANY, is_format, is_type, is_item, max_type, is_named}
 use Rattle.block.specs.KindsInner.{is_bare, is_block, has_part, is_marked}
-use Rattle.block.specs.Rows.{plain, with_left, with_right, with_key, mark_is, with_content}
+use Rattle.block.specs.Rows.{plain, with_right, with_key, mark_is, with_content}
 use Rattle.grammar.specs.Grammar as fields
 use Rattle.grammar.specs.Grammar.{Number, Grammar}
 use Rattle.grammar.specs.Grammar.{◌>>=◌}
