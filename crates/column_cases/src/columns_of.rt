@@ -1,10 +1,11 @@
 // Operations 5 to 12: the four columns, read by column readers, and written.
-ghost use Rattle.io.specs.Counts.{IsPrefixLen};
+ghost use Rattle.std.specs.Counts.{IsPrefixLen};
 
 use crate::lent;
 use crate::lent::Writer;
 use numbers::Refusal;
 use readers::Kind;
+use std::io::{Stdin, Stdout};
 use stream::input::Place;
 use stream::{Done, input, line};
 
@@ -38,29 +39,51 @@ fn draw(column: &[u8], place: readers::Place, times: usize, values: &mut [u64]) 
     Drawn { refusal, count }
 }
 
-fn values(sink: &mut [u8], used: usize, column: &[u8], kind: Kind, times: usize) -> usize {
+fn values(
+    stdout: Stdout,
+    sink: &mut [u8],
+    used: usize,
+    column: &[u8],
+    kind: Kind,
+    times: usize,
+) -> usize {
     let mut list = [0u64; 4096];
     let start = readers::open_at(column, kind);
     let first = start.place;
     let drawn = draw(column, first, times, &mut list);
     let count = drawn.count;
     let why = drawn.refusal;
-    let begun = line::verdict(sink, used, why.number, why.place);
-    let told = line::numbers(sink, begun, &list[..count]);
-    line::put(sink, told, b'\n')
+    let begun = line::verdict(stdout, sink, used, why.number, why.place);
+    let told = line::numbers(stdout, sink, begun, &list[..count]);
+    line::put(stdout, sink, told, b'\n')
 }
 
 // 5 to 7: column, times. The line has the values that came before the refusal.
-pub fn read(kind: Kind, source: &mut [u8], place: Place, sink: &mut [u8], used: usize) -> Done {
+pub fn read(
+    kind: Kind,
+    stdin: Stdin,
+    source: &mut [u8],
+    place: Place,
+    stdout: Stdout,
+    sink: &mut [u8],
+    used: usize,
+) -> Done {
     let mut bytes = [0u8; 65536];
-    let taken = input::bytes(source, place, &mut bytes);
-    let times = input::number(source, taken.place, 4096);
+    let taken = input::bytes(stdin, source, place, &mut bytes);
+    let times = input::number(stdin, source, taken.place, 4096);
     let place = times.place;
     if !place.good {
         return Done { place, used };
     }
     let size = taken.count;
-    let used = values(sink, used, &bytes[..size], kind, times.value as usize);
+    let used = values(
+        stdout,
+        sink,
+        used,
+        &bytes[..size],
+        kind,
+        times.value as usize,
+    );
     Done { place, used }
 }
 
@@ -86,6 +109,7 @@ fn draw_texts(column: &[u8], place: readers::Place, times: usize) -> Drawn {
 }
 
 fn print_texts(
+    stdout: Stdout,
     sink: &mut [u8],
     used: usize,
     column: &[u8],
@@ -100,91 +124,123 @@ fn print_texts(
         let answer = step.answer;
         let part = answer.part;
         let bytes = part.bytes;
-        used = line::part(sink, used, column, part.place, bytes.0);
+        used = line::part(stdout, sink, used, column, part.place, bytes.0);
         place = step.place;
         left -= 1;
     }
     used
 }
 
-fn texts(sink: &mut [u8], used: usize, column: &[u8], times: usize) -> usize {
+fn texts(stdout: Stdout, sink: &mut [u8], used: usize, column: &[u8], times: usize) -> usize {
     let start = readers::open_at(column, Kind::Text);
     let not = start.refusal;
     if not.number != 0 {
-        let begun = line::verdict(sink, used, not.number, not.place);
-        return line::put(sink, begun, b'\n');
+        let begun = line::verdict(stdout, sink, used, not.number, not.place);
+        return line::put(stdout, sink, begun, b'\n');
     }
     let first = start.place;
     let drawn = draw_texts(column, first, times);
     let why = drawn.refusal;
-    let begun = line::verdict(sink, used, why.number, why.place);
-    let told = print_texts(sink, begun, column, first, drawn.count);
-    line::put(sink, told, b'\n')
+    let begun = line::verdict(stdout, sink, used, why.number, why.place);
+    let told = print_texts(stdout, sink, begun, column, first, drawn.count);
+    line::put(stdout, sink, told, b'\n')
 }
 
 // 8: column, times.
-pub fn read_texts(source: &mut [u8], place: Place, sink: &mut [u8], used: usize) -> Done {
+pub fn read_texts(
+    stdin: Stdin,
+    source: &mut [u8],
+    place: Place,
+    stdout: Stdout,
+    sink: &mut [u8],
+    used: usize,
+) -> Done {
     let mut bytes = [0u8; 65536];
-    let taken = input::bytes(source, place, &mut bytes);
-    let times = input::number(source, taken.place, 4096);
+    let taken = input::bytes(stdin, source, place, &mut bytes);
+    let times = input::number(stdin, source, taken.place, 4096);
     let place = times.place;
     if !place.good {
         return Done { place, used };
     }
     let size = taken.count;
-    let used = texts(sink, used, &bytes[..size], times.value as usize);
+    let used = texts(stdout, sink, used, &bytes[..size], times.value as usize);
     Done { place, used }
 }
 
 // 9 and 10: list, room.
 pub fn write(
     writer: Writer,
+    stdin: Stdin,
     source: &mut [u8],
     place: Place,
+    stdout: Stdout,
     sink: &mut [u8],
     used: usize,
 ) -> Done {
     let mut list = [0u64; 4096];
-    let taken = input::list(source, place, &mut list);
+    let taken = input::list(stdin, source, place, &mut list);
     let count = taken.count;
-    lent::write(writer, b"", &list[..count], source, taken.place, sink, used)
+    lent::write(
+        writer,
+        b"",
+        &list[..count],
+        stdin,
+        source,
+        taken.place,
+        stdout,
+        sink,
+        used,
+    )
 }
 
 // 11: bytes, room.
 pub fn write_bytes(
+    stdin: Stdin,
     source: &mut [u8],
     place: Place,
     bytes: &mut [u8],
+    stdout: Stdout,
     sink: &mut [u8],
     used: usize,
 ) -> Done {
-    let taken = input::bytes(source, place, bytes);
+    let taken = input::bytes(stdin, source, place, bytes);
     let count = taken.count;
     lent::write(
         Writer::Bytes,
         &bytes[..count],
         &[0u64; 0],
+        stdin,
         source,
         taken.place,
+        stdout,
         sink,
         used,
     )
 }
 
 // 12: text, list of unit lengths, room.
-pub fn write_texts(source: &mut [u8], place: Place, sink: &mut [u8], used: usize) -> Done {
+pub fn write_texts(
+    stdin: Stdin,
+    source: &mut [u8],
+    place: Place,
+    stdout: Stdout,
+    sink: &mut [u8],
+    used: usize,
+) -> Done {
     let mut bytes = [0u8; 65536];
     let mut list = [0u64; 4096];
-    let text = input::bytes(source, place, &mut bytes);
-    let units = input::list(source, text.place, &mut list);
+    let text = input::bytes(stdin, source, place, &mut bytes);
+    let units = input::list(stdin, source, text.place, &mut list);
     let size = text.count;
     let count = units.count;
     lent::write(
         Writer::Texts,
         &bytes[..size],
         &list[..count],
+        stdin,
         source,
         units.place,
+        stdout,
         sink,
         used,
     )

@@ -1,5 +1,6 @@
 // What is lent to a writer: filled with something before the call, looked at after it. The last argument of every writer is how much.
 use numbers::Written;
+use std::io::{Stdin, Stdout};
 use stream::input::Place;
 use stream::{Done, input, line};
 
@@ -37,13 +38,13 @@ fn is_zero(bytes: &[u8]) -> bool {
 }
 
 // The last word: `zero` if all that was lent from `from` on is zero.
-fn last(sink: &mut [u8], used: usize, out: &[u8], from: usize) -> usize {
+fn last(stdout: Stdout, sink: &mut [u8], used: usize, out: &[u8], from: usize) -> usize {
     if from <= out.len() {
         if is_zero(&out[from..]) {
-            return line::text(sink, used, b" zero\n");
+            return line::text(stdout, sink, used, b" zero\n");
         }
     }
-    line::text(sink, used, b" dirty\n")
+    line::text(stdout, sink, used, b" dirty\n")
 }
 
 // A writer's line: its number, which blames no byte, on 0 the bytes written, and the last word.
@@ -52,17 +53,18 @@ fn ask(
     bytes: &[u8],
     list: &[u64],
     out: &mut [u8],
+    stdout: Stdout,
     sink: &mut [u8],
     used: usize,
 ) -> usize {
     let answer = call(writer, bytes, list, out);
-    let begun = line::verdict(sink, used, answer.number, 0);
+    let begun = line::verdict(stdout, sink, used, answer.number, 0);
     if answer.number != 0 {
-        return last(sink, begun, out, 0);
+        return last(stdout, sink, begun, out, 0);
     }
     let size = answer.bytes;
-    let told = line::part(sink, begun, out, 0, size);
-    last(sink, told, out, size)
+    let told = line::part(stdout, sink, begun, out, 0, size);
+    last(stdout, sink, told, out, size)
 }
 
 // A writer's case, all but its room read. What is lent is full of 0xA5, so that the last word means something.
@@ -70,18 +72,20 @@ pub fn write(
     writer: Writer,
     bytes: &[u8],
     list: &[u64],
+    stdin: Stdin,
     source: &mut [u8],
     place: Place,
+    stdout: Stdout,
     sink: &mut [u8],
     used: usize,
 ) -> Done {
-    let room = input::number(source, place, 65536);
+    let room = input::number(stdin, source, place, 65536);
     let place = room.place;
     if !place.good {
         return Done { place, used };
     }
     let mut out = [0xA5u8; 65536];
     let size = room.value as usize;
-    let used = ask(writer, bytes, list, &mut out[..size], sink, used);
+    let used = ask(writer, bytes, list, &mut out[..size], stdout, sink, used);
     Done { place, used }
 }

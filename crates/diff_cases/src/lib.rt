@@ -4,6 +4,7 @@
 use block::Block;
 use diffs::Diff;
 use part_cases::listings;
+use std::io::{Stdin, Stdout};
 use stream::input::Place;
 use stream::{Done, input, line};
 use update_cases::rows::Told;
@@ -11,15 +12,15 @@ use update_cases::{rows, tables};
 use updates::Update;
 
 // The line up to the rows.
-fn begin(sink: &mut [u8], used: usize, answer: Diff, out: &[u8]) -> usize {
+fn begin(stdout: Stdout, sink: &mut [u8], used: usize, answer: Diff, out: &[u8]) -> usize {
     let why = answer.refusal;
-    let begun = line::verdict(sink, used, why.number, why.place);
+    let begun = line::verdict(stdout, sink, used, why.number, why.place);
     if why.number != 0 {
         return begun;
     }
-    let written = line::part(sink, begun, out, 0, answer.bytes);
-    let parted = line::text(sink, written, b" ;");
-    rows::blocks(sink, parted, answer.blocks)
+    let written = line::part(stdout, sink, begun, out, 0, answer.bytes);
+    let parted = line::text(stdout, sink, written, b" ;");
+    rows::blocks(stdout, sink, parted, answer.blocks)
 }
 
 // How many of the bytes lent are the diff's; a refusal has none, whatever it says.
@@ -32,7 +33,14 @@ fn size(answer: Diff) -> usize {
 }
 
 // The line from the ranges on: as that of the update read, but the last word is on the bytes lent too.
-fn end(sink: &mut [u8], told: Told, answer: Diff, words: &[u64], out: &[u8]) -> usize {
+fn end(
+    stdout: Stdout,
+    sink: &mut [u8],
+    told: Told,
+    answer: Diff,
+    words: &[u64],
+    out: &[u8],
+) -> usize {
     let clean = listings::bytes_zero(out, size(answer));
     let seen = Told {
         used: told.used,
@@ -43,7 +51,7 @@ fn end(sink: &mut [u8], told: Told, answer: Diff, words: &[u64], out: &[u8]) -> 
         blocks: answer.blocks,
         ranges: answer.ranges,
     };
-    rows::end(sink, seen, read, words)
+    rows::end(stdout, sink, seen, read, words)
 }
 
 // The line of a diff with n rows lent; more than there are is not asked.
@@ -55,6 +63,7 @@ fn ask(
     n: usize,
     words: &mut [u64],
     out: &mut [u8],
+    stdout: Stdout,
     sink: &mut [u8],
     used: usize,
 ) -> usize {
@@ -64,9 +73,9 @@ fn ask(
     let row = rows::full();
     let mut rows = [row; 512];
     let answer = diffs::encode_diff(form, update, vector, to, &mut rows[..n], words, out);
-    let begun = begin(sink, used, answer, out);
-    let told = tables::put_rows(&rows[..n], answer.blocks, sink, begun);
-    end(sink, told, answer, words, out)
+    let begun = begin(stdout, sink, used, answer, out);
+    let told = tables::put_rows(&rows[..n], answer.blocks, stdout, sink, begun);
+    end(stdout, sink, told, answer, words, out)
 }
 
 // What a case asks beside its update and its vector: the forms, and how many rows, words and bytes are lent.
@@ -86,6 +95,7 @@ fn lend(
     update: &[u8],
     vector: &[u8],
     out: &mut [u8],
+    stdout: Stdout,
     sink: &mut [u8],
     used: usize,
 ) -> usize {
@@ -102,19 +112,27 @@ fn lend(
         case.rows,
         &mut words[..lent],
         out,
+        stdout,
         sink,
         used,
     )
 }
 
 // The same with so many bytes lent for the diff.
-fn lend_room(case: Asked, update: &[u8], vector: &[u8], sink: &mut [u8], used: usize) -> usize {
+fn lend_room(
+    case: Asked,
+    update: &[u8],
+    vector: &[u8],
+    stdout: Stdout,
+    sink: &mut [u8],
+    used: usize,
+) -> usize {
     let room = case.room;
     if 65536 < room {
         return used;
     }
     let mut out = [0xA5u8; 65536];
-    lend(case, update, vector, &mut out[..room], sink, used)
+    lend(case, update, vector, &mut out[..room], stdout, sink, used)
 }
 
 // The form of the update, and the form that the diff is written in.
@@ -125,9 +143,9 @@ struct Forms {
     place: Place,
 }
 
-fn take_forms(source: &mut [u8], place: Place) -> Forms {
-    let form = input::number(source, place, 255);
-    let to = input::number(source, form.place, 255);
+fn take_forms(stdin: Stdin, source: &mut [u8], place: Place) -> Forms {
+    let form = input::number(stdin, source, place, 255);
+    let to = input::number(stdin, source, form.place, 255);
     let place = to.place;
     Forms {
         form: form.value as u8,
@@ -136,11 +154,11 @@ fn take_forms(source: &mut [u8], place: Place) -> Forms {
     }
 }
 
-fn arguments(source: &mut [u8], place: Place) -> Asked {
-    let first = take_forms(source, place);
-    let rows = input::number(source, first.place, 512);
-    let ranges = input::number(source, rows.place, 1024);
-    let room = input::number(source, ranges.place, 65536);
+fn arguments(stdin: Stdin, source: &mut [u8], place: Place) -> Asked {
+    let first = take_forms(stdin, source, place);
+    let rows = input::number(stdin, source, first.place, 512);
+    let ranges = input::number(stdin, source, rows.place, 1024);
+    let room = input::number(stdin, source, ranges.place, 65536);
     let place = room.place;
     Asked {
         form: first.form,
@@ -154,21 +172,23 @@ fn arguments(source: &mut [u8], place: Place) -> Asked {
 
 // 16: form, form written, block rows, range rows, room, update, vector.
 pub fn read(
+    stdin: Stdin,
     source: &mut [u8],
     place: Place,
     bytes: &mut [u8],
+    stdout: Stdout,
     sink: &mut [u8],
     used: usize,
 ) -> Done {
-    let case = arguments(source, place);
+    let case = arguments(stdin, source, place);
     let mut vector = [0u8; 65536];
-    let taken = input::two(source, case.place, bytes, &mut vector);
+    let taken = input::two(stdin, source, case.place, bytes, &mut vector);
     let place = taken.place;
     if !place.good {
         return Done { place, used };
     }
     let size = taken.first;
     let count = taken.second;
-    let used = lend_room(case, &bytes[..size], &vector[..count], sink, used);
+    let used = lend_room(case, &bytes[..size], &vector[..count], stdout, sink, used);
     Done { place, used }
 }

@@ -3,6 +3,7 @@
 
 use block::Block;
 use held_answers::SortedHeld;
+use std::io::{Stdin, Stdout};
 use stream::input::Place;
 use stream::{Done, input};
 use update_cases::{rows, tables};
@@ -42,6 +43,7 @@ fn ask(
     order: &mut [u64],
     counts: &mut [u64],
     pending: &mut [u64],
+    stdout: Stdout,
     sink: &mut [u8],
     used: usize,
 ) -> usize {
@@ -62,9 +64,9 @@ fn ask(
         counts,
         pending,
     );
-    let begun = held_lines::begin(sink, used, answer, given, order, counts, pending);
-    let told = tables::put_rows(&rows[..n], answer.blocks, sink, begun.used);
-    held_lines::end(sink, begun, told, answer, words)
+    let begun = held_lines::begin(stdout, sink, used, answer, given, order, counts, pending);
+    let told = tables::put_rows(&rows[..n], answer.blocks, stdout, sink, begun.used);
+    held_lines::end(stdout, sink, begun, told, answer, words)
 }
 
 // What a case asks beside its update and its held ids: the sorter, the form, and how many rows and words are lent.
@@ -80,7 +82,14 @@ struct Asked {
 }
 
 // The line with so many words lent as the case asks, and for the reports as many as any update can need.
-fn lend(case: Asked, update: &[u8], held: &[u8], sink: &mut [u8], used: usize) -> usize {
+fn lend(
+    case: Asked,
+    update: &[u8],
+    held: &[u8],
+    stdout: Stdout,
+    sink: &mut [u8],
+    used: usize,
+) -> usize {
     let ranges = case.words;
     let holding = case.given;
     let steps = case.order;
@@ -103,15 +112,16 @@ fn lend(case: Asked, update: &[u8], held: &[u8], sink: &mut [u8], used: usize) -
         &mut order[..steps],
         &mut counts,
         &mut pending,
+        stdout,
         sink,
         used,
     )
 }
 
-fn arguments(operation: u8, source: &mut [u8], place: Place) -> Asked {
-    let read = tables::arguments(source, place);
-    let given = input::number(source, read.place, 1024);
-    let order = input::number(source, given.place, 512);
+fn arguments(operation: u8, stdin: Stdin, source: &mut [u8], place: Place) -> Asked {
+    let read = tables::arguments(stdin, source, place);
+    let given = input::number(stdin, source, read.place, 1024);
+    let order = input::number(stdin, source, given.place, 512);
     let place = order.place;
     Asked {
         slowly: operation == 27,
@@ -125,28 +135,38 @@ fn arguments(operation: u8, source: &mut [u8], place: Place) -> Asked {
 }
 
 // The case, all but its update and its held ids read.
-fn finish(case: Asked, source: &mut [u8], bytes: &mut [u8], sink: &mut [u8], used: usize) -> Done {
+fn finish(
+    case: Asked,
+    stdin: Stdin,
+    source: &mut [u8],
+    bytes: &mut [u8],
+    stdout: Stdout,
+    sink: &mut [u8],
+    used: usize,
+) -> Done {
     let mut held = [0u8; 524288];
-    let taken = input::two(source, case.place, bytes, &mut held);
+    let taken = input::two(stdin, source, case.place, bytes, &mut held);
     let place = taken.place;
     if !place.good {
         return Done { place, used };
     }
     let size = taken.first;
     let count = taken.second;
-    let used = lend(case, &bytes[..size], &held[..count], sink, used);
+    let used = lend(case, &bytes[..size], &held[..count], stdout, sink, used);
     Done { place, used }
 }
 
 // A sort by held ids: form, block rows, range rows, held rows, order rows, update, held ids. 22 by the quick sorter, 27 by the slow plain one.
 pub fn case(
     operation: u8,
+    stdin: Stdin,
     source: &mut [u8],
     place: Place,
     bytes: &mut [u8],
+    stdout: Stdout,
     sink: &mut [u8],
     used: usize,
 ) -> Done {
-    let case = arguments(operation, source, place);
-    finish(case, source, bytes, sink, used)
+    let case = arguments(operation, stdin, source, place);
+    finish(case, stdin, source, bytes, stdout, sink, used)
 }

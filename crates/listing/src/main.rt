@@ -1,14 +1,32 @@
 // Prints the listing of the update on standard input: a form byte, then the update.
 #![tactic(auto)]
 
-use libc::STDIN_FILENO;
+ghost use Rattle.std.specs.Counts.{IsPrefixLen};
+
+use std::io::{Read, Stdin};
 use stream::line;
 
-fn main() {
+// Fills what is lent from standard input, as far as that goes, and says how far. A read that fails is taken as its end.
+fn filled(stdin: Stdin, lent: &mut [u8]) -> usize
+    ensures { IsPrefixLen result lent.new }
+{
+    let mut from = stdin;
+    let mut done = 0;
+    while done < lent.len() {
+        let more = from.read(&mut lent[done..]).unwrap_or(0);
+        if more == 0 {
+            return done;
+        }
+        done += more;
+    }
+    done
+}
+
+fn main(rt: HostRuntime) {
     // one byte more than is allowed, so that a longer input is seen
     let mut input = [0u8; listed::MAX_INPUT + 1];
     let mut text = [0u8; listed::MAX_TEXT];
-    let size = io::read_full(STDIN_FILENO, &mut input);
+    let size = filled(rt.stdin(), &mut input);
     let answer = listed::list(&input[..size], &mut text);
-    line::flush(&text, answer.bytes);
+    line::flush(rt.stdout(), &text, answer.bytes);
 }

@@ -1,10 +1,17 @@
 // Operation 13: a state vector, read.
+use std::io::{Stdin, Stdout};
 use stream::input::Place;
 use stream::{Done, input, line};
 use update_cases::lines;
 use update_cases::lines::Listed;
 
-pub fn entries(sink: &mut [u8], used: usize, count: usize, words: &[u64]) -> Listed {
+pub fn entries(
+    stdout: Stdout,
+    sink: &mut [u8],
+    used: usize,
+    count: usize,
+    words: &[u64],
+) -> Listed {
     let mut used = used;
     let mut at = 0;
     let mut left = count;
@@ -12,7 +19,7 @@ pub fn entries(sink: &mut [u8], used: usize, count: usize, words: &[u64]) -> Lis
         if words.len() - at < 2 {
             return Listed { used, at };
         }
-        used = lines::entry(sink, used, words[at], words[at + 1]);
+        used = lines::entry(stdout, sink, used, words[at], words[at + 1]);
         at += 2;
         left -= 1;
     }
@@ -20,9 +27,16 @@ pub fn entries(sink: &mut [u8], used: usize, count: usize, words: &[u64]) -> Lis
 }
 
 // 13: vector. Lent are two words for each entry that a vector may have.
-pub fn read(source: &mut [u8], place: Place, sink: &mut [u8], used: usize) -> Done {
+pub fn read(
+    stdin: Stdin,
+    source: &mut [u8],
+    place: Place,
+    stdout: Stdout,
+    sink: &mut [u8],
+    used: usize,
+) -> Done {
     let mut bytes = [0u8; 65536];
-    let taken = input::bytes(source, place, &mut bytes);
+    let taken = input::bytes(stdin, source, place, &mut bytes);
     let place = taken.place;
     if !place.good {
         return Done { place, used };
@@ -31,9 +45,9 @@ pub fn read(source: &mut [u8], place: Place, sink: &mut [u8], used: usize) -> Do
     let mut words = [0xA5A5A5A5A5A5A5A5u64; 128];
     let answer = vector::read_state_vector(&bytes[..size], &mut words);
     let why = answer.refusal;
-    let begun = line::verdict(sink, used, why.number, why.place);
-    let listed = entries(sink, begun, answer.count, &words);
+    let begun = line::verdict(stdout, sink, used, why.number, why.place);
+    let listed = entries(stdout, sink, begun, answer.count, &words);
     let zero = lines::are_zero(&words, listed.at);
-    let used = lines::last(sink, listed.used, zero);
+    let used = lines::last(stdout, sink, listed.used, zero);
     Done { place, used }
 }

@@ -3,6 +3,7 @@
 
 use block::Block;
 use sort_answers::Sorted;
+use std::io::{Stdin, Stdout};
 use stream::input::Place;
 use stream::{Done, input, line};
 use update_cases::rows::Told;
@@ -12,6 +13,7 @@ use updates::Update;
 // The line up to the rows, and whether all words lent for the order and the reports that hold nothing are zero; those of a refusal hold nothing,
 // whatever it says.
 fn begin(
+    stdout: Stdout,
     sink: &mut [u8],
     used: usize,
     answer: Sorted,
@@ -21,15 +23,15 @@ fn begin(
     pending: &[u64],
 ) -> Told {
     let why = answer.refusal;
-    let begun = line::verdict(sink, used, why.number, why.place);
+    let begun = line::verdict(stdout, sink, used, why.number, why.place);
     if why.number != 0 {
         let zero = sort_lines::are_zero(order, counts, reaches, pending);
         return Told { used: begun, zero };
     }
-    let ordered = sort_lines::put_order(sink, begun, answer.steps, order);
-    let told = sort_lines::put_reports(sink, ordered, answer, counts, reaches, pending);
-    let parted = line::text(sink, told.used, b" ;");
-    let used = rows::blocks(sink, parted, answer.blocks);
+    let ordered = sort_lines::put_order(stdout, sink, begun, answer.steps, order);
+    let told = sort_lines::put_reports(stdout, sink, ordered, answer, counts, reaches, pending);
+    let parted = line::text(stdout, sink, told.used, b" ;");
+    let used = rows::blocks(stdout, sink, parted, answer.blocks);
     Told {
         used,
         zero: told.zero,
@@ -37,7 +39,14 @@ fn begin(
 }
 
 // The line from the ranges on: as that of the update read, but the last word is on the order and the reports too.
-fn end(sink: &mut [u8], begun: Told, told: Told, answer: Sorted, words: &[u64]) -> usize {
+fn end(
+    stdout: Stdout,
+    sink: &mut [u8],
+    begun: Told,
+    told: Told,
+    answer: Sorted,
+    words: &[u64],
+) -> usize {
     let seen = Told {
         used: told.used,
         zero: begun.zero && told.zero,
@@ -47,7 +56,7 @@ fn end(sink: &mut [u8], begun: Told, told: Told, answer: Sorted, words: &[u64]) 
         blocks: answer.blocks,
         ranges: answer.ranges,
     };
-    rows::end(sink, seen, read, words)
+    rows::end(stdout, sink, seen, read, words)
 }
 
 // A sort, by either sorter.
@@ -87,6 +96,7 @@ fn ask(
     counts: &mut [u64],
     reaches: &mut [u64],
     pending: &mut [u64],
+    stdout: Stdout,
     sink: &mut [u8],
     used: usize,
 ) -> usize {
@@ -108,9 +118,9 @@ fn ask(
         reaches,
         pending,
     );
-    let begun = begin(sink, used, answer, order, counts, reaches, pending);
-    let told = tables::put_rows(&rows[..n], answer.blocks, sink, begun.used);
-    end(sink, begun, told, answer, words)
+    let begun = begin(stdout, sink, used, answer, order, counts, reaches, pending);
+    let told = tables::put_rows(&rows[..n], answer.blocks, stdout, sink, begun.used);
+    end(stdout, sink, begun, told, answer, words)
 }
 
 // What a case asks beside its update and its vector: the sorter, the rule, the form, and how many rows and words are lent.
@@ -126,7 +136,14 @@ struct Asked {
 }
 
 // The line with so many words lent as the case asks, and for the reports as many as any update and vector can need.
-fn lend(case: Asked, update: &[u8], vector: &[u8], sink: &mut [u8], used: usize) -> usize {
+fn lend(
+    case: Asked,
+    update: &[u8],
+    vector: &[u8],
+    stdout: Stdout,
+    sink: &mut [u8],
+    used: usize,
+) -> usize {
     let ranges = case.words;
     let steps = case.order;
     if 3072 < ranges || 512 < steps {
@@ -149,16 +166,17 @@ fn lend(case: Asked, update: &[u8], vector: &[u8], sink: &mut [u8], used: usize)
         &mut counts,
         &mut reaches,
         &mut pending,
+        stdout,
         sink,
         used,
     )
 }
 
-fn arguments(slowly: bool, rule: u8, source: &mut [u8], place: Place) -> Asked {
-    let form = input::number(source, place, 255);
-    let rows = input::number(source, form.place, 512);
-    let ranges = input::number(source, rows.place, 1024);
-    let order = input::number(source, ranges.place, 512);
+fn arguments(slowly: bool, rule: u8, stdin: Stdin, source: &mut [u8], place: Place) -> Asked {
+    let form = input::number(stdin, source, place, 255);
+    let rows = input::number(stdin, source, form.place, 512);
+    let ranges = input::number(stdin, source, rows.place, 1024);
+    let order = input::number(stdin, source, ranges.place, 512);
     let place = order.place;
     Asked {
         slowly,
@@ -175,45 +193,51 @@ fn arguments(slowly: bool, rule: u8, source: &mut [u8], place: Place) -> Asked {
 fn read_by(
     slowly: bool,
     rule: u8,
+    stdin: Stdin,
     source: &mut [u8],
     place: Place,
     bytes: &mut [u8],
+    stdout: Stdout,
     sink: &mut [u8],
     used: usize,
 ) -> Done {
-    let case = arguments(slowly, rule, source, place);
+    let case = arguments(slowly, rule, stdin, source, place);
     let mut vector = [0u8; 65536];
-    let taken = input::two(source, case.place, bytes, &mut vector);
+    let taken = input::two(stdin, source, case.place, bytes, &mut vector);
     let place = taken.place;
     if !place.good {
         return Done { place, used };
     }
     let size = taken.first;
     let count = taken.second;
-    let used = lend(case, &bytes[..size], &vector[..count], sink, used);
+    let used = lend(case, &bytes[..size], &vector[..count], stdout, sink, used);
     Done { place, used }
 }
 
 // 17: by rule 28. 25: the rule comes first. 26: the same by the slow plain sorter.
 pub fn case(
     operation: u8,
+    stdin: Stdin,
     source: &mut [u8],
     place: Place,
     bytes: &mut [u8],
+    stdout: Stdout,
     sink: &mut [u8],
     used: usize,
 ) -> Done {
     if operation == 17 {
-        return read_by(false, 28, source, place, bytes, sink, used);
+        return read_by(false, 28, stdin, source, place, bytes, stdout, sink, used);
     }
-    let rule = input::number(source, place, 255);
+    let rule = input::number(stdin, source, place, 255);
     let slowly = operation == 26;
     read_by(
         slowly,
         rule.value as u8,
+        stdin,
         source,
         rule.place,
         bytes,
+        stdout,
         sink,
         used,
     )

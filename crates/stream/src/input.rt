@@ -1,8 +1,8 @@
 // The stream's arguments, taken from standard input through a buffer that is lent to every call.
 ghost use Rattle.std.specs.Prelude.{◌≤◌};
-ghost use Rattle.io.specs.Counts.{IsPrefixLen};
+ghost use Rattle.std.specs.Counts.{IsPrefixLen};
 
-use libc::STDIN_FILENO;
+use std::io::{Read, Stdin};
 
 // The buffer's bytes from `at` to `end` are not taken yet. Once an argument can't be had, `good` is false and stays so.
 #[derive(Clone, Copy)]
@@ -47,7 +47,7 @@ pub fn spoiled(place: Place) -> Place {
     }
 }
 
-pub fn byte(buffer: &mut [u8], place: Place) -> ByteTaken {
+pub fn byte(stdin: Stdin, buffer: &mut [u8], place: Place) -> ByteTaken {
     let at = place.at;
     if at < place.end {
         if at < buffer.len() {
@@ -62,11 +62,11 @@ pub fn byte(buffer: &mut [u8], place: Place) -> ByteTaken {
             };
         }
     }
-    refilled(buffer, place)
+    refilled(stdin, buffer, place)
 }
 
 // The next byte when the buffer has none left. A read that fails is taken as the stream's end.
-fn refilled(buffer: &mut [u8], place: Place) -> ByteTaken {
+fn refilled(stdin: Stdin, buffer: &mut [u8], place: Place) -> ByteTaken {
     let bad = spoiled(place);
     if !place.good {
         return ByteTaken {
@@ -74,8 +74,8 @@ fn refilled(buffer: &mut [u8], place: Place) -> ByteTaken {
             place: bad,
         };
     }
-    let got = libc::read(STDIN_FILENO, buffer);
-    let end = io::count(got, buffer);
+    let mut from = stdin;
+    let end = from.read(buffer).unwrap_or(0);
     if end == 0 {
         return ByteTaken {
             value: 0,
@@ -99,12 +99,12 @@ fn entered(word: u64, byte: u8) -> u64 {
 }
 
 // So many bytes, little-endian, in the top of the word.
-fn word(buffer: &mut [u8], place: Place, width: usize) -> NumberTaken {
+fn word(stdin: Stdin, buffer: &mut [u8], place: Place, width: usize) -> NumberTaken {
     let mut place = place;
     let mut value: u64 = 0;
     let mut left = width;
     while 0 < left {
-        let next = byte(buffer, place);
+        let next = byte(stdin, buffer, place);
         value = entered(value, next.value);
         place = next.place;
         left -= 1;
@@ -113,10 +113,10 @@ fn word(buffer: &mut [u8], place: Place, width: usize) -> NumberTaken {
 }
 
 // A number, not asked over `most`.
-pub fn number(buffer: &mut [u8], place: Place, most: u64) -> NumberTaken
+pub fn number(stdin: Stdin, buffer: &mut [u8], place: Place, most: u64) -> NumberTaken
     ensures { result.value ≤ most }
 {
-    let read = word(buffer, place, 8);
+    let read = word(stdin, buffer, place, 8);
     let value = read.value;
     if value <= most {
         return read;
@@ -129,10 +129,10 @@ pub fn number(buffer: &mut [u8], place: Place, most: u64) -> NumberTaken
 }
 
 // Bytes led by their length, at most as many as are lent.
-pub fn bytes(buffer: &mut [u8], place: Place, lent: &mut [u8]) -> Taken
+pub fn bytes(stdin: Stdin, buffer: &mut [u8], place: Place, lent: &mut [u8]) -> Taken
     ensures { IsPrefixLen result.count lent.new }
 {
-    let read = word(buffer, place, 4);
+    let read = word(stdin, buffer, place, 4);
     let count = (read.value / 4294967296) as usize;
     let mut place = read.place;
     if lent.len() < count {
@@ -144,7 +144,7 @@ pub fn bytes(buffer: &mut [u8], place: Place, lent: &mut [u8]) -> Taken
     }
     let mut i = 0;
     while i < count {
-        let next = byte(buffer, place);
+        let next = byte(stdin, buffer, place);
         lent[i] = next.value;
         place = next.place;
         i += 1;
@@ -153,10 +153,16 @@ pub fn bytes(buffer: &mut [u8], place: Place, lent: &mut [u8]) -> Taken
 }
 
 // Two strings of bytes, one after the other; where the first can't be had, the second is not read.
-pub fn two(buffer: &mut [u8], place: Place, first: &mut [u8], second: &mut [u8]) -> TwoTaken
+pub fn two(
+    stdin: Stdin,
+    buffer: &mut [u8],
+    place: Place,
+    first: &mut [u8],
+    second: &mut [u8],
+) -> TwoTaken
     ensures { IsPrefixLen result.first first.new × IsPrefixLen result.second second.new }
 {
-    let one = bytes(buffer, place, first);
+    let one = bytes(stdin, buffer, place, first);
     let place = one.place;
     if !place.good {
         return TwoTaken {
@@ -165,7 +171,7 @@ pub fn two(buffer: &mut [u8], place: Place, first: &mut [u8], second: &mut [u8])
             place,
         };
     }
-    let other = bytes(buffer, place, second);
+    let other = bytes(stdin, buffer, place, second);
     let place = other.place;
     TwoTaken {
         first: one.count,
@@ -175,10 +181,10 @@ pub fn two(buffer: &mut [u8], place: Place, first: &mut [u8], second: &mut [u8])
 }
 
 // A list: bytes with eight bytes a number, at most as many numbers as are lent.
-pub fn list(buffer: &mut [u8], place: Place, lent: &mut [u64]) -> Taken
+pub fn list(stdin: Stdin, buffer: &mut [u8], place: Place, lent: &mut [u64]) -> Taken
     ensures { IsPrefixLen result.count lent.new }
 {
-    let read = word(buffer, place, 4);
+    let read = word(stdin, buffer, place, 4);
     let size = read.value / 4294967296;
     let count = (size / 8) as usize;
     let mut place = read.place;
@@ -191,7 +197,7 @@ pub fn list(buffer: &mut [u8], place: Place, lent: &mut [u64]) -> Taken
     }
     let mut i = 0;
     while i < count {
-        let next = word(buffer, place, 8);
+        let next = word(stdin, buffer, place, 8);
         lent[i] = next.value;
         place = next.place;
         i += 1;

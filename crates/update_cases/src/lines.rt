@@ -1,98 +1,121 @@
 // What the lines of updates have beside numbers: ids, parts, kinds, rows, and the last word.
 use block::Block;
+use std::io::Stdout;
 use stream::line;
 use text::Part;
 
-pub fn id(sink: &mut [u8], used: usize, client: u64, clock: u64) -> usize {
-    let begun = line::decimal(sink, used, client);
-    let parted = line::put(sink, begun, b':');
-    line::decimal(sink, parted, clock)
+pub fn id(stdout: Stdout, sink: &mut [u8], used: usize, client: u64, clock: u64) -> usize {
+    let begun = line::decimal(stdout, sink, used, client);
+    let parted = line::put(stdout, sink, begun, b':');
+    line::decimal(stdout, sink, parted, clock)
 }
 
 // An id with the dot before it, `-` if it is absent.
-fn dotted_id(sink: &mut [u8], used: usize, has: bool, client: u64, clock: u32) -> usize {
-    let begun = line::put(sink, used, b'.');
+fn dotted_id(
+    stdout: Stdout,
+    sink: &mut [u8],
+    used: usize,
+    has: bool,
+    client: u64,
+    clock: u32,
+) -> usize {
+    let begun = line::put(stdout, sink, used, b'.');
     if !has {
-        return line::put(sink, begun, b'-');
+        return line::put(stdout, sink, begun, b'-');
     }
-    id(sink, begun, client, clock as u64)
+    id(stdout, sink, begun, client, clock as u64)
 }
 
 // A part with the dot before it, `-` if it is absent.
-fn dotted_part(sink: &mut [u8], used: usize, has: bool, it: Part) -> usize {
-    let begun = line::put(sink, used, b'.');
+fn dotted_part(stdout: Stdout, sink: &mut [u8], used: usize, has: bool, it: Part) -> usize {
+    let begun = line::put(stdout, sink, used, b'.');
     if !has {
-        return line::put(sink, begun, b'-');
+        return line::put(stdout, sink, begun, b'-');
     }
-    let placed = line::decimal(sink, begun, it.place as u64);
-    let parted = line::put(sink, placed, b'+');
+    let placed = line::decimal(stdout, sink, begun, it.place as u64);
+    let parted = line::put(stdout, sink, placed, b'+');
     let bytes = it.bytes;
-    line::decimal(sink, parted, bytes.0 as u64)
+    line::decimal(stdout, sink, parted, bytes.0 as u64)
 }
 
-fn dotted(sink: &mut [u8], used: usize, value: u64) -> usize {
-    let begun = line::put(sink, used, b'.');
-    line::decimal(sink, begun, value)
+fn dotted(stdout: Stdout, sink: &mut [u8], used: usize, value: u64) -> usize {
+    let begun = line::put(stdout, sink, used, b'.');
+    line::decimal(stdout, sink, begun, value)
 }
 
-fn kind(sink: &mut [u8], used: usize, kind: u8) -> usize {
+fn kind(stdout: Stdout, sink: &mut [u8], used: usize, kind: u8) -> usize {
     match kind {
-        block::GC => line::text(sink, used, b".gc"),
-        block::SKIP => line::text(sink, used, b".skip"),
-        block::DELETED => line::text(sink, used, b".deleted"),
-        block::BINARY => line::text(sink, used, b".binary"),
-        block::TEXT => line::text(sink, used, b".text"),
-        block::FORMAT => line::text(sink, used, b".format"),
-        block::TYPE => line::text(sink, used, b".type"),
-        block::ANY => line::text(sink, used, b".any"),
-        _ => line::text(sink, used, b".?"),
+        block::GC => line::text(stdout, sink, used, b".gc"),
+        block::SKIP => line::text(stdout, sink, used, b".skip"),
+        block::DELETED => line::text(stdout, sink, used, b".deleted"),
+        block::BINARY => line::text(stdout, sink, used, b".binary"),
+        block::TEXT => line::text(stdout, sink, used, b".text"),
+        block::FORMAT => line::text(stdout, sink, used, b".format"),
+        block::TYPE => line::text(stdout, sink, used, b".type"),
+        block::ANY => line::text(stdout, sink, used, b".any"),
+        _ => line::text(stdout, sink, used, b".?"),
     }
 }
 
-fn head(sink: &mut [u8], used: usize, b: Block) -> usize {
-    let client = line::number(sink, used, b.client);
-    let clock = dotted(sink, client, b.clock as u64);
+fn head(stdout: Stdout, sink: &mut [u8], used: usize, b: Block) -> usize {
+    let client = line::number(stdout, sink, used, b.client);
+    let clock = dotted(stdout, sink, client, b.clock as u64);
     let units = b.length;
-    let length = dotted(sink, clock, units.0);
-    kind(sink, length, b.kind)
+    let length = dotted(stdout, sink, clock, units.0);
+    kind(stdout, sink, length, b.kind)
 }
 
-fn origins(sink: &mut [u8], used: usize, b: Block) -> usize {
-    let left = dotted_id(sink, used, b.has_left, b.left_client, b.left_clock);
-    dotted_id(sink, left, b.has_right, b.right_client, b.right_clock)
+fn origins(stdout: Stdout, sink: &mut [u8], used: usize, b: Block) -> usize {
+    let left = dotted_id(stdout, sink, used, b.has_left, b.left_client, b.left_clock);
+    dotted_id(
+        stdout,
+        sink,
+        left,
+        b.has_right,
+        b.right_client,
+        b.right_clock,
+    )
 }
 
-fn place(sink: &mut [u8], used: usize, b: Block) -> usize {
-    let name = dotted_part(sink, used, b.has_name, b.name);
-    let parent = dotted_id(sink, name, b.has_parent, b.parent_client, b.parent_clock);
-    dotted_part(sink, parent, b.has_key, b.key)
+fn place(stdout: Stdout, sink: &mut [u8], used: usize, b: Block) -> usize {
+    let name = dotted_part(stdout, sink, used, b.has_name, b.name);
+    let parent = dotted_id(
+        stdout,
+        sink,
+        name,
+        b.has_parent,
+        b.parent_client,
+        b.parent_clock,
+    );
+    dotted_part(stdout, sink, parent, b.has_key, b.key)
 }
 
 // The type number of a type with the dot before it, `-` for any other kind.
-fn dotted_type(sink: &mut [u8], used: usize, kind: u8, number: u16) -> usize {
+fn dotted_type(stdout: Stdout, sink: &mut [u8], used: usize, kind: u8, number: u16) -> usize {
     if kind == block::TYPE {
-        return dotted(sink, used, number as u64);
+        return dotted(stdout, sink, used, number as u64);
     }
-    line::text(sink, used, b".-")
+    line::text(stdout, sink, used, b".-")
 }
 
-fn contents(sink: &mut [u8], used: usize, b: Block) -> usize {
-    let stored = dotted_part(sink, used, block::has_part(b.kind), b.part);
+fn contents(stdout: Stdout, sink: &mut [u8], used: usize, b: Block) -> usize {
+    let stored = dotted_part(stdout, sink, used, block::has_part(b.kind), b.part);
     let marked = dotted_part(
+        stdout,
         sink,
         stored,
         block::is_marked(b.kind, b.type_number),
         b.mark,
     );
-    dotted_type(sink, marked, b.kind, b.type_number)
+    dotted_type(stdout, sink, marked, b.kind, b.type_number)
 }
 
 // A row with the space before it.
-pub fn row(sink: &mut [u8], used: usize, b: Block) -> usize {
-    let begun = head(sink, used, b);
-    let linked = origins(sink, begun, b);
-    let placed = place(sink, linked, b);
-    contents(sink, placed, b)
+pub fn row(stdout: Stdout, sink: &mut [u8], used: usize, b: Block) -> usize {
+    let begun = head(stdout, sink, used, b);
+    let linked = origins(stdout, sink, begun, b);
+    let placed = place(stdout, sink, linked, b);
+    contents(stdout, sink, placed, b)
 }
 
 // What was printed of lent words: how much of the output's buffer is used, and where the printed words end.
@@ -103,16 +126,23 @@ pub struct Listed {
 }
 
 // An entry of a state vector with the space before it.
-pub fn entry(sink: &mut [u8], used: usize, client: u64, clock: u64) -> usize {
-    let begun = line::put(sink, used, b' ');
-    id(sink, begun, client, clock)
+pub fn entry(stdout: Stdout, sink: &mut [u8], used: usize, client: u64, clock: u64) -> usize {
+    let begun = line::put(stdout, sink, used, b' ');
+    id(stdout, sink, begun, client, clock)
 }
 
 // A delete range with the space before it.
-pub fn range(sink: &mut [u8], used: usize, client: u64, clock: u64, length: u64) -> usize {
-    let begun = line::number(sink, used, client);
-    let placed = dotted(sink, begun, clock);
-    dotted(sink, placed, length)
+pub fn range(
+    stdout: Stdout,
+    sink: &mut [u8],
+    used: usize,
+    client: u64,
+    clock: u64,
+    length: u64,
+) -> usize {
+    let begun = line::number(stdout, sink, used, client);
+    let placed = dotted(stdout, sink, begun, clock);
+    dotted(stdout, sink, placed, length)
 }
 
 pub fn are_zero(words: &[u64], from: usize) -> bool {
@@ -126,9 +156,9 @@ pub fn are_zero(words: &[u64], from: usize) -> bool {
     true
 }
 
-pub fn last(sink: &mut [u8], used: usize, zero: bool) -> usize {
+pub fn last(stdout: Stdout, sink: &mut [u8], used: usize, zero: bool) -> usize {
     if zero {
-        return line::text(sink, used, b" zero\n");
+        return line::text(stdout, sink, used, b" zero\n");
     }
-    line::text(sink, used, b" dirty\n")
+    line::text(stdout, sink, used, b" dirty\n")
 }

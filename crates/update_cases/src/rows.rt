@@ -2,6 +2,7 @@
 use crate::lines;
 use crate::lines::Listed;
 use block::Block;
+use std::io::Stdout;
 use stream::line;
 use text::{Bytes, Part, Units};
 use updates::Update;
@@ -77,9 +78,9 @@ fn is_none(b: Block) -> bool {
 }
 
 // Row i: one of the first n is printed, any other looked at.
-pub fn put_row(sink: &mut [u8], told: Told, b: Block, i: usize, n: usize) -> Told {
+pub fn put_row(stdout: Stdout, sink: &mut [u8], told: Told, b: Block, i: usize, n: usize) -> Told {
     if i < n {
-        let used = lines::row(sink, told.used, b);
+        let used = lines::row(stdout, sink, told.used, b);
         return Told {
             used,
             zero: told.zero,
@@ -93,23 +94,23 @@ pub fn put_row(sink: &mut [u8], told: Told, b: Block, i: usize, n: usize) -> Tol
 }
 
 // What stands before the rows of a table.
-pub fn blocks(sink: &mut [u8], used: usize, count: usize) -> usize {
-    let named = line::text(sink, used, b" blocks");
-    line::number(sink, named, count as u64)
+pub fn blocks(stdout: Stdout, sink: &mut [u8], used: usize, count: usize) -> usize {
+    let named = line::text(stdout, sink, used, b" blocks");
+    line::number(stdout, sink, named, count as u64)
 }
 
 // The line up to the rows.
-pub fn begin(sink: &mut [u8], used: usize, answer: Update) -> usize {
+pub fn begin(stdout: Stdout, sink: &mut [u8], used: usize, answer: Update) -> usize {
     let why = answer.refusal;
-    let begun = line::verdict(sink, used, why.number, why.place);
+    let begun = line::verdict(stdout, sink, used, why.number, why.place);
     if why.number != 0 {
         return begun;
     }
-    blocks(sink, begun, answer.blocks)
+    blocks(stdout, sink, begun, answer.blocks)
 }
 
 // So many ranges, three words each.
-pub fn ranges(sink: &mut [u8], used: usize, count: usize, words: &[u64]) -> Listed {
+pub fn ranges(stdout: Stdout, sink: &mut [u8], used: usize, count: usize, words: &[u64]) -> Listed {
     let mut used = used;
     let mut at = 0;
     let mut left = count;
@@ -117,7 +118,7 @@ pub fn ranges(sink: &mut [u8], used: usize, count: usize, words: &[u64]) -> List
         if words.len() - at < 3 {
             return Listed { used, at };
         }
-        used = lines::range(sink, used, words[at], words[at + 1], words[at + 2]);
+        used = lines::range(stdout, sink, used, words[at], words[at + 1], words[at + 2]);
         at += 3;
         left -= 1;
     }
@@ -125,15 +126,15 @@ pub fn ranges(sink: &mut [u8], used: usize, count: usize, words: &[u64]) -> List
 }
 
 // The line from the ranges on.
-pub fn end(sink: &mut [u8], told: Told, answer: Update, words: &[u64]) -> usize {
+pub fn end(stdout: Stdout, sink: &mut [u8], told: Told, answer: Update, words: &[u64]) -> usize {
     let why = answer.refusal;
     if why.number != 0 {
         let zero = told.zero && lines::are_zero(words, 0);
-        return lines::last(sink, told.used, zero);
+        return lines::last(stdout, sink, told.used, zero);
     }
-    let named = line::text(sink, told.used, b" ranges");
-    let counted = line::number(sink, named, answer.ranges as u64);
-    let listed = ranges(sink, counted, answer.ranges, words);
+    let named = line::text(stdout, sink, told.used, b" ranges");
+    let counted = line::number(stdout, sink, named, answer.ranges as u64);
+    let listed = ranges(stdout, sink, counted, answer.ranges, words);
     let zero = told.zero && lines::are_zero(words, listed.at);
-    lines::last(sink, listed.used, zero)
+    lines::last(stdout, sink, listed.used, zero)
 }
