@@ -1,4 +1,3 @@
 -- What the proofs of the crate and of its callers share.
-pub mod Cards
 pub mod Examples
 pub mod Laws
