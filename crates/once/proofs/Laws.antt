@@ -5,13 +5,11 @@ use mathlib.Core.Path.{◌≡◌, refl, sym, ap, ◌∙◌}
 use mathlib.Core.Bool.{Bool, true, false}
 use mathlib.Core.Logic.{◌⊎◌, inr, ⊎_elim}
 use mathlib.Core.List.{List, [], ◌∷◌, ◌++◌}
-use native.Mathlib.Nat.{add-zero}
 use native.Mathlib.Omega.{arith}
 use lib.Dec.{ltb, leb, eqb}
 use lib.ListN.{length, take, drop, get_or, length-append}
 use lib.Seq.{sets, split_at, length-sets}
 use borrow.Author.Tests.{le-leb, lt-leb, leb-true, leb-false, lt-ltb, le-ltb, eqb-true, eqb-false, eq-eqb, ne_eqb}
-use Rattle.numbers.specs.declared.Written.{Written}
 use Rattle.numbers.specs.Number.{pick, spell, unsigned, signed}
 use Rattle.numbers.specs.Limits.{max_value, max_clock}
 use Rattle.numbers.specs.Output.{padded, written, put}
