@@ -1,15 +1,14 @@
 -- Reading in bulk is reading draw by draw: its values and the refusal that ended them are those of `columns` specs/Reading and of `readTexts`. A refusal
 -- that is told stands beside no value, and where nothing was drawn the place is as it was.
 use Prim.Native.Nat.{ℕ, zero, suc, ◌+◌}
-use mathlib.Core.Path.{◌≡◌, refl, sym, ap, ◌∙◌}
+use mathlib.Core.Path.{◌≡◌, refl, ap, ◌∙◌}
 use mathlib.Core.Bool.{Bool, true, false}
-use mathlib.Core.List.{List, [], ◌∷◌, map}
+use mathlib.Core.List.{List, ◌∷◌, map}
 use native.Mathlib.Omega.{arith}
 use lib.Dec.{eqb}
 use lib.ListN.{length}
 use lib.Seq.{slice}
 use borrow.Author.Tests.{eqb-true}
-use Rattle.numbers.specs.declared.Refusal.{Refusal}
 use Rattle.numbers.specs.Number.{pick, none}
 use Rattle.text.specs.declared.Part.{Part}
 use Rattle.columns.specs.declared.number.Place as number-place

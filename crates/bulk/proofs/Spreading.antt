@@ -20,7 +20,7 @@ use Rattle.columns.specs.declared.number.Place.{Place}
 use Rattle.columns.specs.declared.number.Answer.{Answer}
 use Rattle.columns.specs.declared.number.Answer.TheVariants.{Next, Bad}
 use Rattle.columns.specs.Number.{place_at, refuse, drawn, counted, begun, next_number}
-use Rattle.bulk.specs.Bulk.{Draw, drew, number_draw, draws, draw_numbers}
+use Rattle.bulk.specs.Bulk.{drew, number_draw, draw_numbers}
 use Rattle.bulk.proofs.Drawing.{before, ReadTo, one_more, read-many}
 
 -- ---- the value v from `at` on, in what was e

@@ -1,7 +1,5 @@
 -- The promise of each public call: its answer, and what is lent back, the values with zeros behind them, as equations of the inputs.
 use Rattle.std.specs.Prelude.{ℕ, ◌/◌, ◌≡◌, List, length}
-use Rattle.numbers.specs.declared.Refusal.{Refusal}
-use Rattle.numbers.specs.Number.{pick, none}
 use Rattle.numbers.specs.Output.{padded}
 use Rattle.text.specs.declared.Part.{Part}
 use Rattle.columns.specs.declared.number.Place as number-place

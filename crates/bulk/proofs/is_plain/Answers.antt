@@ -3,23 +3,25 @@ use Prim.Native.Nat.{ℕ, ◌+◌}
 use mathlib.Core.Path.{◌≡◌}
 use mathlib.Core.Bool.{Bool, true, false}
 use native.Mathlib.Omega.{arith}
-use borrow.Author.Rules.{rules}
 use borrow.Author.Tests.{eqb-true}
 use Rattle.text.proofs.Plain.{plain-took}
-use Rattle.bulk.proofs.is_plain.Statement.{statement}
-use Rattle.bulk.proofs.is_plain.Tie as tie
+use Rattle.bulk.proofs.is_plain.Goals as goal
 
 -- no answer is both
 never : {A : Type 0} → ◌≡◌ {A = Bool} false true → A
 never z = absurd (let y : ◌≡◌ {A = ℕ} 0 1 = cc in omega arith)
 
-returns-4 : tie.Need-returns-4
-returns-4 c z =
-    let k = c.before.before.before.before.before in
-    let p = c.plain-to.ensures in
-    let e = eqb-true c.plain-to.result (k.args.at + k.args.u) z in
+pub returns : goal.returns
+returns c z = let k = c in
+    let p = c.plain_to.ensures in
+    let e = eqb-true c.plain_to.result (k.args.at + k.args.u) z in
     (omega arith, plain-took 7 k.args.column.now k.args.at k.args.end k.args.u (omega arith) (omega arith) (rw e at p.2))
 
-pub is-plain-spec : {M : Type 1} → statement M
-is-plain-spec =
-    tie.close (tie.spec (λ c. never) (λ c. never) (λ c. never) (λ c. search rules) (λ c κs. search rules) returns-4)
+pub returns-then-column-end : goal.returns-then-column-end
+returns-then-column-end c = never
+
+pub returns-then-end-at : goal.returns-then-end-at
+returns-then-end-at c = never
+
+pub returns-then-room-u : goal.returns-then-room-u
+returns-then-room-u c = never

@@ -1,0 +1,11 @@
+-- `bulk::key_read` meets its contract: each return is an arm of `keyRead`, and a half of what is at most 2^31 fits.
+use Rattle.columns.specs.Difference.{key_read}
+use Rattle.bulk.proofs.key_read.Goals as goal
+
+pub returns-then-minus : goal.returns-then-minus
+unfolding key_read
+returns-then-minus c = rw c.if-minus.true
+
+pub returns : goal.returns
+unfolding key_read
+returns c = rw c.if-minus.false

@@ -1,0 +1,69 @@
+-- `bulk::read_differences` meets its contract: the words before i are what i draws gave, and c is the place that they left.
+use Prim.Native.Nat.{ℕ}
+use mathlib.Core.Path.{◌≡◌, refl, sym, ap, ◌∙◌}
+use mathlib.Core.List.{◌∷◌, []}
+use native.Mathlib.Omega.{arith}
+use lib.Dec.{eqb}
+use Rattle.numbers.specs.declared.Refusal.{Refusal}
+use Rattle.numbers.specs.Number.{pick, none}
+use Rattle.columns.specs.declared.difference.Place.{Place}
+use Rattle.columns.specs.declared.difference.Answer.{Answer}
+use Rattle.columns.specs.declared.difference.Answer.TheVariants.{Next, Bad}
+use Rattle.columns.specs.Difference.{next_difference}
+use Rattle.columns.specs.DifferenceInner.{why_difference}
+use Rattle.bulk.specs.declared.DifferencesRead.{DifferencesRead}
+use Rattle.bulk.specs.Bulk.{drew, stop, difference_draw}
+use Rattle.bulk.specs.Promises.{differences_answer}
+use Rattle.bulk.proofs.Drawing.{read-begin, read-on, read-stop, read-end, end-answer, end-words, end-full, none-either}
+use borrow.Author.Rules.{rules}
+use Rattle.bulk.proofs.read_differences.Invariants.{itself}
+use Rattle.bulk.proofs.read_differences.Goals as goal
+
+abbrev make : Refusal → ℕ → Place → DifferencesRead
+make w k d = record { refusal = w; count = k; place = d }
+
+refused : (r : Answer) (w : Refusal) → r ≡ Bad w → difference_draw r ≡ stop (why_difference r)
+unfolding difference_draw
+refused r w e = rw e
+
+drawn : (r : Answer) (v : ℕ) (d : Place) → r ≡ Next v d → difference_draw r ≡ drew v d
+unfolding difference_draw
+drawn r v d e = rw e
+
+pub loop-i-init : goal.loop-i-init
+loop-i-init c = let a = c.args in read-begin (λ d. difference_draw (next_difference a.column.now d)) itself _ a.place a.out.now refl
+
+pub clear-requires : goal.clear-requires
+clear-requires c = let h = c.loop-i.invariant in omega (arith, h.fits, h.size)
+
+pub returns-in_default : goal.returns-in_default
+unfolding differences_answer
+returns-in_default c = let n = c in
+    let e = read-stop c.loop-i.invariant _ (ap difference_draw (sym n.next_difference-r.ensures) ∙ refused _ _ c.in_default.is) (omega (arith, c.loop-i.invariant.size, n.loop-i-test.true)) in (
+      ap (λ (w : Refusal). make w c.loop-i.i c.loop-i.c) (c.told-refusal.ensures ∙ ap (λ (w : Refusal). pick (eqb c.loop-i.i 0) w none) c.why-why.ensures) ∙ end-answer c.loop-i.invariant _ e make,
+      c.clear.ensures ∙ end-words c.loop-i.invariant _ e,
+    )
+
+pub overflow_cast-out : goal.overflow_cast-out
+overflow_cast-out c = search rules
+
+pub offset_bounds-out-i : goal.offset_bounds-out-i
+offset_bounds-out-i c = search rules
+
+pub bounds-out-i : goal.bounds-out-i
+bounds-out-i c = omega arith
+
+pub overflow_add-i : goal.overflow_add-i
+overflow_add-i c = omega arith
+
+pub loop-i-smaller : goal.loop-i-smaller
+loop-i-smaller c = omega (arith, c.loop-i.invariant.size)
+
+pub loop-i-preserved : goal.loop-i-preserved
+loop-i-preserved c = let n = c in
+    read-on c.loop-i.invariant c.in-Next.v c.in-Next.d (c.in-Next.v ∷ []) (λ vs. refl) (ap difference_draw (sym n.next_difference-r.ensures) ∙ drawn _ _ _ c.in-Next.is) (omega (arith, c.loop-i.invariant.size)) (omega (arith, c.loop-i.invariant.size))
+
+pub returns : goal.returns
+unfolding differences_answer
+returns c = let e = read-end c.loop-i.invariant (omega (arith, c.loop-i.invariant.size)) in
+    (ap (λ (w : Refusal). make w c.loop-i.i c.loop-i.c) (sym (none-either (eqb c.loop-i.i 0))) ∙ end-answer c.loop-i.invariant _ e make, end-full c.loop-i.invariant _ e (omega (arith, c.loop-i.invariant.size, c.loop-i.invariant.fits)))
