@@ -1,5 +1,4 @@
 -- The tokens of an update that Yjs 13.5.43 made, z typed between a and b by another client: in both forms they are its bytes.
-use Prim.Native.Nat.{ℕ}
 use mathlib.Core.Path.{◌≡◌, refl}
 use mathlib.Core.List.{List, [], ◌∷◌}
 use Rattle.numbers.specs.Number.{spell, unsigned, signed}

@@ -11,7 +11,7 @@ use Rattle.numbers.specs.Number.{unsigned}
 use Rattle.tokens.specs.Tokens.{Token, field, text, var, buf, led, texts, units, rest, in_line}
 use Rattle.tokens.specs.KeysInner.{keyless, spelled}
 use Rattle.tokens.specs.Lanes.{Lane, fresh_lane, ahead, laid_at, forward, laid_bytes, pushed_on, laid_value, put, laid, put_all, laid_all}
-use Rattle.tokens.specs.Desk.{put_each, laid_each, put_tokens, laid_tokens, lane_in, lanes_in, desk_in, known_in, Tidy, Aliased, SameKeys, Wrote, WroteKeys, Alone, Gauged, Sized}
+use Rattle.tokens.specs.Desk.{put_each, laid_each, put_tokens, laid_tokens, lane_in, lanes_in, desk_in, known_in, Tidy, Aliased, SameKeys, WroteKeys, Alone, Gauged, Sized}
 use Rattle.tokens.proofs.Laying.{values_one}
 use Rattle.tokens.proofs.Places.{laid-place}
 use Rattle.tokens.proofs.Taking.{in_rest}

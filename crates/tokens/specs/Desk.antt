@@ -10,7 +10,7 @@ use Rattle.tokens.specs.Tokens.{Token, column_in, rest, whole}
 use Rattle.decoder.specs.States.{max_keys}
 use Rattle.tokens.specs.Keys.{number_of, crowded}
 use Rattle.tokens.specs.KeysInner.{keyless, spelled, known_after}
-use Rattle.tokens.specs.Lanes.{Lane, fresh_lane, put, laid, pushed_on, laid_value, closed, laid_end}
+use Rattle.tokens.specs.Lanes.{Lane, fresh_lane, put, laid, closed, laid_end}
 
 -- ---- a token onto every lane
 
