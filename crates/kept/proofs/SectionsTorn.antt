@@ -15,7 +15,7 @@ use Rattle.readings.specs.Groups.{groups}
 use Rattle.readings.proofs.Groups.{groups-all}
 use Rattle.parts.specs.Brim.{brim}
 use Rattle.kept.specs.Kept.{Piece, Section, remote, falls, piece, whole_piece, keep_from, with_pieces, keep_each, put_section, falling, client_of, sections_of}
-use Rattle.kept.specs.Cut.{torn, torn_pieces, any_torn, format_in, any_format}
+use Rattle.kept.specs.Cut.{torn_pieces, any_torn, format_in, any_format}
 use Rattle.kept.specs.Plan.{unplanned, plan_all}
 use Rattle.kept.proofs.SectionsRun.{torn_at, torn_one, format_rows, format_one, or, or-none, or_swap}
 use Rattle.kept.proofs.SectionsPlan.{torn_each, format_each, rows-come}

@@ -12,7 +12,6 @@ use Rattle.vector.specs.declared.Entries.{Entries}
 use Rattle.vector.specs.declared.Entries.TheVariants.{Read, Refused}
 use Rattle.vector.specs.Vector.{Entry, clients_in}
 use Rattle.vector.specs.VectorInner.{clocks_in, kept}
-use Rattle.vector.specs.Vector as vector
 use Rattle.vector.specs.VectorInner as vector-inner
 use Rattle.kept.specs.Plan.{paired, entries_of}
 

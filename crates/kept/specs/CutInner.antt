@@ -1,5 +1,4 @@
 -- Beside Cut: what inner functions say and proofs need. No promise comes to it.
-use Rattle.std.specs.Prelude.{◌-◌}
 use Rattle.block.specs.declared.Id.{Id}
 use Rattle.kept.specs.Kept.{Piece}
 use Rattle.kept.specs.Cut.{left_of}
