@@ -1,13 +1,13 @@
 -- Sorting by held ids in the paper's words: demand 3 over held sets, which ids are held after any steps, which blocks are ready, and what is reported.
 use mathlib.Core.Path.{◌≡◌, refl, sym, ap, subst, ◌∙◌}
-use mathlib.Core.Bool.{Bool, true, false, ◌||◌, ◌&&◌}
+use mathlib.Core.Bool.{Bool, true, false, ◌||◌}
 use mathlib.Core.List.{List, [], ◌∷◌}
 use mathlib.Core.Logic.{◌⊎◌, inl, inr, ◌≢◌, ◌↔◌}
 use mathlib.Core.Option.{some}
-use Prim.Native.Nat.{ℕ, zero, suc, ◌+◌, ◌≤◌, ◌<◌, max}
+use Prim.Native.Nat.{ℕ, zero, suc, ◌+◌, ◌<◌, max}
 use native.Mathlib.Omega.{arith}
 use lib.Dec.{T, ltb, leb, eqb, ltb→lt, lt→ltb, leb→le, le→leb, eqb→eq, eqb_refl}
-use lib.ListN.{length, get_or}
+use lib.ListN.{get_or}
 use borrow.Author.Tests.{ltb-true, ltb-false, lt-ltb, ne_eqb}
 use Rattle.numbers.specs.Number.{pick}
 use Rattle.block.specs.declared.Id.{Id}
@@ -125,7 +125,9 @@ module _ (bs : List Block) (κ : Id → ℕ) where
       go (inl w) =
           step-tells bs s c d w.0 ∙ ap (λ (x : Bool). x || holds_at (queue bs c) (s.taken c) d) (h d)
           ∙ or_assoc (ltb 0 (κ d)) (told (queue bs d.client) (s.taken d.client) d) (holds_at (queue bs c) (s.taken c) d)
-          ∙ ap (λ (x : Bool). ltb 0 (κ d) || x) (rw (w.1, w.0) refl)
+          ∙ ap (λ (x : Bool). ltb 0 (κ d) || x)
+          (ap (λ (x : ℕ). told (queue bs d.client) (s.taken d.client) d || holds_at (queue bs x) (s.taken x) d) (sym w.0)
+          ∙ ap (λ (n : ℕ). told (queue bs d.client) n d) (sym w.1))
       go (inr w) = ap (ltb 0) (step-silent bs s c d w.0) ∙ h d ∙ rw w.1 refl
 
   held-run : (s : State Id) (cs : List ℕ) → HeldBy s → HeldBy (after (steps rule_held bs) s cs)

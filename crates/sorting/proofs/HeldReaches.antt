@@ -1,9 +1,9 @@
 -- Held ids and reaches: where the held ids are those below the vector's clocks and no block is taken across a gap, both sorters take the same, in the same order.
-use mathlib.Core.Path.{◌≡◌, refl, sym, ap, subst, ◌∙◌}
+use mathlib.Core.Path.{◌≡◌, refl, sym, ap, ◌∙◌}
 use mathlib.Core.Bool.{Bool, true, false, ◌||◌, ◌&&◌}
 use mathlib.Core.List.{List, [], ◌∷◌}
 use mathlib.Core.Logic.{◌⊎◌, inl, inr}
-use mathlib.Core.Option.{Option, some}
+use mathlib.Core.Option.{Option}
 use Prim.Native.Nat.{ℕ, ◌+◌, ◌≤◌, ◌<◌, max}
 use native.Mathlib.Omega.{arith}
 use lib.Dec.{T, ltb, leb, eqb}
@@ -12,7 +12,6 @@ use borrow.Author.Tests.{ltb-true, ltb-false, lt-ltb, le-ltb, le-leb, eqb-true}
 use Rattle.numbers.specs.Number.{pick}
 use Rattle.block.specs.declared.Id.{Id}
 use Rattle.block.specs.declared.Block.{Block}
-use Rattle.block.specs.Row.{no_block}
 use Rattle.vector.specs.Vector.{Entry}
 use Rattle.kept.specs.Kept.{remote}
 use Rattle.sorting.specs.Steps.{State, start, can, step, after}
@@ -23,7 +22,7 @@ use Rattle.sorting.specs.Rule28Inner.{rule28}
 use Rattle.sorting.specs.Sorted.{all_clients, steps, order, outcome, block_numbers_from, numbers_by, counts_in, outcome_of, order_of}
 use Rattle.sorting.specs.Held.{in_range, rule_held, owners}
 use Rattle.sorting.proofs.Outcome.{Moved, step-taken}
-use Rattle.sorting.proofs.Rules.{RuleMonotone, reaches-mono}
+use Rattle.sorting.proofs.Rules.{RuleMonotone}
 use Rattle.sorting.proofs.Clients.{clients-blocks}
 use Rattle.sorting.proofs.Demand.{front, sorted, highest, is-order}
 use Rattle.sorting.proofs.Held.{held-mono, fact-more}

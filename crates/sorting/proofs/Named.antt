@@ -1,6 +1,5 @@
 -- The numbers name the rules: 13 is rule 13, and any other number that is one is rule 28.
 use mathlib.Core.Path.{◌≡◌, refl}
-use Prim.Native.Nat.{ℕ}
 use Rattle.sorting.specs.Rule28Inner.{rule28}
 use Rattle.sorting.specs.Rule13Inner.{rule13}
 use Rattle.sorting.specs.Named.{asks_of, rule_of}

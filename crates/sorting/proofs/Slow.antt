@@ -1,6 +1,6 @@
 -- The slow plain order is a run that ends, so it sorts: it comes to the outcome of the order of highest clients, in as many steps, by every rule under
 -- which more knowledge holds nothing back.
-use mathlib.Core.Path.{◌≡◌, refl, sym, ap, subst, ◌∙◌}
+use mathlib.Core.Path.{◌≡◌, refl, sym, ap, ◌∙◌}
 use mathlib.Core.Bool.{Bool, true, false}
 use mathlib.Core.List.{List, [], ◌∷◌, ◌++◌}
 use mathlib.Core.Logic.{inl, inr, ◌≢◌}
@@ -15,7 +15,7 @@ use Rattle.kept.specs.Kept.{remote}
 use Rattle.sorting.specs.Steps.{System, State, start, can, step, after, Run, Stuck, Ends, Sorts}
 use Rattle.sorting.specs.Quick.{Listed, remaining}
 use Rattle.sorting.specs.Rules.{queue, Rule, system}
-use Rattle.sorting.specs.Sorted.{all_clients, steps, order, outcome, outcome_of, numbers_by, order_of, counts_in, counts_of, reaches_in, reaches_of, pending_in, pending_of}
+use Rattle.sorting.specs.Sorted.{all_clients, steps, order, outcome, outcome_of, order_of, counts_in, counts_of, reaches_in, reaches_of, pending_in, pending_of}
 use Rattle.sorting.specs.Slow.{lowest_first, again, fronts, drain, sweep, sweeps, slow, slow_steps, slow_outcome, slow_outcome_of}
 use Rattle.sorting.specs.Slow.{slow_order_of, slow_counts_of, slow_reaches_of, slow_pending_of}
 use Rattle.sorting.proofs.Outcome.{can-fits, step-own, Moved, step-taken, sorts}
