@@ -1,7 +1,7 @@
 -- The pieces that a diff keeps hold exactly the ids that the blocks cover at or above their client's remote clock.
-use Prim.Native.Nat.{ℕ, ◌+◌, ◌-◌, ◌≤◌, ◌<◌}
+use Prim.Native.Nat.{ℕ, ◌+◌, ◌-◌, ◌≤◌}
 use mathlib.Core.Path.{◌≡◌, refl, sym, subst, ◌∙◌}
-use mathlib.Core.Logic.{◌⊎◌, inl, inr, ◌≢◌}
+use mathlib.Core.Logic.{◌⊎◌, inl, inr}
 use mathlib.Core.Bool.{Bool, true, false}
 use mathlib.Core.List.{List, [], ◌∷◌, ◌++◌, map}
 use native.Mathlib.Omega.{arith}
@@ -15,7 +15,7 @@ use Rattle.readings.specs.SoundInner.{Ordered, Chain, Adjoins}
 use Rattle.readings.specs.Groups.{groups}
 use Rattle.readings.specs.GroupsInner.{joined, Single}
 use Rattle.readings.proofs.Groups.{groups-joined, groups-single, ordered-chains}
-use Rattle.kept.specs.Kept.{Piece, piece, Section, remote, falls, whole_piece, keep_from, with_pieces, keep_each, put_section, falling, client_of, sections_of}
+use Rattle.kept.specs.Kept.{Piece, piece, Section, remote, falls, whole_piece, keep_from, with_pieces, keep_each, put_section, falling, sections_of}
 use Rattle.kept.proofs.SectionsKept.{not-fallen}
 use Rattle.covered.specs.Covered.{Covers, Covered, Holds, Held, HeldIn, Both}
 
