@@ -1,14 +1,11 @@
 -- Which blocks are numbered how: a client's block k stands at clock k, and the blocks are in order as before.
-use mathlib.Core.Path.{◌≡◌, refl, sym, ap, subst, ◌∙◌}
-use mathlib.Core.Bool.{Bool, true, false}
+use mathlib.Core.Path.{◌≡◌, refl, sym, ap, ◌∙◌}
+use mathlib.Core.Bool.{Bool}
 use mathlib.Core.List.{List, [], ◌∷◌, map}
-use mathlib.Core.Logic.{◌⊎◌, inl, inr, ◌≢◌, ⊎_elim}
+use mathlib.Core.Logic.{inl, inr, ◌≢◌, ⊎_elim}
 use Prim.Native.Nat.{ℕ, zero, suc, ◌+◌, ◌-◌, ◌≤◌, ◌<◌}
 use native.Mathlib.Omega.{arith}
-use lib.Dec.{eqb}
 use lib.ListN.{length, get_or}
-use Rattle.numbers.specs.Number.{pick}
-use Rattle.numbers.specs.Limits.{max_clock, max_blocks}
 use Rattle.block.specs.declared.Id.{Id}
 use Rattle.block.specs.declared.Block.{Block}
 use Rattle.block.specs.Row.{no_block}
@@ -18,7 +15,7 @@ use Rattle.readings.specs.SoundInner.{Follows, Stays, Ordered}
 use Rattle.sorting.specs.Rules.{queue}
 use Rattle.sorting.specs.Sorted.{block_numbers_from, all_clients}
 use Rattle.sorting.proofs.Numbers.{numbers_from-length, numbers_from-at, numbered, number-below, owner_at, each-numbered}
-use Rattle.numbered.specs.Numbered.{asked, placed, by_number, numbered_from}
+use Rattle.numbered.specs.Numbered.{by_number, numbered_from}
 
 module _ (gone : Id → Bool) (place : Id → ℕ) (first : ℕ → ℕ) where
   abbrev from : ℕ → List Block → List Block

@@ -1,32 +1,31 @@
 -- Sorting by held ids and sorting the numbered blocks by reaches, from nothing, make the same steps.
-use mathlib.Core.Path.{◌≡◌, refl, sym, ap, subst, ◌∙◌}
+use mathlib.Core.Path.{◌≡◌, refl, sym, ap, ◌∙◌}
 use mathlib.Core.Bool.{Bool, true, false, ◌||◌, ◌&&◌}
 use mathlib.Core.List.{List, [], ◌∷◌}
-use mathlib.Core.Logic.{◌⊎◌, inl, inr, ◌≢◌}
-use mathlib.Core.Option.{Option, some}
-use Prim.Native.Nat.{ℕ, suc, ◌+◌, ◌-◌, ◌≤◌, ◌<◌, max}
+use mathlib.Core.Logic.{inl, inr}
+use mathlib.Core.Option.{some}
+use Prim.Native.Nat.{ℕ, suc, ◌+◌, ◌≤◌, ◌<◌}
 use native.Mathlib.Omega.{arith}
-use lib.Dec.{T, ltb, leb, eqb}
+use lib.Dec.{T, ltb, eqb}
 use lib.ListN.{length, get_or}
-use borrow.Author.Tests.{ltb-true, ltb-false, eqb-true, eqb-false}
+use borrow.Author.Tests.{ltb-true}
 use Rattle.numbers.specs.Number.{pick}
 use Rattle.numbers.specs.Limits.{max_blocks}
 use Rattle.block.specs.declared.Id.{Id}
 use Rattle.block.specs.declared.Block.{Block}
 use Rattle.block.specs.Row.{no_block, left_id, right_id, parent_id}
-use Rattle.vector.specs.Vector.{Entry}
 use Rattle.kept.specs.Kept.{remote}
 use Rattle.readings.specs.SoundInner.{Ordered}
-use Rattle.sorting.specs.Steps.{State, start, can, step, after}
+use Rattle.sorting.specs.Steps.{State, start, can, step}
 use Rattle.sorting.specs.Rules.{queue, is_skip, also, deps, others, unmet, waits, free, system, below, by_reaches}
 use Rattle.sorting.specs.Rule28.{asks28}
 use Rattle.sorting.specs.Rule28Inner.{rule28}
-use Rattle.sorting.specs.Sorted.{all_clients, steps, order, outcome, block_numbers_from, numbers_by, counts_in, outcome_of, order_of}
+use Rattle.sorting.specs.Sorted.{steps, order, outcome, block_numbers_from, numbers_by, counts_in, outcome_of, order_of}
 use Rattle.sorting.specs.Held.{rule_held, owners}
 use Rattle.sorting.proofs.Outcome.{Moved, step-taken, step-own, can-fits}
 use Rattle.sorting.proofs.Numbers.{one_more, owner_at}
 use Rattle.sorting.proofs.Demand.{front, lifts, others-stay}
-use Rattle.sorting.proofs.Held.{HeldBy, held_start, held-step, told}
+use Rattle.sorting.proofs.Held.{HeldBy, held_start, held-step}
 use Rattle.sorting.proofs.HeldReaches.{numbers-same, counts_same}
 use Rattle.sorting.proofs.Alike.{Along, Alike, Matched, quick-same}
 use Rattle.numbered.specs.Numbered.{holder, asked, placed, by_number, numbered_from}
