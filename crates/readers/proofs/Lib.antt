@@ -1,7 +1,3 @@
--- What walks of readers cite, that no other answer fits, and what reading on gives.
-pub mod Sorts
-pub mod Cards
-pub mod Lent
-pub mod Calls
+-- That no other answer fits, and what reading on gives.
 pub mod Unique
 pub mod Reading
