@@ -1,6 +1,6 @@
 -- What was refused stays refused: every read from the place that a refused opening gives says 1, at the column's end, and leaves that place.
 use Prim.Native.Nat.{ℕ}
-use mathlib.Core.Path.{◌≡◌, refl, sym, ap, ◌∙◌}
+use mathlib.Core.Path.{◌≡◌, ap, ◌∙◌}
 use mathlib.Core.List.{List}
 use lib.ListN.{length}
 use lib.Seq.{drop-length}
