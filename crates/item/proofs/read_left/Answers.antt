@@ -1,0 +1,56 @@
+-- `item::read_left` meets its contract: its bit decides, and the first refusal is the item's.
+use mathlib.Core.Path.{refl, sym, ap, ◌∙◌}
+use lib.ListN.{set}
+use borrow.Author.Tests.{lt-ltb, le-ltb}
+use Rattle.block.specs.Rows.{with_left}
+use Rattle.grammar.specs.Grammar.{left_clock, done}
+use Rattle.grammar.specs.Blocks.{an_id, left}
+use Rattle.fields.specs.Fields.{clock_at}
+use Rattle.item.specs.Row.{row_in, onto, id_onto}
+use Rattle.item.proofs.Rows.{left-put}
+use Rattle.held.proofs.Laws.{row_done}
+use Rattle.item.proofs.Laws.{id-then, id-stopped}
+use Rattle.item.proofs.read_left.Goals as goal
+
+pub returns-then-info-lt128 : goal.returns-then-info-lt128
+unfolding left
+returns-then-info-lt128 c = let b = c in
+    let form = b.args.form in
+    let u = b.args.update.now in
+    let w = b.args.w.now in
+    let r = b.args.r.now in
+    (b.requires.0, b.requires.1, rw (lt-ltb b.args.info 128 c.if-info-lt128.true) (row_done form u w r (row_in r) refl))
+
+pub returns-in_default : goal.returns-in_default
+unfolding left clock_at onto
+returns-in_default c = let b = c in
+    let form = b.args.form in
+    let u = b.args.update.now in
+    let w = b.args.w.now in
+    let r = b.args.r.now in
+    let v = c.read_id.new.w in
+    let q = c.read_id.new.r in
+    let k = c.read_id.ensures in
+    let p = left-put r q b.requires.1 k.1 k.2 in (
+      k.0,
+      p.0,
+      rw (le-ltb b.args.info 128 c.if-info-lt128.false) (id-stopped form u w v 5 q (an_id left_clock) _ (ap (id_onto 5 v q) (sym c.in_default.is) ∙ k.3)),
+    )
+
+pub returns : goal.returns
+unfolding left clock_at
+returns c = let b = c in
+    let form = b.args.form in
+    let u = b.args.update.now in
+    let w = b.args.w.now in
+    let r = b.args.r.now in
+    let v = c.read_id.new.w in
+    let q = c.read_id.new.r in
+    let k = c.read_id.ensures in
+    let p = left-put r q b.requires.1 k.1 k.2 in (
+      k.0,
+      p.1,
+      rw (le-ltb b.args.info 128 c.if-info-lt128.false)
+          (row_done form u v (set q 4 1) _ p.2
+          ∙ id-then form u w v 5 q (an_id left_clock) (λ id. done (with_left id (row_in r))) (ap (id_onto 5 v q) (sym c.in-Done.is) ∙ k.3)),
+    )
