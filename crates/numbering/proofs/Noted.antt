@@ -1,6 +1,6 @@
 -- Aliases in words: words that differ in them alone, one more stored behind them, and that a key remembered leaves them right.
 use Prim.Native.Nat.{ℕ, suc, ◌+◌, ◌*◌, ◌≤◌, ◌<◌}
-use mathlib.Core.Path.{◌≡◌, refl, sym, ap, ◌∙◌}
+use mathlib.Core.Path.{◌≡◌, refl, ap, ◌∙◌}
 use mathlib.Core.Logic.{◌≢◌}
 use mathlib.Core.Bool.{Bool, true, false}
 use mathlib.Core.List.{List, [], ◌∷◌, ◌++◌}
@@ -15,7 +15,7 @@ use Rattle.readings.specs.Sound.{bytes_in}
 use Rattle.decoder.specs.States.{max_keys}
 use Rattle.tokens.specs.Tokens.{Token}
 use Rattle.tokens.specs.Keys.{same, number_of}
-use Rattle.tokens.specs.Desk.{lanes_in, desk_in, key_count, key_at, known_in, crowded_in, alias_count, alias_at, alias_number, Tidy, Aliased, WroteKeys}
+use Rattle.tokens.specs.Desk.{desk_in, key_count, key_at, known_in, crowded_in, alias_count, alias_at, alias_number, Tidy, Aliased, WroteKeys}
 use Rattle.tokens.proofs.Keyed.{known-length}
 use Rattle.numbering.specs.Numbering.{Remembers, same_part, SameBelow, Notes}
 use Rattle.numbering.proofs.Words.{lanes-same, still-tidy, from-below}
