@@ -1,6 +1,5 @@
 -- The stages of rule 13: those of rule 28, and then the id before the block, if its client has one.
-use Rattle.std.specs.Prelude.{ℕ, ◌-◌, List, [], ◌∷◌, ◌++◌, ltb}
-use Rattle.block.specs.declared.Id.{Id}
+use Rattle.std.specs.Prelude.{◌-◌, List, [], ◌∷◌, ◌++◌, ltb}
 use Rattle.block.specs.declared.Block.{Block}
 use Rattle.picker.specs.declared.stages.Dependency.{Dependency}
 use Rattle.picker.specs.Waits.{dep}
