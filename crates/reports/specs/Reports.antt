@@ -1,5 +1,5 @@
 -- The reports of a sorter, read off its slots, fronts and reaches: words for each slot, highest client first.
-use Rattle.std.specs.Prelude.{ℕ, suc, ◌+◌, ◌-◌, List, [], ◌∷◌, ◌++◌, ltb, eqb, length, get_or, take, replicate}
+use Rattle.std.specs.Prelude.{ℕ, suc, ◌-◌, List, [], ◌∷◌, ◌++◌, ltb, eqb, length, get_or, take, replicate}
 use Rattle.numbers.specs.Number.{pick}
 use Rattle.slots.specs.Slots.{Slot}
 use Rattle.picker.specs.declared.fronts.Front.{Front}
