@@ -1,5 +1,5 @@
 -- What is found by halving: whether ranges hold an id, and which row of a client's holds it; and a block that hangs on the numbers of other blocks.
-use Rattle.std.specs.Prelude.{ℕ, suc, ◌+◌, ◌-◌, ◌*◌, Bool, true, false, List, [], ◌∷◌, ltb, leb, eqb, length, get_or}
+use Rattle.std.specs.Prelude.{ℕ, suc, ◌+◌, ◌-◌, Bool, true, false, List, [], ◌∷◌, ltb, leb, eqb, length, get_or}
 use Rattle.numbers.specs.Number.{pick}
 use Rattle.numbers.specs.Limits.{max_clock}
 use Rattle.block.specs.declared.Id.{Id}
