@@ -3,16 +3,12 @@ use mathlib.Core.Path.{refl}
 use borrow.Author.Tests.{lt-ltb, le-ltb}
 use Rattle.numbers.specs.Limits.{max_clock}
 use Rattle.placing.specs.Placing.{capped}
-use borrow.Author.Rules.{rules}
 use Rattle.placing.proofs.cap.Goals as goal
 
 -- src/lib.rt:169:9
 pub returns-then-n-gt-MAX_CLOCK : goal.returns-then-n-gt-MAX_CLOCK
 unfolding capped
 returns-then-n-gt-MAX_CLOCK c = rw (lt-ltb max_clock c.args.n c.if-n-gt-MAX_CLOCK.true) refl
-
-pub overflow_cast-result : goal.overflow_cast-result
-overflow_cast-result c = search rules
 
 pub returns : goal.returns
 unfolding capped

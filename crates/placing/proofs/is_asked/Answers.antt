@@ -5,15 +5,11 @@ use Rattle.numbers.specs.Number.{pick}
 use borrow.Author.Tests.{not-true, not-false}
 use Rattle.placing.specs.Placing.{is_asked}
 use Rattle.placing.proofs.Places.{not-pick}
-use borrow.Author.Rules.{rules}
 use Rattle.placing.proofs.is_asked.Goals as goal
 
 pub returns-then-not-a : goal.returns-then-not-a
 unfolding is_asked
 returns-then-not-a c = let a = c.args in rw (not-true a.a.there c.if-not-a.true) refl
-
-pub is_held-held-requires : goal.is_held-held-requires
-is_held-held-requires c = search rules
 
 pub returns : goal.returns
 unfolding is_asked

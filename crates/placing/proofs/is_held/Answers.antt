@@ -2,15 +2,9 @@
 use mathlib.Core.Path.{ap, ◌∙◌}
 use Prim.Native.Nat.{ℕ}
 use Rattle.placing.specs.Placing.{begins, is_held}
-use borrow.Author.Rules.{rules}
 use Rattle.placing.proofs.is_held.Goals as goal
 
 -- src/lib.rt:113:9
-pub seek_range-i-requires : goal.seek_range-i-requires
-seek_range-i-requires c = search rules
-
-pub is_begun-requires : goal.is_begun-requires
-is_begun-requires c = search rules
 
 pub returns : goal.returns
 unfolding is_held

@@ -1,12 +1,9 @@
 -- `placing::narrow` meets its contract: the half that is left.
 use mathlib.Core.Path.{refl}
 use Rattle.placing.specs.Halving.{narrowed}
-use borrow.Author.Rules.{rules}
 use Rattle.placing.proofs.narrow.Goals as goal
 
 -- src/lib.rt:39:17
-pub overflow_add-result : goal.overflow_add-result
-overflow_add-result c = search rules
 
 pub returns-then-past : goal.returns-then-past
 unfolding narrowed

@@ -2,7 +2,6 @@
 use mathlib.Core.Path.{refl, ap, ◌∙◌}
 use borrow.Author.Tests.{lt-ltb, le-ltb, eq-eqb, ne_eqb}
 use Rattle.placing.specs.Placing.{number_at, capped}
-use borrow.Author.Rules.{rules}
 use Rattle.placing.proofs.number_of.Goals as goal
 
 -- src/lib.rt:181:9
@@ -17,12 +16,6 @@ returns-then-kind-eq-SKIP c = let a = c.args in rw (lt-ltb a.i a.s.hi c.if-s-i.f
 pub returns-then-clock-from : goal.returns-then-clock-from
 unfolding number_at
 returns-then-clock-from c = let a = c.args in rw (lt-ltb a.i a.s.hi c.if-s-i.false, ne_eqb a.b.kind 2 c.if-kind-eq-SKIP.false, lt-ltb a.clock a.b.clock c.if-clock-from.true) refl
-
-pub less-k-requires : goal.less-k-requires
-less-k-requires c = search rules
-
-pub cap-requires : goal.cap-requires
-cap-requires c = search rules
 
 pub returns : goal.returns
 unfolding number_at

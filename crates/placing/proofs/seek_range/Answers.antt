@@ -6,20 +6,13 @@ use native.Mathlib.Omega.{arith}
 use Rattle.ranges.specs.TableInner.{row}
 use Rattle.placing.specs.Placing.{is_before}
 use Rattle.placing.proofs.Halved.{found-done, turn-found, turn-less, turn_below}
-use borrow.Author.Rules.{rules}
 use Rattle.placing.proofs.seek_range.Goals as goal
 
 pub loop-s-init : goal.loop-s-init
 loop-s-init c = (refl, omega arith)
 
-pub middle-mid-requires : goal.middle-mid-requires
-middle-mid-requires c = search rules
-
 pub is_before-past-requires : goal.is_before-past-requires
 is_before-past-requires c = omega (arith, c.middle-mid.ensures)
-
-pub narrow-s-requires : goal.narrow-s-requires
-narrow-s-requires c = search rules
 
 pub loop-s-smaller : goal.loop-s-smaller
 loop-s-smaller c = let s = c.loop-s.s in

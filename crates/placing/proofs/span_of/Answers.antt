@@ -2,15 +2,9 @@
 use mathlib.Core.Path.{sym, ◌∙◌}
 use native.Mathlib.Omega.{arith}
 use Rattle.placing.proofs.Places.{named-below, span-some, span_none}
-use borrow.Author.Rules.{rules}
 use Rattle.placing.proofs.span_of.Goals as goal
 
 -- src/lib.rt:143:9
-pub rank_of-p-requires : goal.rank_of-p-requires
-rank_of-p-requires c = search rules
-
-pub is_at-named-requires : goal.is_at-named-requires
-is_at-named-requires c = search rules
 
 pub span_at-requires : goal.span_at-requires
 span_at-requires c = let a = c.args in
