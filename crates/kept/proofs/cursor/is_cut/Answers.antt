@@ -1,4 +1,5 @@
 -- `kept::is_cut` meets its contract: text or any.
+use native.Mathlib.Omega.{arith}
 use borrow.Author.Tests.{ne_eqb}
 use Rattle.kept.proofs.cursor.is_cut.Goals as goal
 
@@ -9,4 +10,4 @@ pub returns-in-8 : goal.returns-in-8
 returns-in-8 c = rw c.in-8.is
 
 pub returns-in_default : goal.returns-in_default
-returns-in_default c = rw (ne_eqb _ 5 c.in_default.in_default-own.rest.0.1, ne_eqb _ 8 c.in_default.in_default-own.rest.1)
+returns-in_default c = rw (ne_eqb c.args.kind 5 (λ e. omega arith), ne_eqb c.args.kind 8 (λ e. omega arith))
