@@ -18,6 +18,6 @@ unfolding stages28
 returns-in-2 c = rw c.in-2.is c.other-in-2.ensures
 
 pub returns-in_default : goal.returns-in_default
-returns-in_default c = let a = c.args in
-    let m = c.in_default.in_default-own.rest in
-    c.none.ensures ∙ sym (no-fourth a.b a.k (omega (arith, m.0.0.1, m.0.1, m.1)))
+returns-in_default c =
+    let a = c.args in
+    c.none.ensures ∙ sym (no-fourth a.b a.k (omega arith))
