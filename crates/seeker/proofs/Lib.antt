@@ -1,4 +1,2 @@
--- The types and callees that the walks meet.
-pub mod Sorts
-pub mod Cards
+-- The facts that the proofs come to.
 pub mod Seeking

@@ -1,5 +1,5 @@
--- The facts that the walks come to: what is left to be sought at each turn, and each way out.
-use Prim.Native.Nat.{ℕ, ◌-◌, ◌≤◌, ◌<◌}
+-- The facts that the proofs come to: what is left to be sought at each turn, and each way out.
+use Prim.Native.Nat.{ℕ, ◌≤◌, ◌<◌}
 use mathlib.Core.Path.{◌≡◌, refl, sym, ◌∙◌}
 use mathlib.Core.Bool.{Bool, true, false}
 use mathlib.Core.List.{List}
@@ -18,7 +18,7 @@ use Rattle.picker.specs.Stages.{stage_at}
 use Rattle.placing.specs.declared.Span.{Span}
 use Rattle.placing.specs.Halving.{span, middle, narrowed, clipped, found}
 use Rattle.placing.specs.Placing.{past_row, sought, number_at, held_by, span_of, on_number, is_asked, placed_dep, numbered_block, row_by}
-use Rattle.placing.proofs.Halved.{found-done, turn-found, turn-less, turn_below, middle-below}
+use Rattle.placing.proofs.Halved.{found-done, turn-found, turn_below, middle-below}
 
 clip-below : (s : Span) (n : ℕ) → (clipped s n).hi ≤ n
 unfolding clipped
@@ -75,3 +75,9 @@ module _ (w : List ℕ) (h : ℕ) (ss : List Slot) (rows : List Block) where
       (placed_dep w h ss rows (stage_at 28 b 2)) ≡ row_by w h ss rows i b
   unfolding row_by
   row-by i b = refl
+
+-- the span that a turn's calls leave
+pub turned : (rows : List Block) (k : ℕ) (t : Span) (m : ℕ) (b : Block) (u : Span)
+    → m ≡ middle t.lo t.hi → b ≡ get_or rows m no_block → u ≡ narrowed t m (past_row b k)
+    → u ≡ narrowed t (middle t.lo t.hi) (past_row (get_or rows (middle t.lo t.hi) no_block) k)
+turned rows k t m b u p q r = r ∙ rw (q, p) refl

@@ -1,0 +1,13 @@
+-- `seeker::place` meets its contract: an id that is asked for has its holder sought.
+use Rattle.std.proofs.Common.{sym, ◌∙◌}
+use Rattle.slots.specs.Slots.{slots_from}
+use Rattle.seeker.proofs.Seeking.{place-asked, place_none}
+use Rattle.seeker.proofs.place.Goals as goal
+
+pub returns-then-asked : goal.returns-then-asked
+returns-then-asked c = c.on_number.ensures ∙ rw (c.number-k.ensures, c.span_for-s.ensures, c.clock_of-clock.ensures)
+    (place-asked c.args.held.now c.args.ranges (slots_from c.args.slots.now 0 c.args.n) c.args.rows.now c.args.a (sym c.is_asked-asked.ensures ∙ c.if-asked.true))
+
+pub returns : goal.returns
+returns c = c.none.ensures
+    ∙ place_none c.args.held.now c.args.ranges (slots_from c.args.slots.now 0 c.args.n) c.args.rows.now c.args.a (sym c.is_asked-asked.ensures ∙ c.if-asked.false)
