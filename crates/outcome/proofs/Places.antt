@@ -14,7 +14,7 @@ use Rattle.block.specs.Row.{no_block}
 use Rattle.vector.specs.Vector.{Entry}
 use Rattle.readings.specs.Sound.{All}
 use Rattle.readings.specs.SoundInner.{Ordered}
-use Rattle.slots.specs.Slots.{Slot, slot, Falling, rank}
+use Rattle.slots.specs.Slots.{Slot, Falling, rank}
 use Rattle.slots.proofs.Ranks.{client_at, rank-above, slot-rank}
 use Rattle.sorting.specs.Quick.{Listed}
 use Rattle.sorting.specs.Rules.{queue}

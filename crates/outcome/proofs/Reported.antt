@@ -13,7 +13,7 @@ use Rattle.numbers.specs.Number.{pick}
 use Rattle.block.specs.declared.Id.{Id}
 use Rattle.block.specs.declared.Block.{Block}
 use Rattle.vector.specs.Vector.{Entry}
-use Rattle.slots.specs.Slots.{Slot, slot, rank}
+use Rattle.slots.specs.Slots.{Slot, rank}
 use Rattle.slots.proofs.Ranks.{named-slot}
 use Rattle.slots.proofs.Clients.{clients_of}
 use Rattle.picker.specs.declared.fronts.Front.{Front}

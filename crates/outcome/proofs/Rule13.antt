@@ -1,16 +1,14 @@
 -- The stages of rule 13 ask for what the rule asks for: what rule 28 does, and then the id before the block.
-use mathlib.Core.Path.{◌≡◌, refl, ap, ◌∙◌}
+use mathlib.Core.Path.{◌≡◌, refl, ◌∙◌}
 use mathlib.Core.List.{List, [], ◌∷◌, ◌++◌}
 use Prim.Native.Nat.{ℕ, zero, suc, ◌-◌}
 use native.Mathlib.Omega.{arith}
 use lib.Dec.{ltb}
 use borrow.Author.Tests.{lt-ltb}
 use Rattle.numbers.specs.Number.{pick}
-use Rattle.block.specs.declared.Id.{Id}
 use Rattle.block.specs.declared.Block.{Block}
 use Rattle.readings.specs.Sound.{All}
 use Rattle.picker.specs.declared.stages.Dependency.{Dependency}
-use Rattle.picker.specs.Waits.{dep}
 use Rattle.picker.specs.Rule28.{stages28}
 use Rattle.picker.specs.Rule13.{own, stages13}
 use Rattle.sorting.specs.Rule28.{asks28}

@@ -10,7 +10,6 @@ use Rattle.block.specs.declared.Block.{Block}
 use Rattle.block.specs.Row.{left_id, right_id, parent_id}
 use Rattle.readings.specs.Sound.{All}
 use Rattle.picker.specs.declared.stages.Dependency.{Dependency}
-use Rattle.picker.specs.Waits.{dep}
 use Rattle.picker.specs.Rule28.{other, stages28}
 use Rattle.sorting.specs.Rules.{also, deps, others}
 use Rattle.sorting.specs.Rule28.{asks28}

@@ -1,5 +1,5 @@
 -- The stages of a rule, by its number: they ask for what the rule asks for, as many as it has, none of a Skip, each with a clock within the limit.
-use mathlib.Core.Path.{◌≡◌, refl, ap, subst}
+use mathlib.Core.Path.{◌≡◌, refl, subst}
 use mathlib.Core.Bool.{Bool, true, false}
 use mathlib.Core.List.{List, [], ◌∷◌}
 use Prim.Native.Nat.{ℕ, zero, suc, ◌≤◌}
