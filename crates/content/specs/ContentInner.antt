@@ -10,7 +10,6 @@ use Rattle.deletes.specs.declared.Checked.{Checked}
 use Rattle.deletes.specs.declared.Checked.TheVariants as checked
 use Rattle.content.specs.declared.Scanned.{Scanned}
 use Rattle.content.specs.declared.Scanned.TheVariants as scanned
-use Rattle.content.specs.declared.Found.TheVariants.{Refused}
 use Rattle.content.specs.Content.{nth}
 
 unfoldable pub scanned_of : ℕ → Course Block → Scanned
