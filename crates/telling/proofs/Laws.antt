@@ -6,16 +6,15 @@ use mathlib.Core.List.{List, [], ◌∷◌}
 use mathlib.Core.Bool.{Bool, true, false}
 use native.Mathlib.Omega.{arith}
 use lib.Dec.{eqb}
-use lib.ListN.{length, get_or, set, length-set}
+use lib.ListN.{length, length-set}
 use borrow.Author.Tests.{eq-eqb, ne_eqb}
 use Rattle.numbers.specs.Number.{pick}
-use Rattle.text.specs.declared.Part.{Part}
 use Rattle.grammar.specs.Grammar as grammar
 use Rattle.grammar.specs.Grammar.{Field, Answer, Number}
 use Rattle.decoder.specs.ColumnedInner.{fields}
 use Rattle.cells.specs.declared.Drawn.TheVariants as drawn
 use Rattle.cells.specs.declared.Field.TheVariants as field
-use Rattle.cells.specs.Cells.{at_in, key_count, keys_in, place_in, why_in, state_in, part_in, given, Beside, differences_in, cell}
+use Rattle.cells.specs.Cells.{at_in, key_count, place_in, why_in, state_in, part_in, given, Beside, differences_in, cell}
 use Rattle.cells.proofs.Keys.{keys_length}
 use Rattle.fields.specs.Fields.{part_given, text_given}
 use Rattle.origins.specs.declared.Line.{Line}
@@ -27,7 +26,7 @@ use Rattle.telling.specs.declared.Told as telling-told
 use Rattle.telling.specs.declared.Told.TheVariants as told
 use Rattle.telling.specs.Asked.{stored, stored_in}
 use Rattle.telling.specs.Telling.{heard}
-use Rattle.telling.specs.TellingInner.{lines_of, Draws, Draws-not, Says, Tells}
+use Rattle.telling.specs.TellingInner.{lines_of, Says, Tells}
 
 pub above-none : (i : ℕ) (sh : List ℕ) → Above i sh sh
 above-none i sh = record { size = refl; same = λ j l. refl }
