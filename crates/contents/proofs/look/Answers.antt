@@ -1,0 +1,25 @@
+-- `look` meets its contract: the form, the length, then what `find` finds.
+use Rattle.numbers.specs.Limits.{max_update}
+use Rattle.contents.specs.Promises.{where_found, where_of}
+use borrow.Author.Tests.{lt-ltb, le-ltb}
+use Rattle.contents.proofs.look.Goals as goal
+
+pub returns-then-form-lt1 : goal.returns-then-form-lt1
+unfolding where_of where_found
+returns-then-form-lt1 c = rw (c.refused_where.ensures, lt-ltb _ 1 c.if-form-lt1.true)
+
+pub returns-then-form-gt2 : goal.returns-then-form-gt2
+unfolding where_of where_found
+returns-then-form-gt2 c = rw (c.refused_where-then-form-gt2.ensures, le-ltb _ 1 c.if-form-lt1.false, lt-ltb 2 _ c.if-form-gt2.true)
+
+pub returns-then-update-gt-MAX_UPDATE : goal.returns-then-update-gt-MAX_UPDATE
+unfolding where_of where_found
+returns-then-update-gt-MAX_UPDATE c = rw (c.refused_where-then-update-gt-MAX_UPDATE.ensures, le-ltb _ 1 c.if-form-lt1.false, le-ltb 2 _ c.if-form-gt2.false, lt-ltb max_update _ c.if-update-gt-MAX_UPDATE.true)
+
+pub returns-in-Part : goal.returns-in-Part
+unfolding where_of where_found
+returns-in-Part c = rw (le-ltb _ 1 c.if-form-lt1.false, le-ltb 2 _ c.if-form-gt2.false, le-ltb max_update _ c.if-update-gt-MAX_UPDATE.false, ← c.find.ensures, c.in-Part.is)
+
+pub returns-in-Refused : goal.returns-in-Refused
+unfolding where_of where_found
+returns-in-Refused c = rw (c.refused_where-in-Refused.ensures, le-ltb _ 1 c.if-form-lt1.false, le-ltb 2 _ c.if-form-gt2.false, le-ltb max_update _ c.if-update-gt-MAX_UPDATE.false, ← c.find.ensures, c.in-Refused.is)
