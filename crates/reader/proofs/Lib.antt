@@ -1,5 +1,3 @@
--- Laws, and what walks share.
-pub mod Cards
+-- Laws that proofs share.
 pub mod Course
 pub mod Keyless
-pub mod Sorts
