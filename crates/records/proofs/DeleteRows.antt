@@ -47,7 +47,7 @@ more-leading r (b ∷ xs) = go (more-leading b xs)
     go : more (groups owner_of (b ∷ xs)) ≡ leading b.client xs → more (groups owner_of (r ∷ (b ∷ xs))) ≡ leading r.client (b ∷ xs)
     go h =
         two owner_of (λ (hs : List (List Range)). more hs ≡ leading r.client (b ∷ xs)) r b xs
-        (λ g gs is e. rw (eq-eqb b.client r.client (sym e), e) (ap suc (sym (ap more is) ∙ h)))
+        (λ g gs is e. rw (eq-eqb b.client r.client (sym e)) (ap suc (sym (ap more is) ∙ h ∙ ap (λ (n : ℕ). leading n xs) (sym e))))
         (λ n. rw (ne_eqb b.client r.client (λ e. n (sym e))))
 
 client-tokens : (form : ℕ) (r : Range) (rs : List Range) → client_tokens form (groups owner_of (r ∷ rs))

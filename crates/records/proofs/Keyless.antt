@@ -3,7 +3,7 @@ use Prim.Native.Nat.{ℕ}
 use native.Mathlib.Omega.{arith}
 use mathlib.Core.Path.{◌≡◌, refl}
 use mathlib.Core.Bool.{Bool, true, false, ◌||◌, ◌&&◌}
-use mathlib.Core.List.{List, [], ◌∷◌, ◌++◌}
+use mathlib.Core.List.{List, [], ◌∷◌}
 use lib.Dec.{eqb}
 use Rattle.numbers.specs.Number.{pick}
 use Rattle.text.specs.declared.Part.{Part}
@@ -15,12 +15,12 @@ use Rattle.kept.specs.declared.cursor.Ends.{Ends}
 use Rattle.kept.specs.Kept.{piece}
 use Rattle.kept.specs.Cut.{is_whole, front, behind}
 use Rattle.kept.specs.Plan.{sane, part_at, cut_at}
-use Rattle.tokens.specs.Tokens.{Token, text, len, var, buf, values, info}
+use Rattle.tokens.specs.Tokens.{Token, len, values}
 use Rattle.tokens.specs.TokensInner.{type_number}
 use Rattle.tokens.specs.KeysInner.{is_key, keyless}
 use Rattle.tokens.proofs.Keys.{keyless-append}
 use Rattle.marked.specs.Marked.{mark, format_tokens, type_tokens, marked_tokens}
-use Rattle.records.specs.Records.{info_byte, left_tokens, right_tokens, parent_tokens, key_tokens, place_tokens, content_tokens, block_tokens}
+use Rattle.records.specs.Records.{left_tokens, right_tokens, parent_tokens, key_tokens, place_tokens, content_tokens, block_tokens}
 use Rattle.records.specs.Stops.{head_tokens, row_tokens}
 
 either : (x : Bool) (a c : List Token) → keyless a ≡ true → keyless c ≡ true → keyless (pick x a c) ≡ true

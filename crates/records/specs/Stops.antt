@@ -3,7 +3,7 @@ use Rattle.std.specs.Prelude.{ℕ, ◌+◌, List, [], ◌∷◌, ◌++◌, ltb, 
 use Rattle.numbers.specs.Number.{pick}
 use Rattle.block.specs.declared.Block.{Block}
 use Rattle.block.specs.Row.{no_block}
-use Rattle.tokens.specs.Tokens.{Token, client, var, whole}
+use Rattle.tokens.specs.Tokens.{Token, client, var}
 use Rattle.kept.specs.declared.cursor.Ends.{Ends}
 use Rattle.kept.specs.Plan.{Stop, ends_of, sane, cut_at}
 use Rattle.records.specs.Records.{block_tokens}
