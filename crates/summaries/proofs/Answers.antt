@@ -1,13 +1,12 @@
 -- The answers of the public calls on summaries, at each way out.
 use Prim.Native.Nat.{ℕ, ◌+◌, ◌-◌, ◌*◌, ◌/◌, ◌≤◌, ◌<◌}
 use mathlib.Core.Path.{◌≡◌, refl, sym, ap, ap₂, ◌∙◌, subst}
-use mathlib.Core.List.{List, [], ◌++◌}
+use mathlib.Core.List.{List, ◌++◌}
 use native.Mathlib.Omega.{arith}
-use lib.Dec.{ltb}
 use lib.ListN.{length, take, replicate}
 use borrow.Author.Tests.{lt-ltb, le-ltb}
 use Rattle.numbers.specs.declared.Refusal.{Refusal}
-use Rattle.numbers.specs.Number.{pick, nowhere}
+use Rattle.numbers.specs.Number.{nowhere}
 use Rattle.numbers.specs.Limits.{max_update}
 use Rattle.numbers.specs.Output.{padded}
 use Rattle.numbers.proofs.Output.{padded-some}
@@ -18,7 +17,6 @@ use Rattle.summary.specs.declared.Rows.TheVariants as rows_are
 use Rattle.summary.specs.Rows.{Row}
 use Rattle.summary.specs.Summary as summary
 use Rattle.summary.specs.Summary.{one, summary_bits, summary_of}
-use Rattle.summary.specs.Words.{words_in}
 use Rattle.summary.specs.WordsInner.{rows_in, answer_of}
 use Rattle.summary.proofs.Laws as laws
 use Rattle.summary.proofs.RoundTrip.{length-summary}
@@ -28,7 +26,6 @@ use Rattle.gathered.specs.RowsOf as told
 use Rattle.gathered.specs.RowsOf.{told_of}
 use Rattle.gathered.specs.Gathered.{Tells}
 use Rattle.summaries.specs.declared.Summarized.{Summarized}
-use Rattle.summaries.specs.declared.SummaryRows.{SummaryRows}
 use Rattle.summaries.specs.Promises.{Made, bytes, refused, made_of, fitted, summary_in, summarized, made_bytes, rows_answer}
 
 -- what is made, as an answer r, into the bytes out that are then out₁

@@ -6,7 +6,6 @@ use mathlib.Core.List.{List}
 use native.Mathlib.Omega.{arith}
 use lib.Dec.{ltb}
 use lib.ListN.{length}
-use Rattle.numbers.specs.declared.Refusal.{Refusal}
 use Rattle.numbers.specs.Number.{pick, nowhere}
 use Rattle.numbers.specs.Limits.{max_update}
 use Rattle.block.specs.declared.Block.{Block}
@@ -18,7 +17,7 @@ use Rattle.summary.specs.Summary.{one, summary_of, read, read_of}
 use Rattle.summary.proofs.RoundTrip.{read_back, same_rows}
 use Rattle.gathered.specs.RowsOf as told
 use Rattle.gathered.specs.RowsOf.{rows_of, told_of}
-use Rattle.summaries.specs.Promises.{Made, bytes, refused, made_of, fitted, summary_in}
+use Rattle.summaries.specs.Promises.{bytes, refused, made_of, fitted, summary_in}
 use Rattle.summaries.proofs.Legal.{update-legal}
 
 -- ---- what is written
