@@ -24,7 +24,7 @@ use Rattle.decoder.proofs.Laws.{fields-up-to}
 use Rattle.cells.specs.Cells.{state_in, Small}
 use Rattle.roles.specs.declared.Role.TheVariants as role
 use Rattle.roles.specs.declared.Plan.{Plan}
-use Rattle.roles.specs.Roles.{start, code_of, plan_after, after, onward, moved_on, is_ended}
+use Rattle.roles.specs.Roles.{start, code_of, after, onward, moved_on, is_ended}
 use Rattle.roles.specs.RolesInner.{is_over, is_kept}
 use Rattle.origins.specs.declared.Line.{Line}
 use Rattle.origins.specs.Sheets.{lines_from}
