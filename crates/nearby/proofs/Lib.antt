@@ -1,4 +1,2 @@
--- The types and callees that the walks meet (Sorts, Cards), and the facts that they come to (Ways).
-pub mod Sorts
-pub mod Cards
+-- The facts that the answers come to.
 pub mod Ways
