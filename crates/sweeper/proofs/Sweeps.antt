@@ -9,14 +9,14 @@ use native.Mathlib.Omega.{arith}
 use lib.Dec.{ltb, eqb}
 use lib.ListN.{length, get_or, set, length-set}
 use lib.Seq.{get_or-set_same, get_or-set_other}
-use borrow.Author.Tests.{ltb-true, ltb-false, lt-ltb, le-ltb, eqb-true, eqb-false}
+use borrow.Author.Tests.{ltb-true, lt-ltb, le-ltb, eqb-true, eqb-false}
 use Rattle.numbers.specs.Number.{pick}
 use Rattle.block.specs.declared.Block.{Block}
 use Rattle.block.specs.Row.{no_block}
 use Rattle.parts.specs.Brim.{brim}
 use Rattle.slots.specs.Slots.{Slot, slot}
 use Rattle.picker.specs.Picker.{nowhere, one_more}
-use Rattle.sweeper.specs.Sweeper.{ready_by, front_row, Board, took, row_at, front_ready, drained_by, left_at, drained, swept_below, swept, swept_by, left_below, swept_all}
+use Rattle.sweeper.specs.Sweeper.{ready_by, Board, board, Shows, took, row_at, front_ready, drained_by, left_at, drained, swept_below, swept, swept_by, left_below, swept_all}
 use Rattle.sweeper.proofs.Fronts.{row-there}
 
 -- ---- how many blocks are left
@@ -300,9 +300,39 @@ module _ (rule : ℕ) (ss : List Slot) (rows : List Block) where
             room = sweep-room d ∙ g.room;
           }
 
-          pub less-fuel : sweeps-again.fuel < g.fuel
-          unfolding sweeps-again
-          less-fuel = omega (arith, fuel-is)
-
         pub sweeps-end : d.steps ≤ before → d ≡ swept_all rule ss rows d₀
         sweeps-end l = sym (ap (λ (x : Bool). pick x (swept_by g.fuel rule ss rows d) d) (le-ltb before d.steps l)) ∙ g.same
+
+-- ---- boards by their parts
+
+pub boarded : (d : Board) (r : ℕ) (reach taken order : List ℕ) → Shows d r reach taken order → board reach taken order r ≡ d
+boarded d r reach taken order s = rw (s.0, s.1, s.2, s.3) refl
+
+pub shown : (d e : Board) → d ≡ e → Shows e d.steps d.reach d.taken d.order
+shown d e p = (ap (λ (x : Board). x.steps) p, ap (λ (x : Board). x.reach) p, ap (λ (x : Board). x.taken) p, ap (λ (x : Board). x.order) p)
+
+-- ---- a turn over fronts, by what its calls leave
+
+module _ (rule : ℕ) (ss : List Slot) (rows : List Block) (short : length rows ≤ nowhere) (i : ℕ) (d₀ : Board) (row : ℕ) (d : Board) (g : Draining rule ss rows d₀ i row d)
+    (there : i < length d₀.taken) (l : row < length rows) (b : Block) (is : b ≡ get_or rows row no_block) where
+  module _ (d₁ : Board) (e : d₁ ≡ took i row b d) where
+    same_board : d₁ ≡ took i row (get_or rows row no_block) d
+    same_board = e ∙ ap (λ (x : Block). took i row x d) is
+
+    pub turns_to : ready_by rule ss d.reach b ≡ true → (row₁ : ℕ) → row₁ ≡ row_at ss d₁ i → Draining rule ss rows d₀ i row₁ d₁
+    turns_to r row₁ h =
+        subst (λ (x : Board). Draining rule ss rows d₀ i row₁ x) (sym same_board)
+        (turns rule ss rows short i d₀ row d g there l (ap (ready_by rule ss d.reach) (sym is) ∙ r) row₁ (h ∙ ap (λ (x : Board). row_at ss x i) same_board))
+
+    pub falls_to : left_at ss d₁.taken i < left_at ss d.taken i
+    falls_to = rw same_board (falls rule ss rows short i d₀ row d g there l)
+
+  pub stops-there : ready_by rule ss d.reach b ≡ false → d ≡ drained rule ss rows i d₀
+  stops-there r = stops rule ss rows short i d₀ row d g there l (ap (ready_by rule ss d.reach) (sym is) ∙ r)
+
+-- ---- a turn over sweeps: blocks left and steps made since the sweep before, together, are fewer
+
+pub sweeps-less : (rule : ℕ) (ss : List Slot) (rows : List Block) → length rows ≤ nowhere → (before : ℕ) (d e : Board) → length ss ≤ length d.taken → before < d.steps
+    → e ≡ swept rule ss rows d
+    → ((left_below ss e.taken (length ss) + e.steps) - d.steps) < ((left_below ss d.taken (length ss) + d.steps) - before)
+sweeps-less rule ss rows short before d e there l p = rw p (omega (arith, sweep-spends rule ss rows short d there))
