@@ -1,17 +1,17 @@
 -- The loop that notes rows: the slots so far and the rows that are still to be noted make up the slots of all rows.
 use Prim.Native.Nat.{ℕ, suc, ◌+◌, ◌*◌, ◌/◌, ◌≤◌, ◌<◌}
 use mathlib.Core.Path.{◌≡◌, refl, sym, ap, subst, ◌∙◌}
-use mathlib.Core.List.{List, [], ◌∷◌}
+use mathlib.Core.List.{List, []}
 use native.Mathlib.Omega.{arith}
 use lib.ListN.{length, get_or, take}
 use lib.Seq.{slice, slice-cons, slice_empty}
 use Rattle.block.specs.declared.Block.{Block}
 use Rattle.block.specs.Row.{no_block}
 use Rattle.slots.specs.declared.Noted.{Noted}
-use Rattle.slots.specs.Slots.{Slot, slots_from, stored, Falling, noted_in, noted_at, noted_all, named_all}
+use Rattle.slots.specs.Slots.{Slot, slots_from, stored, Falling, noted_in, noted_at, noted_all}
 use Rattle.slots.proofs.Words.{stored-slots, stored-length, stored-stored, stored-none}
-use Rattle.slots.proofs.Notes.{noted-in-falling, noted-in-longer, noted-in-fits, noted-all-falling, noted-all-fits, named-all-longer, named-all-fits, named-all-falling}
-use Rattle.sorter.specs.Sorter.{noted_from, noted_by, slots_for}
+use Rattle.slots.proofs.Notes.{noted-in-falling, noted-in-longer, noted-in-fits}
+use Rattle.sorter.specs.Sorter.{noted_from, noted_by}
 
 module _ (w₀ : List ℕ) (rows : List Block) (n : ℕ) where
   abbrev most : ℕ
