@@ -1,5 +1,5 @@
 -- A delete set stands in line: what is left of the columns before it is left after it.
-use Prim.Native.Nat.{ℕ}
+use Prim.Native.Nat.{ℕ, ◌+◌}
 use mathlib.Core.Path.{◌≡◌, sym, ap, ◌∙◌}
 use mathlib.Core.List.{List, [], ◌∷◌, ◌++◌}
 use Rattle.grammar.specs.Grammar as grammar
@@ -35,7 +35,7 @@ vars-append (values b ∷ xs) ys h k = absurd h
 ranges-vars : (form end : ℕ) (rs : List Range) → Vars (ranges_tokens form end rs)
 unfolding Vars ranges_tokens
 ranges-vars form end [] = tt
-ranges-vars form end (r ∷ rs) = ranges-vars form _ rs
+ranges-vars form end (r ∷ rs) = ranges-vars form (r.clock + r.len) rs
 
 clients-vars : (form : ℕ) (gs : List (List Range)) → Vars (client_tokens form gs)
 unfolding Vars client_tokens
