@@ -1,7 +1,7 @@
 -- A clock is its base plus or minus its difference, and so is a key's number: the base is the value before, the difference is what was read.
 use Prim.Native.Nat.{ℕ, ◌+◌, ◌-◌, ◌%◌}
 use mathlib.Core.Path.{◌≡◌, refl}
-use mathlib.Core.Logic.{◌⊎◌, inl, inr}
+use mathlib.Core.Logic.{inl, inr}
 use mathlib.Core.List.{List, [], ◌∷◌}
 use mathlib.Core.Bool.{Bool, true, false}
 use native.Mathlib.Omega.{arith}
@@ -26,7 +26,7 @@ use Rattle.string.specs.String.{next_text}
 use Rattle.block.specs.Row.{no_part}
 use Rattle.grammar.specs.Grammar as grammar
 use Rattle.grammar.specs.Grammar.{Number, Field}
-use Rattle.grammar.specs.Course.{Drawn, got, not}
+use Rattle.grammar.specs.Course.{got, not}
 use Rattle.decoder.specs.States.{max_keys, Differences, State, key_moved, left_moved, right_moved, text_moved}
 use Rattle.decoder.specs.Columned.{difference_drawn, from_differences, text_drawn, text_in, joining, key_by_number, key_in, number_in, columned}
 use Rattle.roles.specs.Roles.{key_text}

@@ -16,10 +16,9 @@ use Rattle.decoder.specs.Columned.{columned}
 use Rattle.decoder.specs.Opening.{opened_of}
 use Rattle.roles.specs.declared.Role.TheVariants as role
 use Rattle.roles.specs.declared.Plan.{Plan}
-use Rattle.roles.specs.Roles.{start, after, code_of, own_clock, moved_on}
+use Rattle.roles.specs.Roles.{start, code_of, own_clock, moved_on}
 use Rattle.origins.specs.declared.Line.{Line}
 use Rattle.origins.specs.Origins.{stored_line, plain_line, line_at, lines_in_line, lines_in}
-use Rattle.telling.specs.Telling.{heard}
 use Rattle.explainer.specs.Watch.{Seen, on_seen, watch}
 use Rattle.explainer.specs.Explanation.{Sheet, noted, clock_line, found, blank, on_opened, explanation}
 use Rattle.origin_facts.specs.Facts.{All, On, Numbered, Within}

@@ -1,7 +1,7 @@
 -- In form 1 the bytes of a number's line, from its place on, as many as there are, are the number's spelling, of an info byte the byte itself; what leads stored
 -- bytes is the spelling of their length.
 use Prim.Native.Nat.{ℕ, ◌+◌, ◌-◌}
-use mathlib.Core.Path.{◌≡◌, refl, ◌∙◌}
+use mathlib.Core.Path.{◌≡◌, refl}
 use mathlib.Core.List.{List}
 use mathlib.Core.Bool.{Bool, true, false}
 use native.Mathlib.Omega.{arith}
@@ -19,7 +19,7 @@ use Rattle.anys.proofs.Places.{read-ends}
 use Rattle.grammar.specs.Grammar as grammar
 use Rattle.grammar.specs.Grammar.{Number}
 use Rattle.grammar.specs.Course.{Drawn, got, not}
-use Rattle.decoder.specs.Line.{number_at, var_at, bounded, up_to, byte_at, delete_at, number_by, so_many, bytes_at, checked, word_of, line}
+use Rattle.decoder.specs.Line.{number_at, var_at, up_to, byte_at, delete_at, number_by, so_many, bytes_at, checked, word_of, line}
 use Rattle.origins.specs.Origins.{line_stand, stored_line, plain_line, line_at}
 use Rattle.origin_facts.specs.Facts.{On, Spells, IsByte, SpeltIn, Leads}
 use Rattle.origin_facts.proofs.Draws.{on-got, on-bounded}

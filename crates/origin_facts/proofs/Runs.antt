@@ -5,8 +5,8 @@ use mathlib.Core.List.{List}
 use mathlib.Core.Bool.{Bool, true, false, true≢false}
 use native.Mathlib.Omega.{arith}
 use lib.Dec.{ltb, leb, eqb}
-use lib.ListN.{length, get_or, take}
-use borrow.Author.Tests.{ltb-true, ltb-false}
+use lib.ListN.{length, get_or}
+use borrow.Author.Tests.{ltb-true}
 use Rattle.numbers.specs.declared.Read.{Read}
 use Rattle.numbers.specs.declared.Read.TheVariants as read
 use Rattle.numbers.specs.declared.Signed.{Signed}

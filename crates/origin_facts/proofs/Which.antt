@@ -43,7 +43,7 @@ use Rattle.decoder.specs.Columned.{number_drawn, from_numbers, difference_drawn,
 use Rattle.decoder.specs.Opening.{heads, standing, with_opened, text_opened, on_heads, opened_of}
 use Rattle.roles.specs.Roles.{key_text}
 use Rattle.origins.specs.declared.Line.{Line}
-use Rattle.origins.specs.Origins.{line_stand, in_run, endless, number_times, difference_times, byte_times, number_stand, difference_stand, byte_stand, text_stand, stand_in, stored_line, text_line, key_line, key_lines, number_line, lines_in}
+use Rattle.origins.specs.Origins.{line_stand, in_run, endless, byte_times, number_stand, difference_stand, byte_stand, text_stand, stand_in, stored_line, text_line, key_line, key_lines, number_line, lines_in}
 use Rattle.origin_facts.specs.Facts.{All, On, Numbered, NumbersWithin, DifferencesWithin, BytesWithin, TextsWithin, Within}
 use Rattle.origin_facts.proofs.Draws.{on-got, on-onto, on-bounded}
 use Rattle.origin_facts.proofs.Runs.{LeavesNumber, next-number, LeavesText, next-text, LeavesDifference, next-difference, LeavesByte, next-byte}
