@@ -1,7 +1,7 @@
 -- A draw in line goes forward, within the bytes, and its line has the bytes that it went over.
 use Prim.Native.Nat.{ℕ, ◌+◌, ◌-◌, ◌≤◌, ◌<◌}
 use native.Mathlib.Omega.{arith}
-use mathlib.Core.Path.{◌≡◌, refl, sym, ap, ◌∙◌}
+use mathlib.Core.Path.{◌≡◌, refl}
 use mathlib.Core.Bool.{Bool, true, false}
 use mathlib.Core.List.{List}
 use lib.Dec.{ltb, leb, eqb}
@@ -25,7 +25,7 @@ use Rattle.grammar.specs.Grammar.{Number, Field, Answer}
 use Rattle.grammar.specs.Course.{Drawn, got, not}
 use Rattle.decoder.specs.Line.{number_at, var_at, bounded, up_to, byte_at, restored, delete_at, number_by, so_many, bytes_at, checked, word_of, spanned, values_at, line}
 use Rattle.origins.specs.Origins.{line_stand, stored_line, plain_line, line_at}
-use Rattle.tiled.specs.Tiles.{Stored, Has}
+use Rattle.tiled.specs.Tiles.{Has}
 
 module _ (form : ℕ) (u : List ℕ) where
   -- ---- numbers

@@ -27,11 +27,8 @@ use Rattle.columns.specs.declared.difference.Place as difference-place
 use Rattle.columns.specs.declared.difference.Answer as difference-answer
 use Rattle.columns.specs.declared.difference.Answer.TheVariants as difference-variants
 use Rattle.columns.specs.declared.byte.Place as byte-place
-use Rattle.columns.specs.declared.byte.Answer as byte-answer
 use Rattle.columns.specs.declared.byte.Answer.TheVariants as byte-variants
 use Rattle.string.specs.declared.Place as string-place
-use Rattle.string.specs.declared.Answer as string-answer
-use Rattle.string.specs.declared.Answer.TheVariants as string-variants
 use Rattle.columns.specs.Number as number
 use Rattle.columns.specs.Difference as difference
 use Rattle.columns.specs.Byte as byte

@@ -1,11 +1,11 @@
 -- The draws of a form 1 update tile its bytes, from the first to the end of its delete set; in form 2 those of the delete set tile theirs.
 use Prim.Native.Nat.{ℕ, ◌≤◌}
 use native.Mathlib.Omega.{arith}
-use mathlib.Core.Path.{◌≡◌, refl}
+use mathlib.Core.Path.{refl}
 use mathlib.Core.List.{List}
 use lib.ListN.{length}
-use Rattle.grammar.specs.Grammar.{Field, Answer, Grammar, ask, emit, stop, done}
-use Rattle.grammar.specs.Course.{Drawn, got, not, CourseTo, on_drawn, run}
+use Rattle.grammar.specs.Grammar.{Answer, Grammar, ask, emit, stop, done}
+use Rattle.grammar.specs.Course.{Drawn, got, not, on_drawn, run}
 use Rattle.grammar.specs.Blocks.{all_blocks}
 use Rattle.grammar.specs.Deletes.{all_ranges}
 use Rattle.decoder.specs.Line.{line}
