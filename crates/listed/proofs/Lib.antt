@@ -1,5 +1,4 @@
 -- What the proofs of the crate and of its callers share.
-pub mod Cards
 pub mod Laws
 pub mod Longest
 pub mod Unique
