@@ -1,4 +1,3 @@
--- The words of one slot (Words), the reports as words of one slot after another (Turns), and what the walks share (Cards).
+-- The words of one slot (Words), and the reports as words of one slot after another (Turns).
 pub mod Words
 pub mod Turns
-pub mod Cards
