@@ -13,7 +13,7 @@ use Rattle.outcome.specs.Tie.{overlaid}
 use Rattle.outcome.proofs.Overlay.{overlaid-front, overlaid-length}
 use Rattle.sorter.specs.Sorter.{slots_for, max_reaches, cleared, sorting_of}
 use Rattle.held_sorter.specs.HeldSorter.{desk_by, order_by, counts_by, pending_by, sorting_by}
-use Rattle.held_outcome.proofs.Came.{Fit, d, came, order-so, counts-so}
+use Rattle.held_outcome.proofs.Came.{Fit, came, order-so, counts-so}
 use Rattle.held_outcome.proofs.Waits.{pending-so}
 
 module _ (bs : List Block) (fit : Fit bs) (rows : List Block) (back : take (length bs) rows ≡ bs) (short : length rows ≤ nowhere) (w : List ℕ) (h : ℕ)

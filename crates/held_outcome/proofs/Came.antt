@@ -1,20 +1,17 @@
 -- The looks at the rows by number come to the outcome of sorting by held ids.
-use Prim.Native.Nat.{ℕ, zero, suc, ◌+◌, ◌-◌, ◌*◌, ◌≤◌, ◌<◌}
-use mathlib.Core.Path.{◌≡◌, refl, sym, ap, subst, ◌∙◌}
+use Prim.Native.Nat.{ℕ, ◌+◌, ◌≤◌, ◌<◌}
+use mathlib.Core.Path.{◌≡◌, sym, ap, subst, ◌∙◌}
 use mathlib.Core.Bool.{Bool, true, false, ◌||◌}
-use mathlib.Core.List.{List, [], ◌∷◌}
+use mathlib.Core.List.{List, []}
 use native.Mathlib.Omega.{arith}
 use lib.Dec.{ltb}
 use lib.ListN.{length, get_or, take, replicate, length-replicate, get_or-replicate}
-use Rattle.numbers.specs.Number.{pick}
 use Rattle.numbers.specs.Limits.{max_clock, max_clients, max_blocks}
 use Rattle.block.specs.declared.Id.{Id}
 use Rattle.block.specs.declared.Block.{Block}
 use Rattle.block.specs.Row.{left_id, right_id, parent_id}
-use Rattle.ranges.specs.Ranges.{Range}
 use Rattle.ranges.specs.RangesInner.{Normal}
 use Rattle.ranges.specs.TableInner.{rows_from}
-use Rattle.vector.specs.Vector.{clients_in}
 use Rattle.kept.specs.Kept.{remote}
 use Rattle.readings.specs.Sound.{owner, All}
 use Rattle.readings.specs.SoundInner.{Ordered}
@@ -22,19 +19,17 @@ use Rattle.readings.specs.Groups.{groups}
 use Rattle.slots.specs.Slots.{Slot, slot}
 use Rattle.picker.specs.Picker.{Desk, nowhere, all_picked}
 use Rattle.picker.proofs.FrontLaws.{length-opened, opened-front}
-use Rattle.sorting.specs.Steps.{State}
 use Rattle.sorting.specs.Rules.{queue, below}
 use Rattle.sorting.specs.Rule28Inner.{rule28}
 use Rattle.sorting.specs.Named.{asks_of, rule_of}
-use Rattle.sorting.specs.Sorted.{all_clients, outcome, block_numbers_from, counts_in, outcome_of, order_of}
-use Rattle.sorting.specs.Held.{rule_held, held_in, owners, outcome_held, order_held, counts_held}
-use Rattle.outcome.specs.Tie.{slot_of, Slotted, Sortable, Opened, Ended, overlaid}
+use Rattle.sorting.specs.Sorted.{outcome, block_numbers_from, counts_in, outcome_of, order_of}
+use Rattle.sorting.specs.Held.{rule_held, held_in, owners, order_held, counts_held}
+use Rattle.outcome.specs.Tie.{slot_of, Slotted, Sortable, Opened}
 use Rattle.outcome.specs.Came.{Came}
 use Rattle.outcome.proofs.Asked.{Clocks}
 use Rattle.outcome.proofs.Slotted.{slotted, slots-most}
 use Rattle.outcome.proofs.Picked.{picked-clocks}
 use Rattle.outcome.proofs.Reported.{counts-reported}
-use Rattle.reports.specs.Reports.{counts_from}
 use Rattle.sorter.specs.Sorter.{slots_for, max_reaches, front_words, fronts_at}
 use Rattle.placing.specs.Placing.{first_of}
 use Rattle.numbered.specs.Numbered.{holder, placed, by_number, numbered_from}

@@ -1,10 +1,10 @@
 -- The rows by number, as the sorter makes them, are the numbered blocks.
-use Prim.Native.Nat.{ℕ, zero, suc, ◌+◌, ◌-◌, ◌≤◌, ◌<◌}
-use mathlib.Core.Path.{◌≡◌, refl, sym, ap, subst, ◌∙◌}
+use Prim.Native.Nat.{ℕ, suc, ◌+◌, ◌-◌, ◌≤◌}
+use mathlib.Core.Path.{◌≡◌, refl, ap, ◌∙◌}
 use mathlib.Core.Bool.{Bool, true, false}
 use mathlib.Core.List.{List, [], ◌∷◌}
 use native.Mathlib.Omega.{arith}
-use lib.Dec.{ltb, eqb}
+use lib.Dec.{eqb}
 use lib.ListN.{length, get_or, take}
 use borrow.Author.Tests.{le-ltb}
 use Rattle.numbers.specs.Number.{pick}
@@ -13,12 +13,11 @@ use Rattle.block.specs.declared.Id.{Id}
 use Rattle.block.specs.declared.Block.{Block}
 use Rattle.block.specs.Row.{no_id, no_block, left_id, right_id, parent_id}
 use Rattle.slots.specs.Slots.{Slot}
-use Rattle.picker.specs.declared.stages.Dependency.{Dependency}
 use Rattle.picker.specs.Waits.{dep, no_dependency}
 use Rattle.picker.specs.Rule28.{other, stages28}
 use Rattle.picker.specs.Stages.{stages, stage_at}
 use Rattle.sorting.specs.Rules.{is_skip}
-use Rattle.placing.specs.Placing.{is_held, span_of, held_by, capped, is_asked, on_number, placed_dep, first_of, numbered_block, row_by, rows_by}
+use Rattle.placing.specs.Placing.{is_held, span_of, held_by, capped, is_asked, placed_dep, first_of, numbered_block, row_by, rows_by}
 use Rattle.numbered.specs.Numbered.{asked, placed, by_number, numbered_from}
 
 -- stage k of a block by rule 28

@@ -1,21 +1,21 @@
 -- Ranges in normal form hold an id exactly where halving finds one that does.
-use Prim.Native.Nat.{ℕ, zero, suc, ◌+◌, ◌-◌, ◌*◌, ◌≤◌, ◌<◌}
+use Prim.Native.Nat.{ℕ, zero, suc, ◌+◌, ◌≤◌, ◌<◌}
 use mathlib.Core.Path.{◌≡◌, refl, sym, ap, subst, ◌∙◌}
-use mathlib.Core.Bool.{Bool, true, false, ◌&&◌}
+use mathlib.Core.Bool.{Bool, true, false}
 use mathlib.Core.List.{List, [], ◌∷◌}
 use mathlib.Core.Logic.{◌⊎◌, inl, inr}
 use native.Mathlib.Omega.{arith}
-use lib.Dec.{T, ltb, leb, eqb}
+use lib.Dec.{ltb, leb, eqb}
 use lib.ListN.{length, get_or}
-use borrow.Author.Tests.{ltb-true, ltb-false, lt-ltb, le-ltb, leb-true, leb-false, le-leb, lt-leb, eqb-true, eqb-false, eq-eqb, ne_eqb}
+use borrow.Author.Tests.{ltb-true, ltb-false, lt-ltb, le-ltb, leb-true, leb-false, le-leb, eqb-true, eq-eqb}
 use Rattle.numbers.specs.Number.{pick}
 use Rattle.block.specs.declared.Id.{Id}
 use Rattle.ranges.specs.Ranges.{Range}
-use Rattle.ranges.specs.RangesInner.{Hit, Deleted, Apart, Leads, Normal}
+use Rattle.ranges.specs.RangesInner.{Hit, Deleted, Apart, Normal}
 use Rattle.ranges.specs.TableInner.{row, rows_from}
 use Rattle.ranges.proofs.Theory.{After, after}
-use Rattle.sorting.specs.Held.{in_range, held_in}
-use Rattle.sorting.proofs.Held.{within-is, ranges-hold}
+use Rattle.sorting.specs.Held.{held_in}
+use Rattle.sorting.proofs.Held.{ranges-hold}
 use Rattle.sorting.proofs.Outcome.{below_or}
 use Rattle.placing.specs.Halving.{found}
 use Rattle.placing.specs.Placing.{is_before, begins, is_held}

@@ -2,10 +2,10 @@
 use Prim.Native.Nat.{ℕ, zero, suc, ◌+◌, ◌-◌, ◌≤◌, ◌<◌}
 use mathlib.Core.Path.{◌≡◌, refl, sym, ap, subst, ◌∙◌}
 use mathlib.Core.Bool.{Bool, true, false}
-use mathlib.Core.List.{List, [], ◌∷◌}
+use mathlib.Core.List.{List, []}
 use mathlib.Core.Logic.{◌⊎◌, inl, inr}
 use native.Mathlib.Omega.{arith}
-use lib.Dec.{ltb, leb, eqb}
+use lib.Dec.{ltb, leb}
 use lib.ListN.{length, get_or, take, length-take}
 use borrow.Author.Tests.{ltb-true, ltb-false, lt-ltb, le-ltb, leb-true, leb-false, le-leb, lt-leb}
 use Rattle.numbers.specs.Number.{pick}
@@ -13,7 +13,7 @@ use Rattle.numbers.specs.Limits.{max_clock, max_blocks}
 use Rattle.block.specs.declared.Block.{Block}
 use Rattle.block.specs.Row.{no_block}
 use Rattle.readings.specs.SoundInner.{Ordered, Chain}
-use Rattle.slots.specs.Slots.{Slot, slot, rank, is_named}
+use Rattle.slots.specs.Slots.{Slot, rank, is_named}
 use Rattle.slots.proofs.Ranks.{client_at, named-slot, slot-rank, slot-named}
 use Rattle.sorting.specs.Rules.{queue, is_skip}
 use Rattle.sorting.specs.Sorted.{block_numbers_from}

@@ -1,12 +1,11 @@
 -- What is reported of the clients that have blocks left is the first id that is not held.
-use Prim.Native.Nat.{ℕ, zero, suc, ◌+◌, ◌-◌, ◌≤◌, ◌<◌}
+use Prim.Native.Nat.{ℕ, suc, ◌+◌, ◌≤◌, ◌<◌}
 use mathlib.Core.Path.{◌≡◌, refl, sym, ap, subst, ◌∙◌}
 use mathlib.Core.Bool.{Bool, true, false, ◌||◌}
 use mathlib.Core.List.{List, [], ◌∷◌, ◌++◌}
-use mathlib.Core.Logic.{◌≢◌}
-use mathlib.Core.Option.{Option, none, some}
+use mathlib.Core.Option.{none, some}
 use native.Mathlib.Omega.{arith}
-use lib.Dec.{T, ltb, eqb}
+use lib.Dec.{ltb, eqb}
 use lib.ListN.{length, get_or, take, length-take}
 use borrow.Author.Tests.{ltb-true, ltb-false, lt-ltb, le-ltb, eq-eqb, ne_eqb}
 use Rattle.numbers.specs.Number.{pick}
@@ -15,21 +14,21 @@ use Rattle.block.specs.declared.Block.{Block}
 use Rattle.block.specs.Row.{no_id, no_block, left_id, right_id, parent_id}
 use Rattle.ranges.specs.RangesInner.{Normal}
 use Rattle.ranges.specs.TableInner.{rows_from}
-use Rattle.slots.specs.Slots.{Slot, slot}
+use Rattle.slots.specs.Slots.{Slot}
 use Rattle.slots.proofs.Clients.{clients_of}
 use Rattle.picker.specs.declared.fronts.Front.{Front}
 use Rattle.picker.specs.declared.stages.Dependency.{Dependency}
-use Rattle.picker.specs.Waits.{dep, no_dependency}
+use Rattle.picker.specs.Waits.{dep}
 use Rattle.picker.specs.Rule28.{other}
 use Rattle.picker.specs.Stages.{stage_at}
 use Rattle.picker.specs.Fronts.{front_at}
 use Rattle.picker.specs.Picker.{is_met, holds, nowhere}
 use Rattle.sorting.specs.Steps.{State, Stuck}
-use Rattle.sorting.specs.Rules.{queue, is_skip, also, deps, others, unmet, waits, free, system, report, below}
+use Rattle.sorting.specs.Rules.{queue, is_skip, also, deps, others, unmet, waits, system, report, below}
 use Rattle.sorting.specs.Rule28.{asks28}
 use Rattle.sorting.specs.Rule28Inner.{rule28}
-use Rattle.sorting.specs.Named.{asks_of, rule_of}
-use Rattle.sorting.specs.Sorted.{all_clients, steps, order, outcome, waiting, pending_in, outcome_of}
+use Rattle.sorting.specs.Named.{asks_of}
+use Rattle.sorting.specs.Sorted.{steps, outcome, waiting, pending_in, outcome_of}
 use Rattle.sorting.specs.Held.{rule_held, owners, pending_held}
 use Rattle.sorting.proofs.Outcome.{can-intro}
 use Rattle.sorting.proofs.Rules.{report-waits}
@@ -42,11 +41,10 @@ use Rattle.outcome.proofs.Looks.{Shows, met-below}
 use Rattle.outcome.proofs.Places.{row_block, row_below}
 use Rattle.awaited.specs.Awaited.{is_left, first_unmet, waiting_words, waiting_of, waiting_from}
 use Rattle.numbered.specs.Numbered.{asked, placed, by_number}
-use Rattle.numbered.proofs.Blocks.{numbered-at, numbered-queue}
-use Rattle.numbered.proofs.Numbered.{never-skips}
+use Rattle.numbered.proofs.Blocks.{numbered-at}
 use Rattle.held_sorter.specs.HeldSorter.{numbered_in, pending_by}
 use Rattle.held_outcome.proofs.Placed.{stage-left, stage-right, stage-parent}
-use Rattle.held_outcome.proofs.Came.{Fit, ss, held, is-slotted, is-gone, placed_at, ns, gone-is, firsts, places, sortable, size, slotted-so, agree, d, came, end, met}
+use Rattle.held_outcome.proofs.Came.{Fit, ss, held, is-slotted, is-gone, placed_at, ns, firsts, sortable, slotted-so, agree, d, came, end, met}
 use Rattle.placing.specs.Placing.{first_of}
 
 -- ---- a stage that is not met
