@@ -9,7 +9,7 @@ use native.Mathlib.Omega.{arith}
 use lib.Dec.{eqb}
 use lib.ListN.{length}
 use borrow.Author.Tests.{eqb-true, eqb-false}
-use Rattle.numbers.specs.Number.{pick, none, nowhere}
+use Rattle.numbers.specs.Number.{pick, nowhere}
 use Rattle.block.specs.declared.Id.{Id}
 use Rattle.block.specs.declared.Block.{Block}
 use Rattle.grammar.specs.Course.{Course, things, ending}
@@ -21,7 +21,7 @@ use Rattle.sorting.specs.Rules.{queue, Rule, report}
 use Rattle.sorting.specs.Rule28Inner.{rule28}
 use Rattle.sorting.specs.Rule13Inner.{rule13}
 use Rattle.sorting.specs.Named.{asks_of, rule_of}
-use Rattle.sorting.specs.Sorted.{all_clients, steps, order, outcome, numbers_by, outcome_of, order_of, counts_in, counts_of, reaches_in, reaches_of, pending_in, pending_of}
+use Rattle.sorting.specs.Sorted.{all_clients, steps, order, outcome, numbers_by, order_of, counts_in, counts_of, reaches_in, reaches_of, pending_in, pending_of}
 use Rattle.sorting.proofs.Rules.{RuleMonotone, reaches-mono}
 use Rattle.sorting.proofs.Rule28.{reported-28}
 use Rattle.sorting.proofs.Rule13.{Behind, reported-13}
