@@ -1,0 +1,11 @@
+-- `measure_rows`: the rows that are measured, and those before the cursor, are those that the plan names; after each turn fewer are before it.
+use Rattle.std.proofs.Common.{length}
+use Rattle.encoder.proofs.Alone.{Measuring}
+use Rattle.encoder.proofs.Cursors.{stops_at}
+use Rattle.encoder.proofs.measure_rows.Given as goal
+
+abbrev pub invariant-loop-c : goal.invariant-loop-c
+invariant-loop-c l = Measuring l.initial.lanes l.update l.rows l.plan l.sections l.c l.lanes
+
+abbrev pub decreases-loop-c : goal.decreases-loop-c
+decreases-loop-c l = length (stops_at l.rows l.plan l.sections l.c)
