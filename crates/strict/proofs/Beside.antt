@@ -15,7 +15,7 @@ use Rattle.grammar.specs.Course.{Course, thing, over, stopped, fit, ending}
 use Rattle.grammar.specs.Numbered as grammar
 use Rattle.decoder.specs.Update.{blocks_of, delete_set}
 use Rattle.ranges.specs.Ranges.{Range}
-use Rattle.leftover.specs.Leftover.{unread_of, lowest, lowest_left}
+use Rattle.leftover.specs.Leftover.{unread_of, lowest_left}
 use Rattle.leftover.specs.LeftoverInner.{Among}
 use Rattle.leftover.proofs.Lowest.{none_below, lowest-among}
 use Rattle.updates.specs.Promises.{Reading, refused, with_ranges, with_blocks, known, early, reading}

@@ -1,5 +1,4 @@
--- What each way out says (Laws), that no other answer fits (Unique), what strict reading is beside today's (Beside), and what walks share.
+-- What each way out says (Laws), that no other answer fits (Unique) and what strict reading is beside today's (Beside).
 pub mod Beside
-pub mod Cards
 pub mod Laws
 pub mod Unique
