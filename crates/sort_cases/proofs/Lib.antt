@@ -1,2 +1,0 @@
--- What walks share.
-pub mod Cards
