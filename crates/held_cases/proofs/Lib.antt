@@ -1,3 +1,0 @@
--- What walks share.
-pub mod Sorts
-pub mod Cards
