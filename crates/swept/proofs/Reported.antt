@@ -1,49 +1,44 @@
 -- The sweeps come to the slow order, from the reaches of a vector, and what is read off the board then is what is reported of the state where that ends.
-use Prim.Native.Nat.{ℕ, zero, suc, ◌+◌, ◌-◌, ◌*◌, ◌≤◌, ◌<◌}
+use Prim.Native.Nat.{ℕ, zero, suc, ◌≤◌, ◌<◌}
 use mathlib.Core.Path.{◌≡◌, refl, sym, ap, subst, ◌∙◌}
-use mathlib.Core.Logic.{inl, inr}
-use mathlib.Core.Bool.{Bool, true, false, ◌||◌}
+use mathlib.Core.Bool.{Bool, true, false}
 use mathlib.Core.List.{List, [], ◌∷◌, ◌++◌}
 use mathlib.Core.Option.{Option, none, some}
 use native.Mathlib.Omega.{arith}
-use lib.Dec.{T, ltb}
-use lib.ListN.{length, get_or, take}
+use lib.Dec.{ltb}
+use lib.ListN.{length, get_or}
 use borrow.Author.Tests.{ltb-true, ltb-false, lt-ltb, le-ltb}
 use Rattle.numbers.specs.Number.{pick}
-use Rattle.numbers.specs.Limits.{max_blocks}
 use Rattle.block.specs.declared.Id.{Id}
 use Rattle.block.specs.declared.Block.{Block}
-use Rattle.block.specs.Row.{no_block}
 use Rattle.vector.specs.Vector.{Entry}
 use Rattle.kept.specs.Kept.{remote}
-use Rattle.slots.specs.Slots.{Slot, slot, rank, is_named}
+use Rattle.slots.specs.Slots.{Slot, rank, is_named}
 use Rattle.slots.proofs.Ranks.{client_at, named-slot}
 use Rattle.slots.proofs.Clients.{clients_of}
 use Rattle.picker.specs.declared.stages.Dependency.{Dependency}
-use Rattle.picker.specs.Picker.{nowhere}
-use Rattle.reports.specs.Reports.{reaches_from}
 use Rattle.sorting.specs.Steps.{State, start, after, Stuck}
-use Rattle.sorting.specs.Rules.{queue, is_skip, waits, free, system, report, by_reaches}
+use Rattle.sorting.specs.Rules.{queue, is_skip, waits, system, report, by_reaches}
 use Rattle.sorting.specs.Named.{asks_of, rule_of}
 use Rattle.sorting.specs.Sorted.{all_clients, steps, counts_in, reaches_in, waiting, pending_in, numbers_by}
-use Rattle.sorting.specs.Slow.{slow, slow_steps, slow_outcome, slow_order_of, slow_counts_of, slow_reaches_of, slow_pending_of}
+use Rattle.sorting.specs.Slow.{slow_steps, slow_outcome, slow_order_of, slow_counts_of, slow_reaches_of, slow_pending_of}
 use Rattle.sorting.proofs.Outcome.{can-intro}
 use Rattle.sorting.proofs.Numbers.{owner_at, numbers_by-length}
 use Rattle.sorting.proofs.Rules.{reaches-mono}
 use Rattle.sorting.proofs.Clients.{clients-blocks}
 use Rattle.sorting.proofs.Demand.{front}
 use Rattle.sorting.proofs.Slow.{slow-sorted}
-use Rattle.outcome.specs.Tie.{slot_of, Slotted, overlaid}
+use Rattle.outcome.specs.Tie.{slot_of, Slotted}
 use Rattle.outcome.proofs.Looks.{Shows}
 use Rattle.outcome.proofs.Overlay.{overlaid-none}
 use Rattle.outcome.proofs.Sums.{sum, sizes, queues-fit}
 use Rattle.outcome.proofs.Places.{slot_apart}
 use Rattle.outcome.proofs.Begun.{begun-shows}
 use Rattle.outcome.proofs.Reported.{Each, each, Reached, reaches-each, all-taken}
-use Rattle.sweeper.specs.Sweeper.{unmet_by, front_row, Board, board, row_at, left_at, left_below, swept_all}
+use Rattle.sweeper.specs.Sweeper.{unmet_by, Board, board, row_at, left_at, left_below, swept_all}
 use Rattle.sweep_reports.specs.Reports.{taken_of, taken_from, reach_for, block_waits, front_waits, waits_from}
 use Rattle.swept.specs.Swept.{Swept}
-use Rattle.swept.proofs.Unmet.{asked, unmet-is}
+use Rattle.swept.proofs.Unmet.{unmet-is}
 use Rattle.swept.proofs.Stands.{Stands, Given, Come, row_small, row-is-front, row-none}
 use Rattle.swept.proofs.Sweeps.{all_come}
 

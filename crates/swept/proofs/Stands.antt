@@ -1,6 +1,6 @@
 -- How a board stands to a state of sorting, which front of a slot may be taken, and that one step more leaves it so.
-use Prim.Native.Nat.{ℕ, zero, suc, ◌+◌, ◌-◌, ◌≤◌, ◌<◌}
-use mathlib.Core.Path.{◌≡◌, refl, sym, ap, subst, ◌∙◌}
+use Prim.Native.Nat.{ℕ, suc, ◌+◌, ◌-◌, ◌≤◌, ◌<◌}
+use mathlib.Core.Path.{◌≡◌, refl, sym, ap, ◌∙◌}
 use mathlib.Core.Bool.{Bool, true, false, ◌&&◌, ◌||◌}
 use mathlib.Core.List.{List, [], ◌∷◌, ◌++◌}
 use native.Mathlib.Omega.{arith}
@@ -8,14 +8,12 @@ use lib.Dec.{T, ltb, eqb}
 use lib.ListN.{length, get_or, set, take, length-set, length-append, length-take}
 use lib.Seq.{get_or-set_same, get_or-set_other}
 use borrow.Author.Tests.{ltb-true, ltb-false, lt-ltb, le-ltb, eqb-true, eqb-false}
-use Rattle.numbers.specs.Number.{pick}
 use Rattle.numbers.specs.Limits.{max_clock, max_blocks}
 use Rattle.block.specs.declared.Block.{Block}
 use Rattle.block.specs.Row.{no_block}
 use Rattle.vector.specs.Vector.{Entry}
-use Rattle.kept.specs.Kept.{remote}
 use Rattle.parts.specs.Brim.{brim}
-use Rattle.slots.specs.Slots.{Slot, slot}
+use Rattle.slots.specs.Slots.{Slot}
 use Rattle.slots.proofs.Ranks.{client_at}
 use Rattle.picker.specs.Picker.{nowhere, one_more, lift, pushed}
 use Rattle.sorting.specs.Steps.{State, start, can, step, after}
@@ -33,7 +31,7 @@ use Rattle.outcome.proofs.Places.{slot_apart, block-has, row_number, row_below, 
 use Rattle.outcome.proofs.Standing.{taken-other, lift-shows}
 use Rattle.sweeper.specs.Sweeper.{ready_by, front_row, Board, took, row_at, front_ready, left_at, left_below}
 use Rattle.sweeper.proofs.Fronts.{row-over, row_is}
-use Rattle.sweeper.proofs.Sweeps.{left-all, is-ready, next-room, next-spends}
+use Rattle.sweeper.proofs.Sweeps.{left-all, is-ready, next-spends}
 use Rattle.swept.proofs.Unmet.{ready-is}
 
 -- reaches and counts are those of a state; blocks left and steps made, together, are no more than an update has

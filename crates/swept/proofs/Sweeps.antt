@@ -1,17 +1,17 @@
 -- Fronts, clients and sweeps, one after another: the boards of the slow plain sorter come, step by step, to the slow order of sorting.
 use Prim.Native.Nat.{ℕ, zero, suc, ◌+◌, ◌-◌, ◌≤◌, ◌<◌}
-use mathlib.Core.Path.{◌≡◌, refl, sym, ap, subst, ◌∙◌}
+use mathlib.Core.Path.{◌≡◌, refl, ap, subst, ◌∙◌}
 use mathlib.Core.Bool.{Bool, true, false}
 use mathlib.Core.List.{List, [], ◌∷◌, ◌++◌, append-nil, append_assoc}
 use native.Mathlib.Omega.{arith}
-use lib.Dec.{T, ltb}
+use lib.Dec.{ltb}
 use lib.ListN.{length, get_or, length-append}
 use borrow.Author.Tests.{lt-ltb, le-ltb}
 use Rattle.numbers.specs.Number.{pick}
 use Rattle.block.specs.declared.Block.{Block}
 use Rattle.block.specs.Row.{no_block}
 use Rattle.vector.specs.Vector.{Entry}
-use Rattle.slots.specs.Slots.{Slot, slot}
+use Rattle.slots.specs.Slots.{Slot}
 use Rattle.slots.proofs.Ranks.{client_at}
 use Rattle.slots.proofs.Clients.{clients_of}
 use Rattle.sorting.specs.Steps.{System, State, start, can, step, after}
@@ -20,7 +20,7 @@ use Rattle.sorting.specs.Named.{rule_of}
 use Rattle.sorting.specs.Sorted.{steps}
 use Rattle.sorting.specs.Slow.{lowest_first, again, fronts, drain, sweep, sweeps, slow}
 use Rattle.sorting.proofs.Quick.{after-append, after_more}
-use Rattle.sweeper.specs.Sweeper.{Board, took, row_at, front_ready, drained_by, left_at, drained, swept_below, swept, swept_by, left_below, swept_all}
+use Rattle.sweeper.specs.Sweeper.{Board, took, row_at, drained_by, left_at, drained, swept_below, swept, swept_by, left_below, swept_all}
 use Rattle.swept.proofs.Stands.{Stands, Given, Come, ready-can, left_is, come-more}
 
 -- ---- the first n slots' clients, the last of them first

@@ -1,19 +1,18 @@
 -- What holds a front, in the words of the rule: the first id that is not met.
 use Prim.Native.Nat.{ℕ}
-use mathlib.Core.Path.{◌≡◌, refl, sym, ap, ◌∙◌}
+use mathlib.Core.Path.{◌≡◌, refl, ap, ◌∙◌}
 use mathlib.Core.Bool.{Bool, true, false, not, ◌||◌}
 use mathlib.Core.List.{List, [], ◌∷◌}
 use mathlib.Core.Option.{Option, none, some}
-use lib.ListN.{length, get_or}
 use Rattle.numbers.specs.Number.{pick}
 use Rattle.block.specs.declared.Id.{Id}
 use Rattle.block.specs.declared.Block.{Block}
 use Rattle.slots.specs.Slots.{Slot}
 use Rattle.picker.specs.declared.stages.Dependency.{Dependency}
 use Rattle.picker.specs.Stages.{stages}
-use Rattle.picker.specs.Picker.{is_met, holds}
+use Rattle.picker.specs.Picker.{holds}
 use Rattle.sorting.specs.Rules.{is_skip, unmet, waits, below, by_reaches, free}
-use Rattle.sorting.specs.Named.{asks_of, rule_of}
+use Rattle.sorting.specs.Named.{rule_of}
 use Rattle.outcome.proofs.Asked.{ids_in}
 use Rattle.outcome.proofs.Stages.{stages-ask, stages-none}
 use Rattle.outcome.proofs.Looks.{Shows, met-below}
