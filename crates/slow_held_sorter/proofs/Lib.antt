@@ -1,3 +1,2 @@
--- What the functions come to (Exits), and what the walks share (Cards).
+-- What the functions come to (Exits).
 pub mod Exits
-pub mod Cards
