@@ -1,5 +1,5 @@
 -- What the slow sorter gives and leaves of an update that was read: the slow order with its reports, or what the vector's refusal leaves.
-use Prim.Native.Nat.{ℕ, ◌/◌, ◌≤◌, ◌<◌}
+use Prim.Native.Nat.{ℕ, ◌/◌, ◌≤◌}
 use mathlib.Core.Path.{◌≡◌, refl, ap, ◌∙◌}
 use mathlib.Core.Bool.{Bool, true, false}
 use mathlib.Core.List.{List}
@@ -17,8 +17,7 @@ use Rattle.picker.proofs.FrontLaws.{length-filled, filled-reach}
 use Rattle.reports.specs.Reports.{fitted}
 use Rattle.sorting.specs.Named.{rule_of}
 use Rattle.sorting.specs.Slow.{slow_order_of, slow_counts_of, slow_reaches_of, slow_pending_of}
-use Rattle.sorter.specs.declared.Sorting.{Sorting}
-use Rattle.sorter.specs.Sorter.{slots_for, max_reaches, reaches_at, cleared, no_sorting}
+use Rattle.sorter.specs.Sorter.{slots_for, max_reaches, reaches_at}
 use Rattle.updates.specs.Promises.{Reading, reading, table_of}
 use Rattle.updates.proofs.Read.{rows-length, rows_back}
 use Rattle.slow_sorter.specs.Slowly.{sorting_by, Left, board_on, reports_on, swept_on, unswept, swept_read}
