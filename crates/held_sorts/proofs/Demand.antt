@@ -1,26 +1,17 @@
 -- What `sort_held` promises is demand 3 over held sets: a sort that refuses nothing is the one that demand 3 asks for.
-use Prim.Native.Nat.{ℕ, ◌<◌}
-use mathlib.Core.Path.{◌≡◌, refl, sym, ap, subst}
+use Prim.Native.Nat.{ℕ}
+use mathlib.Core.Path.{◌≡◌, refl, sym, subst}
 use mathlib.Core.Bool.{Bool, true, false}
 use mathlib.Core.List.{List, []}
 use native.Mathlib.Omega.{arith}
 use lib.Dec.{eqb}
-use lib.ListN.{length}
 use borrow.Author.Tests.{eqb-true, eqb-false}
 use Rattle.numbers.specs.Number.{pick, nowhere}
-use Rattle.block.specs.declared.Block.{Block}
 use Rattle.grammar.specs.Course.{Course, thing, over, stopped, fit, things, ending}
 use Rattle.ranges.specs.Ranges.{Range, normal}
 use Rattle.decoder.specs.Update.{delete_set}
-use Rattle.sorting.specs.Steps.{State, start, after, Ends}
-use Rattle.sorting.specs.Rules.{queue, Rule}
-use Rattle.sorting.specs.Quick.{Listed}
-use Rattle.sorting.specs.Sorted.{steps, order, outcome, numbers_by, counts_in, pending_in}
 use Rattle.sorting.specs.Held.{rule_held, held_in, owners, order_held, counts_held, pending_held}
-use Rattle.sorting.proofs.Rules.{RuleMonotone}
 use Rattle.sorting.proofs.Clients.{clients-blocks}
-use Rattle.sorting.proofs.Demand.{sorted, highest, is-order, left-waits}
-use Rattle.sorting.proofs.Taken.{whole_takes, whole-leaves, numbers-once, numbers-below}
 use Rattle.sorting.proofs.Held.{held-mono}
 use Rattle.updates.specs.Promises.{Reading, reading}
 use Rattle.sort_answers.specs.Answers.{Room}

@@ -1,9 +1,6 @@
--- The ways out, whatever order the sorter takes (Ways), what the sorter gives and leaves (Exits), that the promise is demand 3 (Demand), that no other answer
--- fits (Unique), the walk whatever the sorter (Walk), and what the walks share (Sorts, Cards).
-pub mod Walk
+-- The ways out, whatever order the sorter takes (Ways), what the sorter gives and leaves (Exits), that the promise is demand 3 (Demand), and that no other
+-- answer fits (Unique).
 pub mod Ways
 pub mod Exits
 pub mod Demand
 pub mod Unique
-pub mod Sorts
-pub mod Cards
