@@ -1,13 +1,9 @@
 -- Every allowed run can be carried on to an end: by the order that takes the highest client at each step, from where the run stands.
-use Prim.Native.Nat.{ℕ, ◌<◌}
-use mathlib.Core.Path.{◌≡◌, refl, sym}
-use mathlib.Core.List.{List, [], ◌∷◌, ◌++◌, map}
-use lib.Dec.{T}
-use lib.ListN.{length}
-use Rattle.block.specs.declared.Block.{Block}
-use Rattle.sorting.specs.Steps.{System, State, start, can, step, after, Run, Ends}
-use Rattle.sorting.specs.Rules.{queue, Rule, system}
-use Rattle.sorting.specs.Quick.{Listed, quick}
+use Prim.Native.Nat.{ℕ}
+use mathlib.Core.List.{List, [], ◌∷◌, ◌++◌}
+use Rattle.sorting.specs.Steps.{System, State, start, step, after, Run, Ends}
+use Rattle.sorting.specs.Rules.{system}
+use Rattle.sorting.specs.Quick.{quick}
 use Rattle.sorting.specs.Sorted.{steps, all_clients}
 use Rattle.sorting.proofs.Quick.{quick-ends}
 use Rattle.sorting.proofs.Clients.{clients-blocks}

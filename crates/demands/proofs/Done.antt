@@ -1,15 +1,14 @@
 -- When a sort is done: its number is 0 exactly when nothing on its way refuses it.
 use Prim.Native.Nat.{ℕ, ◌≤◌}
-use mathlib.Core.Path.{◌≡◌, refl, subst, sym}
+use mathlib.Core.Path.{◌≡◌, refl, subst}
 use mathlib.Core.Bool.{Bool, true, false}
 use mathlib.Core.List.{List}
 use native.Mathlib.Omega.{arith}
 use lib.Dec.{ltb, eqb}
-use lib.ListN.{length}
 use borrow.Author.Tests.{eqb-true, eqb-false, eq-eqb, ltb-false, le-ltb}
-use Rattle.numbers.specs.Number.{pick, none, nowhere}
+use Rattle.numbers.specs.Number.{pick, nowhere}
 use Rattle.grammar.specs.Course.{things, ending}
-use Rattle.vector.specs.Vector.{Entry, vector_of}
+use Rattle.vector.specs.Vector.{vector_of}
 use Rattle.kept.proofs.Vectors.{why_vector, by_number}
 use Rattle.sorting.specs.Rules.{Rule}
 use Rattle.sorting.specs.Named.{rule_of}

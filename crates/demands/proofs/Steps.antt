@@ -1,23 +1,21 @@
 -- When a step is allowed: a block is left and it is ready, which each rule says in its own words.
-use Prim.Native.Nat.{ℕ, ◌≤◌, ◌<◌}
+use Prim.Native.Nat.{ℕ}
 use mathlib.Core.Path.{◌≡◌, refl}
 use mathlib.Core.Logic.{◌⊎◌, inl, inr, ◌↔◌}
 use mathlib.Core.Bool.{Bool, true, false, ◌||◌}
 use mathlib.Core.List.{List}
 use native.Mathlib.Omega.{arith}
 use lib.Dec.{T}
-use lib.ListN.{length}
 use Rattle.block.specs.declared.Block.{Block}
-use Rattle.readings.specs.Sound.{All}
 use Rattle.sorting.specs.Steps.{State, can}
-use Rattle.sorting.specs.Rules.{queue, is_skip, deps, Rule, system, waits, free}
+use Rattle.sorting.specs.Rules.{is_skip, Rule, system, waits, free}
 use Rattle.sorting.specs.Rule28Inner.{rule28}
 use Rattle.sorting.specs.Rule13Inner.{rule13}
 use Rattle.sorting.specs.Sorted.{steps}
 use Rattle.sorting.proofs.Outcome.{can-fits, can-ready, can-intro}
 use Rattle.sorting.proofs.Rule28.{ready-28}
 use Rattle.sorting.proofs.Rule13.{ready-13}
-use Rattle.demands.specs.Allowed.{Left, front, Met, CanIff28, CanIff13}
+use Rattle.demands.specs.Allowed.{Left, front, CanIff28, CanIff13}
 
 -- a test or another
 split : (a b : Bool) → T (a || b) → (a ≡ true) ⊎ T b
