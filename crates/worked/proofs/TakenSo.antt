@@ -1,6 +1,5 @@
 -- The sorts worked by hand, computed from the definitions.
-use mathlib.Core.Path.{◌≡◌, refl}
-use mathlib.Core.List.{List, [], ◌∷◌}
+use mathlib.Core.Path.{refl}
 use Rattle.numbers.specs.Number as spelling
 use Rattle.numbers.specs.Words as words
 use Rattle.numbers.specs.Number.{spelt, answer_at, read_unsigned, read_signed, spelt_signed, minus_of, with_sign}

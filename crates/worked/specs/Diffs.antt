@@ -2,8 +2,7 @@
 -- no other origin is named.
 use Rattle.std.specs.Prelude.{ℕ, ◌≡◌, List, [], ◌∷◌}
 use Rattle.numbers.specs.Number.{none, nowhere}
-use Rattle.updates.specs.Promises.{reading}
-use Rattle.diffs.specs.Promises.{diff_of, after_reading}
+use Rattle.diffs.specs.Promises.{diff_of}
 use Rattle.worked.specs.Updates.{between1, collected1, gap1, list1, pair1}
 
 -- an update of form 1 against a vector: its diff in form 1 and in form 2

@@ -9,7 +9,6 @@ use Rattle.block.specs.Rows.{plain, with_left, with_right, with_parent, with_nam
 use Rattle.block.specs.Kinds.{GC, SKIP, DELETED, BINARY, TEXT, TYPE, ANY}
 use Rattle.ranges.specs.Ranges.{Range}
 use Rattle.ranges.specs.Table.{range}
-use Rattle.readings.specs.Sound.{All}
 use Rattle.updates.specs.Promises.{reading}
 
 -- ---- the words of the examples
