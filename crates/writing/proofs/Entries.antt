@@ -13,7 +13,6 @@ use Rattle.ranges.specs.Ranges.{Range}
 use Rattle.vector.specs.declared.Entries.TheVariants.{Read, Refused}
 use Rattle.vector.specs.Vector.{Entry, clients_in}
 use Rattle.vector.specs.VectorInner.{clocks_in, kept}
-use Rattle.vector.specs.Vector as vector
 use Rattle.vector.specs.VectorInner as vector-inner
 use Rattle.kept.specs.Plan.{entries_of}
 use Rattle.kept.proofs.VectorRead.{was_read, was-refused}

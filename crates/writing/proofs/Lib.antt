@@ -1,6 +1,5 @@
 -- The plan has room (Room) and names the sections kept (Rows), with their keys even where a cut would be inside a pair (Marks); the tokens of a diff are
--- legal and few (SmallLegal, SmallSize, SmallRanges); what is written is the diff (Planned, Meaning); the ways out (Exits, Entries), and what the walks
--- share (Sorts, Cards).
+-- legal and few (SmallLegal, SmallSize, SmallRanges); what is written is the diff (Planned, Meaning); the ways out (Exits, Entries).
 pub mod Room
 pub mod Rows
 pub mod SmallLegal
@@ -11,5 +10,3 @@ pub mod Planned
 pub mod Meaning
 pub mod Exits
 pub mod Entries
-pub mod Sorts
-pub mod Cards

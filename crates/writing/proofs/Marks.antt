@@ -22,7 +22,7 @@ use Rattle.readings.specs.Groups.{groups}
 use Rattle.readings.specs.GroupsInner.{joined}
 use Rattle.readings.proofs.Groups.{groups-joined, groups-all, ordered-distinct}
 use Rattle.parts.specs.Brim.{brim}
-use Rattle.tokens.specs.Tokens.{Token, field, text, var, buf, key, value, values, client, info, len, keys, taken, taken_all}
+use Rattle.tokens.specs.Tokens.{Token, field, text, var, buf, key, value, values, info, len, keys, taken, taken_all}
 use Rattle.tokens.specs.TokensInner.{type_number}
 use Rattle.tokens.specs.Keys.{is_known, is_full, remembered, crowded, many_keys}
 use Rattle.tokens.specs.KeysInner.{is_key, keyless}

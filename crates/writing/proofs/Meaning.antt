@@ -2,7 +2,7 @@
 use Prim.Native.Nat.{ℕ, ◌*◌, ◌^◌, ◌≤◌, ◌<◌}
 use mathlib.Core.Path.{◌≡◌, refl, sym, ap, ap₂, ◌∙◌}
 use mathlib.Core.Bool.{Bool, true, false}
-use mathlib.Core.List.{List, [], ◌∷◌, ◌++◌}
+use mathlib.Core.List.{List, []}
 use native.Mathlib.Omega.{arith}
 use lib.Dec.{eqb}
 use lib.ListN.{length, take, length-replicate}
@@ -19,14 +19,13 @@ use Rattle.readings.specs.Sound.{All}
 use Rattle.readings.specs.SoundInner.{Sound, Ordered}
 use Rattle.readings.specs.Groups.{groups}
 use Rattle.parts.specs.Brim.{brim}
-use Rattle.tokens.specs.Tokens.{Token, var, keys, taken_all}
+use Rattle.tokens.specs.Tokens.{Token, keys, taken_all}
 use Rattle.tokens.specs.Keys.{many_keys}
 use Rattle.tokens.specs.KeysInner.{spelled}
 use Rattle.tokens.specs.Bytes.{bytes_of, near}
 use Rattle.tokens.proofs.Fitting.{size_all, legal_all}
 use Rattle.kept.specs.Kept.{client_of, sections_of}
 use Rattle.kept.specs.Cut.{any_torn, any_format}
-use Rattle.kept.specs.Plan.{unplanned, plan_all}
 use Rattle.kept.proofs.SectionsTorn.{plan-formats}
 use Rattle.records.specs.Records.{sections_tokens, delete_tokens, update_tokens}
 use Rattle.records.proofs.Deletes.{deletes-plain}
@@ -39,7 +38,7 @@ use Rattle.writing.specs.Diff.{diff_tokens, diff_bytes, turned_format, diff_why}
 use Rattle.writing.specs.Writing.{Job, job, planned_in, planned_answer, planned_out, no_plan, job_for, turned, why_for, kept_why, kept_answer, kept_out}
 use Rattle.writing.proofs.Rows.{torn-is, planned-are, tokens-are}
 use Rattle.writing.proofs.Marks.{many-same, keys-are, sections-bare}
-use Rattle.writing.proofs.Planned.{job_tokens, many-planned, far-planned, answer-planned, out-planned}
+use Rattle.writing.proofs.Planned.{job_tokens, far-planned, answer-planned, out-planned}
 
 -- ---- blocks kept against the entries of a vector
 
