@@ -6,7 +6,6 @@ use mathlib.Core.List.{List, []}
 use native.Mathlib.Omega.{arith}
 use lib.ListN.{length, take}
 use Rattle.block.specs.declared.Block.{Block}
-use Rattle.grammar.specs.Course.{fit}
 use Rattle.picker.specs.Picker.{nowhere as no_row}
 use Rattle.reports.specs.Reports.{fitted}
 use Rattle.slots.specs.Slots.{Slot}
