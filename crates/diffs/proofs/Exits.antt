@@ -20,7 +20,8 @@ use Rattle.ranges.specs.TableInner.{rows_from}
 use Rattle.vector.specs.Vector.{Entry, vector_of}
 use Rattle.passes.proofs.Wholes.{IsForm}
 use Rattle.kept.proofs.Vectors.{why_vector, by_number}
-use Rattle.updates.specs.Promises.{Reading, refused, known, reading, table_of, range_words}
+use Rattle.updates.specs.declared.Update.{Update}
+use Rattle.updates.specs.Promises.{Reading, refused, answer, known, reading, table_of, range_words}
 use Rattle.updates.proofs.Read.{Good, reading-good, short, rows-length, words-length, rows_back, words_back, length-padded}
 use Rattle.writing.specs.Diff.{diff_why, diff_bytes}
 use Rattle.writing.specs.Writing.{kept_answer, kept_out, read_answer, read_out}
@@ -93,6 +94,16 @@ module _ (form : ℕ) (u v : List ℕ) (to : ℕ) (rows₀ : List Block) (ranges
 
   abbrev Right : Diff → List Block → List ℕ → List ℕ → Type 0
   Right r rows ranges out = Diffs form u v to rows₀ ranges₀ out₀ r rows ranges out
+
+  -- what is written of what was read, in the words of the reading
+  module _ {x : Update} {rows : List Block} {ranges : List ℕ} (e : x ≡ answer R) (f : rows ≡ table_of M R) (g : ranges ≡ range_words N R) where
+    pub answer-same : {w : Written} → w ≡ read_answer u (vector_of v) form to rows x.blocks (rows_from ranges 0 x.ranges) room → w ≡ W
+    unfolding answer
+    answer-same h = h ∙ rw (e, f, g) refl
+
+    pub out-same : {o : List ℕ} → o ≡ read_out u (vector_of v) form to rows x.blocks (rows_from ranges 0 x.ranges) out₀ → o ≡ O
+    unfolding answer
+    out-same h = h ∙ rw (e, f, g) refl
 
   -- a refusal leaves nothing
   by-refusal : (why : Refusal) (m k l : ℕ) → d ≡ refused_with why → m ≡ M → k ≡ N → l ≡ room
