@@ -15,7 +15,7 @@ use Rattle.columns.specs.Difference as difference
 use Rattle.columns.specs.Byte as byte
 use Rattle.runs.specs.Byte as byte-run
 use Rattle.runs.specs.Runs as runs
-use Rattle.columns.specs.Reading.{Reading, and_then, reads, number_draw, difference_draw, byte_draw}
+use Rattle.columns.specs.Reading.{and_then, reads, number_draw, difference_draw, byte_draw}
 use Rattle.columns.proofs.RoundTrip.{byte-on}
 use Rattle.grammar.specs.Grammar as grammar
 use Rattle.grammar.specs.Course as course
