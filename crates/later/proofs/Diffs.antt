@@ -16,7 +16,7 @@ use Rattle.readings.proofs.Orders.{blocks-ordered}
 use Rattle.readings.proofs.Sounds.{blocks-sound}
 use Rattle.vector.specs.Vector.{Entry}
 use Rattle.kept.specs.Kept.{remote, sections_of}
-use Rattle.updates.specs.Promises.{Reading, reading}
+use Rattle.updates.specs.Promises.{Reading}
 use Rattle.sorting.specs.Rules.{queue, by_reaches}
 use Rattle.sorting.specs.Named.{asks_of}
 use Rattle.sorting.specs.Sorted.{all_clients, order, order_of}

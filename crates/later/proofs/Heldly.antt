@@ -13,7 +13,7 @@ use Rattle.sorting.specs.Quick.{Listed}
 use Rattle.sorting.specs.Held.{rule_held, held_in}
 use Rattle.sorting.proofs.Held.{held-mono}
 use Rattle.held_answers.specs.declared.SortedHeld.{SortedHeld}
-use Rattle.held_answers.specs.Answers.{SortHeld, answered}
+use Rattle.held_answers.specs.Answers.{answered}
 use Rattle.held_sorts.specs.Promises.{lent}
 use Rattle.held_sorts.proofs.Demand.{demand-3-held}
 use Rattle.rereading.proofs.Wholes.{all_read}
