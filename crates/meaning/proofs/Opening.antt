@@ -20,7 +20,7 @@ use Rattle.decoder.specs.Line.{so_many, bytes_at, checked, word_of, line, number
 use Rattle.decoder.specs.States.{State, text_moved}
 use Rattle.decoder.specs.Opening as opening
 use Rattle.decoder.specs.Opening.{standing, with_opened, text_opened, on_heads, opened_of}
-use Rattle.meaning.specs.Reads.{if◌then◌else◌, Got, got, refused, on, done}
+use Rattle.meaning.specs.Reads.{if◌then◌else◌, Got, got, on, done}
 use Rattle.meaning.specs.Line.{part, byte, word}
 use Rattle.meaning.specs.Columns.{Coding, numbers, differences, octets, Lane, fresh}
 use Rattle.meaning.specs.Fields.{Standing, stand}

@@ -1,7 +1,6 @@
 -- What proofs need: a reading of the grammar as data, seen as a reading of these fields. No promise comes to it.
 use Rattle.std.specs.Prelude.{ℕ, ◌≡◌, Bool, List, [], ◌∷◌}
-use Rattle.std.proofs.Math.Option.{Option, some, none}
-use Rattle.numbers.specs.declared.Refusal.{Refusal}
+use Rattle.std.proofs.Math.Option.{some, none}
 use Rattle.numbers.specs.declared.Read.{Read}
 use Rattle.numbers.specs.declared.Read.TheVariants as read
 use Rattle.numbers.specs.declared.Signed.{Signed}

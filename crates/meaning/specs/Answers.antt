@@ -3,7 +3,6 @@
 use Rattle.std.specs.Prelude.{ℕ, ◌+◌, Bool, true, false, List, length}
 use Rattle.std.proofs.Math.Option.{Option, some, none}
 use Rattle.std.proofs.Math.Seq.{slice}
-use Rattle.numbers.specs.declared.Refusal.{Refusal}
 use Rattle.numbers.specs.declared.Read.{Read}
 use Rattle.numbers.specs.declared.Read.TheVariants as read
 use Rattle.numbers.specs.declared.Signed.{Signed}
@@ -28,7 +27,7 @@ use Rattle.string.specs.declared.Answer.TheVariants as string
 use Rattle.meaning.specs.Reads.{if◌then◌else◌, comes_to}
 use Rattle.meaning.specs.Line as line
 use Rattle.meaning.specs.Line.{part}
-use Rattle.meaning.specs.Columns.{often, Coding, numbers, differences, octets, Lane, lane, draw}
+use Rattle.meaning.specs.Columns.{often, numbers, differences, octets, Lane, lane, draw}
 
 unfoldable pub read_unsigned : List ℕ → ℕ → Read
 read_unsigned s at = comes_to read.Number read.Refused (line.unsigned s at)

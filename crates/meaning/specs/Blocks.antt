@@ -4,7 +4,7 @@ use Rattle.std.proofs.Math.Option.{Option, some, none}
 use Rattle.text.specs.declared.Part.{Part}
 use Rattle.block.specs.declared.Id.{Id}
 use Rattle.block.specs.declared.Block.{Block}
-use Rattle.meaning.specs.Reads.{if◌then◌else◌, Reads, got, refused, on, ◌>>=◌, done, refuse}
+use Rattle.meaning.specs.Reads.{if◌then◌else◌, Reads, ◌>>=◌, done, refuse}
 use Rattle.meaning.specs.Line.{part}
 use Rattle.meaning.specs.Fields.{Fields}
 

@@ -1,9 +1,9 @@
 -- What stands in line, from lib0's format: numbers, bytes, texts and any-values of the bytes s, read from a place on.
-use Rattle.std.specs.Prelude.{ℕ, zero, suc, ◌+◌, ◌-◌, ◌*◌, ◌/◌, ◌%◌, Bool, false, List, [], ◌∷◌, ltb, leb, eqb, length, get_or}
+use Rattle.std.specs.Prelude.{ℕ, zero, suc, ◌+◌, ◌-◌, ◌*◌, ◌/◌, ◌%◌, Bool, List, [], ◌∷◌, ltb, leb, eqb, length, get_or}
 use Rattle.std.proofs.Math.Seq.{slice}
 use Rattle.text.specs.declared.Part.{Part}
 use Rattle.text.specs.Utf8.{well_formed}
-use Rattle.meaning.specs.Reads.{if◌then◌else◌, Reads, got, refused, on, ◌>>=◌, done, refuse, here}
+use Rattle.meaning.specs.Reads.{if◌then◌else◌, Reads, got, refused, ◌>>=◌, done, refuse, here}
 
 abbrev pub part : ℕ → ℕ → Part
 part at n = record { place = at; bytes = record { 0 = n } }

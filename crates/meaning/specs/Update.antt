@@ -1,10 +1,9 @@
 -- What an update means: its blocks, then its delete set.
 use Rattle.std.specs.Prelude.{ℕ, zero, suc, ◌+◌, ◌-◌, List, [], ◌∷◌, ◌++◌, ltb, eqb, length, get_or, take, set}
-use Rattle.text.specs.declared.Part.{Part}
 use Rattle.block.specs.declared.Block.{Block}
 use Rattle.ranges.specs.Ranges.{Range}
 use Rattle.ranges.specs.Table.{range}
-use Rattle.meaning.specs.Reads.{if◌then◌else◌, Got, got, refused, Reads, on, ◌>>=◌, done, refuse, here}
+use Rattle.meaning.specs.Reads.{if◌then◌else◌, Got, got, Reads, on, ◌>>=◌, done, refuse, here}
 use Rattle.meaning.specs.Line.{byte, unsigned, raised, up_to, stored, word}
 use Rattle.meaning.specs.Columns.{Coding, numbers, differences, octets, Lane, fresh}
 use Rattle.meaning.specs.Fields.{Standing, stand, fields}

@@ -1,7 +1,7 @@
 -- A state vector: how many entries, then a client and its clock each; a client twice is 4, before its clock is read.
 use Rattle.std.specs.Prelude.{ℕ, zero, suc, Bool, false, ◌||◌, List, [], ◌∷◌, eqb}
 use Rattle.vector.specs.Vector.{Entry, entry}
-use Rattle.meaning.specs.Reads.{if◌then◌else◌, Reads, Got, on, ◌>>=◌, done, refuse, here}
+use Rattle.meaning.specs.Reads.{if◌then◌else◌, Reads, Got, ◌>>=◌, done, refuse, here}
 use Rattle.meaning.specs.Line.{up_to}
 
 unfoldable pub entries : List ℕ → ℕ → (ℕ → Bool) → Reads ℕ (List Entry)
