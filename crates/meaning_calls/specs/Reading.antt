@@ -1,5 +1,5 @@
 -- What reading an update answers: its tables, strictly or not; one stored part; who is in it.
-use Rattle.std.specs.Prelude.{ℕ, ◌*◌, min, Bool, ◌||◌, ◌&&◌, List, [], ◌∷◌, map, ltb, eqb, length, get_or}
+use Rattle.std.specs.Prelude.{ℕ, min, ◌||◌, ◌&&◌, List, [], ◌∷◌, map, ltb, eqb, length, get_or}
 use Rattle.numbers.specs.declared.Refusal.{Refusal}
 use Rattle.numbers.specs.Number.{none, nowhere}
 use Rattle.block.specs.declared.Block.{Block}
