@@ -1,5 +1,5 @@
 -- The fields that tell, in either form: each gives what the decoder's reader gives, and notes the lines of that draw.
-use Prim.Native.Nat.{ℕ, ◌-◌}
+use Prim.Native.Nat.{ℕ}
 use mathlib.Core.Path.{◌≡◌, refl, ap}
 use mathlib.Core.Bool.{Bool, true, false}
 use mathlib.Core.List.{List, [], ◌∷◌}

@@ -3,19 +3,17 @@
 -- which value of how many; base, sign (1 plus, 2 minus) and size of the difference that it is; the place and the length of the bytes that it leads
 -- to.
 use Rattle.std.specs.Prelude.{ℕ, ◌-◌, ◌*◌, List, [], ◌∷◌, ◌++◌, ltb, eqb, length, get_or, take}
-use Rattle.std.proofs.Math.Option.{Option, some, none}
+use Rattle.std.proofs.Math.Option.{some, none}
 use Rattle.numbers.specs.Number.{nowhere}
 use Rattle.numbers.specs.Number.{none as numbers-none}
 use Rattle.text.specs.declared.Part.{Part}
 use Rattle.block.specs.declared.Block.{Block}
-use Rattle.ranges.specs.Ranges.{Range}
 use Rattle.origins.specs.declared.Line.{Line}
 use Rattle.origins.specs.declared.Rise.{Rise}
 use Rattle.updates.specs.Promises.{early}
 use Rattle.explains.specs.Promises.{Outcome}
 use Rattle.explains.specs.Promises as explains
-use Rattle.meaning.specs.Reads.{if◌then◌else◌, Got, got, refused, Reads, on, done}
-use Rattle.meaning.specs.Line.{part}
+use Rattle.meaning.specs.Reads.{if◌then◌else◌, got, Reads, on}
 use Rattle.meaning.specs.Columns.{Coding, numbers, differences, octets, Lane, no_rise, run_of}
 use Rattle.meaning.specs.Fields.{Fields, Standing, lane_of, fields}
 use Rattle.meaning.specs.Blocks.{no_part, bare, all_blocks}
