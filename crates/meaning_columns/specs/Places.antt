@@ -10,9 +10,9 @@ use Rattle.columns.specs.declared.number.Place as number
 use Rattle.columns.specs.declared.difference.Place as difference
 use Rattle.columns.specs.declared.byte.Place as byte
 use Rattle.string.specs.declared.Place as string
-use Rattle.meaning.specs.Reads.{if◌then◌else◌, Got, got, refused, on, Reads, done, ◌>>=◌}
+use Rattle.meaning.specs.Reads.{if◌then◌else◌, Got, got, refused, on, Reads}
 use Rattle.meaning.specs.Line.{part, word}
-use Rattle.meaning.specs.Columns.{often, numbers, differences, octets, Lane, lane, no_rise, draw}
+use Rattle.meaning.specs.Columns.{often, numbers, differences, octets, lane, no_rise, draw}
 
 abbrev pub is_endless : Option ℕ → Bool
 is_endless o = elim o [ none ↦ true | some n ↦ false ]
