@@ -26,7 +26,6 @@ use Rattle.meaning.specs.Reads.{if◌then◌else◌, Reads, Got, got, refused, o
 use Rattle.meaning.specs.Reads.{comes_to}
 use Rattle.meaning_calls.specs.Reading.{all_of}
 use Rattle.meaning_calls.specs.SummaryInner.{fitting}
-use Rattle.meaning_calls.specs.Reading as calls
 use Rattle.meaning_calls.specs.SummaryInner as inner
 use Rattle.meaning_calls.proofs.Summary.{summary-same}
 use Rattle.meaning_written.specs.Diff.{each}

@@ -1,7 +1,6 @@
 -- What `write_summary` and `read_summary` promise: a summary, bit by bit, is a version, a row count, then a row a client, highest client first;
 -- zeros fill the last byte.
 use Rattle.std.specs.Prelude.{ℕ, zero, suc, ◌-◌, ◌/◌, ◌^◌, ◌≡◌, Bool, true, ◌&&◌, List, [], ◌∷◌, ◌++◌, ltb, leb, eqb, length, drop}
-use Rattle.numbers.specs.declared.Refusal.{Refusal}
 use Rattle.numbers.specs.Number.{none}
 use Rattle.numbers.specs.Output.{padded}
 use Rattle.bits.specs.Bits.{in_bits, value_of, packed}
@@ -9,7 +8,7 @@ use Rattle.summary.specs.Rows.{Row}
 use Rattle.gathered.specs.RowsOf.{rows_of}
 use Rattle.summaries.specs.declared.Summarized.{Summarized}
 use Rattle.summaries.specs.declared.SummaryRows.{SummaryRows}
-use Rattle.meaning.specs.Reads.{if◌then◌else◌, Reads, Got, got, refused, on, ◌>>=◌, done, refuse, here}
+use Rattle.meaning.specs.Reads.{if◌then◌else◌, Reads, got, refused, on, ◌>>=◌, done, refuse, here}
 use Rattle.meaning.specs.Reads.{comes_to}
 use Rattle.meaning_calls.specs.Reading.{all_of}
 use Rattle.meaning_written.specs.Diff.{each}
