@@ -1,6 +1,5 @@
 -- Demand 3, of a sort that is done: what its words say of every allowed order (`Demanded`), against a vector and by held ids.
 use Rattle.std.specs.Prelude.{ℕ, ◌≡◌, List, []}
-use Rattle.block.specs.declared.Id.{Id}
 use Rattle.ranges.specs.Ranges.{Range, normal}
 use Rattle.updates.specs.Promises.{Reading}
 use Rattle.vector.specs.Vector.{Entry}

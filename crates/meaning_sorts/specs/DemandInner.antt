@@ -1,6 +1,5 @@
 -- Demand 3 in the words of the long promises, against a vector and by held ids. No promise comes to it: Demand says the same of the short ones.
 use Rattle.std.specs.Prelude.{ℕ, ◌≡◌, List, []}
-use Rattle.block.specs.declared.Id.{Id}
 use Rattle.ranges.specs.Ranges.{Range, normal}
 use Rattle.updates.specs.Promises.{Reading}
 use Rattle.vector.specs.Vector.{Entry}
