@@ -40,7 +40,7 @@ use Rattle.runs.specs.Difference.{zero_key}
 use Rattle.grammar.specs.Course.{Drawn}
 use Rattle.grammar.proofs.Runs.{both as picked}
 use Rattle.decoder.specs.Line.{so_many, bytes_at, checked, word_of}
-use Rattle.meaning.specs.Reads.{if◌then◌else◌}
+use Rattle.meaning.specs.Reads.{when◌then◌else◌}
 use Rattle.meaning.specs.Columns.{numbers, octets, Lane, lane, next_in, draw}
 use Rattle.meaning.specs.Reads.{comes_to}
 use Rattle.meaning.specs.Columns.{often}
@@ -161,7 +161,7 @@ module _ (s : List ℕ) where
     whole-bytes = octets-is s (record { place = ended; to = length s }) ∙ ap (λ (t : List ℕ). byte_next (length s) (old-byte.next_byte t ended)) (all-of-it s)
 
 pub byte-same : (s : List ℕ) (c : byte-place.Place) → old-byte.next_byte s c ≡ next_byte s c
-unfolding next_byte old-byte.next_byte if◌then◌else◌
+unfolding next_byte old-byte.next_byte when◌then◌else◌
 byte-same s c = go c.endless
   where
     placed : Bool → byte-place.Place

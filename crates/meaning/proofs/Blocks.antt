@@ -21,7 +21,7 @@ use Rattle.grammar.specs.Grammar.{Field, number, text, Answer, Grammar, stop, dr
 use Rattle.grammar.specs.Grammar.{◌>>=◌}
 use Rattle.grammar.specs.Course.{Reader, run, fit}
 use Rattle.grammar.specs.Blocks as old
-use Rattle.meaning.specs.Reads.{if◌then◌else◌, Reads, on, done, refuse}
+use Rattle.meaning.specs.Reads.{when◌then◌else◌, Reads, on, done, refuse}
 use Rattle.meaning.specs.Fields.{Fields}
 use Rattle.meaning.specs.Blocks.{no_part, row, optional, an_id, parent, type, content, item, body, blocks, sections, all_blocks}
 use Rattle.meaning.specs.Alike.{Alike, drawn_as, collect}
@@ -90,7 +90,7 @@ module _ {S T : Type 0} (view : T → S) (F : Fields S) (R : Reader T) (alike : 
   -- the tests ask on one side whether it is there, on the other whether it is not
   optional-same : {A B : Type 0} (f : Option A → B) (least i : ℕ) {m : Reads S A} (g : Grammar Block B) → Means Any (λ a. f (some a)) m g
       → Means Any f (optional (leb least i) m) (pick (ltb i least) (grammar.done (f none)) g)
-  unfolding optional if◌then◌else◌
+  unfolding optional when◌then◌else◌
   optional-same f least i {m} g x = go (ltb i least) refl
     where
       go : (b : Bool) → ltb i least ≡ b → Means Any f (optional (leb least i) m) (pick b (grammar.done (f none)) g)
@@ -185,7 +185,7 @@ module _ {S T : Type 0} (view : T → S) (F : Fields S) (R : Reader T) (alike : 
         same-bind _ (right-same l i) (λ r _. filled-same l r none none none (i % 32) at)))
 
     item-same : (i at : ℕ) → Means Held (λ b. b) (item F c clock i at) (old.an_item i at (plain c clock 0 0))
-    unfolding item old.an_item old.place row optional if◌then◌else◌ on
+    unfolding item old.an_item old.place row optional when◌then◌else◌ on
     item-same i at = go (ltb i 64) refl
       where
         go : (b : Bool) → ltb i 64 ≡ b → Means Held (λ b. b) (item F c clock i at) (old.an_item i at (plain c clock 0 0))
@@ -206,9 +206,9 @@ module _ {S T : Type 0} (view : T → S) (F : Fields S) (R : Reader T) (alike : 
   block-tells : (rows clock : ℕ) (b : Block) (at : ℕ) → Held b → (m : ℕ → Reads S (List Block)) (g : Grammar Block (Unit {0}))
       → ((n : ℕ) → Tells view R n (m n) g)
       → Tells view R rows
-      (if ltb 2147483647 (clock + b.length.0) then refuse 3 at else
-      if eqb b.length.0 0 && ltb 2 b.kind then m rows else
-      if eqb rows 0 then refuse 8 at else (λ s. on (F.kept s) (λ _ s. on (m (rows - 1) s) (λ bs. done (b ∷ bs)))))
+      (when ltb 2147483647 (clock + b.length.0) then refuse 3 at else
+      when eqb b.length.0 0 && ltb 2 b.kind then m rows else
+      when eqb rows 0 then refuse 8 at else (λ s. on (F.kept s) (λ _ s. on (m (rows - 1) s) (λ bs. done (b ∷ bs)))))
       (pick (ltb 2147483647 (clock + b.length.0)) (stop 3 at) (old.unless_dropped b at g))
   unfolding old.unless_dropped
   block-tells rows clock b at h m g more =

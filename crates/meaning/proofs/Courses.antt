@@ -13,7 +13,7 @@ use Rattle.grammar.specs.Grammar.{Field, Answer, Grammar, ask, emit, stop, draw}
 use Rattle.grammar.specs.Grammar.{◌>>=◌}
 use Rattle.grammar.specs.Course as course
 use Rattle.grammar.specs.Course.{Drawn, Reader, CourseTo, thing, on_drawn, run, fit}
-use Rattle.meaning.specs.Reads.{if◌then◌else◌, Got, got, refused, Reads, on, done, refuse}
+use Rattle.meaning.specs.Reads.{when◌then◌else◌, Got, got, refused, Reads, on, done, refuse}
 use Rattle.meaning.specs.Alike.{drawn_as, collect}
 
 -- ---- one after another
@@ -89,8 +89,8 @@ module _ {S T E : Type 0} {view : T → S} {R : Reader T} where
   same_stop n p = record { goes = λ rows post k h ends t. refl }
 
   pub same_if : {A B : Type 0} {P : A → Type 0} {f : A → B} (b : Bool) {m m' : Reads S A} {g g' : Grammar E B}
-      → Same view R P f m g → Same view R P f m' g' → Same view R P f (if b then m else m') (pick b g g')
-  unfolding if◌then◌else◌
+      → Same view R P f m g → Same view R P f m' g' → Same view R P f (when b then m else m') (pick b g g')
+  unfolding when◌then◌else◌
   same_if true x y = x
   same_if false x y = y
 
@@ -142,8 +142,8 @@ module _ {S T E : Type 0} {view : T → S} {R : Reader T} where
   tells-stop n p = record { goes = λ post k h ends t. refl }
 
   pub tells-if : {rows : ℕ} (b : Bool) {m m' : Reads S (List E)} {g g' : Grammar E (Unit {0})}
-      → Tells view R rows m g → Tells view R rows m' g' → Tells view R rows (if b then m else m') (pick b g g')
-  unfolding if◌then◌else◌
+      → Tells view R rows m g → Tells view R rows m' g' → Tells view R rows (when b then m else m') (pick b g g')
+  unfolding when◌then◌else◌
   tells-if true x y = x
   tells-if false x y = y
 
@@ -160,8 +160,8 @@ module _ {S T E : Type 0} {view : T → S} {R : Reader T} where
   pub tells-unless : {A B : Type 0} {P : A → Type 0} {f : A → B} {m : Reads S A} {g : Grammar E B} {rows : ℕ} {k : A → Reads S (List E)}
       (b : Bool) (n p : ℕ) (h : B → Grammar E (Unit {0}))
       → Same view R P f m g → ((a : A) → P a → Tells view R rows (k a) (h (f a)))
-      → Tells view R rows (λ s. on ((if b then refuse n p else m) s) k) (pick b (stop n p) (g >>= h))
-  unfolding if◌then◌else◌ on
+      → Tells view R rows (λ s. on ((when b then refuse n p else m) s) k) (pick b (stop n p) (g >>= h))
+  unfolding when◌then◌else◌ on
   tells-unless true n p h x more = tells-stop n p
   tells-unless false n p h x more = tells-bind h x more
 
@@ -197,8 +197,8 @@ module _ {S T E : Type 0} {view : T → S} {R : Reader T} where
 
   pub tells-room : (note : Reads S (Unit {0})) → ((t : T) → note (view t) ≡ got tt (view t))
       → (rows : ℕ) (e : E) (p : ℕ) (m : ℕ → Reads S (List E)) (g : Grammar E (Unit {0})) → ((n : ℕ) → Tells view R n (m n) g)
-      → Tells view R rows (if eqb rows 0 then refuse 8 p else (λ s. on (note s) (λ _ s. on (m (rows - 1) s) (λ es. done (e ∷ es))))) (emit e p g)
-  unfolding if◌then◌else◌
+      → Tells view R rows (when eqb rows 0 then refuse 8 p else (λ s. on (note s) (λ _ s. on (m (rows - 1) s) (λ es. done (e ∷ es))))) (emit e p g)
+  unfolding when◌then◌else◌
   tells-room note stays zero e p m g x = tells-full e p g
   tells-room note stays (suc n) e p m g x =
       let less : suc n - 1 ≡ n = omega arith in

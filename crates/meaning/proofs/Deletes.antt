@@ -14,7 +14,7 @@ use Rattle.grammar.specs.Grammar.{Number, number, Grammar, draw, ◌>>=◌}
 use Rattle.grammar.specs.Course.{run, fit}
 use Rattle.grammar.specs.Deletes as deletes
 use Rattle.decoder.specs.Line.{delete_at, number_by, line}
-use Rattle.meaning.specs.Reads.{if◌then◌else◌, Reads, Got, got, on, done, refuse}
+use Rattle.meaning.specs.Reads.{when◌then◌else◌, Reads, Got, got, on, done, refuse}
 use Rattle.meaning.specs.Line.{unsigned, up_to}
 use Rattle.meaning.specs.Fields.{located}
 use Rattle.meaning.specs.Update.{less, ranges, owners, delete_set}
@@ -29,7 +29,7 @@ located-then m at f = sym (on-on (m at) (λ v s. got (v, at) s) (λ a. f a.0 a.1
 
 module _ (form : ℕ) (u : List ℕ) where
   less-is : (by at : ℕ) → located (less form u by) at ≡ drawn_as (λ a. a) (λ e. e) (delete_at form by u at)
-  unfolding less delete_at if◌then◌else◌
+  unfolding less delete_at when◌then◌else◌
   less-is by at = go (eqb form 1) refl
     where
       go : (b : Bool) → eqb form 1 ≡ b → located (less form u by) at ≡ drawn_as (λ a. a) (λ e. e) (delete_at form by u at)
@@ -52,9 +52,9 @@ module _ (form : ℕ) (u : List ℕ) where
   -- what becomes of a range, and those behind it
   behind : ℕ → ℕ → ℕ → ℕ → ℕ → ℕ → Reads ℕ (List Range)
   behind k c rows clock n at =
-      if ltb max_clock (clock + n) then refuse 3 at else
-      if eqb n 0 then ranges form u k c (clock + n) rows else
-      if eqb rows 0 then refuse 8 at else (λ s. on (ranges form u k c (clock + n) (rows - 1) s) (λ rs. done (range c clock n ∷ rs)))
+      when ltb max_clock (clock + n) then refuse 3 at else
+      when eqb n 0 then ranges form u k c (clock + n) rows else
+      when eqb rows 0 then refuse 8 at else (λ s. on (ranges form u k c (clock + n) (rows - 1) s) (λ rs. done (range c clock n ∷ rs)))
 
   behind_in : ℕ → ℕ → ℕ → ℕ → ℕ → Grammar Range (Unit {0})
   behind_in k c clock n at =

@@ -32,7 +32,7 @@ use Rattle.decoder.specs.States.{Numbers, Differences, Octets, State}
 use Rattle.decoder.specs.States.{moved_to, key_moved, client_moved, left_moved, right_moved, info_moved, text_moved, parent_moved, types_moved, len_moved}
 use Rattle.decoder.specs.Columned.{number_drawn, from_numbers, difference_drawn, from_differences, byte_drawn, from_bytes, text_drawn}
 use Rattle.decoder.specs.Columned.{onto, number_in, text_in, joining, key_by_number, key_in, columned}
-use Rattle.meaning.specs.Reads.{if◌then◌else◌, Got, got, refused, Reads, on, done, refuse}
+use Rattle.meaning.specs.Reads.{when◌then◌else◌, Got, got, refused, Reads, on, done, refuse}
 use Rattle.meaning.specs.Columns.{Lane, draw}
 use Rattle.meaning.specs.Line.{unsigned, up_to, word}
 use Rattle.meaning.specs.Fields.{Standing, stand, in_line, located, lane_of, text_taken, drawn, field_in, text, key, fields}
@@ -54,10 +54,10 @@ line-stands {X} f view d e = rw e (go d)
 
 -- a length over its limit
 abbrev limited : {S : Type 0} → ℕ × ℕ → Reads S (ℕ × ℕ)
-limited (n, at) = if ltb max_clock n then refuse 3 at else done (n, at)
+limited (n, at) = when ltb max_clock n then refuse 3 at else done (n, at)
 
 limited-is : {S T : Type 0} (view : T → S) (d : Drawn T (ℕ × ℕ)) → on (drawn_as (λ a. a) view d) limited ≡ drawn_as (λ a. a) view (bounded max_clock d)
-unfolding on drawn_as bounded if◌then◌else◌
+unfolding on drawn_as bounded when◌then◌else◌
 limited-is view (course.got a t) = go (ltb max_clock a.0) refl
   where
     go : (b : Bool) → ltb max_clock a.0 ≡ b → limited a (view t) ≡ drawn_as (λ a. a) view (bounded max_clock (course.got a t))
@@ -78,7 +78,7 @@ module _ (u : List ℕ) where
   a_word t = line-stands (λ p. p) at_place (decoder.word_of (decoder.checked u (decoder.bytes_at u t))) (word-is u t)
 
   pub alike-1 : Alike at_place (fields 1 u) (decoder.line 1 u)
-  unfolding fields field_in text key if◌then◌else◌ decoder.line decoder.number_by decoder.up_to
+  unfolding fields field_in text key when◌then◌else◌ decoder.line decoder.number_by decoder.up_to
   alike-1 = record {
     number = λ role most t. up-to most t;
     client = λ role t. up-to max_value t;
@@ -146,7 +146,7 @@ module _ (form : ℕ) (u : List ℕ) (two : eqb form 1 ≡ false) where
 
   -- a text: its units from column 5, then its characters
   text-drawn : (s : State) → text form u (at_state s) ≡ drawn_as (λ a. (a.0, a.1.0)) at_state (text_in u s)
-  unfolding text drawn if◌then◌else◌ on number_next text_taken drawn_as text_drawn next_text units_drawn units_taken text_ending
+  unfolding text drawn when◌then◌else◌ on number_next text_taken drawn_as text_drawn next_text units_drawn units_taken text_ending
   text-drawn s = rw (two, numbers-is u units) (go (next_number t units.place) refl)
     where
       units : Numbers
@@ -179,13 +179,13 @@ module _ (form : ℕ) (u : List ℕ) (two : eqb form 1 ≡ false) where
 
   -- a key: its number from column 0, then one of the keys read or the next text
   key-drawn : (s : State) → key form u (at_state s) ≡ drawn_as (λ p. p) at_state (key_in u s)
-  unfolding key drawn if◌then◌else◌ key_in on drawn_as key_by_number
+  unfolding key drawn when◌then◌else◌ key_in on drawn_as key_by_number
   key-drawn s = rw (two, from-differences s.key (λ c. key_moved c s) (with_column 0 s) (λ d. refl)) (go (from_differences u s.key (λ c. key_moved c s)))
     where
       by_number : ℕ × ℕ → Reads Standing Part
       by_number (n, at) x =
-          if ltb n (length x.keys) then got (get_or x.keys n no_part) x
-          else if ltb (length x.keys) 256 then on (text form u x) joins else refused 3 at
+          when ltb n (length x.keys) then got (get_or x.keys n no_part) x
+          else when ltb (length x.keys) 256 then on (text form u x) joins else refused 3 at
 
       chosen : (a : ℕ × ℕ) (t : State) (old : Bool) → ltb a.0 (length t.keys) ≡ old → (room : Bool) → ltb (length t.keys) 256 ≡ room
           → by_number a (at_state t) ≡ drawn_as (λ p. p) at_state (key_by_number u (course.got a t))
@@ -198,7 +198,7 @@ module _ (form : ℕ) (u : List ℕ) (two : eqb form 1 ≡ false) where
       go (course.not why) = refl
 
   pub alike-2 : Alike at_state (fields form u) (columned u)
-  unfolding fields field_in drawn if◌then◌else◌ decoder.line decoder.number_by columned number_in
+  unfolding fields field_in drawn when◌then◌else◌ decoder.line decoder.number_by columned number_in
   alike-2 = record {
     number = λ role most s. rest-stands s (decoder.up_to most u s.at) (up_to-is u most s.at);
     client = λ role s. rw two (from-numbers s.client (λ c. client_moved c s) (with_column 1 s) (λ d. refl));

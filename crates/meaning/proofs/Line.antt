@@ -32,7 +32,7 @@ use Rattle.grammar.specs.Course.{Drawn}
 use Rattle.grammar.proofs.Runs.{both as picked}
 use Rattle.decoder.specs.Line.{number_at, var_at, bounded, byte_at, restored, so_many, bytes_at, checked, word_of, spanned, values_at}
 use Rattle.decoder.specs.Line as line
-use Rattle.meaning.specs.Reads.{if◌then◌else◌, Reads, Got, got, refused, on, ◌>>=◌, done, refuse, here}
+use Rattle.meaning.specs.Reads.{when◌then◌else◌, Reads, Got, got, refused, on, ◌>>=◌, done, refuse, here}
 use Rattle.meaning.specs.Line.{part, times, units, byte, skip, bits, unsigned, signed, raised, up_to, stored, bytes_of, word, tagged, any, values}
 use Rattle.meaning.specs.Fields.{located}
 use Rattle.meaning.specs.Alike.{read_as, signed_as, skipped_as, drawn_as}
@@ -44,8 +44,8 @@ on-on (got a s) f h = refl
 on-on (refused n p) f h = refl
 
 -- a choice that is made on both sides alike
-pub both : {A B : Type 0} (R : A → B → Type 0) (b : Bool) {x x' : A} {y y' : B} → R x y → R x' y' → R (if b then x else x') (pick b y y')
-unfolding if◌then◌else◌
+pub both : {A B : Type 0} (R : A → B → Type 0) (b : Bool) {x x' : A} {y y' : B} → R x y → R x' y' → R (when b then x else x') (pick b y y')
+unfolding when◌then◌else◌
 both R true p q = p
 both R false p q = q
 
@@ -63,7 +63,7 @@ low-as s first w v spelling.long = refl
 
 module _ (s : List ℕ) (first : ℕ) where
   pub bits_is : (k at : ℕ) → bits s first k at ≡ read_as (answer_at s first (spelt k at (drop at s)))
-  unfolding bits byte on if◌then◌else◌ read_as answer_at spelt
+  unfolding bits byte on when◌then◌else◌ read_as answer_at spelt
   bits_is zero at = refl
   bits_is (suc k) at = go (bits_is k (suc at)) (leb (length s) at) refl (ltb (get_or s at 0) 128) refl
     where
@@ -86,7 +86,7 @@ signed-as m (read.Number v e) = refl
 signed-as m (read.Refused why) = refl
 
 pub signed_is : (s : List ℕ) (at : ℕ) → signed s at ≡ signed_as (read_signed s at)
-unfolding signed byte on if◌then◌else◌ read_signed spelt_signed minus_of answer_at read_as signed_as with_sign
+unfolding signed byte on when◌then◌else◌ read_signed spelt_signed minus_of answer_at read_as signed_as with_sign
 signed_is s at = go (leb (length s) at) refl (ltb (get_or s at 0) 128) refl
   where
     go : (a : Bool) → leb (length s) at ≡ a → (b : Bool) → ltb (get_or s at 0) 128 ≡ b → signed s at ≡ signed_as (read_signed s at)
@@ -105,7 +105,7 @@ placed at g = on g (λ v. done (v, at))
 
 -- so much more than was read, within a limit
 abbrev pub raising : ℕ → ℕ → ℕ → Read → Got ℕ (ℕ × ℕ)
-raising by most at r = placed at (on (read_as r) (λ v. if ltb most (by + v) then refuse 3 at else done (by + v)))
+raising by most at r = placed at (on (read_as r) (λ v. when ltb most (by + v) then refuse 3 at else done (by + v)))
 
 numbered : (at : ℕ) (r : Read) → placed at (read_as r) ≡ as_is (number_at at r)
 unfolding on read_as drawn_as number_at
@@ -151,7 +151,7 @@ stored-read s (read.Number n e) = both (λ (x : Got ℕ (Unit {0})) y. on x (λ 
 stored-read s (read.Refused why) = refl
 
 word-drawn : (u : List ℕ) (d : Drawn ℕ Part)
-    → on (as_is d) (λ p. if well_formed (bytes_of u p) then done p else refuse 6 p.place) ≡ as_is (word_of (checked u d))
+    → on (as_is d) (λ p. when well_formed (bytes_of u p) then done p else refuse 6 p.place) ≡ as_is (word_of (checked u d))
 unfolding on drawn_as checked word_of
 word-drawn u (course.got p e) = both (λ (m : Reads ℕ Part) y. m e ≡ as_is (word_of y)) (well_formed (bytes_of u p)) refl refl
 word-drawn u (course.not why) = refl
@@ -162,12 +162,12 @@ not-below b m n h e f =
     let above = ltb-false b n f in
     omega (arith, below, above, h)
 
-worth-same : (b : ℕ) → (if ltb b 128 then 1 else if ltb b 192 then 0 else if ltb b 240 then 1 else 2) ≡ worth b
-unfolding if◌then◌else◌ worth continues
+worth-same : (b : ℕ) → (when ltb b 128 then 1 else when ltb b 192 then 0 else when ltb b 240 then 1 else 2) ≡ worth b
+unfolding when◌then◌else◌ worth continues
 worth-same b = go (ltb b 128) refl (ltb b 192) refl (ltb b 240) refl
   where
     go : (x : Bool) → ltb b 128 ≡ x → (y : Bool) → ltb b 192 ≡ y → (z : Bool) → ltb b 240 ≡ z
-        → ◌≡◌ {A = ℕ} (if x then 1 else if y then 0 else if z then 1 else 2) (utf8.pick (utf8.pick x false y) 0 1 + utf8.pick z 0 1)
+        → ◌≡◌ {A = ℕ} (when x then 1 else when y then 0 else when z then 1 else 2) (utf8.pick (utf8.pick x false y) 0 1 + utf8.pick z 0 1)
     go true e y f true g = refl
     go true e y f false g = absurd (not-below b 128 240 (omega arith) e g)
     go false e true f true g = refl
@@ -292,7 +292,7 @@ module _ (s : List ℕ) (blame : ℕ) where
 
   head-is : (object array : Reads ℕ (Unit {0})) (f : Bool → Skipped) (at : ℕ) → object (at + 1) ≡ skipped_as (f true) → array (at + 1) ≡ skipped_as (f false)
       → on (byte s at) (λ tag. tagged s blame object array tag) ≡ skipped_as (on_head (head_at s blame at) f)
-  unfolding on byte head_at on_head skipped_as if◌then◌else◌
+  unfolding on byte head_at on_head skipped_as when◌then◌else◌
   head-is object array f at o a = go (leb (length s) at) refl
     where
       go : (b : Bool) → leb (length s) at ≡ b → on (byte s at) (λ tag. tagged s blame object array tag) ≡ skipped_as (on_head (head_at s blame at) f)

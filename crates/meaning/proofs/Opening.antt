@@ -20,7 +20,7 @@ use Rattle.decoder.specs.Line.{so_many, bytes_at, checked, word_of, line, number
 use Rattle.decoder.specs.States.{State, text_moved}
 use Rattle.decoder.specs.Opening as opening
 use Rattle.decoder.specs.Opening.{standing, with_opened, text_opened, on_heads, opened_of}
-use Rattle.meaning.specs.Reads.{if◌then◌else◌, Got, got, on, done}
+use Rattle.meaning.specs.Reads.{when◌then◌else◌, Got, got, on, done}
 use Rattle.meaning.specs.Line.{part, byte, word}
 use Rattle.meaning.specs.Columns.{Coding, numbers, differences, octets, Lane, fresh}
 use Rattle.meaning.specs.Fields.{Standing, stand}
@@ -80,7 +80,7 @@ module _ (u : List ℕ) where
       go (course.not why) h = refl
 
   pub opened-alike : columned u ≡ drawn_as (λ a. a) at_state (opened_of u)
-  unfolding columned opened_of text_opened fresh opening.heads byte line number_by byte_at on on_heads run on_drawn grammar.◌>>=◌ drawn_as if◌then◌else◌
+  unfolding columned opened_of text_opened fresh opening.heads byte line number_by byte_at on on_heads run on_drawn grammar.◌>>=◌ drawn_as when◌then◌else◌
   opened-alike = go (leb (length u) 0) refl
     where
       kinds : List Coding

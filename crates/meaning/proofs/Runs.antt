@@ -12,7 +12,7 @@ use Rattle.grammar.specs.Grammar.{◌>>=◌}
 use Rattle.grammar.specs.Course as course
 use Rattle.grammar.specs.Course.{Drawn, Reader, CourseTo, on_drawn, run, fit}
 use Rattle.grammar.proofs.Runs.{and_then, run_bind}
-use Rattle.meaning.specs.Reads.{if◌then◌else◌, Reads, Got, got, refused, on, done, refuse}
+use Rattle.meaning.specs.Reads.{when◌then◌else◌, Reads, Got, got, refused, on, done, refuse}
 use Rattle.meaning.specs.Alike.{drawn_as, collect}
 use Rattle.meaning.proofs.Line.{on-on}
 
@@ -36,8 +36,8 @@ module _ {S T E : Type 0} (view : T → S) where
   -- a thing, and what follows: no row left is 8
   pub thing-kept : {A : Type 0} (rest : ℕ → Reads S (List E)) (x : E) (at : ℕ) (s : S) (c : CourseTo T E A)
       → ((rows : ℕ) → rest rows s ≡ kept rows c) → (rows : ℕ)
-      → (if eqb rows 0 then refuse 8 at else (λ s. on (rest (rows - 1) s) (λ es. done (x ∷ es)))) s ≡ kept rows (course.thing x at c)
-  unfolding on fit collect if◌then◌else◌
+      → (when eqb rows 0 then refuse 8 at else (λ s. on (rest (rows - 1) s) (λ es. done (x ∷ es)))) s ≡ kept rows (course.thing x at c)
+  unfolding on fit collect when◌then◌else◌
   thing-kept rest x at s c same zero = refl
   thing-kept rest x at s c same (suc n) =
       let some : eqb (suc n) 0 ≡ false = ne_eqb (suc n) 0 (λ e. omega arith) in

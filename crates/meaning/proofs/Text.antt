@@ -12,7 +12,7 @@ use Rattle.text.specs.declared.Taken.{Taken}
 use Rattle.text.specs.declared.Taken.TheVariants.{Took, Refused}
 use Rattle.text.specs.Utf8 as old
 use Rattle.text.specs.Utf8.{pick}
-use Rattle.meaning.specs.Reads.{if◌then◌else◌}
+use Rattle.meaning.specs.Reads.{when◌then◌else◌}
 use Rattle.meaning.specs.Text.{Inside, inside, lead, go_on, is_whole, fits, well_formed, gains, taking, take_units}
 
 -- where reading is inside a character, as it is said here
@@ -21,8 +21,8 @@ inside_of (Open more low high v) = inside more low high v
 inside_of Broken = none
 
 -- a choice between states is one between what they are here
-chosen : (x : Bool) (a b : State) {c d : Option Inside} → inside_of a ≡ c → inside_of b ≡ d → inside_of (pick x a b) ≡ (if x then c else d)
-unfolding if◌then◌else◌
+chosen : (x : Bool) (a b : State) {c d : Option Inside} → inside_of a ≡ c → inside_of b ≡ d → inside_of (pick x a b) ≡ (when x then c else d)
+unfolding when◌then◌else◌
 chosen true a b e f = e
 chosen false a b e f = f
 
@@ -34,7 +34,7 @@ lead-same b =
     (chosen (ltb b 244) _ _ refl (chosen (ltb b 245) _ _ refl refl)))))))))
 
 next-same : (st : State) (b : ℕ) → inside_of (old.next st b) ≡ go_on (inside_of st) b
-unfolding inside_of old.next go_on if◌then◌else◌
+unfolding inside_of old.next go_on when◌then◌else◌
 next-same (Open zero low high v) b = lead-same b
 next-same (Open (suc n) low high v) b = go (ltb b low) (ltb high b)
   where
@@ -42,7 +42,7 @@ next-same (Open (suc n) low high v) b = go (ltb b low) (ltb high b)
     less = omega arith
 
     go : (x y : Bool) → inside_of (pick x Broken (pick y Broken (Open n 128 191 (v * 64 + b % 64))))
-        ≡ (if eqb (suc n) 0 then lead b else if x || y then none else inside (suc n - 1) 128 191 (v * 64 + b % 64))
+        ≡ (when eqb (suc n) 0 then lead b else when x || y then none else inside (suc n - 1) 128 191 (v * 64 + b % 64))
     go true y = rw (eqb-suc-zero n) refl
     go false true = rw (eqb-suc-zero n) refl
     go false false = rw (eqb-suc-zero n, less) refl
@@ -66,20 +66,20 @@ well-formed-same t = fits-same old.start t
 -- ---- units
 
 gains-same : (st : State) → old.gain st ≡ gains (inside_of st)
-unfolding inside_of old.gain old.width gains if◌then◌else◌
+unfolding inside_of old.gain old.width gains when◌then◌else◌
 gains-same (Open zero low high v) = go (ltb v 65536)
   where
-    go : (x : Bool) → ◌≡◌ {A = ℕ} (pick x 1 2) (if x then 1 else 2)
+    go : (x : Bool) → ◌≡◌ {A = ℕ} (pick x 1 2) (when x then 1 else 2)
     go true = refl
     go false = refl
 gains-same (Open (suc n) low high v) = rw (eqb-suc-zero n) refl
 gains-same Broken = refl
 
 taking-same : (pair : ℕ) (st : State) (w k : ℕ) (t : List ℕ) → old.take_from pair st w k t ≡ taking pair (inside_of st) w k t
-unfolding old.take_from taking if◌then◌else◌
+unfolding old.take_from taking when◌then◌else◌
 taking-same pair st w k [] = go (eqb w 0)
   where
-    go : (x : Bool) → pick x (old.took k) (Refused 7) ≡ (if x then Took (record { 0 = k }) else Refused 7)
+    go : (x : Bool) → pick x (old.took k) (Refused 7) ≡ (when x then Took (record { 0 = k }) else Refused 7)
     go true = refl
     go false = refl
 taking-same pair st w k (b ∷ t) =
@@ -89,7 +89,7 @@ taking-same pair st w k (b ∷ t) =
     d = go_on (inside_of st) b
 
     go : {x' y' : Taken} (x y : Bool) → x' ≡ y'
-        → pick x (old.took k) (pick y (Refused pair) x') ≡ (if x then Took (record { 0 = k }) else if y then Refused pair else y')
+        → pick x (old.took k) (pick y (Refused pair) x') ≡ (when x then Took (record { 0 = k }) else when y then Refused pair else y')
     go true y e = refl
     go false true e = refl
     go false false e = e
@@ -101,7 +101,7 @@ taking-same pair st w k (b ∷ t) =
     gained = gains-same (old.next st b) ∙ ap gains step
 
     rest : ℕ → Option Inside → Taken
-    rest g c = if eqb w 0 then Took (record { 0 = k }) else if ltb w g then Refused pair else taking pair c (w - g) (k + 1) t
+    rest g c = when eqb w 0 then Took (record { 0 = k }) else when ltb w g then Refused pair else taking pair c (w - g) (k + 1) t
 
     told : rest (old.gain (old.next st b)) (inside_of (old.next st b)) ≡ rest (gains d) d
     told = ap (λ (g : ℕ). rest g (inside_of (old.next st b))) gained ∙ ap (λ (c : Option Inside). rest (gains d) c) step

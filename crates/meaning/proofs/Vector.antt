@@ -14,7 +14,7 @@ use Rattle.grammar.specs.Course.{Drawn, run, on_drawn}
 use Rattle.decoder.specs.Line.{number_by, line}
 use Rattle.vector.specs.Vector as old
 use Rattle.vector.specs.Vector.{Entry, entry, holds, vector_of}
-use Rattle.meaning.specs.Reads.{if◌then◌else◌, Reads, Got, on, done, refuse}
+use Rattle.meaning.specs.Reads.{when◌then◌else◌, Reads, Got, on, done, refuse}
 use Rattle.meaning.specs.Line.{up_to}
 use Rattle.meaning.specs.Fields.{located}
 use Rattle.meaning.specs.Vector.{entries, vector}
@@ -68,13 +68,13 @@ module _ (v : List ℕ) where
     behind_in k = grammar.emit (entry c k.0) p (old.entries n (es ++ (entry c k.0 ∷ [])))
 
     abbrev clocked : Bool → Reads ℕ (List Entry)
-    clocked twice at = on ((if twice then refuse 4 p else up_to v max_clock) at) behind
+    clocked twice at = on ((when twice then refuse 4 p else up_to v max_clock) at) behind
 
     abbrev clocked_in : Bool → Grammar Entry (Unit {0})
     clocked_in twice = pick twice (grammar.stop 4 p) (draw (number (grammar.up_to max_clock)) >>= behind_in)
 
     clocked-alike : EntriesAlike n → ((d : ℕ) → seen d ≡ holds d es) → (twice : Bool) (at : ℕ) → Alike at (clocked twice) (clocked_in twice)
-    unfolding on run collect if◌then◌else◌ line number_by
+    unfolding on run collect when◌then◌else◌ line number_by
     clocked-alike more e true at = refl
     clocked-alike more e false at =
         number-then (grammar.up_to max_clock) (up_to v max_clock) behind_in (λ k _. behind k) at (up_to-is v max_clock at)

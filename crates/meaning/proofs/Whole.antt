@@ -17,7 +17,7 @@ use Rattle.decoder.specs.States.{State}
 use Rattle.decoder.specs.Columned as decoder
 use Rattle.decoder.specs.Opening.{opened_of}
 use Rattle.decoder.specs.Update.{rest_places, in_columns, blocks_of, delete_set}
-use Rattle.meaning.specs.Reads.{if◌then◌else◌, Got, got, refused, on}
+use Rattle.meaning.specs.Reads.{when◌then◌else◌, Got, got, refused, on}
 use Rattle.meaning.specs.Fields.{Standing, fields}
 use Rattle.meaning.specs.Blocks.{all_blocks}
 use Rattle.meaning.specs.Update as short
@@ -152,7 +152,7 @@ module _ (form : ℕ) (u : List ℕ) where
   -- its blocks, and then what is made of them
   pub blocks-then : {U B : Type 0} (rows : ℕ) (k : List Block → Standing → Got U B)
       → on (begun form u) (λ _ s. on (all_blocks (fields form u) rows s) k) ≡ ending (fit rows stands_of) (k (things (fit rows stands_of))) refused_by
-  unfolding begun stands_of if◌then◌else◌ on in_columns on_drawn drawn_as seen fit ending
+  unfolding begun stands_of when◌then◌else◌ on in_columns on_drawn drawn_as seen fit ending
   blocks-then {U} {B} rows k = go (eqb form 1) refl
     where
       Goes : CourseTo Standing Block (Unit {0}) → Got U B → Type 0

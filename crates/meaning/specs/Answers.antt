@@ -24,7 +24,7 @@ use Rattle.string.specs.declared.Opened as string-opened
 use Rattle.string.specs.declared.Opened.TheVariants as opened
 use Rattle.string.specs.declared.Answer as string-answer
 use Rattle.string.specs.declared.Answer.TheVariants as string
-use Rattle.meaning.specs.Reads.{if◌then◌else◌, comes_to}
+use Rattle.meaning.specs.Reads.{when◌then◌else◌, comes_to}
 use Rattle.meaning.specs.Line as line
 use Rattle.meaning.specs.Line.{part}
 use Rattle.meaning.specs.Columns.{often, numbers, differences, octets, Lane, lane, draw}
@@ -52,7 +52,7 @@ next_byte s c =
     let endless : Option ℕ → Bool = λ o. elim o [ none ↦ true | some n ↦ false ] in
     let placed : Lane → byte-place.Place = λ d.
     record { at = d.at; from = d.from; last = d.run; count = often d.left; endless = endless d.left } in
-    if c.endless then byte.Next c.last c
+    when c.endless then byte.Next c.last c
     else comes_to (λ v d. byte.Next v (placed d)) byte.Bad (draw s (lane octets c.at (length s) c.from 0 c.last (some c.count)))
 
 -- the texts of a column, led by their length; their units stand behind them

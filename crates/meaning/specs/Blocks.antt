@@ -4,7 +4,7 @@ use Rattle.std.proofs.Math.Option.{Option, some, none}
 use Rattle.text.specs.declared.Part.{Part}
 use Rattle.block.specs.declared.Id.{Id}
 use Rattle.block.specs.declared.Block.{Block}
-use Rattle.meaning.specs.Reads.{if◌then◌else◌, Reads, ◌>>=◌, done, refuse}
+use Rattle.meaning.specs.Reads.{when◌then◌else◌, Reads, ◌>>=◌, done, refuse}
 use Rattle.meaning.specs.Line.{part}
 use Rattle.meaning.specs.Fields.{Fields}
 
@@ -56,7 +56,7 @@ abbrev pub no_block : Block
 no_block = bare 0 0 0 0
 
 unfoldable pub optional : {S A : Type 0} → Bool → Reads S A → Reads S (Option A)
-optional b m = if b then (m >>= λ a. done (some a)) else done none
+optional b m = when b then (m >>= λ a. done (some a)) else done none
 
 module _ {S : Type 0} (F : Fields S) where
   unfoldable pub an_id : Reads S (ℕ × ℕ) → Reads S (ℕ × ℕ) → Reads S Id
@@ -69,31 +69,31 @@ module _ {S : Type 0} (F : Fields S) where
   unfoldable pub parent : Reads S (Option Id × Option Part)
   parent = do
     (v, _) ← F.parent_info 13
-    if eqb v 1 then (F.text 14 >>= λ (p, _). done (none, some p)) else (an_id (F.client 15) (F.left_clock 16) >>= λ i. done (some i, none))
+    when eqb v 1 then (F.text 14 >>= λ (p, _). done (none, some p)) else (an_id (F.client 15) (F.left_clock 16) >>= λ i. done (some i, none))
 
   -- a type's number, and its node name, which an XML element (3) and an XML hook (5) have; over 6 it is 5, at the info byte
   unfoldable pub type : ℕ → Reads S (ℕ × Part)
   type at = do
     (t, _) ← F.type_number 23
-    name ← if ltb 6 t then refuse 5 at else if eqb t 3 || eqb t 5 then F.key 24 else done no_part
+    name ← when ltb 6 t then refuse 5 at else when eqb t 3 || eqb t 5 then F.key 24 else done no_part
     done (t, name)
 
   -- what an item holds, by its content number: kind, length, stored part, mark and type number; all else is 5, at the info byte
   unfoldable pub content : ℕ → ℕ → Reads S (ℕ × ℕ × Part × Part × ℕ)
   content number at =
-      if eqb number 1 then (F.len 18 >>= λ (n, _). done (3, n, no_part, no_part, 0)) else
-      if eqb number 3 then (F.bytes 19 >>= λ p. done (4, 1, p, no_part, 0)) else
-      if eqb number 4 then (F.text 20 >>= λ (p, n). done (5, n, p, no_part, 0)) else
-      if eqb number 6 then (do k ← F.key 21; v ← F.value 22 at; done (6, 1, v, k, 0)) else
-      if eqb number 7 then (type at >>= λ (t, name). done (7, 1, no_part, name, t)) else
-      if eqb number 8 then (do (n, _) ← F.len 25; v ← F.values 26 at n; done (8, n, v, no_part, 0)) else refuse 5 at
+      when eqb number 1 then (F.len 18 >>= λ (n, _). done (3, n, no_part, no_part, 0)) else
+      when eqb number 3 then (F.bytes 19 >>= λ p. done (4, 1, p, no_part, 0)) else
+      when eqb number 4 then (F.text 20 >>= λ (p, n). done (5, n, p, no_part, 0)) else
+      when eqb number 6 then (do k ← F.key 21; v ← F.value 22 at; done (6, 1, v, k, 0)) else
+      when eqb number 7 then (type at >>= λ (t, name). done (7, 1, no_part, name, t)) else
+      when eqb number 8 then (do (n, _) ← F.len 25; v ← F.values 26 at n; done (8, n, v, no_part, 0)) else refuse 5 at
 
   -- by its info byte: left id, right id, content number; without either id a parent, and then perhaps a key
   unfoldable pub item : ℕ → ℕ → ℕ → ℕ → Reads S Block
   item c clock i at = do
     left ← optional (leb 128 i) (an_id (F.client 9) (F.left_clock 10))
     right ← optional (leb 64 (i % 128)) (an_id (F.client 11) (F.right_clock 12))
-    (above, name) ← if ltb i 64 then parent else done (none, none)
+    (above, name) ← when ltb i 64 then parent else done (none, none)
     key ← optional (ltb i 64 && leb 32 i) (F.text 17 >>= λ (p, _). done p)
     (kind, n, p, mark, t) ← content (i % 32) at
     done (row c clock n kind left right above name key p mark t)
@@ -101,8 +101,8 @@ module _ {S : Type 0} (F : Fields S) where
   -- exactly 10 is a Skip, its length in line; exactly 0 a GC
   unfoldable pub body : ℕ → ℕ → ℕ → ℕ → Reads S Block
   body c clock i at =
-      if eqb i 10 then (F.number 7 2147483647 >>= λ (n, _). done (bare c clock 2 n))
-      else if eqb i 0 then (F.len 8 >>= λ (n, _). done (bare c clock 1 n)) else item c clock i at
+      when eqb i 10 then (F.number 7 2147483647 >>= λ (n, _). done (bare c clock 2 n))
+      else when eqb i 0 then (F.len 8 >>= λ (n, _). done (bare c clock 1 n)) else item c clock i at
 
   -- k blocks, each starting where the one before ended, with so many rows lent: an end is a clock, an item of length 0 is dropped, no row left is 8
   unfoldable pub blocks : ℕ → ℕ → ℕ → ℕ → Reads S (List Block)
@@ -111,9 +111,9 @@ module _ {S : Type 0} (F : Fields S) where
     (i, at) ← F.info 6
     b ← body c clock i at
     let n = b.length.0
-    if ltb 2147483647 (clock + n) then refuse 3 at else
-        if eqb n 0 && ltb 2 b.kind then blocks k c (clock + n) rows else
-        if eqb rows 0 then refuse 8 at else (do _ ← F.kept; bs ← blocks k c (clock + n) (rows - 1); done (b ∷ bs))
+    when ltb 2147483647 (clock + n) then refuse 3 at else
+        when eqb n 0 && ltb 2 b.kind then blocks k c (clock + n) rows else
+        when eqb rows 0 then refuse 8 at else (do _ ← F.kept; bs ← blocks k c (clock + n) (rows - 1); done (b ∷ bs))
 
   -- n sections: block count, client, first clock, blocks; `room` blocks may still be announced, and a client that was seen is 4
   unfoldable pub sections : ℕ → (ℕ → Bool) → ℕ → ℕ → Reads S (List Block)
@@ -121,7 +121,7 @@ module _ {S : Type 0} (F : Fields S) where
   sections (suc n) seen room rows = do
     (k, _) ← F.number 2 room
     (c, at) ← F.client 3
-    (clock, _) ← if seen c then refuse 4 at else F.number 4 2147483647
+    (clock, _) ← when seen c then refuse 4 at else F.number 4 2147483647
     bs ← blocks k c clock rows
     more ← sections n (λ d. eqb c d || seen d) (room - k) (rows - length bs)
     done (bs ++ more)

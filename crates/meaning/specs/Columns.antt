@@ -4,7 +4,7 @@
 -- without end.
 use Rattle.std.specs.Prelude.{ℕ, ◌+◌, ◌-◌, ◌/◌, ◌%◌, Bool, true, ◌||◌, List, ltb, leb, eqb, length, take}
 use Rattle.std.proofs.Math.Option.{Option, some, none}
-use Rattle.meaning.specs.Reads.{if◌then◌else◌, Got, got, refused, Reads, on, ◌>>=◌, done, refuse, here}
+use Rattle.meaning.specs.Reads.{when◌then◌else◌, Got, got, refused, Reads, on, ◌>>=◌, done, refuse, here}
 use Rattle.meaning.specs.Line.{byte, signed, up_to}
 
 pub data Coding : Type 0 where
@@ -56,17 +56,17 @@ count s more = up_to s 2147483645 >>= λ c. done (c + more)
 unfoldable pub run_of : Coding → List ℕ → Reads ℕ (ℕ × Option ℕ)
 run_of numbers s = do
   (minus, x) ← signed s
-  n ← if minus then count s 2 else done 1
+  n ← when minus then count s 2 else done 1
   done (x, some n)
 run_of differences s = do
   at ← here
   (minus, x) ← signed s
-  n ← if ltb 2147483647 (if minus then x - 1 else x) then refuse 3 at else if eqb (x % 2) 0 then done 1 else count s 2
-  done (if minus then no_rise - (x + 1) / 2 else no_rise + x / 2, some n)
+  n ← when ltb 2147483647 (when minus then x - 1 else x) then refuse 3 at else when eqb (x % 2) 0 then done 1 else count s 2
+  done (when minus then no_rise - (x + 1) / 2 else no_rise + x / 2, some n)
 run_of octets s = do
   b ← byte s
   at ← here
-  if leb (length s) at then done (b, none) else (count s 1 >>= λ n. done (b, some n))
+  when leb (length s) at then done (b, none) else (count s 1 >>= λ n. done (b, some n))
 
 -- a value of the run under way
 abbrev pub gives : ℕ → Lane → Got Lane ℕ
@@ -74,14 +74,14 @@ gives v c = got v (lane c.kind c.at c.to c.from v c.run (fewer c.left))
 
 -- over its limit it is 3, at the run's first byte
 unfoldable pub next_in : Coding → Lane → Got Lane ℕ
-next_in numbers c = if ltb 9007199254740991 c.run then refused 3 c.from else gives c.run c
+next_in numbers c = when ltb 9007199254740991 c.run then refused 3 c.from else gives c.run c
 next_in differences c =
     let v = c.last + c.run in
-    if ltb v no_rise || ltb 2147483647 (v - no_rise) then refused 3 c.from else gives (v - no_rise) c
+    when ltb v no_rise || ltb 2147483647 (v - no_rise) then refused 3 c.from else gives (v - no_rise) c
 next_in octets c = gives c.run c
 
 -- from the run under way, or else from the next one
 unfoldable pub draw : List ℕ → Reads Lane ℕ
 draw u c =
-    if goes_on c.left then next_in c.kind c
+    when goes_on c.left then next_in c.kind c
     else (on (run_of c.kind (take c.to u) c.at) λ (x, n) at. next_in c.kind (lane c.kind at c.to c.at c.last x n))

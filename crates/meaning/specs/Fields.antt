@@ -5,7 +5,7 @@ use Rattle.text.specs.declared.Part.{Part}
 use Rattle.text.specs.declared.Taken.{Taken}
 use Rattle.text.specs.declared.Taken.TheVariants.{Took, Refused}
 use Rattle.text.specs.Utf8.{take_units}
-use Rattle.meaning.specs.Reads.{if◌then◌else◌, Got, got, refused, Reads, on, ◌>>=◌, done, refuse, here}
+use Rattle.meaning.specs.Reads.{when◌then◌else◌, Got, got, refused, Reads, on, ◌>>=◌, done, refuse, here}
 use Rattle.meaning.specs.Line as line
 use Rattle.meaning.specs.Line.{part, units, byte, unsigned, up_to, stored, bytes_of, word}
 use Rattle.meaning.specs.Columns.{numbers, Lane, fresh, draw}
@@ -60,21 +60,21 @@ module _ (form : ℕ) (u : List ℕ) where
 
   -- in line, or in column k
   unfoldable pub field_in : ℕ → Reads ℕ ℕ → Reads Standing (ℕ × ℕ)
-  field_in k m = if eqb form 1 then in_line (located m) else drawn k
+  field_in k m = when eqb form 1 then in_line (located m) else drawn k
 
   -- form 2 has the units in column 5, and the characters of all texts in a row; past these, or inside a pair, it is 7
   unfoldable pub text : Reads Standing (Part × ℕ)
   text =
-      if eqb form 1 then in_line (word u >>= λ p. done (p, units (bytes_of u p)))
+      when eqb form 1 then in_line (word u >>= λ p. done (p, units (bytes_of u p)))
       else (drawn 5 >>= λ (n, _) s. text_taken n s (take_units 7 n (slice s.text s.texts (take (lane_of 5 s).to u))))
 
   -- form 2 has a key once for all that bear it: by its number, in column 0, one that was read; any other takes the next text, and there may be 256
   unfoldable pub key : Reads Standing Part
   key =
-      if eqb form 1 then in_line (word u)
+      when eqb form 1 then in_line (word u)
       else (drawn 0 >>= λ (n, at) s.
-      if ltb n (length s.keys) then got (get_or s.keys n (part 0 0)) s
-      else if ltb (length s.keys) 256 then (on (text s) λ (p, _) t. got p (stand t.at t.columns t.text t.texts (t.keys ++ (p ∷ []))))
+      when ltb n (length s.keys) then got (get_or s.keys n (part 0 0)) s
+      else when ltb (length s.keys) 256 then (on (text s) λ (p, _) t. got p (stand t.at t.columns t.text t.texts (t.keys ++ (p ∷ []))))
       else refused 3 at)
 
   -- a mark's value is JSON text that is not looked into, in form 2 an any-value
@@ -87,11 +87,11 @@ module _ (form : ℕ) (u : List ℕ) where
     info = λ role. field_in 4 (byte u);
     parent_info = λ role. field_in 6 (up_to u 2147483647);
     type_number = λ role. field_in 7 (unsigned u);
-    len = λ role. field_in 8 (unsigned u) >>= λ (n, at). if ltb 2147483647 n then refuse 3 at else done (n, at);
+    len = λ role. field_in 8 (unsigned u) >>= λ (n, at). when ltb 2147483647 n then refuse 3 at else done (n, at);
     text = λ role. text;
     bytes = λ role. in_line (stored u);
     key = λ role. key;
-    value = λ role blame. if eqb form 1 then in_line (word u) else in_line (line.values u blame 1);
+    value = λ role blame. when eqb form 1 then in_line (word u) else in_line (line.values u blame 1);
     values = λ role blame n. in_line (line.values u blame n);
     kept = done tt;
   }

@@ -3,7 +3,7 @@ use Rattle.std.specs.Prelude.{ℕ, zero, suc, ◌+◌, ◌-◌, List, [], ◌∷
 use Rattle.block.specs.declared.Block.{Block}
 use Rattle.ranges.specs.Ranges.{Range}
 use Rattle.ranges.specs.Table.{range}
-use Rattle.meaning.specs.Reads.{if◌then◌else◌, Got, got, Reads, on, ◌>>=◌, done, refuse, here}
+use Rattle.meaning.specs.Reads.{when◌then◌else◌, Got, got, Reads, on, ◌>>=◌, done, refuse, here}
 use Rattle.meaning.specs.Line.{byte, unsigned, raised, up_to, stored, word}
 use Rattle.meaning.specs.Columns.{Coding, numbers, differences, octets, Lane, fresh}
 use Rattle.meaning.specs.Fields.{Standing, stand, fields}
@@ -14,7 +14,7 @@ use Rattle.meaning.specs.Blocks.{all_blocks}
 module _ (form : ℕ) (u : List ℕ) where
   -- form 2 has a clock less the end before it, and a length less one
   unfoldable pub less : ℕ → Reads ℕ ℕ
-  less by = raised u (if eqb form 1 then 0 else by) 2147483647
+  less by = raised u (when eqb form 1 then 0 else by) 2147483647
 
   -- k ranges of a client, the range before them ended at `end`; an empty range is none, but has an end, which is a clock
   unfoldable pub ranges : ℕ → ℕ → ℕ → ℕ → Reads ℕ (List Range)
@@ -23,9 +23,9 @@ module _ (form : ℕ) (u : List ℕ) where
     at ← here
     clock ← less end
     n ← less 1
-    if ltb 2147483647 (clock + n) then refuse 3 at else
-        if eqb n 0 then ranges k c (clock + n) rows else
-        if eqb rows 0 then refuse 8 at else (ranges k c (clock + n) (rows - 1) >>= λ rs. done (range c clock n ∷ rs))
+    when ltb 2147483647 (clock + n) then refuse 3 at else
+        when eqb n 0 then ranges k c (clock + n) rows else
+        when eqb rows 0 then refuse 8 at else (ranges k c (clock + n) (rows - 1) >>= λ rs. done (range c clock n ∷ rs))
 
   unfoldable pub owners : ℕ → ℕ → Reads ℕ (List Range)
   owners zero rows = done []
@@ -58,7 +58,7 @@ columned u =
     on (word (take t.to u) t.at) λ p end. got tt (stand at (set cs 5 (fresh numbers end t.to)) p.place end [])
 
 unfoldable pub begun : ℕ → List ℕ → Got Standing (Unit {0})
-begun form u = if eqb form 1 then got tt (stand 0 [] 0 0 []) else columned u
+begun form u = when eqb form 1 then got tt (stand 0 [] 0 0 []) else columned u
 
 -- ---- all of it
 

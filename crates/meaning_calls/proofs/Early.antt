@@ -8,16 +8,16 @@ use lib.ListN.{length}
 use Rattle.numbers.specs.Number.{pick}
 use Rattle.block.specs.Row as row
 use Rattle.updates.specs.Promises as promises
-use Rattle.meaning.specs.Reads.{if◌then◌else◌}
+use Rattle.meaning.specs.Reads.{when◌then◌else◌}
 use Rattle.meaning.specs.Blocks as blocks
 use Rattle.meaning.specs.Blocks.{no_block}
 use Rattle.meaning_calls.specs.Early.{early}
 
 pub early-same : (form : ℕ) (u : List ℕ) → promises.early form u ≡ early form u
-unfolding promises.early promises.known early if◌then◌else◌
+unfolding promises.early promises.known early when◌then◌else◌
 early-same form u = go (eqb form 1) (eqb form 2) (ltb 16777215 (length u))
   where
-    go : (a b c : Bool) → ◌≡◌ {A = ℕ} (pick (pick a true b) (pick c 3 0) 12) (if a || b then (if c then 3 else 0) else 12)
+    go : (a b c : Bool) → ◌≡◌ {A = ℕ} (pick (pick a true b) (pick c 3 0) 12) (when a || b then (when c then 3 else 0) else 12)
     go true b true = refl
     go true b false = refl
     go false true true = refl

@@ -16,7 +16,7 @@ use Rattle.grammar.specs.Course.{fit, things, ending}
 use Rattle.decoder.specs.Update.{blocks_of, delete_set}
 use Rattle.readings.proofs.Counts.{blocks-count}
 use Rattle.updates.specs.Promises.{known, early}
-use Rattle.meaning.specs.Reads.{if◌then◌else◌}
+use Rattle.meaning.specs.Reads.{when◌then◌else◌}
 use Rattle.meaning.specs.Reads.{comes_to}
 use Rattle.meaning.specs.Fields.{Standing}
 use Rattle.meaning.specs.Update.{whole}
@@ -69,7 +69,7 @@ module _ (form : ℕ) (u : List ℕ) where
 
   pub begun-answer : {X : Type 0} (block_rows range_rows : ℕ) (f : List Block × List Range → Standing × ℕ → X) (r : Refusal → X)
       → comes_to f r (read_with form u block_rows range_rows) ≡ pick (eqb (early form u) 0) (comes_to f r (whole form u block_rows range_rows)) (r (nowhere (early form u)))
-  unfolding read_with if◌then◌else◌ comes_to
+  unfolding read_with when◌then◌else◌ comes_to
   begun-answer {X} block_rows range_rows f r = go (eqb (early form u) 0) refl
     where
       go : (b : Bool) → eqb (early form u) 0 ≡ b

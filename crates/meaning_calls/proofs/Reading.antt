@@ -9,7 +9,7 @@ use Rattle.block.specs.declared.Block.{Block}
 use Rattle.ranges.specs.Ranges.{Range, normal}
 use Rattle.updates.specs.Promises.{Reading, early}
 use Rattle.updates.specs.Promises as promises
-use Rattle.meaning.specs.Reads.{if◌then◌else◌, Got, got, refused}
+use Rattle.meaning.specs.Reads.{when◌then◌else◌, Got, got, refused}
 use Rattle.meaning.specs.Reads.{comes_to}
 use Rattle.meaning.specs.Update.{whole}
 use Rattle.meaning.proofs.Whole.{whole_is}
@@ -25,7 +25,7 @@ read_answer (got x s) = refl
 read_answer (refused n p) = refl
 
 pub reading-same : (form : ℕ) (u : List ℕ) (block_rows range_rows : ℕ) → promises.reading form u block_rows range_rows ≡ reading form u block_rows range_rows
-unfolding promises.reading promises.with_blocks promises.with_ranges reading read_with if◌then◌else◌ as_reading read_as
+unfolding promises.reading promises.with_blocks promises.with_ranges reading read_with when◌then◌else◌ as_reading read_as
 reading-same form u block_rows range_rows = go (eqb (early form u) 0) refl
   where
     go : (b : Bool) → eqb (early form u) 0 ≡ b → promises.reading form u block_rows range_rows ≡ reading form u block_rows range_rows

@@ -22,7 +22,7 @@ use Rattle.agreement.proofs.Courses.{fit-stops}
 use Rattle.agreement.proofs.Numbered.{blocks-numbered, deletes-numbered}
 use Rattle.strict.specs.Promises as strict
 use Rattle.strict.specs.Promises.{flagged, beforehand, explained}
-use Rattle.meaning.specs.Reads.{if◌then◌else◌, Got, got, refused, on}
+use Rattle.meaning.specs.Reads.{when◌then◌else◌, Got, got, refused, on}
 use Rattle.meaning.specs.Reads.{comes_to}
 use Rattle.meaning.specs.Fields.{Standing}
 use Rattle.meaning.specs.Update.{whole}
@@ -70,18 +70,18 @@ module _ (form : ℕ) (u : List ℕ) where
   -- ---- what is read, and no byte stays
 
   abbrev strict_of : List Block × List Range → Standing × ℕ → Got (Standing × ℕ) (List Block × List Range)
-  strict_of x s = if ltb (unread u s) (length u) then refused 15 (unread u s) else got x s
+  strict_of x s = when ltb (unread u s) (length u) then refused 15 (unread u s) else got x s
 
   end_same : (x : List Block × List Range) (t : Standing) (end : ℕ) → Ends (stands_of form u) t → Ends (delete_set form u t.at) end
       → explained form u (read_as x) ≡ as_reading (strict_of x (t, end))
-  unfolding explained read_as as_reading if◌then◌else◌
+  unfolding explained read_as as_reading when◌then◌else◌
   end_same x t end h q = rw (unread-same form u t end h q) (go (ltb (unread u (t, end)) (length u)))
     where
       left : ℕ
       left = unread u (t, end)
 
       go : (b : Bool) → pick b (promises.refused (record { number = 15; place = left })) (read_as x)
-          ≡ as_reading {S = Standing × ℕ} (if b then refused 15 left else got x (t, end))
+          ≡ as_reading {S = Standing × ℕ} (when b then refused 15 left else got x (t, end))
       go true = refl
       go false = refl
 
@@ -103,7 +103,7 @@ module _ (form : ℕ) (u : List ℕ) where
         ∙ sym (read-then strict_of all ∙ whole-then form u block_rows range_rows (λ x s. as_reading (strict_of x s)) R)
 
     pub strictly-same : strict.strictly form u block_rows range_rows ≡ strictly form u block_rows range_rows
-    unfolding strict.strictly beforehand flagged strictly read_with reading if◌then◌else◌ as_reading on
+    unfolding strict.strictly beforehand flagged strictly read_with reading when◌then◌else◌ as_reading on
     strictly-same = go (eqb (early form u) 0) refl (eqb form 1) refl (eqb form 2) refl (ltb 0 (get_or u 0 0)) refl
       where
         go : (a : Bool) → eqb (early form u) 0 ≡ a → (b : Bool) → eqb form 1 ≡ b → (c : Bool) → eqb form 2 ≡ c → (d : Bool) → ltb 0 (get_or u 0 0) ≡ d

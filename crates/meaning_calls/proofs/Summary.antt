@@ -12,12 +12,12 @@ use Rattle.gathered.specs.RowsOf.{rows_of, told_of}
 use Rattle.summary.specs.Summary.{one, summary_of}
 use Rattle.summaries.specs.Promises as summaries
 use Rattle.summaries.specs.Promises.{made_of, fitted}
-use Rattle.meaning.specs.Reads.{if◌then◌else◌}
+use Rattle.meaning.specs.Reads.{when◌then◌else◌}
 use Rattle.meaning_calls.specs.SummaryInner.{fitting, summary_in}
 use Rattle.meaning_calls.proofs.Enough.{ended-then, all-is}
 
 fitting-same : (n : ℕ) (b : List ℕ) → fitted n (summaries.bytes b) ≡ fitting n b
-unfolding fitted fitting if◌then◌else◌
+unfolding fitted fitting when◌then◌else◌
 fitting-same n b = go (ltb n (length b)) refl
   where
     go : (x : Bool) → ltb n (length b) ≡ x → fitted n (summaries.bytes b) ≡ fitting n b

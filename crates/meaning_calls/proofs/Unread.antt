@@ -15,7 +15,7 @@ use Rattle.decoder.specs.States.{State}
 use Rattle.decoder.specs.Update.{in_columns, delete_set}
 use Rattle.leftover.specs.Leftover as leftover
 use Rattle.leftover.specs.Leftover.{Stretch, stretch, columns_at, columns_left, set_end, unread_of, lower, lowest_left}
-use Rattle.meaning.specs.Reads.{if◌then◌else◌}
+use Rattle.meaning.specs.Reads.{when◌then◌else◌}
 use Rattle.meaning.specs.Fields.{Standing}
 use Rattle.meaning.specs.Alike.{at_place, at_state}
 use Rattle.meaning.proofs.Whole.{seen, seen-ending, Ends, ends-ending, stands_of, stands_at}
@@ -24,23 +24,23 @@ use Rattle.meaning_calls.specs.Reading.{lowest, unread}
 -- ---- the lowest byte of stretches, whatever their order
 
 abbrev lowered : ℕ → Stretch → ℕ
-lowered n x = if ltb x.from x.to then min x.from n else n
+lowered n x = when ltb x.from x.to then min x.from n else n
 
 lower-is : (n : ℕ) (x : Stretch) → lower n x ≡ lowered n x
-unfolding lower if◌then◌else◌
+unfolding lower when◌then◌else◌
 lower-is n x = go (ltb x.from x.to) (ltb x.from n) refl
   where
-    go : (a b : Bool) → ltb x.from n ≡ b → pick a (pick b x.from n) n ≡ (if a then min x.from n else n)
+    go : (a b : Bool) → ltb x.from n ≡ b → pick a (pick b x.from n) n ≡ (when a then min x.from n else n)
     go true true e = omega (arith, ltb-true x.from n e)
     go true false e = omega (arith, ltb-false x.from n e)
     go false b e = refl
 
 lower-swap : (n : ℕ) (x y : Stretch) → lower (lower n x) y ≡ lower (lower n y) x
-unfolding if◌then◌else◌
+unfolding when◌then◌else◌
 lower-swap n x y = rw (lower-is n x, lower-is n y, lower-is (lowered n x) y, lower-is (lowered n y) x) (go (ltb x.from x.to) (ltb y.from y.to))
   where
     low : Bool → ℕ → ℕ → ℕ
-    low b p m = if b then min p m else m
+    low b p m = when b then min p m else m
 
     go : (a b : Bool) → low b y.from (low a x.from n) ≡ low a x.from (low b y.from n)
     go true true = omega arith

@@ -14,7 +14,7 @@ use Rattle.content.specs.Content as content
 use Rattle.content.specs.Content.{nth, is_given, content_at}
 use Rattle.contents.specs.Promises as contents
 use Rattle.contents.specs.Promises.{refused_where, where_found}
-use Rattle.meaning.specs.Reads.{if◌then◌else◌}
+use Rattle.meaning.specs.Reads.{when◌then◌else◌}
 use Rattle.meaning.specs.Blocks.{row}
 use Rattle.meaning_calls.specs.Reading.{part_in, where_of}
 use Rattle.meaning_calls.proofs.Enough.{ended-then, all-is}
@@ -27,7 +27,7 @@ nth-thing n (over a s) = refl
 nth-thing n (stopped why) = refl
 
 stored_same : (b : Block) → where_found (content.stored b) ≡ part_in b
-unfolding where_found content.stored is_given part_in if◌then◌else◌ refused_where
+unfolding where_found content.stored is_given part_in when◌then◌else◌ refused_where
 stored_same b = go (eqb b.kind 4 || eqb b.kind 5) refl
   where
     go : (x : Bool) → (eqb b.kind 4 || eqb b.kind 5) ≡ x → where_found (content.stored b) ≡ part_in b

@@ -7,7 +7,7 @@ use Rattle.ranges.specs.Ranges.{Range, normal}
 use Rattle.updates.specs.Promises.{Reading, early}
 use Rattle.updates.specs.Promises as promises
 use Rattle.contents.specs.declared.Where.{Where}
-use Rattle.meaning.specs.Reads.{if◌then◌else◌, Got, got, refused, on}
+use Rattle.meaning.specs.Reads.{when◌then◌else◌, Got, got, refused, on}
 use Rattle.meaning.specs.Line.{part}
 use Rattle.meaning.specs.Reads.{comes_to}
 use Rattle.meaning.specs.Columns.{Lane}
@@ -17,7 +17,7 @@ use Rattle.meaning.specs.Update.{whole}
 
 -- the form, then the update's length, are looked at first; then the update is read, with so many rows lent for blocks and for ranges
 unfoldable pub read_with : ℕ → List ℕ → ℕ → ℕ → Got (Standing × ℕ) (List Block × List Range)
-read_with form u block_rows range_rows = if eqb (early form u) 0 then whole form u block_rows range_rows else refused (early form u) 0
+read_with form u block_rows range_rows = when eqb (early form u) 0 then whole form u block_rows range_rows else refused (early form u) 0
 
 -- the blocks kept, and the ranges in normal form
 unfoldable pub as_reading : {S : Type 0} → Got S (List Block × List Range) → Reading
@@ -32,7 +32,7 @@ reading form u block_rows range_rows = as_reading (read_with form u block_rows r
 -- the lowest byte of these stretches, from a byte up to another, or n where none is lower
 unfoldable pub lowest : ℕ → List (ℕ × ℕ) → ℕ
 lowest n [] = n
-lowest n (x ∷ xs) = lowest (if ltb x.0 x.1 then min x.0 n else n) xs
+lowest n (x ∷ xs) = lowest (when ltb x.0 x.1 then min x.0 n else n) xs
 
 -- behind the delete set, behind the texts taken, in each column
 unfoldable pub unread : List ℕ → Standing × ℕ → ℕ
@@ -40,8 +40,8 @@ unread u x = lowest (length u) ((x.1, length u) ∷ (x.0.text, x.0.texts) ∷ ma
 
 unfoldable pub strictly : ℕ → List ℕ → ℕ → ℕ → Reading
 strictly form u block_rows range_rows =
-    if eqb (early form u) 0 && eqb form 2 && ltb 0 (get_or u 0 0) then promises.refused (nowhere 14)
-    else as_reading (on (read_with form u block_rows range_rows) λ x s. if ltb (unread u s) (length u) then refused 15 (unread u s) else got x s)
+    when eqb (early form u) 0 && eqb form 2 && ltb 0 (get_or u 0 0) then promises.refused (nowhere 14)
+    else as_reading (on (read_with form u block_rows range_rows) λ x s. when ltb (unread u s) (length u) then refused 15 (unread u s) else got x s)
 
 -- ---- with no rows lent: there are no more blocks than may be announced, and a range takes two bytes and more
 
@@ -50,7 +50,7 @@ all_of form u = read_with form u 65535 (length u)
 
 -- the stored part of block n, a binary's or a text's
 unfoldable pub part_in : Block → Where
-part_in b = if eqb b.kind 4 || eqb b.kind 5 then record { refusal = none; part = b.part } else record { refusal = nowhere 11; part = part 0 0 }
+part_in b = when eqb b.kind 4 || eqb b.kind 5 then record { refusal = none; part = b.part } else record { refusal = nowhere 11; part = part 0 0 }
 
 unfoldable pub where_of : ℕ → List ℕ → ℕ → Where
 where_of form u n = comes_to (λ x s. part_in (get_or x.0 n (bare 0 0 0 0))) (λ why. record { refusal = why; part = part 0 0 }) (all_of form u)
@@ -59,4 +59,4 @@ where_of form u n = comes_to (λ x s. part_in (get_or x.0 n (bare 0 0 0 0))) (λ
 
 -- an update that reads, and then what else is read, whose refusal blames no byte
 unfoldable pub both : {A B : Type 0} → Reading → Got ℕ B → (Refusal → A) → (B → A) → A
-both r v refuse go = if eqb r.refusal.number 0 then comes_to (λ x _. go x) (λ why. refuse (nowhere why.number)) v else refuse r.refusal
+both r v refuse go = when eqb r.refusal.number 0 then comes_to (λ x _. go x) (λ why. refuse (nowhere why.number)) v else refuse r.refusal

@@ -20,7 +20,7 @@ use Rattle.string.specs.declared.Place as string-place
 use Rattle.string.specs.declared.Opened.TheVariants as opened
 use Rattle.string.specs.declared.Answer.TheVariants as string
 use Rattle.string.specs.String as old-string
-use Rattle.meaning.specs.Reads.{if◌then◌else◌, Got, got, refused, on}
+use Rattle.meaning.specs.Reads.{when◌then◌else◌, Got, got, refused, on}
 use Rattle.meaning.specs.Line.{word}
 use Rattle.meaning.specs.Columns.{draw}
 use Rattle.meaning.specs.Answers as answers
@@ -39,7 +39,7 @@ unfolding answers.next_difference next_difference
 difference-got s c = difference-same s c ∙ on-answer (draw s _) (λ v _. v) _ difference.Next difference.Bad
 
 pub byte-got : (s : List ℕ) (c : byte-place.Place) → old-byte.next_byte s c ≡ comes_to byte.Next byte.Bad (next_byte s c)
-unfolding answers.next_byte next_byte comes_to if◌then◌else◌
+unfolding answers.next_byte next_byte comes_to when◌then◌else◌
 byte-got s c = byte-same s c ∙ go c.endless
   where
     at : Bool → byte-place.Place

@@ -64,7 +64,7 @@ use Rattle.bulk.specs.declared.TextsRead.{TextsRead}
 use Rattle.bulk.specs.Bulk as old-draws
 use Rattle.bulk.specs.Bulk.{Draw, drew, stop, told, number_draw, difference_draw, byte_draw, text_draw}
 use Rattle.bulk.specs.Promises as bulk
-use Rattle.meaning.specs.Reads.{if◌then◌else◌, Got, got, refused, on}
+use Rattle.meaning.specs.Reads.{when◌then◌else◌, Got, got, refused, on}
 use Rattle.meaning.specs.Answers as answers
 use Rattle.meaning.specs.Reads.{comes_to}
 use Rattle.meaning.specs.Line.{units, unsigned, signed}
@@ -93,8 +93,8 @@ shown f read refuse g e = ap f e ∙ go g
     go (got a s) = refl
     go (refused n p) = refl
 
-either : {A : Type 0} (x : Bool) (a b : A) → pick x a b ≡ (if x then a else b)
-unfolding if◌then◌else◌
+either : {A : Type 0} (x : Bool) (a b : A) → pick x a b ≡ (when x then a else b)
+unfolding when◌then◌else◌
 either true a b = refl
 either false a b = refl
 
@@ -119,14 +119,14 @@ write-signed-same lent m v r x = ap (λ (why : ℕ). Writes why (spelling.signed
 -- ---- text
 
 pub count-units-same : (t : List ℕ) (r : Counted) → wairokabi.CountUnits t r ≡ CountUnits t r
-unfolding wairokabi.count_answer if◌then◌else◌
+unfolding wairokabi.count_answer when◌then◌else◌
 count-units-same t r = ap (r ≡◌) (go (well_formed t) refl)
   where
     counted : ℕ → Counted
     counted n = record { number = 0; units = record { 0 = n } }
 
     go : (x : Bool) → well_formed t ≡ x
-        → wairokabi.count_answer x (units_in t) ≡ (if x then counted (units t) else record { number = 6; units = record { 0 = 0 } })
+        → wairokabi.count_answer x (units_in t) ≡ (when x then counted (units t) else record { number = 6; units = record { 0 = 0 } })
     go true h = ap counted (sym (units-same t h))
     go false h = refl
 
@@ -218,7 +218,7 @@ module _ {P A : Type 0} (old : P → Draw A P) (next : P → Got P A) (same : (c
       go (refused n p) more = refl
 
   told_same : (k : ℕ) (c : P) → told (old-draws.draws old k c) ≡ first_why next k c
-  unfolding told old-draws.draws old-draws.and_then first_why comes_to if◌then◌else◌
+  unfolding told old-draws.draws old-draws.and_then first_why comes_to when◌then◌else◌
   told_same zero c = refl
   told_same (suc k) c = rw (same c, not_none k) (go (next c))
     where
@@ -289,15 +289,15 @@ write-texts-same lent t us r x = writes-same lent r x (why-texts-same t us) (tex
 
 -- what does not fit is refused, before it is answered or with it
 abbrev fitting : {S A : Type 0} → (A → Bool) → Got S A → Got S A
-fitting too_much g = on g (λ a s. if too_much a then refused 10 0 else got a s)
+fitting too_much g = on g (λ a s. when too_much a then refused 10 0 else got a s)
 
 fitting-answer : {S A X : Type 0} (too_much : A → Bool) (go : A → X) (refuse : Refusal → X) (g : Got S A)
     → comes_to (λ a _. pick (too_much a) (refuse (nowhere 10)) (go a)) refuse g ≡ comes_to (λ a _. go a) refuse (fitting too_much g)
-unfolding comes_to on if◌then◌else◌
+unfolding comes_to on when◌then◌else◌
 fitting-answer too_much go refuse (refused n p) = refl
 fitting-answer too_much go refuse (got a s) = chosen (too_much a)
   where
-    chosen : (x : Bool) → pick x (refuse (nowhere 10)) (go a) ≡ comes_to (λ a _. go a) refuse (if x then refused 10 0 else got a s)
+    chosen : (x : Bool) → pick x (refuse (nowhere 10)) (go a) ≡ comes_to (λ a _. go a) refuse (when x then refused 10 0 else got a s)
     chosen true = refl
     chosen false = refl
 

@@ -10,7 +10,7 @@ use Rattle.columns.specs.declared.number.Place as number
 use Rattle.columns.specs.declared.difference.Place as difference
 use Rattle.columns.specs.declared.byte.Place as byte
 use Rattle.string.specs.declared.Place as string
-use Rattle.meaning.specs.Reads.{if◌then◌else◌, Got, got, refused, on, Reads}
+use Rattle.meaning.specs.Reads.{when◌then◌else◌, Got, got, refused, on, Reads}
 use Rattle.meaning.specs.Line.{part, word}
 use Rattle.meaning.specs.Columns.{often, numbers, differences, octets, lane, no_rise, draw}
 
@@ -43,7 +43,7 @@ module _ (s : List ℕ) where
 
   unfoldable pub next_byte : Reads byte.Place ℕ
   next_byte c =
-      if c.endless then got c.last c
+      when c.endless then got c.last c
       else (on (draw s (lane octets c.at (length s) c.from 0 c.last (some c.count)))
       λ v d. got v (record { at = d.at; from = d.from; last = d.run; count = often d.left; endless = is_endless d.left }))
 

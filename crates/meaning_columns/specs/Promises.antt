@@ -40,7 +40,7 @@ use Rattle.bulk.specs.declared.NumbersRead.{NumbersRead}
 use Rattle.bulk.specs.declared.DifferencesRead.{DifferencesRead}
 use Rattle.bulk.specs.declared.BytesRead.{BytesRead}
 use Rattle.bulk.specs.declared.TextsRead.{TextsRead}
-use Rattle.meaning.specs.Reads.{if◌then◌else◌, Got, got, refused, on}
+use Rattle.meaning.specs.Reads.{when◌then◌else◌, Got, got, refused, on}
 use Rattle.meaning.specs.Line.{part, units, unsigned, signed}
 use Rattle.meaning.specs.Reads.{comes_to}
 use Rattle.meaning.specs.Vector.{vector}
@@ -65,15 +65,15 @@ abbrev pub Writes : ℕ → List ℕ → List ℕ → Written → List ℕ → T
 Writes why b lent r x = (r ≡ written why (length lent) b) × (x ≡ put why (length lent) b)
 
 abbrev pub WriteUnsigned : List ℕ → ℕ → Written → List ℕ → Type 0
-WriteUnsigned lent v = Writes (if ltb 9223372036854775807 v then 3 else 0) (spelling.unsigned v) lent
+WriteUnsigned lent v = Writes (when ltb 9223372036854775807 v then 3 else 0) (spelling.unsigned v) lent
 
 abbrev pub WriteSigned : List ℕ → Bool → ℕ → Written → List ℕ → Type 0
-WriteSigned lent m v = Writes (if ltb 4611686018427387903 v then 3 else 0) (spelling.signed m v) lent
+WriteSigned lent m v = Writes (when ltb 4611686018427387903 v then 3 else 0) (spelling.signed m v) lent
 
 -- ---- text
 
 abbrev pub CountUnits : List ℕ → Counted → Type 0
-CountUnits t r = r ≡ (if well_formed t then record { number = 0; units = record { 0 = units t } } else record { number = 6; units = record { 0 = 0 } })
+CountUnits t r = r ≡ (when well_formed t then record { number = 0; units = record { 0 = units t } } else record { number = 6; units = record { 0 = 0 } })
 
 unfoldable pub cut_of : Taken → Cut
 cut_of (Took b) = record { number = 0; bytes = b }
@@ -83,7 +83,7 @@ abbrev pub TakeText : List ℕ → ℕ → Units → Cut → Type 0
 TakeText t at n r = r ≡ cut_of (take_units 7 n.0 (drop at t))
 
 abbrev pub CutText : List ℕ → Units → Cut → Type 0
-CutText t n r = r ≡ cut_of (if well_formed t then take_units 9 n.0 t else Refused 6)
+CutText t n r = r ≡ cut_of (when well_formed t then take_units 9 n.0 t else Refused 6)
 
 -- ---- columns, read
 
@@ -154,7 +154,7 @@ draws next zero c = ([], c)
 draws next (suc k) c = comes_to (λ v d. let (vs, e) = draws next k d in (v ∷ vs, e)) (λ _. ([], c)) (next c)
 
 unfoldable pub first_why : {P A : Type 0} → (P → Got P A) → ℕ → P → Refusal
-first_why next k c = if eqb k 0 then none else comes_to (λ _ _. none) (λ why. why) (next c)
+first_why next k c = when eqb k 0 then none else comes_to (λ _ _. none) (λ why. why) (next c)
 
 abbrev pub ReadNumbers : List ℕ → number.Place → List ℕ → NumbersRead → List ℕ → Type 0
 ReadNumbers s c lent r x =
@@ -203,6 +203,6 @@ WriteTexts lent t us = Writes (why_texts t us) (text_column t us) lent
 
 abbrev pub ReadStateVector : List ℕ → List ℕ → Vector → List ℕ → Type 0
 ReadStateVector v lent r x =
-    let found : Got ℕ (List Entry) = on (vector v) (λ es e. if ltb (length lent) (2 * length es) then refused 10 0 else got es e) in
+    let found : Got ℕ (List Entry) = on (vector v) (λ es e. when ltb (length lent) (2 * length es) then refused 10 0 else got es e) in
     (r ≡ comes_to (λ es _. record { refusal = none; count = length es }) (λ why. record { refusal = nowhere why.number; count = 0 }) found)
     × (x ≡ padded (length lent) (comes_to (λ es _. words_in es) (λ _. []) found))

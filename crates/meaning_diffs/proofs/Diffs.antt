@@ -10,7 +10,7 @@ use Rattle.vector.specs.Vector.{Entry, vector_of}
 use Rattle.updates.specs.Promises.{Reading, known}
 use Rattle.diffs.specs.Promises as promises
 use Rattle.diffs.specs.Promises.{Diffed, refused_with, why_not, diffed, against, after_reading}
-use Rattle.meaning.specs.Reads.{if◌then◌else◌}
+use Rattle.meaning.specs.Reads.{when◌then◌else◌}
 use Rattle.meaning.proofs.Vector.{vector-same}
 use Rattle.meaning_calls.specs.Reading.{reading}
 use Rattle.meaning_calls.proofs.Reading.{reading-same}
@@ -28,7 +28,7 @@ module _ (u : List ℕ) (form to room : ℕ) (r : Reading) where
   written es =
       let b = diff_bytes to u es r.blocks r.ranges in
       let why = verdict (diff_why form to u es r.blocks r.ranges) room b in
-      if eqb why 0 then record { refusal = none; bytes = b; reading = r } else refused_with (nowhere why)
+      when eqb why 0 then record { refusal = none; bytes = b; reading = r } else refused_with (nowhere why)
 
   diffed-same : (es : List Entry) → diffed u es form to room r ≡ written es
   unfolding diffed why_not

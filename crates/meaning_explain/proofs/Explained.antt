@@ -35,7 +35,7 @@ use Rattle.explainer.specs.Watch.{watch}
 use Rattle.explainer.specs.Explanation.{clock_line, found, blank, on_opened, explanation}
 use Rattle.explains.specs.Promises as promises
 use Rattle.explains.proofs.Sheets.{length-words}
-use Rattle.meaning.specs.Reads.{if◌then◌else◌, Got, got, refused, on}
+use Rattle.meaning.specs.Reads.{when◌then◌else◌, Got, got, refused, on}
 use Rattle.meaning.specs.Fields.{Standing, Fields}
 use Rattle.meaning.specs.Blocks.{bare, all_blocks}
 use Rattle.meaning.specs.Update as short
@@ -93,24 +93,24 @@ nth-there (suc n) (b ∷ bs) (x ∷ xs) e = rw (leb-suc-suc (suc n) (length bs))
 
 room_for : (room : ℕ) (l : Line) (ls : List Line)
     → promises.fitting room (l ∷ ls)
-    ≡ (if ltb room (12 * length (l ∷ ls)) then promises.refused (nowhere 10) else record { why = numbers-none; lines = l ∷ ls })
-unfolding promises.fitting if◌then◌else◌
+    ≡ (when ltb room (12 * length (l ∷ ls)) then promises.refused (nowhere 10) else record { why = numbers-none; lines = l ∷ ls })
+unfolding promises.fitting when◌then◌else◌
 room_for room l ls = rw (length-words (l ∷ ls)) (go (ltb room (12 * length (l ∷ ls))))
   where
     go : (b : Bool) → pick b (promises.refused (nowhere 10)) (record { why = numbers-none; lines = l ∷ ls })
-        ≡ (if b then promises.refused (nowhere 10) else record { why = numbers-none; lines = l ∷ ls })
+        ≡ (when b then promises.refused (nowhere 10) else record { why = numbers-none; lines = l ∷ ls })
     go true = refl
     go false = refl
 
 room-for-lines : (room : ℕ) (b : Block) (x : List Line × List Line)
     → promises.fitting room (lines_about b x)
-    ≡ (if ltb room (12 * length (lines_about b x)) then promises.refused (nowhere 10) else record { why = numbers-none; lines = lines_about b x })
+    ≡ (when ltb room (12 * length (lines_about b x)) then promises.refused (nowhere 10) else record { why = numbers-none; lines = lines_about b x })
 unfolding lines_about
 room-for-lines room b x = go x.0 _ x.1
   where
     go : (head : List Line) (l : Line) (own : List Line)
         → promises.fitting room (head ++ (l ∷ own))
-        ≡ (if ltb room (12 * length (head ++ (l ∷ own))) then promises.refused (nowhere 10) else record { why = numbers-none; lines = head ++ (l ∷ own) })
+        ≡ (when ltb room (12 * length (head ++ (l ∷ own))) then promises.refused (nowhere 10) else record { why = numbers-none; lines = head ++ (l ∷ own) })
     go [] l own = room_for room l own
     go (k ∷ head) l own = room_for room k (head ++ (l ∷ own))
 
@@ -119,14 +119,14 @@ empty = sheet [] [] []
 
 fitting-same : (n room : ℕ) (find : ℕ → List Line) (bs : List Block) (y : Sheet) → Finds find empty bs y
     → promises.fitting room (find n) ≡ fitting n room bs y.kept
-unfolding fitting promises.fitting if◌then◌else◌
+unfolding fitting promises.fitting when◌then◌else◌
 fitting-same n room find bs y f = rw (f.each n, nth-there n bs f.new f.many, f.kept) (go (ltb n (length bs)))
   where
     ls : List Line
     ls = lines_about (get_or bs n (bare 0 0 0 0)) (get_or f.new n ([], []))
 
     go : (b : Bool) → promises.fitting room (pick b ls [])
-        ≡ (if b then (if ltb room (12 * length ls) then promises.refused (nowhere 10) else record { why = numbers-none; lines = ls })
+        ≡ (when b then (when ltb room (12 * length ls) then promises.refused (nowhere 10) else record { why = numbers-none; lines = ls })
         else promises.refused (nowhere 11))
     go true = room-for-lines room (get_or bs n (bare 0 0 0 0)) (get_or f.new n ([], []))
     go false = refl
@@ -217,7 +217,7 @@ abbrev longly : ℕ → List ℕ → ℕ → ℕ → promises.Outcome
 longly form u n room = ending (blocks_of form u) (λ at. behind form u n room at (promises.fitting room (explanation form u n))) promises.refused
 
 told-1 : (u : List ℕ) (n room : ℕ) → longly 1 u n room ≡ shortly 1 u n room
-unfolding blocks_of explanation begun if◌then◌else◌ on
+unfolding blocks_of explanation begun when◌then◌else◌ on
 told-1 u n room =
     told_same 1 u n room at_place (line 1 u) lines_in_line (λ t. Unit {0}) (telling 1 u) (λ ok passes. telling-1 u ok passes) 0 tt
     (fit-enough 65535 (run (line 1 u) grammar.all_blocks 0) (blocks-count 1 u))
@@ -245,7 +245,7 @@ unfolding opened_of
 opened-good u = heads-good u _
 
 told-2 : (form : ℕ) (u : List ℕ) (n room : ℕ) → eqb form 1 ≡ false → longly form u n room ≡ shortly form u n room
-unfolding blocks_of explanation begun if◌then◌else◌ on in_columns on_drawn rest_places on_opened drawn_as ending comes_to On
+unfolding blocks_of explanation begun when◌then◌else◌ on in_columns on_drawn rest_places on_opened drawn_as ending comes_to On
 told-2 form u n room two = rw (two, opened-alike u) (go (opened_of u) refl (opened-good u))
   where
     go : (d : Drawn State (Unit {0})) → opened_of u ≡ d → On (λ _ s. Good u s) d
@@ -276,11 +276,11 @@ told-alike form u n room = go (eqb form 1) refl
     go false e = told-2 form u n room e
 
 pub explain-same : (form : ℕ) (u : List ℕ) (n room : ℕ) → promises.explain_of form u n room ≡ explain_of form u n room
-unfolding promises.explain_of explain_of if◌then◌else◌
+unfolding promises.explain_of explain_of when◌then◌else◌
 explain-same form u n room = early-first form u promises.refused (longly form u n room) ∙ rw (told-alike form u n room) (go (eqb (early form u) 0))
   where
     go : (b : Bool)
         → pick b (shortly form u n room) (promises.refused (nowhere (early form u)))
-        ≡ (if b then shortly form u n room else promises.refused (nowhere (early form u)))
+        ≡ (when b then shortly form u n room else promises.refused (nowhere (early form u)))
     go true = refl
     go false = refl

@@ -17,7 +17,7 @@ use Rattle.telling.specs.Telling.{heard}
 use Rattle.explainer.specs.Watch.{on_seen, watch}
 use Rattle.explainer.specs.Explanation as old
 use Rattle.explainer.specs.Explanation.{clock_line, found}
-use Rattle.meaning.specs.Reads.{if◌then◌else◌, Got, got, refused, on}
+use Rattle.meaning.specs.Reads.{when◌then◌else◌, Got, got, refused, on}
 use Rattle.meaning.specs.Alike.{collect}
 use Rattle.meaning.proofs.Courses.{on-on}
 use Rattle.meaning_explain.specs.Explain.{Sheet, sheet, noted, lines_about}
@@ -29,7 +29,7 @@ abbrev pub page : Sheet → old.Sheet
 page h = record { head = h.head; own = h.own }
 
 noted-same : (code : ℕ) (ls : List Line) (h : Sheet) → old.noted code ls (page h) ≡ page (noted code ls h)
-unfolding old.noted noted code_of if◌then◌else◌
+unfolding old.noted noted code_of when◌then◌else◌
 noted-same code ls h = go (eqb code 2) refl (ltb code 5) refl (eqb code 6) refl
   where
     go : (a : Bool) → eqb code 2 ≡ a → (b : Bool) → ltb code 5 ≡ b → (c : Bool) → eqb code 6 ≡ c → old.noted code ls (page h) ≡ page (noted code ls h)
@@ -39,11 +39,11 @@ noted-same code ls h = go (eqb code 2) refl (ltb code 5) refl (eqb code 6) refl
     go false p false q false r = rw (p, q, r)
 
 noted-kept : (code : ℕ) (ls : List Line) (h : Sheet) → (noted code ls h).kept ≡ h.kept
-unfolding noted if◌then◌else◌
+unfolding noted when◌then◌else◌
 noted-kept code ls h = go (eqb code 2) (ltb code 5) (eqb code 6)
   where
     go : (a b c : Bool)
-        → (if a then sheet ls [] h.kept else if b then sheet (h.head ++ ls) [] h.kept else if c then sheet h.head ls h.kept
+        → (when a then sheet ls [] h.kept else when b then sheet (h.head ++ ls) [] h.kept else when c then sheet h.head ls h.kept
         else sheet h.head (h.own ++ ls) h.kept).kept ≡ h.kept
     go true b c = refl
     go false true c = refl
@@ -99,7 +99,7 @@ module _ {S T : Type 0} (W : World S T) where
   module _ (right : (q : Plan) (h : Sheet) (b : Block) → W.ok q h b ≡ true → h.head ++ (clock_line q ∷ h.own) ≡ lines_about b (h.head, h.own)) where
     pub finds : {A : Type 0} (g : Grammar Block A) (rows : ℕ) (q : Plan) (h : Sheet) (t : T)
         → Fine (λ n. found W.tell q (page h) n (watch W.reads g t)) h (traced W rows q h g t)
-    unfolding traced on_traced watch on_seen found Fine if◌then◌else◌ nth
+    unfolding traced on_traced watch on_seen found Fine when◌then◌else◌ nth
     finds {A} (ask f k) rows q h t = go (W.reads f t) (λ a s. finds (k a) rows _ _ s)
       where
         code : ℕ
@@ -125,7 +125,7 @@ module _ {S T : Type 0} (W : World S T) where
       where
         go : (b : Bool) → W.ok q h e ≡ b → Fine (λ n. found W.tell q (page (closed h)) n (watch W.reads x t)) (closed h) (traced W rows q (closed h) x t)
             → Fine (λ n. found W.tell q (page h) n (watch W.reads (emit e p x) t)) h
-            (if b then on (traced W rows q (closed h) x t) (λ es y. got (e ∷ es) y) else refused 0 0)
+            (when b then on (traced W rows q (closed h) x t) (λ es y. got (e ∷ es) y) else refused 0 0)
         go true fine ih = fine-kept _ _ h e (traced W rows q (closed h) x t) (right q h e fine) (λ n. refl) ih
         go false fine ih = tt
     finds (stop n p) rows q h t = tt
@@ -134,7 +134,7 @@ module _ {S T : Type 0} (W : World S T) where
   module _ (always : (q : Plan) (h : Sheet) (b : Block) → W.ok q h b ≡ true) where
     pub forgets : {A : Type 0} (g : Grammar Block A) (rows : ℕ) (q : Plan) (h : Sheet) (t : T)
         → on (traced W rows q h g t) (λ bs x. got bs x.0) ≡ collect W.view (fit rows (run W.reads g t))
-    unfolding traced on_traced on run on_drawn fit collect if◌then◌else◌
+    unfolding traced on_traced on run on_drawn fit collect when◌then◌else◌
     forgets {A} (ask f k) rows q h t = go (W.reads f t) (λ a s. forgets (k a) rows _ _ s)
       where
         code : ℕ

@@ -22,7 +22,7 @@ use Rattle.origins.specs.declared.Line.{Line}
 use Rattle.origins.specs.Origins as old
 use Rattle.origins.specs.Origins.{lines_in_line, lines_in}
 use Rattle.origin_facts.proofs.Draws.{on-got}
-use Rattle.meaning.specs.Reads.{if◌then◌else◌, got, Reads, on}
+use Rattle.meaning.specs.Reads.{when◌then◌else◌, got, Reads, on}
 use Rattle.meaning.specs.Fields.{Standing, fields}
 use Rattle.meaning.specs.Alike.{drawn_as, at_place, at_state}
 use Rattle.meaning.proofs.Fields.{alike-1, alike-2}
@@ -54,7 +54,7 @@ world-1 u ok = record { view = at_place; reads = decoder.line 1 u; tell = lines_
 module _ (u : List ℕ) (ok : Plan → Sheet → Block → Bool)
     (fine : (q : Plan) (h : Sheet) (b : Block) → q.clock ≡ b.clock → value_for 4 h.head ≡ q.first → ok q h b ≡ true) where
   pub telling-1 : Telling (world-1 u ok) (telling 1 u)
-  unfolding telling plain_line stored_line number_line text_line bytes_line key_lines if◌then◌else◌ old.line_at old.plain_line old.stored_line old.line_stand value_for
+  unfolding telling plain_line stored_line number_line text_line bytes_line key_lines when◌then◌else◌ old.line_at old.plain_line old.stored_line old.line_stand value_for
   telling-1 =
       let W = world-1 u ok in
       let F = fields 1 u in
@@ -95,31 +95,31 @@ module _ (form : ℕ) (u : List ℕ) (two : eqb form 1 ≡ false) (role : ℕ) (
   to = at_state t
 
   client-line : (a : ℕ × ℕ) → number_line form u 1 role a from to ≡ lines_in u role (grammar.number grammar.client) a s t
-  unfolding number_line drawn_line rise_of if◌then◌else◌ lines_in old.number_line old.stand_in old.rise_of
+  unfolding number_line drawn_line rise_of when◌then◌else◌ lines_in old.number_line old.stand_in old.rise_of
   client-line a = rw two (ap (λ (l : Line). l ∷ []) (numbers-line u form role a.0 no_part t.client))
 
   left-line : (a : ℕ × ℕ) → Read u t.left → number_line form u 2 role a from to ≡ lines_in u role (grammar.number grammar.left_clock) a s t
-  unfolding number_line drawn_line if◌then◌else◌ lines_in old.number_line old.stand_in old.rise_of old.base_of
+  unfolding number_line drawn_line when◌then◌else◌ lines_in old.number_line old.stand_in old.rise_of old.base_of
   left-line a read = rw two (ap (λ (l : Line). l ∷ []) (differences-line u form role a.0 no_part s.left.place.last t.left read))
 
   right-line : (a : ℕ × ℕ) → Read u t.right → number_line form u 3 role a from to ≡ lines_in u role (grammar.number grammar.right_clock) a s t
-  unfolding number_line drawn_line if◌then◌else◌ lines_in old.number_line old.stand_in old.rise_of old.base_of
+  unfolding number_line drawn_line when◌then◌else◌ lines_in old.number_line old.stand_in old.rise_of old.base_of
   right-line a read = rw two (ap (λ (l : Line). l ∷ []) (differences-line u form role a.0 no_part s.right.place.last t.right read))
 
   info-line : (a : ℕ × ℕ) → number_line form u 4 role a from to ≡ lines_in u role (grammar.number grammar.info) a s t
-  unfolding number_line drawn_line rise_of if◌then◌else◌ lines_in old.number_line old.stand_in old.rise_of
+  unfolding number_line drawn_line rise_of when◌then◌else◌ lines_in old.number_line old.stand_in old.rise_of
   info-line a = rw two (ap (λ (l : Line). l ∷ []) (octets-line u form role a.0 no_part t.info))
 
   parent-line : (a : ℕ × ℕ) → number_line form u 6 role a from to ≡ lines_in u role (grammar.number grammar.parent_info) a s t
-  unfolding number_line drawn_line rise_of if◌then◌else◌ lines_in old.number_line old.stand_in old.rise_of
+  unfolding number_line drawn_line rise_of when◌then◌else◌ lines_in old.number_line old.stand_in old.rise_of
   parent-line a = rw two (ap (λ (l : Line). l ∷ []) (octets-line u form role a.0 no_part t.parent))
 
   type-line : (a : ℕ × ℕ) → number_line form u 7 role a from to ≡ lines_in u role (grammar.number grammar.type_number) a s t
-  unfolding number_line drawn_line rise_of if◌then◌else◌ lines_in old.number_line old.stand_in old.rise_of
+  unfolding number_line drawn_line rise_of when◌then◌else◌ lines_in old.number_line old.stand_in old.rise_of
   type-line a = rw two (ap (λ (l : Line). l ∷ []) (numbers-line u form role a.0 no_part t.types))
 
   len-line : (a : ℕ × ℕ) → number_line form u 8 role a from to ≡ lines_in u role (grammar.number grammar.len) a s t
-  unfolding number_line drawn_line rise_of if◌then◌else◌ lines_in old.number_line old.stand_in old.rise_of
+  unfolding number_line drawn_line rise_of when◌then◌else◌ lines_in old.number_line old.stand_in old.rise_of
   len-line a = rw two (ap (λ (l : Line). l ∷ []) (numbers-line u form role a.0 no_part t.len))
 
   abbrev units : Numbers
@@ -131,11 +131,11 @@ module _ (form : ℕ) (u : List ℕ) (two : eqb form 1 ≡ false) (role : ℕ) (
   units-line code n p e = rw e (numbers-line u form code t.text.place.units.last p units)
 
   text-line : (a : Part × Units) → a.1.0 ≡ t.text.place.units.last → text_line form u role (a.0, a.1.0) from to ≡ lines_in u role grammar.text a s t
-  unfolding text_line if◌then◌else◌ lines_in
+  unfolding text_line when◌then◌else◌ lines_in
   text-line a e = rw two (ap (λ (l : Line). l ∷ []) (units-line role a.1.0 a.0 e))
 
   key-line : (p : Part) → Read u t.key → key_lines form u role p from to ≡ lines_in u role grammar.key p s t
-  unfolding key_lines drawn_line if◌then◌else◌ lines_in old.key_lines old.key_line
+  unfolding key_lines drawn_line when◌then◌else◌ lines_in old.key_lines old.key_line
   key-line p read = rw two (go (ltb (length s.keys) (length t.keys)))
     where
       number : drawn_line form u 0 role t.key.place.last p from to ≡ old.key_line u role p s.key.place.last t
@@ -143,7 +143,7 @@ module _ (form : ℕ) (u : List ℕ) (two : eqb form 1 ≡ false) (role : ℕ) (
 
       go : (b : Bool)
           → drawn_line form u 0 role t.key.place.last p from to
-          ∷ (if b then drawn_line form u 5 27 t.text.place.units.last p from to ∷ [] else [])
+          ∷ (when b then drawn_line form u 5 27 t.text.place.units.last p from to ∷ [] else [])
           ≡ old.key_line u role p s.key.place.last t ∷ pick b (old.text_line u 27 p t ∷ []) []
       go true = λ i. number i ∷ (units-line 27 t.text.place.units.last p refl i ∷ [])
       go false = λ i. number i ∷ []

@@ -28,7 +28,7 @@ use Rattle.roles.specs.Roles.{plan, start, go_to, section_role, sectioned, annou
 use Rattle.roles.specs.Roles.{to_right, to_parent, to_node, plan_after, after, code_of, is_ended, moved_on}
 use Rattle.origins.specs.declared.Line.{Line}
 use Rattle.telling.specs.Telling.{heard}
-use Rattle.meaning.specs.Reads.{if◌then◌else◌, got, Reads, on, done, refuse}
+use Rattle.meaning.specs.Reads.{when◌then◌else◌, got, Reads, on, done, refuse}
 use Rattle.meaning.specs.Fields.{Fields}
 use Rattle.meaning.specs.Blocks.{no_part, row, optional, an_id, parent, type, content, item, body, blocks, sections, all_blocks}
 use Rattle.meaning.proofs.Blocks.{Any, Ranked, dropped-same, among-more, Content}
@@ -57,7 +57,7 @@ pub record Telling {S T : Type 0} (W : World S T) (F : Fields (S × Sheet)) : Ty
   -- what is good stays so; a number's line is for its role, and has its value
   pub stays : (x : Field) (a : Answer x) (t s : T) → W.Good t → W.reads x t ≡ course.got a s → W.Good s
   pub first : (role : ℕ) (n : Number) (a : ℕ × ℕ) (t s : T) (rest : List Line)
-      → value_for 4 (W.tell role (grammar.number n) a t s ++ rest) ≡ (if eqb role 4 then a.0 else value_for 4 rest)
+      → value_for 4 (W.tell role (grammar.number n) a t s ++ rest) ≡ (when eqb role 4 then a.0 else value_for 4 rest)
   -- a kept block is where the plan is
   pub fine : (q : Plan) (h : Sheet) (b : Block) → q.clock ≡ b.clock → value_for 4 h.head ≡ q.first → W.ok q h b ≡ true
 
@@ -106,14 +106,14 @@ module _ {S T : Type 0} (W : World S T) (F : Fields (S × Sheet)) (T' : Telling 
     gives a p e = same-done a p (λ q x pre. record { at = pre.at ∙ e; head = pre.head })
 
     picks : {A B : Type 0} {q q₁ : Plan} {P : A → Type 0} {f : A → B} {q' : A → Plan} (b : Bool) {m m' : Reads (S × Sheet) A} {g g' : Grammar Block B}
-        → Means q P f q' m g → Means q₁ P f q' m' g' → Means (pick b q q₁) P f q' (if b then m else m') (pick b g g')
-    unfolding if◌then◌else◌
+        → Means q P f q' m g → Means q₁ P f q' m' g' → Means (pick b q q₁) P f q' (when b then m else m') (pick b g g')
+    unfolding when◌then◌else◌
     picks true x y = x
     picks false x y = y
 
     chooses : {A B : Type 0} {r r₁ : Role} {P : A → Type 0} {f : A → B} {q' : A → Plan} (b : Bool) {m m' : Reads (S × Sheet) A} {g g' : Grammar Block B}
-        → Means (at r 0) P f q' m g → Means (at r₁ 0) P f q' m' g' → Means (at (pick b r r₁) 0) P f q' (if b then m else m') (pick b g g')
-    unfolding if◌then◌else◌
+        → Means (at r 0) P f q' m g → Means (at r₁ 0) P f q' m' g' → Means (at (pick b r r₁) 0) P f q' (when b then m else m') (pick b g g')
+    unfolding when◌then◌else◌
     chooses true x y = x
     chooses false x y = y
 
@@ -121,7 +121,7 @@ module _ {S T : Type 0} (W : World S T) (F : Fields (S × Sheet)) (T' : Telling 
     draws : {A : Type 0} {q' : A → Plan} (role : ℕ) (r : Role) (n : ℕ) (x : Field) {m : Reads (S × Sheet) A} (f : A → Answer x) (seen : Answer x → A)
         → ((a : Answer x) → f (seen a) ≡ a) → Notes W role x seen m → Labels role (at r n)
         → ((a : Answer x) → after (moved_on (at r n)) (heard x a).0 (heard x a).1 ≡ q' (seen a)) → Means (at r n) Any f q' m (draw x)
-    unfolding noted if◌then◌else◌
+    unfolding noted when◌then◌else◌
     draws {q'} role r n x {m} f seen back notes (labelled, no-count, no-head) goes =
         same-field role m x f seen back notes (T'.stays x) (λ q y pre. ap (λ (q : Plan). code_of (moved_on q).role) pre.at ∙ labelled)
         (λ q y a t s pre. record {
@@ -132,7 +132,7 @@ module _ {S T : Type 0} (W : World S T) (F : Fields (S × Sheet)) (T' : Telling 
         same_head : (ls : List Line) (y : Sheet) → value_for 4 (noted role ls y).head ≡ value_for 4 y.head
         same_head ls y = rw (no-count, no-head) (go (eqb role 6))
           where
-            go : (b : Bool) → value_for 4 (if b then sheet y.head ls y.kept else sheet y.head (y.own ++ ls) y.kept).head ≡ value_for 4 y.head
+            go : (b : Bool) → value_for 4 (when b then sheet y.head ls y.kept else sheet y.head (y.own ++ ls) y.kept).head ≡ value_for 4 y.head
             go true = refl
             go false = refl
 
@@ -163,7 +163,7 @@ module _ {S T : Type 0} (W : World S T) (F : Fields (S × Sheet)) (T' : Telling 
     optional-means : {A B : Type 0} (f : Option A → B) (least v : ℕ) {q q₁ q' : Plan} {m : Reads (S × Sheet) A} (g : Grammar Block B)
         → (ltb v least ≡ true → q ≡ q') → Means q₁ Any (λ a. f (some a)) (λ _. q') m g
         → Means (pick (ltb v least) q q₁) Any f (λ _. q') (optional (leb least v) m) (pick (ltb v least) (grammar.done (f none)) g)
-    unfolding optional if◌then◌else◌
+    unfolding optional when◌then◌else◌
     optional-means f least v {q} {q₁} {q'} {m} g skips x = go (ltb v least) refl
       where
         go : (b : Bool) → ltb v least ≡ b → Means (pick b q q₁) Any f (λ _. q') (optional (leb least v) m) (pick b (grammar.done (f none)) g)
@@ -293,7 +293,7 @@ module _ {S T : Type 0} (W : World S T) (F : Fields (S × Sheet)) (T' : Telling 
 
       item-means : Means (at (pick (ltb i 64) role.ParentInfo (pick (ltb i 128) role.RightClient role.LeftClient)) 0) Held (λ b. b) ended
           (item F who c i p) (old.an_item i p (plain who c 0 0))
-      unfolding item old.an_item old.place row optional if◌then◌else◌ on
+      unfolding item old.an_item old.place row optional when◌then◌else◌ on
       item-means = go (ltb i 64) refl
         where
           go : (b : Bool) → ltb i 64 ≡ b
@@ -324,9 +324,9 @@ module _ {S T : Type 0} (W : World S T) (F : Fields (S × Sheet)) (T' : Telling 
       → (read : ℕ → Reads (S × Sheet) (List Block)) (g : Grammar Block (Unit {0}))
       → ((n : ℕ) → Tells W n (Before ss k m first (c + b.length.0)) Post (read n) g)
       → Tells W rows (In first (plan role.Ended ss k m first c i p b.length.0)) Post
-      (if ltb 2147483647 (c + b.length.0) then refuse 3 p else
-      if eqb b.length.0 0 && ltb 2 b.kind then read rows else
-      if eqb rows 0 then refuse 8 p else (λ s. on (F.kept s) (λ _ s. on (read (rows - 1) s) (λ bs. done (b ∷ bs)))))
+      (when ltb 2147483647 (c + b.length.0) then refuse 3 p else
+      when eqb b.length.0 0 && ltb 2 b.kind then read rows else
+      when eqb rows 0 then refuse 8 p else (λ s. on (F.kept s) (λ _ s. on (read (rows - 1) s) (λ bs. done (b ∷ bs)))))
       (pick (ltb 2147483647 (c + b.length.0)) (stop 3 p) (old.unless_dropped b p g))
   unfolding old.unless_dropped
   block-tells ss k m first c i p rows b ranked clocked read g more =
@@ -347,7 +347,7 @@ module _ {S T : Type 0} (W : World S T) (F : Fields (S × Sheet)) (T' : Telling 
 
   info-means : (s k m first c : ℕ)
       → Same W (Before s (suc k) m first c) Any (λ a. a) (λ a. In first (plan (info_role a.0) s k m first c a.0 a.1 0)) (F.info 6) (draw (number info))
-  unfolding heard after plan_after informed code_of noted if◌then◌else◌
+  unfolding heard after plan_after informed code_of noted when◌then◌else◌
   info-means s k m first c =
       same-field 6 (F.info 6) (number info) (λ a. a) (λ a. a) (λ a. refl) (T'.info 6) (T'.stays (number info))
       (λ q y pre. ap (λ (q : Plan). code_of q.role) (pre.at ∙ before-one s k m first c))
@@ -370,7 +370,7 @@ module _ {S T : Type 0} (W : World S T) (F : Fields (S × Sheet)) (T' : Telling 
 
   count-means : (n m : ℕ)
       → Same W (Between (suc n) m) Any (λ a. a) (λ a. Heading (plan role.Client n a.0 (m - a.0) 0 0 0 0 0)) (F.number 2 m) (draw (number (up_to m)))
-  unfolding heard after plan_after announced code_of noted if◌then◌else◌
+  unfolding heard after plan_after announced code_of noted when◌then◌else◌
   count-means n m =
       same-field 2 (F.number 2 m) (number (up_to m)) (λ a. a) (λ a. a) (λ a. refl) (T'.number 2 m) (T'.stays (number (up_to m)))
       (λ q y pre. ap (λ (q : Plan). code_of q.role) (pre.at ∙ before-section n m pre.first pre.clock))
@@ -383,7 +383,7 @@ module _ {S T : Type 0} (W : World S T) (F : Fields (S × Sheet)) (T' : Telling 
   client-means : (n k m : ℕ)
       → Same W (Heading (plan role.Client n k m 0 0 0 0 0)) Any (λ a. a) (λ a. Heading (plan role.FirstClock n k m 0 0 0 0 0))
       (F.client 3) (draw (number client))
-  unfolding heard after plan_after go_to code_of noted if◌then◌else◌ moved_on is_ended
+  unfolding heard after plan_after go_to code_of noted when◌then◌else◌ moved_on is_ended
   client-means n k m =
       same-field 3 (F.client 3) (number client) (λ a. a) (λ a. a) (λ a. refl) (T'.client 3) (T'.stays (number client))
       (λ q y pre. ap (λ (q : Plan). code_of (moved_on q).role) pre.at)
@@ -411,7 +411,7 @@ module _ {S T : Type 0} (W : World S T) (F : Fields (S × Sheet)) (T' : Telling 
   clock-means : (n k m : ℕ)
       → Same W (Heading (plan role.FirstClock n k m 0 0 0 0 0)) Any (λ a. a) (λ a. Before n k m a.0 a.0)
       (F.number 4 2147483647) (draw (number (up_to 2147483647)))
-  unfolding heard after plan_after code_of noted if◌then◌else◌ moved_on is_ended value_for
+  unfolding heard after plan_after code_of noted when◌then◌else◌ moved_on is_ended value_for
   clock-means n k m =
       same-field 4 (F.number 4 2147483647) (number (up_to 2147483647)) (λ a. a) (λ a. a) (λ a. refl) (T'.number 4 2147483647)
       (T'.stays (number (up_to 2147483647))) (λ q y pre. ap (λ (q : Plan). code_of (moved_on q).role) pre.at)

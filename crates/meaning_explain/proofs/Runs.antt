@@ -40,7 +40,7 @@ use Rattle.origins.specs.declared.Stand.{Stand}
 use Rattle.origins.specs.Origins as old
 use Rattle.origin_facts.specs.Facts.{On}
 use Rattle.origin_facts.proofs.Draws.{on-onto, on-bounded}
-use Rattle.meaning.specs.Reads.{if◌then◌else◌}
+use Rattle.meaning.specs.Reads.{when◌then◌else◌}
 use Rattle.meaning.specs.Columns.{differences, Lane}
 use Rattle.meaning.specs.Alike.{numbers_as, differences_as, octets_as}
 use Rattle.meaning_explain.specs.Explain as explain
@@ -212,7 +212,7 @@ module _ (u : List ℕ) where
         go false e = rw (e, byte-times (take c.to u) c.place.from)
 
     rising-is : (base run : ℕ) → rise_of form u differences base run ≡ old.rising base run
-    unfolding rise_of old.rising if◌then◌else◌
+    unfolding rise_of old.rising when◌then◌else◌
     rising-is base run = go (ltb run 2147483648) refl
       where
         go : (b : Bool) → ltb run 2147483648 ≡ b → rise_of form u differences base run ≡ old.rising base run

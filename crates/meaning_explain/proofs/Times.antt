@@ -21,7 +21,7 @@ use Rattle.columns.specs.declared.difference.Answer.TheVariants as difference
 use Rattle.runs.specs.Difference.{zero_key}
 use Rattle.columns.specs.Difference as old
 use Rattle.origins.specs.Origins.{times_read, number_times, difference_times, byte_times}
-use Rattle.meaning.specs.Reads.{if◌then◌else◌, Got, on, done, refuse}
+use Rattle.meaning.specs.Reads.{when◌then◌else◌, Got, on, done, refuse}
 use Rattle.meaning.specs.Line.{raised, byte}
 use Rattle.meaning.specs.Columns.{numbers, differences, octets, count, run_of}
 use Rattle.meaning.specs.Reads.{comes_to}
@@ -36,16 +36,16 @@ often_of r = comes_to (λ x _. often x.1) (λ _. 0) r
 -- ---- a count
 
 count-times : (s : List ℕ) (x more at : ℕ) → often_of (on (count s more at) (λ n. done (x, some n))) ≡ times_read more (read_unsigned s at)
-unfolding count raised on comes_to read_as if◌then◌else◌ times_read
+unfolding count raised on comes_to read_as when◌then◌else◌ times_read
 count-times s x more at = rw (unsigned_is s at) (go (read_unsigned s at))
   where
     test : (b : Bool) (c f : ℕ)
-        → often_of (on (on ((if b then refuse 3 at else done c) f) (λ c. done (c + more))) (λ n. done (x, some n))) ≡ pick b 0 (c + more)
+        → often_of (on (on ((when b then refuse 3 at else done c) f) (λ c. done (c + more))) (λ n. done (x, some n))) ≡ pick b 0 (c + more)
     test true c f = refl
     test false c f = refl
 
     go : (r : Read)
-        → often_of (on (on (on (read_as r) (λ v. if ltb max_count (0 + v) then refuse 3 at else done (0 + v))) (λ c. done (c + more))) (λ n. done (x, some n)))
+        → often_of (on (on (on (read_as r) (λ v. when ltb max_count (0 + v) then refuse 3 at else done (0 + v))) (λ c. done (c + more))) (λ n. done (x, some n)))
         ≡ times_read more r
     go (read.Number c f) = rw (zero-add c) (test (ltb max_count c) c f)
     go (read.Refused why) = refl
@@ -53,10 +53,10 @@ count-times s x more at = rw (unsigned_is s at) (go (read_unsigned s at))
 -- ---- numbers
 
 pub number-times : (s : List ℕ) (at : ℕ) → often_of (run_of numbers s at) ≡ number_times s (read_signed s at)
-unfolding run_of on signed_as if◌then◌else◌ number_times comes_to
+unfolding run_of on signed_as when◌then◌else◌ number_times comes_to
 number-times s at = rw (signed_is s at) (go (read_signed s at))
   where
-    go : (r : Signed) → often_of (on (signed_as r) (λ (m, x) e. on ((if m then count s 2 else done 1) e) (λ n. done (x, some n)))) ≡ number_times s r
+    go : (r : Signed) → often_of (on (signed_as r) (λ (m, x) e. on ((when m then count s 2 else done 1) e) (λ n. done (x, some n)))) ≡ number_times s r
     go (signs.Value true x e) = count-times s x 2 e
     go (signs.Value false x e) = refl
     go (signs.Wrong why) = refl
@@ -69,7 +69,7 @@ unfolding times_read read_unsigned spelt answer_at
 none-there s more at h = rw (drop_of_length-le s h)
 
 pub byte-times : (s : List ℕ) (at : ℕ) → often_of (run_of octets s at) ≡ byte_times s at
-unfolding run_of byte on if◌then◌else◌ byte_times comes_to
+unfolding run_of byte on when◌then◌else◌ byte_times comes_to
 byte-times s at = go (leb (length s) at) refl (leb (length s) (at + 1)) refl
   where
     go : (over : Bool) → leb (length s) at ≡ over → (last : Bool) → leb (length s) (at + 1) ≡ last → often_of (run_of octets s at) ≡ byte_times s at
@@ -91,16 +91,16 @@ module _ (s : List ℕ) where
   After (difference.Next v d) = Agree d.from
   After (difference.Bad why) = Unit {0}
 
-  inside : (m : Bool) (x : ℕ) → old.outside m x ≡ false → ltb max_clock (if m then x - 1 else x) ≡ false
-  unfolding old.outside if◌then◌else◌
+  inside : (m : Bool) (x : ℕ) → old.outside m x ≡ false → ltb max_clock (when m then x - 1 else x) ≡ false
+  unfolding old.outside when◌then◌else◌
   inside true x e = le-ltb max_clock (x - 1) (omega (arith, ltb-false 2147483648 x e))
   inside false x e = le-ltb max_clock x (omega (arith, leb-false 2147483648 x e))
 
   agree_at : (at : ℕ) (m : Bool) (x e : ℕ) → read_signed s at ≡ signs.Value m x e → old.outside m x ≡ false → Agree at
-  unfolding run_of on signed_as if◌then◌else◌ difference_times comes_to
+  unfolding run_of on signed_as when◌then◌else◌ difference_times comes_to
   agree_at at m x e r within = rw (signed_is s at, r, inside m x within) (go (eqb (x % 2) 0) _)
     where
-      go : (even : Bool) (k : ℕ) → often_of (on ((if even then done 1 else count s 2) e) (λ n. done (k, some n))) ≡ pick even 1 (times_read 2 (read_unsigned s e))
+      go : (even : Bool) (k : ℕ) → often_of (on ((when even then done 1 else count s 2) e) (λ n. done (k, some n))) ≡ pick even 1 (times_read 2 (read_unsigned s e))
       go true k = refl
       go false k = count-times s k 2 e
 

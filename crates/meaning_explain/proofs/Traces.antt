@@ -19,7 +19,7 @@ use Rattle.roles.specs.declared.Plan.{Plan}
 use Rattle.roles.specs.Roles.{code_of, after, moved_on}
 use Rattle.origins.specs.declared.Line.{Line}
 use Rattle.telling.specs.Telling.{heard}
-use Rattle.meaning.specs.Reads.{if◌then◌else◌, Got, got, refused, Reads, on, done, refuse}
+use Rattle.meaning.specs.Reads.{when◌then◌else◌, Got, got, refused, Reads, on, done, refuse}
 use Rattle.meaning.proofs.Courses.{on-on, on-got, bind-bind, bind_done}
 use Rattle.meaning_explain.specs.Explain.{Sheet, sheet, noted}
 
@@ -48,7 +48,7 @@ module _ {S T : Type 0} (W : World S T) where
       let role = code_of p.role in
       on_traced (W.reads f t) (λ a s. traced rows (after p (heard f a).0 (heard f a).1) (noted role (W.tell role f a t s) h) (k a) s)
   traced zero q h (emit e p x) t = refused 8 p
-  traced (suc rows) q h (emit e p x) t = if W.ok q h e then on (traced rows q (closed h) x t) (λ es y. got (e ∷ es) y) else refused 0 0
+  traced (suc rows) q h (emit e p x) t = when W.ok q h e then on (traced rows q (closed h) x t) (λ es y. got (e ∷ es) y) else refused 0 0
   traced rows q h (stop n p) t = refused n p
   traced rows q h (grammar.done a) t = got [] (W.view t, h)
 
@@ -85,7 +85,7 @@ module _ {S T : Type 0} (W : World S T) where
   -- a block is kept
   told-kept : (rows : ℕ) (post : List Block → List Block) (q : Plan) (x : Sheet) (e : Block) (p : ℕ) (g : Grammar Block (Unit {0})) (t : T)
       → W.ok q x e ≡ true → told (suc rows) post q x (emit e p g) t ≡ told rows (λ es. post (e ∷ es)) q (closed x) g t
-  unfolding told traced if◌then◌else◌ on
+  unfolding told traced when◌then◌else◌ on
   told-kept rows post q x e p g t fine = rw fine (on-on (traced rows q (closed x) g t) _ _)
 
 module _ {S T : Type 0} {W : World S T} where
@@ -170,8 +170,8 @@ module _ {S T : Type 0} {W : World S T} where
   tells-stop n p = record { goes = λ post k h ends t good q x pre. refl }
 
   pub tells-if : {Pre Post : Plan → Sheet → Type 0} {rows : ℕ} (b : Bool) {m m' : Reads (S × Sheet) (List Block)} {g g' : Grammar Block (Unit {0})}
-      → Tells W rows Pre Post m g → Tells W rows Pre Post m' g' → Tells W rows Pre Post (if b then m else m') (pick b g g')
-  unfolding if◌then◌else◌
+      → Tells W rows Pre Post m g → Tells W rows Pre Post m' g' → Tells W rows Pre Post (when b then m else m') (pick b g g')
+  unfolding when◌then◌else◌
   tells-if true x y = x
   tells-if false x y = y
 
@@ -194,8 +194,8 @@ module _ {S T : Type 0} {W : World S T} where
       {m : Reads (S × Sheet) A} {g : Grammar Block B} {rows : ℕ} {k : A → Reads (S × Sheet) (List Block)}
       (b : Bool) (n p : ℕ) (h : B → Grammar Block (Unit {0}))
       → Same W Pre P f Mid m g → ((a : A) → P a → Tells W rows (Mid a) Post (k a) (h (f a)))
-      → Tells W rows Pre Post (λ s. on ((if b then refuse n p else m) s) k) (pick b (stop n p) (g >>= h))
-  unfolding if◌then◌else◌ on
+      → Tells W rows Pre Post (λ s. on ((when b then refuse n p else m) s) k) (pick b (stop n p) (g >>= h))
+  unfolding when◌then◌else◌ on
   tells-unless true n p h x more = tells-stop n p
   tells-unless false n p h x more = tells-bind h x more
 
@@ -231,8 +231,8 @@ module _ {S T : Type 0} {W : World S T} where
   pub tells-room : {Pre Pre' Post : Plan → Sheet → Type 0} (note : Reads (S × Sheet) (Unit {0})) → ((x : S × Sheet) → note x ≡ got tt (x.0, closed x.1))
       → (rows : ℕ) (e : Block) (p : ℕ) (m : ℕ → Reads (S × Sheet) (List Block)) (g : Grammar Block (Unit {0}))
       → ((q : Plan) (x : Sheet) → Pre q x → (W.ok q x e ≡ true) × Pre' q (closed x)) → ((n : ℕ) → Tells W n Pre' Post (m n) g)
-      → Tells W rows Pre Post (if eqb rows 0 then refuse 8 p else (λ s. on (note s) (λ _ s. on (m (rows - 1) s) (λ es. done (e ∷ es))))) (emit e p g)
-  unfolding if◌then◌else◌
+      → Tells W rows Pre Post (when eqb rows 0 then refuse 8 p else (λ s. on (note s) (λ _ s. on (m (rows - 1) s) (λ es. done (e ∷ es))))) (emit e p g)
+  unfolding when◌then◌else◌
   tells-room note notes zero e p m g fine x = tells-full e p g
   tells-room note notes (suc n) e p m g fine x =
       let less : suc n - 1 ≡ n = omega arith in

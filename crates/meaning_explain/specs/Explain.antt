@@ -13,7 +13,7 @@ use Rattle.origins.specs.declared.Rise.{Rise}
 use Rattle.updates.specs.Promises.{early}
 use Rattle.explains.specs.Promises.{Outcome}
 use Rattle.explains.specs.Promises as explains
-use Rattle.meaning.specs.Reads.{if◌then◌else◌, got, Reads, on}
+use Rattle.meaning.specs.Reads.{when◌then◌else◌, got, Reads, on}
 use Rattle.meaning.specs.Columns.{Coding, numbers, differences, octets, Lane, no_rise, run_of}
 use Rattle.meaning.specs.Fields.{Fields, Standing, lane_of, fields}
 use Rattle.meaning.specs.Blocks.{no_part, bare, all_blocks}
@@ -40,7 +40,7 @@ module _ (form : ℕ) (u : List ℕ) where
   rise_of numbers base run = still
   rise_of octets base run = still
   rise_of differences base run =
-      if ltb run no_rise then record { base = base; sign = 2; size = no_rise - run } else record { base = base; sign = 1; size = run - no_rise }
+      when ltb run no_rise then record { base = base; sign = 2; size = no_rise - run } else record { base = base; sign = 1; size = run - no_rise }
 
   -- a value of column k
   unfoldable pub drawn_line : ℕ → ℕ → ℕ → Part → Standing → Standing → Line
@@ -60,10 +60,10 @@ module _ (form : ℕ) (u : List ℕ) where
   plain_line role v s t = line role v s.at (t.at - s.at) 0 0 0 still no_part
 
   unfoldable pub number_line : ℕ → ℕ → ℕ × ℕ → Standing → Standing → List Line
-  number_line k role a s t = (if eqb form 1 then plain_line role a.0 s t else drawn_line k role a.0 no_part s t) ∷ []
+  number_line k role a s t = (when eqb form 1 then plain_line role a.0 s t else drawn_line k role a.0 no_part s t) ∷ []
 
   unfoldable pub text_line : ℕ → Part × ℕ → Standing → Standing → List Line
-  text_line role a s t = (if eqb form 1 then stored_line role a.1 a.0 s else drawn_line 5 role a.1 a.0 s t) ∷ []
+  text_line role a s t = (when eqb form 1 then stored_line role a.1 a.0 s else drawn_line 5 role a.1 a.0 s t) ∷ []
 
   unfoldable pub bytes_line : ℕ → Part → Standing → Standing → List Line
   bytes_line role p s t = stored_line role p.bytes.0 p s ∷ []
@@ -71,9 +71,9 @@ module _ (form : ℕ) (u : List ℕ) where
   -- a key's number, and behind it the text of a key that is new (27)
   unfoldable pub key_lines : ℕ → Part → Standing → Standing → List Line
   key_lines role p s t =
-      if eqb form 1 then bytes_line role p s t
+      when eqb form 1 then bytes_line role p s t
       else drawn_line 0 role (lane_of 0 t).last p s t
-      ∷ (if ltb (length s.keys) (length t.keys) then drawn_line 5 27 (lane_of 5 t).last p s t ∷ [] else [])
+      ∷ (when ltb (length s.keys) (length t.keys) then drawn_line 5 27 (lane_of 5 t).last p s t ∷ [] else [])
 
 -- ---- the lines of this section's head, of this block, and of the blocks that were kept
 
@@ -88,9 +88,9 @@ sheet head own kept = record { head = head; own = own; kept = kept }
 -- a section begins with its block count (2), and has its client and its first clock (3, 4); a block begins with its info byte (6)
 unfoldable pub noted : ℕ → List Line → Sheet → Sheet
 noted role ls h =
-    if eqb role 2 then sheet ls [] h.kept
-    else if ltb role 5 then sheet (h.head ++ ls) [] h.kept
-    else if eqb role 6 then sheet h.head ls h.kept
+    when eqb role 2 then sheet ls [] h.kept
+    else when ltb role 5 then sheet (h.head ++ ls) [] h.kept
+    else when eqb role 6 then sheet h.head ls h.kept
     else sheet h.head (h.own ++ ls) h.kept
 
 unfoldable pub told : {A : Type 0} → (ℕ → A → Standing → Standing → List Line) → (ℕ → Reads Standing A)
@@ -122,7 +122,7 @@ telling form u =
 -- the value of the first line for something
 unfoldable pub value_for : ℕ → List Line → ℕ
 value_for role [] = 0
-value_for role (l ∷ ls) = if eqb l.field role then l.value else value_for role ls
+value_for role (l ∷ ls) = when eqb l.field role then l.value else value_for role ls
 
 -- its own clock (5) is not drawn: it is the first clock and the lengths before it
 unfoldable pub lines_about : Block → List Line × List Line → List Line
@@ -134,12 +134,12 @@ lines_about b x =
 unfoldable pub fitting : ℕ → ℕ → List Block → List (List Line × List Line) → Outcome
 fitting n room bs kept =
     let ls = lines_about (get_or bs n (bare 0 0 0 0)) (get_or kept n ([], [])) in
-    if ltb n (length bs) then (if ltb room (12 * length ls) then explains.refused (nowhere 10) else record { why = numbers-none; lines = ls })
+    when ltb n (length bs) then (when ltb room (12 * length ls) then explains.refused (nowhere 10) else record { why = numbers-none; lines = ls })
     else explains.refused (nowhere 11)
 
 unfoldable pub explain_of : ℕ → List ℕ → ℕ → ℕ → Outcome
 explain_of form u n room =
-    if eqb (early form u) 0 then comes_to (λ bs kept. fitting n room bs kept) explains.refused
+    when eqb (early form u) 0 then comes_to (λ bs kept. fitting n room bs kept) explains.refused
     (on (begun form u) λ _ s. on (all_blocks (telling form u) 65535 (s, sheet [] [] [])) λ bs x.
     on (delete_set form u (length u) x.0.at) λ _ _. got bs x.1.kept)
     else explains.refused (nowhere (early form u))

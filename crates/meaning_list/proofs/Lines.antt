@@ -16,21 +16,21 @@ use Rattle.lines.specs.Lines.{decimal}
 use Rattle.listing_text.specs.Words.{word_form, word_blocks, word_ranges}
 use Rattle.listing_text.specs.Listing as text
 use Rattle.listed.specs.Listed as old
-use Rattle.meaning.specs.Reads.{if◌then◌else◌}
+use Rattle.meaning.specs.Reads.{when◌then◌else◌}
 use Rattle.meaning_calls.proofs.Reading.{reading-same}
 use Rattle.meaning_written.specs.Diff.{each, same}
 use Rattle.meaning_list.specs.Lines.{ascii, number_then, kind_name, block_line, range_line, refused_line, lines_of, listed_update, listed}
 
-pick-if : {A : Type 0} (b : Bool) {x y p q : A} → x ≡ p → y ≡ q → pick b x y ≡ (if b then p else q)
-unfolding if◌then◌else◌
+pick-if : {A : Type 0} (b : Bool) {x y p q : A} → x ≡ p → y ≡ q → pick b x y ≡ (when b then p else q)
+unfolding when◌then◌else◌
 pick-if true e f = e
 pick-if false e f = f
 
 -- ---- the lines
 
 -- the bytes of one of two words
-word_same : (b : Bool) (s t : String) {x y : List ℕ} → x ≡ ascii s → y ≡ ascii t → cond b x y ≡ ascii (if b then s else t)
-unfolding if◌then◌else◌
+word_same : (b : Bool) (s t : String) {x y : List ℕ} → x ≡ ascii s → y ≡ ascii t → cond b x y ≡ ascii (when b then s else t)
+unfolding when◌then◌else◌
 word_same true s t e f = e
 word_same false s t e f = f
 
@@ -98,12 +98,12 @@ bytes_same (x ∷ xs) [] = refl
 bytes_same (x ∷ xs) (y ∷ ys) = rw (bytes_same xs ys) (pick-and (eqb x y) (same xs ys))
 
 empty-same : (form : ℕ) (u : List ℕ)
-    → old.is_empty form u ≡ (same u (if eqb form 1 then old.empty_v1 else old.empty_v2) && (eqb form 1 || eqb form 2))
-unfolding old.is_empty if◌then◌else◌
+    → old.is_empty form u ≡ (same u (when eqb form 1 then old.empty_v1 else old.empty_v2) && (eqb form 1 || eqb form 2))
+unfolding old.is_empty when◌then◌else◌
 empty-same form u = go (eqb form 1) (eqb form 2)
   where
     go : (a b : Bool) → pick a (old.same u old.empty_v1) (pick b (old.same u old.empty_v2) false)
-        ≡ (same u (if a then old.empty_v1 else old.empty_v2) && (a || b))
+        ≡ (same u (when a then old.empty_v1 else old.empty_v2) && (a || b))
     go true b = bytes_same u old.empty_v1 ∙ sym (and-true (same u old.empty_v1))
     go false true = bytes_same u old.empty_v2 ∙ sym (and-true (same u old.empty_v2))
     go false false = sym (and-false (same u old.empty_v2))
@@ -118,7 +118,7 @@ update_same : (form : ℕ) (u : List ℕ) → old.listed_update form u ≡ liste
 unfolding old.listed_update old.listed_reading listed_update
 update_same form u =
     rw (empty-same form u)
-    (pick-if (same u (if eqb form 1 then old.empty_v1 else old.empty_v2) && (eqb form 1 || eqb form 2)) empty-line
+    (pick-if (same u (when eqb form 1 then old.empty_v1 else old.empty_v2) && (eqb form 1 || eqb form 2)) empty-line
     (lines_same form (promises.reading form u 512 1024) ∙ ap (lines_of form) (reading-same form u 512 1024)))
 
 pub listed_same : (input : List ℕ) → old.listed input ≡ listed input

@@ -7,7 +7,7 @@ use Rattle.block.specs.declared.Block.{Block}
 use Rattle.ranges.specs.Ranges.{Range}
 use Rattle.updates.specs.Promises.{Reading}
 use Rattle.lines.specs.Lines.{decimal}
-use Rattle.meaning.specs.Reads.{if◌then◌else◌}
+use Rattle.meaning.specs.Reads.{when◌then◌else◌}
 use Rattle.meaning_calls.specs.Reading.{reading}
 use Rattle.meaning_written.specs.Diff.{each, same}
 
@@ -22,8 +22,8 @@ number_then v s = decimal v ++ ascii s
 -- a row that has no block has no name
 unfoldable pub kind_name : ℕ → String
 kind_name kind =
-    if eqb kind 1 then "gc" else if eqb kind 2 then "skip" else if eqb kind 3 then "deleted" else if eqb kind 4 then "binary"
-    else if eqb kind 5 then "text" else if eqb kind 6 then "format" else if eqb kind 7 then "type" else if eqb kind 8 then "any" else ""
+    when eqb kind 1 then "gc" else when eqb kind 2 then "skip" else when eqb kind 3 then "deleted" else when eqb kind 4 then "binary"
+    else when eqb kind 5 then "text" else when eqb kind 6 then "format" else when eqb kind 7 then "type" else when eqb kind 8 then "any" else ""
 
 unfoldable pub block_line : Block → List ℕ
 block_line b =
@@ -37,7 +37,7 @@ refused_line number place = ascii "refused " ++ (number_then number " at " ++ nu
 
 unfoldable pub lines_of : ℕ → Reading → List ℕ
 lines_of form r =
-    if eqb r.refusal.number 0 then
+    when eqb r.refusal.number 0 then
     ascii "update form " ++ (number_then form " blocks " ++ (number_then (length r.blocks) " ranges " ++ (number_then (length r.ranges) "\n"
     ++ (each block_line r.blocks ++ (each range_line r.ranges ++ ascii "end\n")))))
     else refused_line r.refusal.number r.refusal.place
@@ -45,10 +45,10 @@ lines_of form r =
 -- the empty update of each form; any other is read with 512 rows for blocks and 1,024 for ranges
 unfoldable pub listed_update : ℕ → List ℕ → List ℕ
 listed_update form u =
-    let empty : List ℕ = if eqb form 1 then 0 ∷ 0 ∷ [] else 0 ∷ 0 ∷ 0 ∷ 0 ∷ 0 ∷ 0 ∷ 1 ∷ 0 ∷ 0 ∷ 0 ∷ 0 ∷ 0 ∷ 0 ∷ [] in
-    if same u empty && (eqb form 1 || eqb form 2) then ascii "empty\n" else lines_of form (reading form u 512 1024)
+    let empty : List ℕ = when eqb form 1 then 0 ∷ 0 ∷ [] else 0 ∷ 0 ∷ 0 ∷ 0 ∷ 0 ∷ 0 ∷ 1 ∷ 0 ∷ 0 ∷ 0 ∷ 0 ∷ 0 ∷ 0 ∷ [] in
+    when same u empty && (eqb form 1 || eqb form 2) then ascii "empty\n" else lines_of form (reading form u 512 1024)
 
 -- no form byte is 1, and over 65,536 bytes are 3
 unfoldable pub listed : List ℕ → List ℕ
 listed [] = refused_line 1 0
-listed (form ∷ u) = if ltb 65536 (length (form ∷ u)) then refused_line 3 0 else listed_update form u
+listed (form ∷ u) = when ltb 65536 (length (form ∷ u)) then refused_line 3 0 else listed_update form u

@@ -23,7 +23,7 @@ use Rattle.sorts.proofs.Demand as sorts-proofs
 use Rattle.held_sorts.specs.Promises as held-promises
 use Rattle.held_sorts.specs.Demand as held-sorts
 use Rattle.held_sorts.proofs.Demand as held-sorts-proofs
-use Rattle.meaning.specs.Reads.{if◌then◌else◌, Got, got, refused, on}
+use Rattle.meaning.specs.Reads.{when◌then◌else◌, Got, got, refused, on}
 use Rattle.meaning.specs.Reads.{comes_to}
 use Rattle.meaning.specs.Update.{delete_set}
 use Rattle.meaning.specs.Vector.{vector}
@@ -106,13 +106,13 @@ module _ (form : ℕ) (u v : List ℕ) (block_rows range_rows held_rows : ℕ) (
 -- where a sort that fits in the words lent refuses nothing, it is that sort
 pub fitted : (order counts reaches pending : List ℕ) (s : Sort)
     → (fitting order counts reaches pending s).refusal.number ≡ 0 → fitting order counts reaches pending s ≡ s
-unfolding fitting if◌then◌else◌
+unfolding fitting when◌then◌else◌
 fitted order counts reaches pending s =
     let above : List ℕ → List ℕ → Bool = λ words lent. ltb (length lent) (length words) in
     go (above s.order order) (above s.counts counts || (above s.reaches reaches || above s.pending pending))
   where
     by_tests : Bool → Bool → Sort
-    by_tests x y = if x then nothing (nowhere 8) else if y then nothing (nowhere 10) else s
+    by_tests x y = when x then nothing (nowhere 8) else when y then nothing (nowhere 10) else s
 
     go : (x y : Bool) → (by_tests x y).refusal.number ≡ 0 → by_tests x y ≡ s
     go true y h = absurd (omega arith)
@@ -121,7 +121,7 @@ fitted order counts reaches pending s =
 
 -- it fits in as many words as it takes
 own_room : (s : Sort) → fitting s.order s.counts s.reaches s.pending s ≡ s
-unfolding fitting if◌then◌else◌
+unfolding fitting when◌then◌else◌
 own_room s = rw (enough s.order, enough s.counts, enough s.reaches, enough s.pending)
   where
     enough : (l : List ℕ) → ltb (length l) (length l) ≡ false
@@ -155,8 +155,8 @@ module _ (rule form : ℕ) (u v : List ℕ) (block_rows range_rows : ℕ) (done 
 
 -- what holds of each answer
 module _ {A : Type 0} (P : A → Type 0) where
-  either-has : (x : Bool) (a b : A) → P a → P b → P (if x then a else b)
-  unfolding if◌then◌else◌
+  either-has : (x : Bool) (a b : A) → P a → P b → P (when x then a else b)
+  unfolding when◌then◌else◌
   either-has true a b p q = p
   either-has false a b p q = q
 

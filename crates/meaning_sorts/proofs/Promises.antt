@@ -21,7 +21,7 @@ use Rattle.sorts.specs.Promises as sorts
 use Rattle.slow_sorts.specs.Promises as slow-sorts
 use Rattle.held_sorts.specs.Promises as held-sorts
 use Rattle.slow_held_sorts.specs.Promises as slow-held-sorts
-use Rattle.meaning.specs.Reads.{if◌then◌else◌, Got, got, refused}
+use Rattle.meaning.specs.Reads.{when◌then◌else◌, Got, got, refused}
 use Rattle.meaning.specs.Reads.{comes_to}
 use Rattle.meaning.specs.Vector.{vector}
 use Rattle.meaning.specs.Update.{delete_set}
@@ -48,8 +48,8 @@ alternatives true y = refl
 alternatives false y = refl
 
 module _ {A B : Type 0} (h : A → B) where
-  either : (x : Bool) (a b : B) (c d : A) → a ≡ h c → b ≡ h d → (if x then a else b) ≡ h (if x then c else d)
-  unfolding if◌then◌else◌
+  either : (x : Bool) (a b : B) (c d : A) → a ≡ h c → b ≡ h d → (when x then a else b) ≡ h (when x then c else d)
+  unfolding when◌then◌else◌
   either true a b c d p q = p
   either false a b c d p q = q
 
@@ -61,9 +61,9 @@ module _ {A B : Type 0} (h : A → B) where
 
   -- too little room, by the four tests
   room-either : (s : A) (refuse : ℕ → A) (a b c d : Bool)
-      → (if eqb (pick a 8 (pick b 10 (pick c 10 (pick d 10 0)))) 0 then h s else h (refuse (pick a 8 (pick b 10 (pick c 10 (pick d 10 0))))))
-      ≡ h (if a then refuse 8 else if b || (c || d) then refuse 10 else s)
-  unfolding if◌then◌else◌
+      → (when eqb (pick a 8 (pick b 10 (pick c 10 (pick d 10 0)))) 0 then h s else h (refuse (pick a 8 (pick b 10 (pick c 10 (pick d 10 0))))))
+      ≡ h (when a then refuse 8 else when b || (c || d) then refuse 10 else s)
+  unfolding when◌then◌else◌
   room-either s refuse true b c d = refl
   room-either s refuse false true c d = refl
   room-either s refuse false false true d = refl
@@ -78,7 +78,7 @@ over words lent = ltb (length lent) (length words)
 module _ (order counts reaches pending : List ℕ) where
   -- a refusal takes none
   nothing-fits : (why : Refusal) → nothing why ≡ fitting order counts reaches pending (nothing why)
-  unfolding fitting if◌then◌else◌
+  unfolding fitting when◌then◌else◌
   nothing-fits why =
       rw (leb-suc-zero (length order), leb-suc-zero (length counts), leb-suc-zero (length reaches), leb-suc-zero (length pending))
 

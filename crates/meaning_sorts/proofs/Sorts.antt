@@ -25,7 +25,7 @@ use Rattle.sorts.specs.Promises as sorts
 use Rattle.slow_sorts.specs.Promises as slow-sorts
 use Rattle.held_sorts.specs.Promises as held-sorts
 use Rattle.slow_held_sorts.specs.Promises as slow-held-sorts
-use Rattle.meaning.specs.Reads.{if◌then◌else◌}
+use Rattle.meaning.specs.Reads.{when◌then◌else◌}
 use Rattle.meaning.specs.Alike.{collect}
 use Rattle.meaning.proofs.Deletes.{deletes-alike}
 use Rattle.meaning.proofs.Vector.{vector-same}
@@ -35,8 +35,8 @@ use Rattle.meaning_calls.proofs.Both.{both-same}
 use Rattle.meaning_sorts.specs.Found.{Sorter, found}
 use Rattle.meaning_sorts.specs.Sorts.{fitting, sort_by, held_fitting, sort_held_by, sort_of, slow_sort_of, sort_held_of, slow_sort_held_of}
 
-either : {A : Type 0} (x : Bool) (a b : A) → pick x a b ≡ if x then a else b
-unfolding if◌then◌else◌
+either : {A : Type 0} (x : Bool) (a b : A) → pick x a b ≡ when x then a else b
+unfolding when◌then◌else◌
 either true a b = refl
 either false a b = refl
 
@@ -56,7 +56,7 @@ module _ (F : sorts.Finder) (sorter : Sorter ℕ) (same : (R : Rule ℕ) (es : L
 
   sort-by : (rule form : ℕ) (u v : List ℕ) (block_rows range_rows : ℕ) (m : Room)
       → sorts.sort_by F rule form u v block_rows range_rows m ≡ sort_by sorter rule form u v block_rows range_rows m
-  unfolding sorts.sort_by sorts.after_reading sorts.against sort_by if◌then◌else◌
+  unfolding sorts.sort_by sorts.after_reading sorts.against sort_by when◌then◌else◌
   sort-by rule form u v block_rows range_rows m = rw (reading-same form u block_rows range_rows, vector-same v) (go (is_rule rule))
     where
       r : Reading
@@ -64,7 +64,7 @@ module _ (F : sorts.Finder) (sorter : Sorter ℕ) (same : (R : Rule ℕ) (es : L
 
       go : (x : Bool)
           → pick x (sorts.after_reading F (rule_of rule) m (vector_of v) r) (refused_with (nowhere 12))
-          ≡ if x then both r (collect (λ e. e) (vector_of v)) refused_with (λ es. fitting m (sorted sorter (rule_of rule) es r)) else refused_with (nowhere 12)
+          ≡ when x then both r (collect (λ e. e) (vector_of v)) refused_with (λ es. fitting m (sorted sorter (rule_of rule) es r)) else refused_with (nowhere 12)
       go true =
           both-same r (vector_of v) refused_with (λ es. sorts.fitting m (sorts.sorted_all F (rule_of rule) es r))
           (λ es. fitting m (sorted sorter (rule_of rule) es r)) (λ es. fits-same (rule_of rule) m es r)

@@ -17,7 +17,7 @@ use Rattle.sorting.specs.Held.{rule_held, held_in}
 use Rattle.sorting.specs.Sorted.{all_clients, reaches_in}
 use Rattle.sort_answers.specs.declared.Sorted.{Sorted}
 use Rattle.held_answers.specs.declared.SortedHeld.{SortedHeld}
-use Rattle.meaning.specs.Reads.{if◌then◌else◌}
+use Rattle.meaning.specs.Reads.{when◌then◌else◌}
 use Rattle.meaning.specs.Vector.{vector}
 use Rattle.meaning.specs.Update.{delete_set}
 use Rattle.meaning_calls.specs.Reading.{reading, both}
@@ -40,7 +40,7 @@ nothing why = record { refusal = why; order = []; counts = []; reaches = []; pen
 unfoldable pub sorted : Sorter ℕ → ℕ → ℕ → List ℕ → List ℕ → ℕ → ℕ → Sort
 sorted sorter rule form u v block_rows range_rows =
     let r = reading form u block_rows range_rows in
-    if eqb rule 13 || eqb rule 28 then (both r (vector v) nothing λ es.
+    when eqb rule 13 || eqb rule 28 then (both r (vector v) nothing λ es.
     let cs = all_clients r.blocks es in
     let x = found sorter (rule_of rule) r.blocks cs (remote es) in
     record { refusal = none; order = x.order; counts = x.counts; reaches = reaches_in x.end cs; pending = x.pending; held = []; reading = r })
@@ -58,8 +58,8 @@ sorted_held sorter form u v block_rows range_rows held_rows =
 unfoldable pub fitting : List ℕ → List ℕ → List ℕ → List ℕ → Sort → Sort
 fitting order counts reaches pending s =
     let over : List ℕ → List ℕ → Bool = λ words lent. ltb (length lent) (length words) in
-    if over s.order order then nothing (nowhere 8)
-    else if over s.counts counts || (over s.reaches reaches || over s.pending pending) then nothing (nowhere 10) else s
+    when over s.order order then nothing (nowhere 8)
+    else when over s.counts counts || (over s.reaches reaches || over s.pending pending) then nothing (nowhere 10) else s
 
 -- ---- what is answered, and what is left in all that is lent, at entry and at exit
 

@@ -12,7 +12,7 @@ use Rattle.sorting.specs.Sorted.{all_clients, reaches_in}
 use Rattle.sort_answers.specs.Answers.{Sort, refused_with, is_rule, Room, why_not}
 use Rattle.held_answers.specs.Answers.{SortHeld}
 use Rattle.held_answers.specs.Answers as held
-use Rattle.meaning.specs.Reads.{if◌then◌else◌}
+use Rattle.meaning.specs.Reads.{when◌then◌else◌}
 use Rattle.meaning.specs.Vector.{vector}
 use Rattle.meaning.specs.Update.{delete_set}
 use Rattle.meaning_calls.specs.Reading.{reading, both}
@@ -23,12 +23,12 @@ use Rattle.meaning_sorts.specs.Found.{Sorter, found}
 unfoldable pub fitting : Room → Sort → Sort
 fitting m s =
     let why = why_not m (length s.order) (length s.counts) (length s.reaches) (length s.pending) in
-    if eqb why 0 then s else refused_with (nowhere why)
+    when eqb why 0 then s else refused_with (nowhere why)
 
 unfoldable pub sort_by : Sorter ℕ → ℕ → ℕ → List ℕ → List ℕ → ℕ → ℕ → Room → Sort
 sort_by sorter rule form u v block_rows range_rows m =
     let r = reading form u block_rows range_rows in
-    if is_rule rule then (both r (vector v) refused_with λ es.
+    when is_rule rule then (both r (vector v) refused_with λ es.
     let cs = all_clients r.blocks es in
     let x = found sorter (rule_of rule) r.blocks cs (remote es) in
     fitting m (record { refusal = none; order = x.order; counts = x.counts; reaches = reaches_in x.end cs; pending = x.pending; reading = r }))
@@ -39,7 +39,7 @@ sort_by sorter rule form u v block_rows range_rows m =
 unfoldable pub held_fitting : Room → SortHeld → SortHeld
 held_fitting m s =
     let why = why_not m (length s.order) (length s.counts) 0 (length s.pending) in
-    if eqb why 0 then s else held.refused_with (nowhere why)
+    when eqb why 0 then s else held.refused_with (nowhere why)
 
 unfoldable pub sort_held_by : Sorter Id → ℕ → List ℕ → List ℕ → ℕ → ℕ → ℕ → Room → SortHeld
 sort_held_by sorter form u v block_rows range_rows held_rows m =

@@ -22,7 +22,7 @@ use Rattle.summaries.specs.declared.Summarized.{Summarized}
 use Rattle.summaries.specs.declared.SummaryRows.{SummaryRows}
 use Rattle.summaries.specs.Promises as summaries
 use Rattle.summaries.specs.Promises.{Made, summarized, made_bytes, rows_answer}
-use Rattle.meaning.specs.Reads.{if◌then◌else◌, Reads, Got, got, refused, on}
+use Rattle.meaning.specs.Reads.{when◌then◌else◌, Reads, Got, got, refused, on}
 use Rattle.meaning.specs.Reads.{comes_to}
 use Rattle.meaning_calls.specs.Reading.{all_of}
 use Rattle.meaning_calls.specs.SummaryInner.{fitting}
@@ -50,19 +50,19 @@ summary-bytes rs = ap (λ b. packed (in_bits 4 1 ++ (in_bits 7 (length rs) ++ b)
 
 -- the summary of what is read, 10 where n bytes do not take it
 abbrev made : {S : Type 0} → ℕ → Got S (List Block × List Range) → Got S (List ℕ)
-made n g = on g (λ y s. let b = summary_of (rows_of y.0) in if ltb n (length b) then refused 10 0 else got b s)
+made n g = on g (λ y s. let b = summary_of (rows_of y.0) in when ltb n (length b) then refused 10 0 else got b s)
 
 -- whatever is made of a summary, or of a refusal
 module _ {X : Type 0} (h : Made → X) where
   made-same : {S : Type 0} (n : ℕ) (g : Got S (List Block × List Range))
       → h (comes_to (λ x s. fitting n (old.summary_of one (rows_of x.0))) summaries.refused g)
       ≡ comes_to (λ b _. h (summaries.bytes b)) (λ why. h (summaries.refused why)) (made n g)
-  unfolding comes_to on fitting if◌then◌else◌
+  unfolding comes_to on fitting when◌then◌else◌
   made-same n (refused k p) = refl
   made-same {S} n (got y s) = rw (summary-bytes (rows_of y.0)) (go (summary_of (rows_of y.0)) (ltb n (length (summary_of (rows_of y.0)))))
     where
-      go : (b : List ℕ) (x : Bool) → h (if x then summaries.refused (nowhere 10) else summaries.bytes b)
-          ≡ comes_to {S = S} (λ b _. h (summaries.bytes b)) (λ why. h (summaries.refused why)) (if x then refused 10 0 else got b s)
+      go : (b : List ℕ) (x : Bool) → h (when x then summaries.refused (nowhere 10) else summaries.bytes b)
+          ≡ comes_to {S = S} (λ b _. h (summaries.bytes b)) (λ why. h (summaries.refused why)) (when x then refused 10 0 else got b s)
       go b true = refl
       go b false = refl
 
@@ -119,7 +119,7 @@ module _ {X : Type 0} (h : RowsFound → X) (r : Refusal → X) (blames : (n : �
 
   number-on : {B : Type 0} (k : ℕ) (bits : List Bool) (first : ℕ → List Bool → RowsFound) (next : B → List Bool → X) (f : ℕ → Reads (List Bool) B)
       → ((n : ℕ) (s : List Bool) → h (first n s) ≡ told next (f n s)) → h (field k bits first) ≡ told next (on (bit_number k bits) f)
-  unfolding field bit_number if◌then◌else◌ on comes_to
+  unfolding field bit_number when◌then◌else◌ on comes_to
   number-on k bits first next f p = go (ltb (length bits) k) refl
     where
       go : (x : Bool) → ltb (length bits) k ≡ x → h (field k bits first) ≡ told next (on (bit_number k bits) f)
@@ -128,7 +128,7 @@ module _ {X : Type 0} (h : RowsFound → X) (r : Refusal → X) (blames : (n : �
 
   must-on : {B : Type 0} (holds : Bool) (n : ℕ) (bits : List Bool) (first : RowsFound) (next : B → List Bool → X) (f : Unit → Reads (List Bool) B)
       → h first ≡ told next (f tt bits) → h (pick holds first (old.refused n)) ≡ told next (on (must holds n bits) f)
-  unfolding must if◌then◌else◌ on comes_to
+  unfolding must when◌then◌else◌ on comes_to
   must-on true n bits first next f p = p
   must-on false n bits first next f p = blames n
 

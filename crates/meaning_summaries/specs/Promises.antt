@@ -8,7 +8,7 @@ use Rattle.summary.specs.Rows.{Row}
 use Rattle.gathered.specs.RowsOf.{rows_of}
 use Rattle.summaries.specs.declared.Summarized.{Summarized}
 use Rattle.summaries.specs.declared.SummaryRows.{SummaryRows}
-use Rattle.meaning.specs.Reads.{if◌then◌else◌, Reads, got, refused, on, ◌>>=◌, done, refuse, here}
+use Rattle.meaning.specs.Reads.{when◌then◌else◌, Reads, got, refused, on, ◌>>=◌, done, refuse, here}
 use Rattle.meaning.specs.Reads.{comes_to}
 use Rattle.meaning_calls.specs.Reading.{all_of}
 use Rattle.meaning_written.specs.Diff.{each}
@@ -23,7 +23,7 @@ summary_of rs = packed (in_bits 4 1 ++ (in_bits 7 (length rs) ++ each row_bits r
 
 abbrev pub WriteSummary : ℕ → List ℕ → List ℕ → Summarized → List ℕ → Type 0
 WriteSummary form u lent r x =
-    let made = on (all_of form u) (λ y s. let b = summary_of (rows_of y.0) in if ltb (length lent) (length b) then refused 10 0 else got b s) in
+    let made = on (all_of form u) (λ y s. let b = summary_of (rows_of y.0) in when ltb (length lent) (length b) then refused 10 0 else got b s) in
     (r ≡ comes_to (λ b _. record { refusal = none; bytes = length b }) (λ why. record { refusal = why; bytes = 0 }) made)
     × (x ≡ padded (length lent) (comes_to (λ b _. b) (λ _. []) made))
 
@@ -31,10 +31,10 @@ WriteSummary form u lent r x =
 
 -- a number of k bits, 1 where there are not so many
 unfoldable pub bit_number : ℕ → Reads (List Bool) ℕ
-bit_number k s = if ltb (length s) k then refused 1 0 else got (value_of k s) (drop k s)
+bit_number k s = when ltb (length s) k then refused 1 0 else got (value_of k s) (drop k s)
 
 unfoldable pub must : Bool → ℕ → Reads (List Bool) (Unit {0})
-must holds n = if holds then done tt else refuse n 0
+must holds n = when holds then done tt else refuse n 0
 
 unfoldable pub a_row : Reads (List Bool) Row
 a_row = do

@@ -14,7 +14,7 @@ use Rattle.runs.specs.Number as number
 use Rattle.runs.specs.Difference as difference
 use Rattle.runs.specs.Byte as byte
 use Rattle.runs.specs.Runs as old
-use Rattle.meaning.specs.Reads.{if◌then◌else◌}
+use Rattle.meaning.specs.Reads.{when◌then◌else◌}
 use Rattle.meaning.specs.Columns.{numbers, differences, octets, no_rise}
 use Rattle.meaning_written.specs.Columns.{onto, runs, rises, runs_of, spelled, spelled_all, column, every, most, storable, near, why}
 use Rattle.meaning_written.specs.Between.{kind_of}
@@ -22,8 +22,8 @@ use Rattle.meaning_written.specs.Between.{kind_of}
 abbrev Runs : Type 0
 Runs = List (ℕ × ℕ)
 
-pick-if : {A : Type 0} (b : Bool) (x y : A) → pick b x y ≡ (if b then x else y)
-unfolding if◌then◌else◌
+pick-if : {A : Type 0} (b : Bool) (x y : A) → pick b x y ≡ (when b then x else y)
+unfolding when◌then◌else◌
 pick-if true x y = refl
 pick-if false x y = refl
 
@@ -36,7 +36,7 @@ pick-and false b = refl
 -- a key, so often, in front of these
 unfoldable front : ℕ → ℕ → Runs → Runs
 front k n [] = (k, n) ∷ []
-front k n (r ∷ rs) = if eqb k r.0 then (k, r.1 + n) ∷ rs else (k, n) ∷ r ∷ rs
+front k n (r ∷ rs) = when eqb k r.0 then (k, r.1 + n) ∷ rs else (k, n) ∷ r ∷ rs
 
 front-one : (k : ℕ) (rs : Runs) → front k 1 rs ≡ onto k rs
 unfolding front onto
@@ -44,12 +44,12 @@ front-one k [] = refl
 front-one k (r ∷ rs) = refl
 
 front_same : (k n : ℕ) (rs : Runs) → front k n (onto k rs) ≡ front k (n + 1) rs
-unfolding front onto if◌then◌else◌
+unfolding front onto when◌then◌else◌
 front_same k n [] = let more : 1 + n ≡ n + 1 = omega arith in rw (eq-eqb k k refl, more)
 front_same k n (r ∷ rs) = go (eqb k r.0)
   where
     go : (b : Bool)
-        → front k n (if b then (k, r.1 + 1) ∷ rs else (k, 1) ∷ r ∷ rs) ≡ (if b then (k, r.1 + (n + 1)) ∷ rs else (k, n + 1) ∷ r ∷ rs)
+        → front k n (when b then (k, r.1 + 1) ∷ rs else (k, 1) ∷ r ∷ rs) ≡ (when b then (k, r.1 + (n + 1)) ∷ rs else (k, n + 1) ∷ r ∷ rs)
     go true = let more : r.1 + 1 + n ≡ r.1 + (n + 1) = omega arith in rw (eq-eqb k k refl, more)
     go false = let more : 1 + n ≡ n + 1 = omega arith in rw (eq-eqb k k refl, more)
 
@@ -66,7 +66,7 @@ module _ {X : Type 0} (c : old.Coding) (over : ℕ → ℕ → ℕ → List ℕ 
     → over p k n (v ∷ vs) ≡ of ((k, n + 1) ∷ r ∷ rs)) where
   follows : (p k n v : ℕ) (vs : List ℕ) (rs : Runs) → eqb (c.key_of p v) k ≡ false → over v (c.key_of p v) 0 vs ≡ of (onto (c.key_of p v) rs)
       → over p k n (v ∷ vs) ≡ of (front k (n + 1) (onto (c.key_of p v) rs))
-  unfolding front onto if◌then◌else◌
+  unfolding front onto when◌then◌else◌
   follows p k n v vs rs e = go rs
     where
       not : eqb k (c.key_of p v) ≡ false
@@ -76,8 +76,8 @@ module _ {X : Type 0} (c : old.Coding) (over : ℕ → ℕ → ℕ → List ℕ 
       go [] h = rw not (other p k n v vs (c.key_of p v, 1) [] e h)
       go (r ∷ rs) h = at (eqb (c.key_of p v) r.0) h
         where
-          at : (b : Bool) → over v (c.key_of p v) 0 vs ≡ of (if b then (c.key_of p v, r.1 + 1) ∷ rs else (c.key_of p v, 1) ∷ r ∷ rs)
-              → over p k n (v ∷ vs) ≡ of (front k (n + 1) (if b then (c.key_of p v, r.1 + 1) ∷ rs else (c.key_of p v, 1) ∷ r ∷ rs))
+          at : (b : Bool) → over v (c.key_of p v) 0 vs ≡ of (when b then (c.key_of p v, r.1 + 1) ∷ rs else (c.key_of p v, 1) ∷ r ∷ rs)
+              → over p k n (v ∷ vs) ≡ of (front k (n + 1) (when b then (c.key_of p v, r.1 + 1) ∷ rs else (c.key_of p v, 1) ∷ r ∷ rs))
           at true h = rw not (other p k n v vs (c.key_of p v, r.1 + 1) rs e h)
           at false h = rw not (other p k n v vs (c.key_of p v, 1) (r ∷ rs) e h)
 
@@ -132,30 +132,30 @@ number_spelled k n last =
     let less : n + 1 - 2 ≡ n - 1 = omega arith in
     rw (one_more n, less) (pick-if (eqb n 0) (signed false k) (signed true k ++ unsigned (n - 1)))
 
-size_is : (k odd : ℕ) → difference.magnitude k odd ≡ (if ltb k no_rise then 2 * (no_rise - k) - odd else 2 * (k - no_rise) + odd)
+size_is : (k odd : ℕ) → difference.magnitude k odd ≡ (when ltb k no_rise then 2 * (no_rise - k) - odd else 2 * (k - no_rise) + odd)
 unfolding difference.magnitude
 size_is k odd = pick-if (ltb k no_rise) (2 * (no_rise - k) - odd) (2 * (k - no_rise) + odd)
 
 difference-spelled : (k n : ℕ) (last : Bool) → difference.run_bytes k n ≡ spelled differences k (n + 1) last
-unfolding difference.run_bytes spelled if◌then◌else◌
+unfolding difference.run_bytes spelled when◌then◌else◌
 difference-spelled k n last = let less : n + 1 - 2 ≡ n - 1 = omega arith in rw (one_more n, less) (go (eqb n 0))
   where
     m : Bool
     m = ltb k no_rise
 
     go : (b : Bool) → pick b (signed m (difference.magnitude k 0)) (signed m (difference.magnitude k 1) ++ unsigned (n - 1))
-        ≡ signed m (if m then 2 * (no_rise - k) - (if b then 0 else 1) else 2 * (k - no_rise) + (if b then 0 else 1)) ++ (if b then [] else unsigned (n - 1))
-    go true = rw (size_is k 0) (sym (append-nil (signed m (if m then 2 * (no_rise - k) - 0 else 2 * (k - no_rise) + 0))))
+        ≡ signed m (when m then 2 * (no_rise - k) - (when b then 0 else 1) else 2 * (k - no_rise) + (when b then 0 else 1)) ++ (when b then [] else unsigned (n - 1))
+    go true = rw (size_is k 0) (sym (append-nil (signed m (when m then 2 * (no_rise - k) - 0 else 2 * (k - no_rise) + 0))))
     go false = rw (size_is k 1)
 
 spell-same : (kind : ColumnKind) (k n : ℕ) → (old.coding kind).spell k n ≡ spelled (kind_of kind) k (n + 1) false
-unfolding old.coding kind_of spelled byte.run_bytes if◌then◌else◌
+unfolding old.coding kind_of spelled byte.run_bytes when◌then◌else◌
 spell-same Number k n = number_spelled k n false
 spell-same Difference k n = difference-spelled k n false
 spell-same Byte k n = let less : n + 1 - 1 ≡ n = omega arith in rw less
 
 final-same : (kind : ColumnKind) (k n : ℕ) → (old.coding kind).final k n ≡ spelled (kind_of kind) k (n + 1) true
-unfolding old.coding kind_of spelled if◌then◌else◌
+unfolding old.coding kind_of spelled when◌then◌else◌
 final-same Number k n = number_spelled k n true
 final-same Difference k n = difference-spelled k n true
 final-same Byte k n = refl
@@ -271,11 +271,11 @@ module _ (test : ℕ → Bool) where
   of_runs rs = every (λ (r : ℕ × ℕ). test r.0) rs
 
   all-onto : (v : ℕ) (rs : Runs) → of_runs (onto v rs) ≡ (test v && of_runs rs)
-  unfolding every onto if◌then◌else◌
+  unfolding every onto when◌then◌else◌
   all-onto v [] = refl
   all-onto v (r ∷ rs) = go (eqb v r.0) refl
     where
-      go : (b : Bool) → eqb v r.0 ≡ b → of_runs (if b then (v, r.1 + 1) ∷ rs else (v, 1) ∷ r ∷ rs) ≡ (test v && (test r.0 && of_runs rs))
+      go : (b : Bool) → eqb v r.0 ≡ b → of_runs (when b then (v, r.1 + 1) ∷ rs else (v, 1) ∷ r ∷ rs) ≡ (test v && (test r.0 && of_runs rs))
       go true e = rw (← (eqb-true v r.0 e)) (sym (and_self_left (test v) (of_runs rs)))
       go false e = refl
 
@@ -284,8 +284,8 @@ module _ (test : ℕ → Bool) where
   all_runs [] = refl
   all_runs (k ∷ ks) = rw (all-onto k (runs ks), all_runs ks)
 
-by_number : (a b c : Bool) → ◌≡◌ {A = ℕ} (pick a (pick b (pick c 0 13) 3) 3) (if a && b then (if c then 0 else 13) else 3)
-unfolding if◌then◌else◌
+by_number : (a b c : Bool) → ◌≡◌ {A = ℕ} (pick a (pick b (pick c 0 13) 3) 3) (when a && b then (when c then 0 else 13) else 3)
+unfolding when◌then◌else◌
 by_number true true c = pick-if c 0 13
 by_number true false c = refl
 by_number false b c = refl

@@ -21,7 +21,7 @@ use Rattle.decoder.specs.Line.{spanned, values_at}
 use Rattle.readings.specs.Sound.{bytes_in}
 use Rattle.kept.specs.Cut as kept
 use Rattle.kept.specs.Cut.{bytes_for, cut_part, torn_text, span_of, cut_list, is_whole, part_of, cut_row, torn_pieces, any_torn, format_in, any_format}
-use Rattle.meaning.specs.Reads.{if◌then◌else◌}
+use Rattle.meaning.specs.Reads.{when◌then◌else◌}
 use Rattle.meaning.specs.Line.{part, bytes_of}
 use Rattle.meaning.specs.Reads.{comes_to}
 use Rattle.meaning.specs.Blocks.{row}
@@ -123,7 +123,7 @@ module _ (u : List ℕ) where
 
   -- where it has no right id or no key, the old row keeps what stood there; that is not put down
   pub cut-same : (p : Block × ℕ) → block u (cut_row u (piece_of p)) ≡ block u (cut u p)
-  unfolding cut_row cut row given block place content if◌then◌else◌
+  unfolding cut_row cut row given block place content when◌then◌else◌
   cut-same p = go (eqb p.1 0) refl (is_item p.0) refl p.0.has_right refl p.0.has_key refl
     where
       go : (w : Bool) → eqb p.1 0 ≡ w → (x : Bool) → is_item p.0 ≡ x → (y : Bool) → p.0.has_right ≡ y → (z : Bool) → p.0.has_key ≡ z

@@ -17,7 +17,7 @@ use Rattle.kept.specs.Kept.{sections_of}
 use Rattle.kept.specs.Cut.{any_torn, any_format}
 use Rattle.writing.specs.Diff as writing
 use Rattle.writing.specs.Diff.{diff_tokens, turned_format}
-use Rattle.meaning.specs.Reads.{if◌then◌else◌}
+use Rattle.meaning.specs.Reads.{when◌then◌else◌}
 use Rattle.meaning.specs.Columns.{differences}
 use Rattle.meaning_written.specs.Columns.{every, near, rises}
 use Rattle.meaning_written.specs.Diff.{each, one_of, torn, Put, sections, crowded, values_in, puts, diff_bytes, diff_why}
@@ -45,7 +45,7 @@ bytes_same form u v bs rs =
 
 -- ---- the refusals
 
-many-same : (form : ℕ) {ts : List Token} {ps : List Put} → Are ts ps → many_keys form ts ≡ (if eqb form 1 then false else crowded [] ps)
+many-same : (form : ℕ) {ts : List Token} {ps : List Put} → Are ts ps → many_keys form ts ≡ (when eqb form 1 then false else crowded [] ps)
 unfolding many_keys
 many-same form r = alike (eqb form 1) refl (crowded-same [] r)
 
@@ -53,7 +53,7 @@ torn-same : (u : List ℕ) (v : List Entry) (bs : List Block) → any_torn u (se
 torn-same u v bs = ap (any_torn u) (sections-same v bs) ∙ any-torn u (kept v bs)
 
 turned_same : (from form : ℕ) (v : List Entry) (bs : List Block)
-    → turned_format from form (sections_of v bs) ≡ (if eqb from form then false else one_of is_format (all_pieces (kept v bs)))
+    → turned_format from form (sections_of v bs) ≡ (when eqb from form then false else one_of is_format (all_pieces (kept v bs)))
 unfolding turned_format
 turned_same from form v bs = alike (eqb from form) refl (ap any_format (sections-same v bs) ∙ any-format (kept v bs))
 
@@ -81,6 +81,6 @@ why-diff-same from form u v bs rs =
     let are = puts-same form u v bs rs in
     let pieces = all_pieces (kept v bs) in
     rw (many-same form are, torn-same u v bs, turned_same from form v bs, near-all form are)
-    (alike (if eqb form 1 then false else crowded [] ps) refl
+    (alike (when eqb form 1 then false else crowded [] ps) refl
     (alike (one_of (torn u) pieces) refl
-    (alike (if eqb from form then false else one_of is_format pieces) refl (alike (eqb form 1 || (spelled 2 ps && spelled 3 ps)) refl refl))))
+    (alike (when eqb from form then false else one_of is_format pieces) refl (alike (eqb form 1 || (spelled 2 ps && spelled 3 ps)) refl refl))))

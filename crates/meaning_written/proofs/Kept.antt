@@ -10,7 +10,7 @@ use Rattle.vector.specs.Vector.{Entry}
 use Rattle.readings.specs.Groups.{groups}
 use Rattle.kept.specs.Kept as kept
 use Rattle.kept.specs.Kept.{Piece, piece, Section, remote, whole_piece, with_pieces, keep_each, put_section, falling, sections_of}
-use Rattle.meaning.specs.Reads.{if◌then◌else◌}
+use Rattle.meaning.specs.Reads.{when◌then◌else◌}
 use Rattle.meaning.proofs.Line.{both}
 use Rattle.meaning_written.specs.Diff.{keep_from, insert_section, sections}
 
@@ -21,7 +21,7 @@ abbrev pub section_of : ℕ × List (Block × ℕ) → Section
 section_of s = record { client = s.0; pieces = map piece_of s.1 }
 
 -- a choice that is made alike
-pub alike : {A : Type 0} (b : Bool) {x x' y y' : A} → y ≡ x → y' ≡ x' → pick b y y' ≡ (if b then x else x')
+pub alike : {A : Type 0} (b : Bool) {x x' y y' : A} → y ≡ x → y' ≡ x' → pick b y y' ≡ (when b then x else x')
 alike b p q = both (λ new old. old ≡ new) b p q
 
 pub either : (x y : Bool) → pick x true y ≡ (x || y)

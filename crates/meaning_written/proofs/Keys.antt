@@ -9,7 +9,7 @@ use Rattle.tokens.specs.Tokens as tokens
 use Rattle.tokens.specs.Tokens.{Token}
 use Rattle.tokens.specs.Keys as keys
 use Rattle.tokens.specs.Keys.{remembered, by_number}
-use Rattle.meaning.specs.Reads.{if◌then◌else◌}
+use Rattle.meaning.specs.Reads.{when◌then◌else◌}
 use Rattle.meaning_written.specs.Diff.{Put, key, same, number_of, numbered, crowded}
 use Rattle.meaning_written.proofs.Kept.{alike}
 use Rattle.meaning_written.proofs.Puts.{lane_of, Are, a-number, a-text, a_key, a-var, a-buf, a-value, some-values, none, more}
@@ -35,7 +35,7 @@ module _ (ks : List (List ℕ)) (b : List ℕ) (n : ℕ) (ts : List Token) (ps :
   fits = ltb (length ks) 256
 
   key-numbered : ((ls : List (List ℕ)) → Are (keys.numbered ls ts) (numbered ls ps)) → Are (keys.numbered ks (tokens.key b n ∷ ts)) (numbered ks (key b n ∷ ps))
-  unfolding keys.numbered by_number remembered numbered if◌then◌else◌ lane_of
+  unfolding keys.numbered by_number remembered numbered when◌then◌else◌ lane_of
   key-numbered on = go known refl fits refl
     where
       go : (x : Bool) → known ≡ x → (y : Bool) → fits ≡ y → Are (keys.numbered ks (tokens.key b n ∷ ts)) (numbered ks (key b n ∷ ps))
@@ -44,7 +44,7 @@ module _ (ks : List (List ℕ)) (b : List ℕ) (n : ℕ) (ts : List Token) (ps :
       go false e false f = rw (number_same b ks, e, f) (more (a-number 0 (number_of b ks)) (more (a-text b n) (on ks)))
 
   key-crowded : ((ls : List (List ℕ)) → keys.crowded ls ts ≡ crowded ls ps) → keys.crowded ks (tokens.key b n ∷ ts) ≡ crowded ks (key b n ∷ ps)
-  unfolding keys.crowded remembered crowded if◌then◌else◌
+  unfolding keys.crowded remembered crowded when◌then◌else◌
   key-crowded on = go known refl fits refl
     where
       go : (x : Bool) → known ≡ x → (y : Bool) → fits ≡ y → keys.crowded ks (tokens.key b n ∷ ts) ≡ crowded ks (key b n ∷ ps)

@@ -23,7 +23,7 @@ use Rattle.records.specs.Records as records
 use Rattle.records.specs.Records.{info_byte, left_tokens, right_tokens, parent_tokens, key_tokens, place_tokens, content_tokens, block_tokens}
 use Rattle.records.specs.Records.{pieces_tokens, section_start, section_tokens, sections_tokens}
 use Rattle.records.specs.Records.{clock_from, length_of, ranges_tokens, client_tokens, delete_tokens, update_tokens}
-use Rattle.meaning.specs.Reads.{if◌then◌else◌}
+use Rattle.meaning.specs.Reads.{when◌then◌else◌}
 use Rattle.meaning.specs.Line.{units, bytes_of}
 use Rattle.meaning.proofs.Line.{both, units-same}
 use Rattle.meaning_written.specs.Diff.{each, cut, Put, text, key, plain, units_in, place, content, block, section, range_puts, client_puts, update}
@@ -32,20 +32,20 @@ use Rattle.meaning_written.proofs.Cut.{item-same, cut-same}
 use Rattle.meaning_written.proofs.Puts.{lane_of, Is, Are, a-number, a-text, a_key, a-var, a-buf, a-value, some-values, none, more, append}
 
 -- a choice that is made alike
-on : (b : Bool) {ps qs : List Put} {ts us : List Token} → Are ts ps → Are us qs → Are (pick b ts us) (if b then ps else qs)
+on : (b : Bool) {ps qs : List Put} {ts us : List Token} → Are ts ps → Are us qs → Are (pick b ts us) (when b then ps else qs)
 on b p q = both (λ ps ts. Are ts ps) b p q
 
 -- a content's number, and what it holds
 abbrev Holds : ℕ × List Put → List Token → ℕ → Type 0
 Holds new ts n = (n ≡ new.0) × Are ts new.1
 
-held : (b : Bool) {x y : ℕ × List Put} {ts us : List Token} {m n : ℕ} → Holds x ts m → Holds y us n → Holds (if b then x else y) (pick b ts us) (cond b m n)
-unfolding if◌then◌else◌
+held : (b : Bool) {x y : ℕ × List Put} {ts us : List Token} {m n : ℕ} → Holds x ts m → Holds y us n → Holds (when b then x else y) (pick b ts us) (cond b m n)
+unfolding when◌then◌else◌
 held true p q = p
 held false p q = q
 
-bit-same : (b : Bool) (n : ℕ) → records.bit b n ≡ (if b then n else 0)
-unfolding if◌then◌else◌
+bit-same : (b : Bool) (n : ℕ) → records.bit b n ≡ (when b then n else 0)
+unfolding when◌then◌else◌
 bit-same true n = refl
 bit-same false n = refl
 
@@ -53,10 +53,10 @@ bit-same false n = refl
 
 module _ (u : List ℕ) where
   units_in_lem : (p : Part) → (counted_in (bytes_in u p)).units.0 ≡ units_in u p
-  unfolding counted_in bytes_in if◌then◌else◌
+  unfolding counted_in bytes_in when◌then◌else◌
   units_in_lem p = go (well_formed (bytes_of u p)) refl
     where
-      go : (b : Bool) → well_formed (bytes_of u p) ≡ b → utf8.pick b (units_of (bytes_of u p)) 0 ≡ (if b then units (bytes_of u p) else 0)
+      go : (b : Bool) → well_formed (bytes_of u p) ≡ b → utf8.pick b (units_of (bytes_of u p)) 0 ≡ (when b then units (bytes_of u p) else 0)
       go true h = sym (units-same (bytes_of u p) h)
       go false h = refl
 
@@ -125,7 +125,7 @@ module _ (u : List ℕ) where
 
 -- ---- the delete set
 
-a-choice : (b : Bool) (m n : ℕ) → Is (tokens.var (pick b m n)) (plain (unsigned (if b then m else n)))
+a-choice : (b : Bool) (m n : ℕ) → Is (tokens.var (pick b m n)) (plain (unsigned (when b then m else n)))
 a-choice b m n = both (λ new old. Is (tokens.var old) (plain (unsigned new))) b (a-var m) (a-var n)
 
 ranges-same : (form end : ℕ) (rs : List Range) → Are (ranges_tokens form end rs) (range_puts form end rs)

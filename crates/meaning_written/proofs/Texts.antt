@@ -10,7 +10,7 @@ use Rattle.text.specs.declared.Taken.{Taken}
 use Rattle.text.specs.declared.Taken.TheVariants.{Took, Refused}
 use Rattle.text.specs.Utf8.{well_formed, take_units}
 use Rattle.string.specs.String as old
-use Rattle.meaning.specs.Reads.{if◌then◌else◌}
+use Rattle.meaning.specs.Reads.{when◌then◌else◌}
 use Rattle.meaning.specs.Columns.{numbers}
 use Rattle.meaning_written.specs.Columns.{why}
 use Rattle.meaning_written.specs.Texts.{text_column, takes_all, why_texts}
@@ -30,8 +30,8 @@ takes_same t (u ∷ us) = go (take_units 7 u t) (λ k. takes_same (drop k t) us)
     go (Took b) on = on b.0
     go (Refused why) on = refl
 
-by_number : (a b c : Bool) → ◌≡◌ {A = ℕ} (pick a (pick b (pick c 0 7) 3) 6) (if not a then 6 else if not b then 3 else if not c then 7 else 0)
-unfolding if◌then◌else◌
+by_number : (a b c : Bool) → ◌≡◌ {A = ℕ} (pick a (pick b (pick c 0 7) 3) 6) (when not a then 6 else when not b then 3 else when not c then 7 else 0)
+unfolding when◌then◌else◌
 by_number true true true = refl
 by_number true true false = refl
 by_number true false c = refl

@@ -1,13 +1,13 @@
 -- How columns are written: equal neighbours are one run, as long as it can be, and a run is spelled once.
 use Rattle.std.specs.Prelude.{ℕ, ◌+◌, ◌-◌, ◌*◌, Bool, true, false, ◌&&◌, List, [], ◌∷◌, ◌++◌, ltb, leb, eqb, length}
 use Rattle.numbers.specs.Number.{unsigned, signed}
-use Rattle.meaning.specs.Reads.{if◌then◌else◌}
+use Rattle.meaning.specs.Reads.{when◌then◌else◌}
 use Rattle.meaning.specs.Columns.{Coding, numbers, differences, octets, no_rise}
 
 -- a run: a value, and how often it stands; one more in front of these
 unfoldable pub onto : ℕ → List (ℕ × ℕ) → List (ℕ × ℕ)
 onto v [] = (v, 1) ∷ []
-onto v (r ∷ rs) = if eqb v r.0 then (v, r.1 + 1) ∷ rs else (v, 1) ∷ r ∷ rs
+onto v (r ∷ rs) = when eqb v r.0 then (v, r.1 + 1) ∷ rs else (v, 1) ∷ r ∷ rs
 
 unfoldable pub runs : List ℕ → List (ℕ × ℕ)
 runs [] = []
@@ -28,11 +28,11 @@ runs_of octets vs = runs vs
 -- a number, with minus and a count less two where it stands more than once; twice a difference, odd and such a count where it applies more than once;
 -- a byte, and a count less one, but none where it is the last
 unfoldable pub spelled : Coding → ℕ → ℕ → Bool → List ℕ
-spelled numbers v n last = if eqb n 1 then signed false v else signed true v ++ unsigned (n - 2)
+spelled numbers v n last = when eqb n 1 then signed false v else signed true v ++ unsigned (n - 2)
 spelled differences d n last =
-    let odd : ℕ = if eqb n 1 then 0 else 1 in
-    signed (ltb d no_rise) (if ltb d no_rise then 2 * (no_rise - d) - odd else 2 * (d - no_rise) + odd) ++ (if eqb n 1 then [] else unsigned (n - 2))
-spelled octets b n last = b ∷ (if last then [] else unsigned (n - 1))
+    let odd : ℕ = when eqb n 1 then 0 else 1 in
+    signed (ltb d no_rise) (when ltb d no_rise then 2 * (no_rise - d) - odd else 2 * (d - no_rise) + odd) ++ (when eqb n 1 then [] else unsigned (n - 2))
+spelled octets b n last = b ∷ (when last then [] else unsigned (n - 1))
 
 unfoldable pub spelled_all : Coding → List (ℕ × ℕ) → List ℕ
 spelled_all kind [] = []
@@ -68,5 +68,5 @@ near octets d = true
 
 unfoldable pub why : Coding → List ℕ → ℕ
 why kind vs =
-    if every (λ v. leb v (most kind)) vs && storable kind (runs_of kind vs)
-    then (if every (λ (r : ℕ × ℕ). near kind r.0) (runs_of kind vs) then 0 else 13) else 3
+    when every (λ v. leb v (most kind)) vs && storable kind (runs_of kind vs)
+    then (when every (λ (r : ℕ × ℕ). near kind r.0) (runs_of kind vs) then 0 else 13) else 3

@@ -12,7 +12,7 @@ use Rattle.ranges.specs.Ranges.{Range}
 use Rattle.readings.specs.Groups.{groups}
 use Rattle.vector.specs.Vector.{Entry}
 use Rattle.kept.specs.Kept.{remote}
-use Rattle.meaning.specs.Reads.{if◌then◌else◌}
+use Rattle.meaning.specs.Reads.{when◌then◌else◌}
 use Rattle.meaning.specs.Line.{part, units, bytes_of, values}
 use Rattle.meaning.specs.Reads.{comes_to}
 use Rattle.meaning.specs.Columns.{Coding, numbers, differences, octets}
@@ -29,13 +29,13 @@ each f (x ∷ xs) = f x ++ each f xs
 unfoldable pub keep_from : ℕ → List Block → List (Block × ℕ)
 keep_from k [] = []
 keep_from k (b ∷ bs) =
-    if eqb b.kind 2 || leb (b.clock + b.length.0) k then keep_from k bs else (b, k - b.clock) ∷ map (λ (b : Block). (b, 0)) bs
+    when eqb b.kind 2 || leb (b.clock + b.length.0) k then keep_from k bs else (b, k - b.clock) ∷ map (λ (b : Block). (b, 0)) bs
 
 -- a section is a client and what is kept of it; highest client first, and none with nothing kept
 unfoldable pub insert_section : ℕ → List (Block × ℕ) → List (ℕ × List (Block × ℕ)) → List (ℕ × List (Block × ℕ))
 insert_section c [] ss = ss
 insert_section c (p ∷ ps) [] = (c, p ∷ ps) ∷ []
-insert_section c (p ∷ ps) (s ∷ ss) = if ltb c s.0 then s ∷ insert_section c (p ∷ ps) ss else (c, p ∷ ps) ∷ s ∷ ss
+insert_section c (p ∷ ps) (s ∷ ss) = when ltb c s.0 then s ∷ insert_section c (p ∷ ps) ss else (c, p ∷ ps) ∷ s ∷ ss
 
 unfoldable pub sections : List Entry → List (List Block) → List (ℕ × List (Block × ℕ))
 sections v [] = []
@@ -45,7 +45,7 @@ sections v ((b ∷ bs) ∷ gs) = insert_section b.client (keep_from (remote v b.
 -- ---- a block that is cut
 
 unfoldable pub given : {A : Type 0} → Bool → A → Option A
-given there a = if there then some a else none
+given there a = when there then some a else none
 
 abbrev pub is_item : Block → Bool
 is_item b = ltb 2 b.kind && ltb b.kind 9
@@ -69,8 +69,8 @@ module _ (u : List ℕ) where
       let t = bytes_of u b.part in
       let text = taken (take_units 9 k t) in
       let list = b.part.place + span b.part.place k in
-      if eqb b.kind 5 then part (b.part.place + text) (taken (take_units 9 (b.length.0 - k) (drop text t)))
-      else if eqb b.kind 8 then part list (span list (b.length.0 - k)) else b.part
+      when eqb b.kind 5 then part (b.part.place + text) (taken (take_units 9 (b.length.0 - k) (drop text t)))
+      else when eqb b.kind 8 then part list (span list (b.length.0 - k)) else b.part
 
   -- inside a pair: 9
   unfoldable pub torn : Block × ℕ → Bool
@@ -86,7 +86,7 @@ module _ (u : List ℕ) where
       let k = p.1 in
       let left : Id = record { client = b.client; clock = b.clock + k - 1 } in
       let right : Id = record { client = b.right_client; clock = b.right_clock } in
-      if eqb k 0 then b
+      when eqb k 0 then b
       else row b.client (b.clock + k) (b.length.0 - k) b.kind (given (is_item b) left) (given b.has_right right) none none
       (given b.has_key b.key) (behind k b) b.mark b.type_number
 
@@ -106,18 +106,18 @@ led b = unsigned (length b) ++ b
 
 module _ (u : List ℕ) where
   abbrev pub units_in : Part → ℕ
-  units_in p = if well_formed (bytes_of u p) then units (bytes_of u p) else 0
+  units_in p = when well_formed (bytes_of u p) then units (bytes_of u p) else 0
 
   -- left id, right id; without either the parent, by its name or by its id, and a key
   unfoldable pub place : Block → List Put
   place b =
-      if b.has_left || b.has_right then
-      ((if b.has_left then number 1 b.left_client ∷ number 2 b.left_clock ∷ [] else [])
-      ++ (if b.has_right then number 1 b.right_client ∷ number 3 b.right_clock ∷ [] else []))
+      when b.has_left || b.has_right then
+      ((when b.has_left then number 1 b.left_client ∷ number 2 b.left_clock ∷ [] else [])
+      ++ (when b.has_right then number 1 b.right_client ∷ number 3 b.right_clock ∷ [] else []))
       else
-      ((if b.has_name then number 6 1 ∷ text (bytes_of u b.name) (units_in b.name) ∷ []
+      ((when b.has_name then number 6 1 ∷ text (bytes_of u b.name) (units_in b.name) ∷ []
       else number 6 0 ∷ number 1 b.parent_client ∷ number 2 b.parent_clock ∷ [])
-      ++ (if b.has_key then text (bytes_of u b.key) (units_in b.key) ∷ [] else []))
+      ++ (when b.has_key then text (bytes_of u b.key) (units_in b.key) ∷ [] else []))
 
   -- the number of its content, and what it holds
   unfoldable pub content : Block → ℕ × List Put
@@ -125,21 +125,21 @@ module _ (u : List ℕ) where
       let n = b.length.0 in
       let mark = key (bytes_of u b.mark) (units_in b.mark) in
       let stored = bytes_of u b.part in
-      if eqb b.kind 3 then (1, number 8 n ∷ []) else
-      if eqb b.kind 4 then (3, plain (led stored) ∷ []) else
-      if eqb b.kind 5 then (4, text stored n ∷ []) else
-      if eqb b.kind 6 then (6, mark ∷ rest (led stored) stored ∷ []) else
-      if eqb b.kind 7 then (7, number 7 b.type_number ∷ (if eqb b.type_number 3 || eqb b.type_number 5 then mark ∷ [] else [])) else
-      if eqb b.kind 8 then (8, number 8 n ∷ plain stored ∷ []) else (0, [])
+      when eqb b.kind 3 then (1, number 8 n ∷ []) else
+      when eqb b.kind 4 then (3, plain (led stored) ∷ []) else
+      when eqb b.kind 5 then (4, text stored n ∷ []) else
+      when eqb b.kind 6 then (6, mark ∷ rest (led stored) stored ∷ []) else
+      when eqb b.kind 7 then (7, number 7 b.type_number ∷ (when eqb b.type_number 3 || eqb b.type_number 5 then mark ∷ [] else [])) else
+      when eqb b.kind 8 then (8, number 8 n ∷ plain stored ∷ []) else (0, [])
 
   -- a GC is 0 and a length, a Skip 10 and a length in line, an item its info byte, its place and its content
   unfoldable pub block : Block → List Put
   block b =
-      let bit : Bool → ℕ → ℕ = λ there n. if there then n else 0 in
+      let bit : Bool → ℕ → ℕ = λ there n. when there then n else 0 in
       let info = (content b).0 + bit b.has_left 128 + bit b.has_right 64 + bit b.has_key 32 in
-      if eqb b.kind 1 then number 4 0 ∷ number 8 b.length.0 ∷ [] else
-      if eqb b.kind 2 then number 4 10 ∷ plain (unsigned b.length.0) ∷ [] else
-      if is_item b then number 4 info ∷ (place b ++ (content b).1) else []
+      when eqb b.kind 1 then number 4 0 ∷ number 8 b.length.0 ∷ [] else
+      when eqb b.kind 2 then number 4 10 ∷ plain (unsigned b.length.0) ∷ [] else
+      when is_item b then number 4 info ∷ (place b ++ (content b).1) else []
 
   -- how many, client, first clock, blocks
   unfoldable pub section : ℕ × List (Block × ℕ) → List Put
@@ -153,7 +153,7 @@ module _ (u : List ℕ) where
 unfoldable pub range_puts : ℕ → ℕ → List Range → List Put
 range_puts form end [] = []
 range_puts form end (r ∷ rs) =
-    plain (unsigned (if eqb form 1 then r.clock else r.clock - end)) ∷ plain (unsigned (if eqb form 1 then r.len else r.len - 1))
+    plain (unsigned (when eqb form 1 then r.clock else r.clock - end)) ∷ plain (unsigned (when eqb form 1 then r.len else r.len - 1))
     ∷ range_puts form (r.clock + r.len) rs
 
 unfoldable pub client_puts : ℕ → List Range → List Put
@@ -175,7 +175,7 @@ same (b ∷ e) (c ∷ d) = eqb b c && same e d
 
 unfoldable pub number_of : List ℕ → List (List ℕ) → ℕ
 number_of b [] = 0
-number_of b (k ∷ ks) = if same b k then 0 else suc (number_of b ks)
+number_of b (k ∷ ks) = when same b k then 0 else suc (number_of b ks)
 
 unfoldable pub numbered : List (List ℕ) → List Put → List Put
 numbered ks [] = []
@@ -184,8 +184,8 @@ numbered ks (text b n ∷ ps) = text b n ∷ numbered ks ps
 numbered ks (rest a b ∷ ps) = rest a b ∷ numbered ks ps
 numbered ks (key b n ∷ ps) =
     let i = number_of b ks in
-    if ltb i (length ks) then number 0 i ∷ numbered ks ps
-    else number 0 i ∷ text b n ∷ numbered (if ltb (length ks) 256 then ks ++ (b ∷ []) else ks) ps
+    when ltb i (length ks) then number 0 i ∷ numbered ks ps
+    else number 0 i ∷ text b n ∷ numbered (when ltb (length ks) 256 then ks ++ (b ∷ []) else ks) ps
 
 -- one of the keys finds no room
 unfoldable pub crowded : List (List ℕ) → List Put → Bool
@@ -194,21 +194,21 @@ crowded ks (number k v ∷ ps) = crowded ks ps
 crowded ks (text b n ∷ ps) = crowded ks ps
 crowded ks (rest a b ∷ ps) = crowded ks ps
 crowded ks (key b n ∷ ps) =
-    if ltb (number_of b ks) (length ks) then crowded ks ps else if ltb (length ks) 256 then crowded (ks ++ (b ∷ [])) ps else true
+    when ltb (number_of b ks) (length ks) then crowded ks ps else when ltb (length ks) 256 then crowded (ks ++ (b ∷ [])) ps else true
 
 -- ---- the bytes
 
 -- form 1 has all in line, and an info as a byte
 unfoldable pub in_line : Put → List ℕ
-in_line (number k v) = if eqb k 4 then v ∷ [] else unsigned v
+in_line (number k v) = when eqb k 4 then v ∷ [] else unsigned v
 in_line (text b n) = led b
 in_line (key b n) = led b
 in_line (rest a b) = a
 
 -- the values of a column of form 2, that of texts having their units
 unfoldable pub values_in : ℕ → Put → List ℕ
-values_in k (number j v) = if eqb k j then v ∷ [] else []
-values_in k (text b n) = if eqb k 5 then n ∷ [] else []
+values_in k (number j v) = when eqb k j then v ∷ [] else []
+values_in k (text b n) = when eqb k 5 then n ∷ [] else []
 values_in k (key b n) = []
 values_in k (rest a b) = []
 
@@ -237,7 +237,7 @@ abbrev pub puts : ℕ → List ℕ → List Entry → List Block → List Range 
 puts form u v bs rs = update form u (sections v (groups (λ (b : Block). b.client) bs)) rs
 
 unfoldable pub diff_bytes : ℕ → List ℕ → List Entry → List Block → List Range → List ℕ
-diff_bytes form u v bs rs = if eqb form 1 then each in_line (puts form u v bs rs) else form2 (numbered [] (puts form u v bs rs))
+diff_bytes form u v bs rs = when eqb form 1 then each in_line (puts form u v bs rs) else form2 (numbered [] (puts form u v bs rs))
 
 unfoldable pub one_of : {A : Type 0} → (A → Bool) → List A → Bool
 one_of test [] = false
@@ -249,7 +249,7 @@ diff_why from form u v bs rs =
     let ps = puts form u v bs rs in
     let pieces = each (λ (s : ℕ × List (Block × ℕ)). s.1) (sections v (groups (λ (b : Block). b.client) bs)) in
     let spelled : ℕ → Bool = λ k. every (near differences) (rises 0 (each (values_in k) ps)) in
-    if (if eqb form 1 then false else crowded [] ps) then 3
-    else if one_of (torn u) pieces then 9
-    else if (if eqb from form then false else one_of (λ (p : Block × ℕ). eqb p.0.kind 6) pieces) then 19
-    else if eqb form 1 || (spelled 2 && spelled 3) then 0 else 13
+    when (when eqb form 1 then false else crowded [] ps) then 3
+    else when one_of (torn u) pieces then 9
+    else when (when eqb from form then false else one_of (λ (p : Block × ℕ). eqb p.0.kind 6) pieces) then 19
+    else when eqb form 1 || (spelled 2 && spelled 3) then 0 else 13

@@ -3,7 +3,7 @@ use Rattle.std.specs.Prelude.{ℕ, Bool, true, false, not, List, [], ◌∷◌, 
 use Rattle.numbers.specs.Number.{unsigned}
 use Rattle.text.specs.declared.Taken.TheVariants.{Took, Refused}
 use Rattle.text.specs.Utf8.{well_formed, take_units}
-use Rattle.meaning.specs.Reads.{if◌then◌else◌}
+use Rattle.meaning.specs.Reads.{when◌then◌else◌}
 use Rattle.meaning.specs.Columns.{numbers}
 use Rattle.meaning_written.specs.Columns.{column, why}
 
@@ -16,4 +16,4 @@ takes_all t [] = true
 takes_all t (u ∷ us) = elim (take_units 7 u t) [ Took b ↦ takes_all (drop b.0 t) us | Refused why ↦ false ]
 
 unfoldable pub why_texts : List ℕ → List ℕ → ℕ
-why_texts t us = if not (well_formed t) then 6 else if not (eqb (why numbers us) 0) then 3 else if not (takes_all t us) then 7 else 0
+why_texts t us = when not (well_formed t) then 6 else when not (eqb (why numbers us) 0) then 3 else when not (takes_all t us) then 7 else 0
