@@ -199,11 +199,11 @@ class Signature:
             if w.group(1) == 'requires':
                 self.asks = bare(t.strip('⌜⌝ '))
             else:
-                given, t = re.match(r'^λ (\w+)\.\s*(.*)$', t).groups()
+                given = 'result'
                 t = t.strip().strip('⌜⌝').strip()
                 for c in split(unfolded(t, self.here), ' × '):
                     c = bare(c)
-                    m1, m2 = re.match(r'%s ≡ (.*)$' % given, c), re.match(r'\(?now \((\w+) \.exit\)\)? ≡ (.*)$', c)
+                    m1, m2 = re.match(r'%s ≡ (.*)$' % given, c), re.match(r'(\w+)\.new ≡ (.*)$', c)
                     if m1:
                         self.gives = m1.group(1)
                         self.order.append('r')
