@@ -22,13 +22,7 @@ fn is_held_up(slots: &[u64], n: usize, reach: &[u64], a: Dependency) -> bool
     }
     let p = slots::rank_of(slots, n, id.client);
     let named = slots::is_at(slots, n, p, id.client);
-    if !named {
-        return true;
-    }
-    if reach.len() <= p {
-        return true;
-    }
-    reach[p] <= id.clock as u64
+    !picker::is_met(reach, p, named, id)
 }
 
 // The first id of a block that is not met, b being the block by number.
@@ -54,10 +48,7 @@ pub fn first_unmet(slots: &[u64], n: usize, reach: &[u64], a: Block, b: Block) -
 pub fn is_left(f: Front, rows: usize) -> bool
     ensures { result ≡ is_left f rows }
 {
-    if f.left == 0 {
-        return false;
-    }
-    f.next < rows
+    f.left != 0 && f.next < rows
 }
 
 // What slot i waits for, from word `at` on: its client, and the id. The place after.
@@ -68,6 +59,6 @@ pub fn put_waiting(slots: &[u64], i: usize, id: Id, out: &mut [u64], at: usize) 
     let client = slots[3 * i];
     numbers::words::put_word(out, at, client);
     numbers::words::put_word(out, at + 1, id.client);
-    numbers::words::put_word(out, at + 2, id.clock as u64);
+    numbers::words::put_word(out, at + 2, u64::from(id.clock));
     at + 3
 }

@@ -94,7 +94,7 @@ bytes_back (x ∷ s) h =
     (ap (bytes (length s)) (drop_at (in_bits 8 x) (of_bytes s) 8 (length-in-bits 8 x)) ∙ bytes_back s e.1)
 
 -- so many bytes of as many bits
-whole_back : (n : ℕ) (b : List Bool) → length b ≡ 8 * n → of_bytes (bytes n b) ≡ b
+pub whole_back : (n : ℕ) (b : List Bool) → length b ≡ 8 * n → of_bytes (bytes n b) ≡ b
 unfolding bytes of_bytes
 whole_back zero [] e = refl
 whole_back zero (x ∷ b) e = absurd (omega (arith, e))

@@ -1,18 +1,17 @@
 -- Laws of bits: a number of bits is that of its first bits, then of the rest; bits and numbers, bits and bytes are each other's inverse.
-use Prim.Native.Nat.{ℕ, zero, suc, ◌+◌, ◌-◌, ◌*◌, ◌/◌, ◌%◌, ◌^◌, ◌≤◌, ◌<◌}
+use Prim.Native.Nat.{ℕ, zero, suc, ◌+◌, ◌*◌, ◌/◌, ◌%◌, ◌^◌, ◌≤◌, ◌<◌}
 use mathlib.Core.Path.{◌≡◌, refl, sym, ap, ◌∙◌}
 use mathlib.Core.Bool.{Bool, true, false}
-use mathlib.Core.List.{List, [], ◌∷◌, ◌++◌, append-nil}
+use mathlib.Core.List.{List, [], ◌∷◌, ◌++◌}
 use native.Mathlib.Nat.{mod-lt, mod-eq_of_lt, add-mul, zero-add, suc-add, pow-suc}
-use native.Mathlib.Numerals.{add-one, one-add}
+use native.Mathlib.Numerals.{one-add}
 use native.Mathlib.Omega.{arith}
 use lib.Dec.{eqb}
-use lib.ListN.{length, take, drop, get_or, replicate, length-append, length-drop, drop_of_length-le}
+use lib.ListN.{length, take, drop, get_or, length-append, length-drop}
 use lib.Seq.{drop-append_seam, drop-append-le, drop-append-add, drop-drop, drop-nil}
 use lib.Pow.{pow_pos, pow-add, mod-pow-add}
-use borrow.Author.Tests.{eq-eqb, ne_eqb}
 use Rattle.numbers.specs.Number.{pick}
-use Rattle.bits.specs.Bits.{in_bits, value_of, of_bytes, bytes, packed}
+use Rattle.bits.specs.Bits.{in_bits, value_of, of_bytes, bytes}
 
 -- ---- the number of bits
 

@@ -3,3 +3,4 @@ pub mod Laws
 pub mod Places
 pub mod Inverse
 pub mod Passing
+pub mod Words

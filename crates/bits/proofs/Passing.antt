@@ -2,10 +2,9 @@
 use Prim.Native.Nat.{ℕ, zero, suc, ◌+◌, ◌-◌, ◌*◌, ◌/◌, ◌%◌, ◌^◌, ◌≤◌, ◌<◌}
 use mathlib.Core.Path.{◌≡◌, refl, sym, ap, ap₂, ◌∙◌, subst}
 use mathlib.Core.Bool.{Bool}
-use mathlib.Core.List.{List, [], ◌∷◌, ◌++◌, append-nil, append_assoc}
+use mathlib.Core.List.{List, [], ◌++◌, append-nil, append_assoc}
 use native.Mathlib.Nat.{mod-lt, mul_assoc, mul-div_cancel, mul-div-mul_right, mul-mod_left, add-zero, zero-add, suc-add, mod-eq_of_lt, add_comm}
 use native.Mathlib.Omega.{arith}
-use lib.Dec.{eqb}
 use lib.ListN.{length, take, drop, length-append, length-drop, take-append-drop}
 use lib.Seq.{sets, drop_at, length-take-le, take_all}
 use lib.Arith.{digits_lt}
@@ -13,7 +12,7 @@ use lib.Pow.{pow_pos, pow-add, mod-pow-add, high, low, shr_lt, shr-shr}
 use Rattle.numbers.proofs.Output.{sets-append}
 use Rattle.bits.specs.Bits.{in_bits, value_of, bytes}
 use Rattle.bits.specs.Places.{top, highest, Starts, Adds}
-use Rattle.bits.proofs.Laws.{number_lt, number-add, number-front, length-in-bits, in-bits-number, length-bytes, bytes-add, bytes-front}
+use Rattle.bits.proofs.Laws.{number-add, number-front, length-in-bits, in-bits-number, bytes-add, bytes-front}
 use Rattle.bits.proofs.Inverse.{bits_back}
 use Rattle.bits.proofs.Places.{top-bytes, tail-is, word-is, highest-is, stores}
 
@@ -124,7 +123,7 @@ eight y h =
 length-wide : (a b c : ℕ) → length (in_bits 64 a ++ (in_bits 64 b ++ in_bits 3 c)) ≡ 131
 length-wide a b c = simp (length-append, length-in-bits)
 
-length-top : (n w : ℕ) → length (top n w) ≡ n
+pub length-top : (n w : ℕ) → length (top n w) ≡ n
 unfolding top
 length-top zero w = refl
 length-top (suc n) w = ap suc (length-top n (w * 2 ^ 8 % 2 ^ 64))

@@ -3,14 +3,14 @@ use Prim.Native.Nat.{ℕ, zero, suc, ◌+◌, ◌-◌, ◌*◌, ◌/◌, ◌%◌
 use mathlib.Core.Path.{◌≡◌, refl, sym, ap, ap₂, ◌∙◌, subst}
 use mathlib.Core.Bool.{Bool}
 use mathlib.Core.List.{List, [], ◌∷◌, ◌++◌, append-nil, append_assoc}
-use native.Mathlib.Nat.{mod-lt, add-mul, mul_assoc, mul-le-mul_left, mul-div_cancel, mul-div-mul_right, mul-mod_left, add-zero, lt_of_lt_of_le, mod-eq_of_lt}
+use native.Mathlib.Nat.{mod-lt, add-mul, mul_assoc, mul-le-mul_left, mul-div_cancel, mul-div-mul_right, mul-mod_left, add-zero}
 use native.Mathlib.Omega.{arith}
 use native.Mathlib.Numerals.{add-one}
 use lib.ListN.{length, take, drop, get_or, length-append, length-drop, drop_of_length-le}
 use lib.Seq.{sets, drop-cons, drop_at, drop-append-le, drop-drop, length-sets, get_or-take, take-take}
 use lib.Arith.{digits_lt}
-use lib.Pow.{pow_pos, pow_mono, pow-add, mod-pow-add, high, low, shl_lt, shl_exact}
-use borrow.Author.Tests.{eq-eqb, ne_eqb}
+use lib.Pow.{pow_pos, pow-add, mod-pow-add, high, low, shl_lt, shl_exact}
+use borrow.Author.Tests.{ne_eqb}
 use Rattle.numbers.proofs.Output.{take-sets}
 use Rattle.bits.specs.Bits.{in_bits, value_of, of_bytes, bytes, packed}
 use Rattle.bits.specs.Places.{top, highest, Starts, Adds}

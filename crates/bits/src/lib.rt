@@ -6,12 +6,6 @@ ghost use Rattle.std.proofs.lemmas.List.Edits.{sets};
 ghost use Rattle.bits.specs.Bits.{in_bits, value_of, of_bytes};
 ghost use Rattle.bits.specs.Places.{top, highest, Adds};
 
-fn wide(x: u8) -> u64
-    ensures { (result ≡ x) × (result < 256) }
-{
-    x as u64
-}
-
 // ---- taken
 
 // Fewer than eight bytes, from `at` to the end, as the highest of eight; zeros behind them.
@@ -20,11 +14,9 @@ fn last_window(s: &[u8], at: usize) -> u64
     ensures { result ≡ value_of 64 (of_bytes (drop at s.now)) }
 {
     let mut w: u64 = 0;
-    let mut i = at;
     let mut left: usize = 64;
-    while i < s.len() {
-        w = w * 256 + wide(s[i]);
-        i += 1;
+    for b in &s[at..] {
+        w = w * 256 + u64::from(*b);
         left -= 8;
     }
     w << left
@@ -35,17 +27,10 @@ fn window(s: &[u8], at: usize) -> u64
     requires { at < length s.now }
     ensures { result ≡ value_of 64 (of_bytes (drop at s.now)) }
 {
-    if s.len() - at < 8 {
+    let Some(eight) = s[at..].first_chunk::<8>() else {
         return last_window(s, at);
-    }
-    let a = wide(s[at]);
-    let b = a * 256 + wide(s[at + 1]);
-    let c = b * 256 + wide(s[at + 2]);
-    let d = c * 256 + wide(s[at + 3]);
-    let e = d * 256 + wide(s[at + 4]);
-    let f = e * 256 + wide(s[at + 5]);
-    let g = f * 256 + wide(s[at + 6]);
-    g * 256 + wide(s[at + 7])
+    };
+    u64::from_be_bytes(*eight)
 }
 
 // The number that k bits spell from bit o on.
@@ -65,14 +50,10 @@ fn store(out: &mut [u8], at: usize, w: u64, n: usize)
     requires { at + n ≤ length out.old }
     ensures { out.new ≡ sets out.old at (top n w) }
 {
-    let mut i = at;
-    let mut left = n;
     let mut rest = w;
-    while 0 < left {
-        out[i] = (rest >> 56) as u8;
+    for i in 0..n {
+        out[at + i] = (rest >> 56) as u8;
         rest = rest << 8;
-        i += 1;
-        left -= 1;
     }
 }
 
@@ -84,7 +65,7 @@ fn begun(s: &[u8], at: usize, r: usize) -> u64
     if r == 0 {
         return 0;
     }
-    wide(s[at]) >> (8 - r)
+    u64::from(s[at]) >> (8 - r)
 }
 
 // v in k bits, behind the bits that end at bit o; zeros fill the last byte.
@@ -102,20 +83,12 @@ pub fn put(out: &mut [u8], o: usize, k: usize, v: u64)
     store(out, at, w, n);
 }
 
-// All bytes of a word, from `at` on: a count that is known is no loop for the machine.
+// All bytes of a word, from `at` on.
 fn store_word(out: &mut [u8], at: usize, w: u64)
     requires { at + 8 ≤ length out.old }
     ensures { out.new ≡ sets out.old at (top 8 w) }
 {
-    let mut i = at;
-    let mut left: usize = 8;
-    let mut rest = w;
-    while 0 < left {
-        out[i] = (rest >> 56) as u8;
-        rest = rest << 8;
-        i += 1;
-        left -= 1;
-    }
+    out[at..at + 8].copy_from_slice(&w.to_be_bytes());
 }
 
 // The r lowest bits of one word, and then the highest of another.

@@ -1,13 +1,13 @@
--- The laws of numbers read run by run: what a fill has put so far, and that the values of a run under way are drawn one after the other.
+-- The laws of numbers read run by run: that of more that were put the first n stand there too, and that the values of a run under way are drawn one after the other.
 use Prim.Native.Nat.{ℕ, zero, suc, ◌+◌, ◌-◌, ◌*◌, ◌≤◌, ◌<◌}
 use mathlib.Core.Path.{◌≡◌, refl, sym, ap, subst, ◌∙◌}
 use mathlib.Core.Bool.{Bool, true, false}
-use mathlib.Core.List.{List, [], ◌∷◌, ◌++◌, append-nil, append_assoc}
+use mathlib.Core.List.{List, [], ◌∷◌, ◌++◌}
 use native.Mathlib.Nat.{add-zero, zero-add, suc-add, sub-zero}
 use native.Mathlib.Omega.{arith}
 use lib.Dec.{ltb, lit<}
-use lib.ListN.{length, take, get_or, set, replicate, length-replicate, replicate-append-replicate}
-use lib.Seq.{length-take-le, take-append-add, take_at, take-suc-set, take-take}
+use lib.ListN.{length, take, get_or, replicate, length-replicate, replicate-append-replicate}
+use lib.Seq.{length-take-le, take-append-add, take_at, take-take}
 use borrow.Author.Tests.{lt-ltb, le-ltb, ltb-false}
 use Rattle.numbers.specs.declared.Read.{Read}
 use Rattle.numbers.specs.declared.Read.TheVariants as read
@@ -26,18 +26,6 @@ use Rattle.bulk.proofs.Drawing.{before, ReadTo, one_more, read-many}
 -- ---- the value v from `at` on, in what was e
 
 module _ (e : List ℕ) (at v : ℕ) where
-  pub fill_none : take (at + 0) e ≡ take at e ++ replicate 0 v
-  fill_none = rw (add-zero, append-nil)
-
-  pub fill_more : (out : List ℕ) (i : ℕ) → at + i < length out → take (at + i) out ≡ take at e ++ replicate i v
-      → take (at + (i + 1)) (set out (at + i) v) ≡ take at e ++ replicate (i + 1) v
-  fill_more out i l h =
-      ap (λ (n : ℕ). take n (set out (at + i) v)) next ∙ take-suc-set out (at + i) v l ∙ ap (λ (t : List ℕ). t ++ (v ∷ [])) h
-      ∙ append_assoc (take at e) (replicate i v) (v ∷ []) ∙ ap (λ (t : List ℕ). take at e ++ t) (replicate-append-replicate i 1 v)
-    where
-      next : at + (i + 1) ≡ suc (at + i)
-      next = omega arith
-
   -- where more were put, the first n stand there too
   pub fill-fewer : (out : List ℕ) (n m : ℕ) → n ≤ m → at ≤ length e → take (at + m) out ≡ take at e ++ replicate m v
       → take (at + n) out ≡ take at e ++ replicate n v
@@ -155,10 +143,6 @@ module _ (s : List ℕ) (n : ℕ) (c₀ : Place) (out : List ℕ) (i : ℕ) (c :
       (run-drawn ∙ ap (λ (j : ℕ). before (replicate m v) (draw_numbers (n - (i + j)) s (left d m))) (sym (length-replicate m v))))
 
 -- ---- a run whose count has one byte, or that has none
-
-pub short-most : (t : Bool) (k : ℕ) → k < 256 → pick t 1 0 * k < 256
-short-most true k h = omega arith
-short-most false k h = omega arith
 
 pub short-run : (s : List ℕ) (from : ℕ) (t : Bool) (x e : ℕ) → e < length s → pick t 1 0 * get_or s e 0 < 128
     → begun s from (signed.Value t x e) ≡ drawn (place_at (e + pick t 1 0) from x (1 + pick t 1 0 + pick t 1 0 * get_or s e 0))

@@ -69,11 +69,10 @@ fn number_rest(s: &[u8], first: usize, at: usize, value: u64) -> Read
     requires { value < 64 }
     ensures { result ≡ answer_at s.now first (low_part 64 value (spelt 8 at (drop at s.now))) }
 {
-    let mut i = at;
-    let mut left: usize = 8;
     let mut unit: u64 = 64;
     let mut value = value;
-    while 0 < left {
+    for k in 0..8 {
+        let i = at + k;
         if s.len() <= i {
             return Read::Refused(Refusal {
                 number: 1,
@@ -81,15 +80,11 @@ fn number_rest(s: &[u8], first: usize, at: usize, value: u64) -> Read
             });
         }
         let b = s[i] as u64;
-        i += 1;
         if b < 128 {
-            let last = unit * b;
-            let whole = value + last;
-            return Read::Number(whole, i);
+            return Read::Number(value + unit * b, i + 1);
         }
         value += unit * (b - 128);
         unit *= 128;
-        left -= 1;
     }
     Read::Refused(Refusal {
         number: 2,
@@ -153,7 +148,7 @@ fn long_run(column: &[u8], from: usize, minus: bool, x: u64, e: usize) -> number
 fn one_if(minus: bool) -> usize
     ensures { result ≡ pick minus 1 0 }
 {
-    if minus { 1 } else { 0 }
+    minus as usize
 }
 
 // A run whose number is read. Whether a count follows is not asked but counted with: it is as often so as not, and a wrong guess takes longer.
@@ -202,37 +197,20 @@ fn as_many(left: u32, room: usize) -> usize
     requires { 1 ≤ room }
     ensures { (1 ≤ result) × (result ≤ room) × (result ≤ left + 1) }
 {
-    let more = left as usize;
-    if more < room {
-        return more + 1;
-    }
-    room
+    room.min(left as usize + 1)
 }
 
-// The value v, n times from `at` on.
-fn fill(out: &mut [u64], at: usize, n: usize, v: u64)
-    requires { at + n ≤ length out.old }
-    ensures { take (at + n) out.new ≡ take at out.old ++ replicate n v }
-{
-    let mut i: usize = 0;
-    while i < n {
-        out[at + i] = v;
-        i += 1;
-    }
-}
-
+// The value v, six times from `at` on: how often is known when it is compiled.
 fn fill_six(out: &mut [u64], at: usize, v: u64)
     requires { at + 6 ≤ length out.old }
     ensures { take (at + 6) out.new ≡ take at out.old ++ replicate 6 v }
 {
-    let mut i: usize = 0;
-    while i < 6 {
+    for i in 0..6 {
         out[at + i] = v;
-        i += 1;
     }
 }
 
-// The same as `fill`, but a short run is put as six at once: what stands behind it is put later, or cleared, and how long it is need not be guessed.
+// The value v, n times from `at` on. A short run is put as six at once: what stands behind it is put later, or cleared, and how long it is need not be guessed.
 fn spread(out: &mut [u64], at: usize, n: usize, v: u64)
     requires { at + n ≤ length out.old }
     ensures { take (at + n) out.new ≡ take at out.old ++ replicate n v }
@@ -244,7 +222,7 @@ fn spread(out: &mut [u64], at: usize, n: usize, v: u64)
             return;
         }
     }
-    fill(out, at, n, v);
+    out[at..at + n].fill(v);
 }
 
 // The place after m more of the run.
@@ -269,6 +247,7 @@ pub fn read_numbers(column: &[u8], place: number::Place, out: &mut [u64]) -> Num
 {
     let mut c = place;
     let mut i = 0;
+    // Kept, point 3 (no plainer): a turn goes on by a whole run, not by one value.
     while i < out.len() {
         let r = next_number(column, c);
         let number::Answer::Next(v, d) = r else {
@@ -416,8 +395,7 @@ pub fn read_differences(column: &[u8], place: difference::Place, out: &mut [u64]
     ensures { ReadDifferences column.now place out.old result out.new }
 {
     let mut c = place;
-    let mut i = 0;
-    while i < out.len() {
+    for i in 0..out.len() {
         let r = next_difference(column, c);
         let difference::Answer::Next(v, d) = r else {
             words::clear(out, i);
@@ -430,7 +408,6 @@ pub fn read_differences(column: &[u8], place: difference::Place, out: &mut [u64]
             };
         };
         out[i] = v as u64;
-        i += 1;
         c = d;
     }
     DifferencesRead {
@@ -438,7 +415,7 @@ pub fn read_differences(column: &[u8], place: difference::Place, out: &mut [u64]
             number: 0,
             place: 0,
         },
-        count: i,
+        count: out.len(),
         place: c,
     }
 }
@@ -521,8 +498,7 @@ pub fn read_bytes(column: &[u8], place: byte::Place, out: &mut [u8]) -> BytesRea
     ensures { ReadBytes column.now place out.old result out.new }
 {
     let mut c = place;
-    let mut i = 0;
-    while i < out.len() {
+    for i in 0..out.len() {
         let r = next_byte(column, c);
         let byte::Answer::Next(v, d) = r else {
             numbers::clear(out, i);
@@ -535,7 +511,6 @@ pub fn read_bytes(column: &[u8], place: byte::Place, out: &mut [u8]) -> BytesRea
             };
         };
         out[i] = v;
-        i += 1;
         c = d;
     }
     BytesRead {
@@ -543,7 +518,7 @@ pub fn read_bytes(column: &[u8], place: byte::Place, out: &mut [u8]) -> BytesRea
             number: 0,
             place: 0,
         },
-        count: i,
+        count: out.len(),
         place: c,
     }
 }
@@ -559,6 +534,7 @@ pub struct TextsRead {
 }
 
 // A draw of a unit length: as `next_number`, with a caller of its own.
+// Kept, point 2 (speed): a function with one caller becomes part of it; with several a number takes 14.0 ns and not 6.0 (docs/DECISIONS.md).
 fn unit_run(column: &[u8], at: usize) -> number::Answer
     ensures { result ≡ numbers.begun column.now at (read_signed column.now at) }
 {
@@ -654,9 +630,8 @@ pub fn read_texts(column: &[u8], place: string::Place, out: &mut [u64]) -> Texts
 {
     let room = out.len() / 2;
     let mut c = place;
-    let mut at = 0;
-    let mut i = 0;
-    while i < room {
+    for i in 0..room {
+        let at = 2 * i;
         let r = next_text(column, c);
         let string::Answer::Next(p, d) = r else {
             words::clear(out, at);
@@ -671,17 +646,15 @@ pub fn read_texts(column: &[u8], place: string::Place, out: &mut [u64]) -> Texts
         let bytes = p.bytes;
         out[at] = p.place as u64;
         out[at + 1] = bytes.0 as u64;
-        at += 2;
-        i += 1;
         c = d;
     }
-    words::clear(out, at);
+    words::clear(out, 2 * room);
     TextsRead {
         refusal: Refusal {
             number: 0,
             place: 0,
         },
-        count: i,
+        count: room,
         place: c,
     }
 }

@@ -1,4 +1,5 @@
 -- What a draw from a byte column comes to, by what was read and tested on the way.
+use Rattle.std.specs.Prelude.{Option, Some, None}
 use Prim.Native.Nat.{ℕ, ◌+◌, ◌*◌, ◌-◌, ◌≤◌, ◌<◌}
 use mathlib.Core.Path.{◌≡◌, refl, sym, ap, ◌∙◌}
 use mathlib.Core.Logic.{◌≢◌}
@@ -19,8 +20,6 @@ use Rattle.columns.specs.declared.byte.Answer.TheVariants.{Next, Bad}
 use Rattle.columns.specs.Byte.{place_at, endless_at, refuse, counted, begun, next_byte}
 use Rattle.grammar.specs.Course as course
 use Rattle.decoder.specs.Columned.{byte_drawn}
-use Rattle.cells.specs.declared.Drawn.{Drawn}
-use Rattle.cells.specs.declared.Drawn.TheVariants.{Number, Refused}
 use Rattle.cells.specs.Cells.{cell, bytes_in, place_in, why_in, Small, Wide, Elsewhere, bytes_given, BytePut, ByteDrawn}
 use Rattle.cells.proofs.Words.{Held, column, held, put-at, run, put-run, put-place, place-put, bytes-held, held-wide, elsewhere-any}
 
@@ -63,22 +62,22 @@ module _ (k : ℕ) (w : List ℕ) (s : Small w) (few : Wide k) where
 
 module _ (u w : List ℕ) (k : ℕ) (v : List ℕ) where
   -- the column's answer a: a refusal, which only says why
-  byte-refused : (r : Drawn) (why : Refusal) (a : Answer) → next_byte (take (cell w k 4) u) (bytes_in w k).place ≡ a → a ≡ Bad why
-      → (r ≡ Refused) × Small v × Elsewhere 9 w v × (why_in v ≡ why) → ByteDrawn u k w v r
+  byte-refused : (r : Option ℕ) (why : Refusal) (a : Answer) → next_byte (take (cell w k 4) u) (bytes_in w k).place ≡ a → a ≡ Bad why
+      → (r ≡ None) × Small v × Elsewhere 9 w v × (why_in v ≡ why) → ByteDrawn u k w v r
   unfolding bytes_given byte_drawn bytes_in
   byte-refused r why a n e p = (p.1, elsewhere-any k w v p.2, rw p.0 (ap course.not p.3 ∙ ap (byte_drawn (λ c. c) (cell w k 4)) (sym (n ∙ e))))
 
   -- or a byte, and the place after it
-  byte-given : (x : ℕ) (p : Place) (a : Answer) → next_byte (take (cell w k 4) u) (bytes_in w k).place ≡ a → a ≡ Next x p → BytePut k w v p → ByteDrawn u k w v (Number x)
+  byte-given : (x : ℕ) (p : Place) (a : Answer) → next_byte (take (cell w k 4) u) (bytes_in w k).place ≡ a → a ≡ Next x p → BytePut k w v p → ByteDrawn u k w v (Some x)
   unfolding bytes_given byte_drawn bytes_in
   byte-given x p a n e h = (h.0, h.1, rw (h.2, h.3) (ap (byte_drawn (λ c. c) (cell w k 4)) (sym (n ∙ e))))
 
-  pub byte-goes-endless : cell w k 5 ≡ 1 → BytePut k w v (bytes_in w k).place → ByteDrawn u k w v (Number (cell w k 2))
+  pub byte-goes-endless : cell w k 5 ≡ 1 → BytePut k w v (bytes_in w k).place → ByteDrawn u k w v (Some (cell w k 2))
   unfolding next_byte bytes_in
   byte-goes-endless h p =
       byte-given (cell w k 2) (bytes_in w k).place (Next (cell w k 2) (bytes_in w k).place) (rw (eq-eqb (cell w k 5) 1 h) refl) refl p
 
-  pub byte-goes-on : cell w k 5 ≢ 1 → cell w k 3 ≢ 0 → BytePut k w v (place_at (cell w k 0) (cell w k 1) (cell w k 2) (cell w k 3 - 1)) → ByteDrawn u k w v (Number (cell w k 2))
+  pub byte-goes-on : cell w k 5 ≢ 1 → cell w k 3 ≢ 0 → BytePut k w v (place_at (cell w k 0) (cell w k 1) (cell w k 2) (cell w k 3 - 1)) → ByteDrawn u k w v (Some (cell w k 2))
   unfolding next_byte bytes_in
   byte-goes-on h n p =
       let next = place_at (cell w k 0) (cell w k 1) (cell w k 2) (cell w k 3 - 1) in
@@ -89,10 +88,10 @@ module _ (u w : List ℕ) (k : ℕ) (v : List ℕ) where
     unfolding next_byte bytes_in
     next-begun = rw (ne_eqb (cell w k 5) 1 n, z, et, ea) refl
 
-    pub bytes-refused : (r : Drawn) (why : Refusal) → begun t at ≡ Bad why → (r ≡ Refused) × Small v × Elsewhere 9 w v × (why_in v ≡ why) → ByteDrawn u k w v r
+    pub bytes-refused : (r : Option ℕ) (why : Refusal) → begun t at ≡ Bad why → (r ≡ None) × Small v × Elsewhere 9 w v × (why_in v ≡ why) → ByteDrawn u k w v r
     bytes-refused r why e p = byte-refused r why (begun t at) next-begun e p
 
-    pub bytes-begin : (x : ℕ) (p : Place) → begun t at ≡ Next x p → BytePut k w v p → ByteDrawn u k w v (Number x)
+    pub bytes-begin : (x : ℕ) (p : Place) → begun t at ≡ Next x p → BytePut k w v p → ByteDrawn u k w v (Some x)
     bytes-begin x p e h = byte-given x p (begun t at) next-begun e h
 
 -- ---- the run that begins

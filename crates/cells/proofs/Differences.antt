@@ -1,4 +1,5 @@
 -- What a draw from a difference column comes to, by what was read and tested on the way.
+use Rattle.std.specs.Prelude.{Option, Some, None}
 use Prim.Native.Nat.{ℕ, zero, suc, ◌+◌, ◌*◌, ◌-◌, ◌%◌, ◌≤◌, ◌<◌}
 use mathlib.Core.Path.{◌≡◌, refl, sym, ap, ◌∙◌}
 use mathlib.Core.Logic.{◌≢◌}
@@ -24,8 +25,6 @@ use Rattle.columns.specs.Difference.{place_at, refuse, drawn, outside, key_read,
 use Rattle.grammar.specs.Course as course
 use Rattle.decoder.specs.States.{Differences}
 use Rattle.decoder.specs.Columned.{difference_drawn}
-use Rattle.cells.specs.declared.Drawn.{Drawn}
-use Rattle.cells.specs.declared.Drawn.TheVariants.{Number, Refused}
 use Rattle.cells.specs.Cells.{cell, differences_in, place_in, why_in, Small, Narrow, Elsewhere, differences_given, DifferencePut, DifferenceDrawn}
 use Rattle.cells.proofs.Words.{Held, column, held, put-at, run, put-run, put-place, place-put, differences-held, held-short, elsewhere-any}
 
@@ -48,8 +47,8 @@ module _ (c : Place) where
 -- ---- an answer, and the words that say so
 
 -- a refusal, which only says why
-pub difference-refused : (k : ℕ) (w v : List ℕ) (r : Drawn) (why : Refusal) (a : Answer) → a ≡ Bad why
-    → (r ≡ Refused) × Small v × Elsewhere 9 w v × (why_in v ≡ why) → DifferencePut k w v r a
+pub difference-refused : (k : ℕ) (w v : List ℕ) (r : Option ℕ) (why : Refusal) (a : Answer) → a ≡ Bad why
+    → (r ≡ None) × Small v × Elsewhere 9 w v × (why_in v ≡ why) → DifferencePut k w v r a
 unfolding differences_given difference_drawn
 difference-refused k w v r why a e p = (p.1, elsewhere-any k w v p.2, rw (p.0, e) (ap course.not p.3), rw p.0 tt)
 
@@ -58,7 +57,7 @@ difference-held : (k : ℕ) (w c v : List ℕ) (x at from key count : ℕ) (a : 
     → a ≡ Next x (place_at at from x key count)
     → (h : Held k w c v) → place_in v ≡ from
     → differences_in v k ≡ record { place = place_at at from x key count; to = cell w k 4 }
-    → DifferencePut k w v (Number x) a
+    → DifferencePut k w v (Some x) a
 unfolding differences_given difference_drawn differences_in
 difference-held k w c v x at from key count a s own l b e h p d =
     let last : cell v k 2 ≡ x = ap (λ (y : Differences). y.place.last) d in
@@ -120,7 +119,7 @@ starts-before u t at n m x e q h = omega (arith, value-inside t at m x e h, ap l
 module _ (k : ℕ) (w : List ℕ) (s : Small w) (few : Narrow k) where
   pub difference-put : (k ≡ 0 → 580 ≤ length w) → (past from key left : ℕ) → key ≤ 4294967295 → zero_key ≤ cell w k 2 + key → cell w k 2 + key - zero_key ≤ max_clock
       → (let x = cell w k 2 + key - zero_key in
-      DifferencePut k w (set (set (run k w s (omega arith) past from x left) (7 * k + 5) key) 64 from) (Number x) (drawn (place_at past from (cell w k 2) key (left + 1))))
+      DifferencePut k w (set (set (run k w s (omega arith) past from x left) (7 * k + 5) key) 64 from) (Some x) (drawn (place_at past from (cell w k 2) key (left + 1))))
   difference-put own past from key left b l m =
       let x = cell w k 2 + key - zero_key in
       let eight : k ≤ 8 = omega arith in
@@ -138,7 +137,7 @@ module _ (k : ℕ) (w : List ℕ) (s : Small w) (few : Narrow k) where
 
   pub difference-on : cell w k 3 ≢ 0 → cell w k 5 ≤ 4294967295 → zero_key ≤ cell w k 2 + cell w k 5 → cell w k 2 + cell w k 5 - zero_key ≤ max_clock
       → (let x = cell w k 2 + cell w k 5 - zero_key in
-      DifferencePut k w (set (set (set w (7 * k + 2) x) (7 * k + 3) (cell w k 3 - 1)) 64 (cell w k 1)) (Number x) (drawn (differences_in w k).place))
+      DifferencePut k w (set (set (set w (7 * k + 2) x) (7 * k + 3) (cell w k 3 - 1)) 64 (cell w k 1)) (Some x) (drawn (differences_in w k).place))
   unfolding differences_in
   difference-on some b l m =
       let x = cell w k 2 + cell w k 5 - zero_key in
@@ -169,7 +168,7 @@ module _ (k : ℕ) (w : List ℕ) (s : Small w) (few : Narrow k) where
 
 -- ---- the next value
 
-module _ (u w : List ℕ) (k : ℕ) (v : List ℕ) (r : Drawn) where
+module _ (u w : List ℕ) (k : ℕ) (v : List ℕ) (r : Option ℕ) where
   difference-drawn : (a : Answer) → next_difference (take (cell w k 4) u) (differences_in w k).place ≡ a → DifferencePut k w v r a → DifferenceDrawn u k w v r
   unfolding differences_in
   difference-drawn a e p = (p.0, p.1, p.2 ∙ ap (difference_drawn (λ c. c) (cell w k 4)) (sym e), p.3)

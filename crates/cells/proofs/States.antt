@@ -1,5 +1,6 @@
 -- What words that changed are for a state: one column moved, the place in line moved, keys came or went, or nothing. And an answer of one column as one of the
 -- whole state.
+use Rattle.std.specs.Prelude.{Option, Some, None}
 use Prim.Native.Nat.{ℕ, ◌+◌, ◌*◌, ◌≤◌, ◌<◌}
 use mathlib.Core.Path.{◌≡◌, refl, sym, ap, ◌∙◌}
 use mathlib.Core.Logic.{◌≢◌}
@@ -24,8 +25,6 @@ use Rattle.columns.specs.Number.{next_number}
 use Rattle.columns.specs.Difference.{next_difference}
 use Rattle.columns.specs.Byte.{next_byte}
 use Rattle.decoder.specs.Columned.{number_drawn, difference_drawn, byte_drawn, text_drawn, from_numbers, from_differences, from_bytes}
-use Rattle.cells.specs.declared.Drawn.{Drawn}
-use Rattle.cells.specs.declared.Drawn.TheVariants.{Number, Refused}
 use Rattle.cells.specs.Cells.{cell, numbers_in, differences_in, bytes_in, texts_in, at_in, place_in, key_count, keys_in, state_in, Short, Small, Elsewhere, Beside, given, numbers_given, differences_given, bytes_given, NumberDrawn, DifferenceDrawn, ByteDrawn}
 use Rattle.cells.proofs.Words.{room-same}
 use Rattle.cells.proofs.Keys.{keys-same, keys_none, joined, joined-below, joined-size, joined-count, keys-joined}
@@ -265,27 +264,27 @@ module _ {S : Type 0} (to : ℕ) where
   text-mapped f (string.Bad why) = refl
 
 -- what a column gave is what the state gives, where the column is all that changed in it
-module _ (u w v : List ℕ) (k : ℕ) (r : Drawn) where
+module _ (u w v : List ℕ) (k : ℕ) (r : Option ℕ) where
   pub number-onto : (f : Numbers → State) → state_in v ≡ f (numbers_in v k) → NumberDrawn u k w v r → given v r ≡ from_numbers u (numbers_in w k) f
   unfolding mapped given numbers_given
   number-onto f e p = go r ∙ ap (mapped f) p.2 ∙ number-mapped (numbers_in w k).to f (next_number (take (numbers_in w k).to u) (numbers_in w k).place)
     where
-      go : (r : Drawn) → given v r ≡ mapped f (numbers_given v k r)
-      go (Number x) = ap (course.got (x, place_in v)) e
-      go Refused = refl
+      go : (r : Option ℕ) → given v r ≡ mapped f (numbers_given v k r)
+      go (Some x) = ap (course.got (x, place_in v)) e
+      go None = refl
 
   pub difference-onto : (f : Differences → State) → state_in v ≡ f (differences_in v k) → DifferenceDrawn u k w v r → given v r ≡ from_differences u (differences_in w k) f
   unfolding mapped given differences_given
   difference-onto f e p = go r ∙ ap (mapped f) p.2 ∙ difference-mapped (differences_in w k).to f (next_difference (take (differences_in w k).to u) (differences_in w k).place)
     where
-      go : (r : Drawn) → given v r ≡ mapped f (differences_given v k r)
-      go (Number x) = ap (course.got (x, place_in v)) e
-      go Refused = refl
+      go : (r : Option ℕ) → given v r ≡ mapped f (differences_given v k r)
+      go (Some x) = ap (course.got (x, place_in v)) e
+      go None = refl
 
   pub byte-onto : (f : Octets → State) → state_in v ≡ f (bytes_in v k) → ByteDrawn u k w v r → given v r ≡ from_bytes u (bytes_in w k) f
   unfolding mapped given bytes_given
   byte-onto f e p = go r ∙ ap (mapped f) p.2 ∙ byte-mapped (bytes_in w k).to f (next_byte (take (bytes_in w k).to u) (bytes_in w k).place)
     where
-      go : (r : Drawn) → given v r ≡ mapped f (bytes_given v k r)
-      go (Number x) = ap (course.got (x, place_in v)) e
-      go Refused = refl
+      go : (r : Option ℕ) → given v r ≡ mapped f (bytes_given v k r)
+      go (Some x) = ap (course.got (x, place_in v)) e
+      go None = refl

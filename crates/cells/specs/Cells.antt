@@ -2,6 +2,7 @@
 -- info, type, length; then the place in line (63), the place that the number drawn last is blamed at (64), why a field was refused (65, 66), how many
 -- keys were read (67), and, where there may be keys to read, place and bytes of each of them, two words a key. A column's words are at, from, last,
 -- count, to and two more.
+use Rattle.std.specs.Prelude.{Option, Some, None}
 use Rattle.std.specs.Prelude.{ℕ, zero, suc, ◌+◌, ◌*◌, ◌≤◌, ◌<◌, ◌≡◌, ◌≢◌, List, [], ◌∷◌, eqb, length, get_or, set}
 use Rattle.numbers.specs.declared.Refusal.{Refusal}
 use Rattle.text.specs.declared.Part.{Part}
@@ -11,8 +12,6 @@ use Rattle.columns.specs.declared.byte.Place as byte-place
 use Rattle.grammar.specs.Course as course
 use Rattle.decoder.specs.States.{max_keys, Numbers, Differences, Octets, Texts, State}
 use Rattle.decoder.specs.Columned.{number_drawn, difference_drawn, from_numbers, from_differences, from_bytes}
-use Rattle.cells.specs.declared.Drawn.{Drawn}
-use Rattle.cells.specs.declared.Drawn.TheVariants.{Number, Refused}
 
 -- ---- what the words hold
 
@@ -129,46 +128,46 @@ Beside k r q = q ≡ set (set r k (get_or q k 0)) (k + 1) (get_or q (k + 1) 0)
 -- ---- an answer, with the words v that it leaves
 
 -- of a whole state
-unfoldable pub given : List ℕ → Drawn → course.Drawn State (ℕ × ℕ)
-given v (Number x) = course.got (x, place_in v) (state_in v)
-given v Refused = course.not (why_in v)
+unfoldable pub given : List ℕ → Option ℕ → course.Drawn State (ℕ × ℕ)
+given v (Some x) = course.got (x, place_in v) (state_in v)
+given v None = course.not (why_in v)
 
 -- of one column
-unfoldable pub numbers_given : List ℕ → ℕ → Drawn → course.Drawn Numbers (ℕ × ℕ)
-numbers_given v k (Number x) = course.got (x, place_in v) (numbers_in v k)
-numbers_given v k Refused = course.not (why_in v)
+unfoldable pub numbers_given : List ℕ → ℕ → Option ℕ → course.Drawn Numbers (ℕ × ℕ)
+numbers_given v k (Some x) = course.got (x, place_in v) (numbers_in v k)
+numbers_given v k None = course.not (why_in v)
 
-unfoldable pub differences_given : List ℕ → ℕ → Drawn → course.Drawn Differences (ℕ × ℕ)
-differences_given v k (Number x) = course.got (x, place_in v) (differences_in v k)
-differences_given v k Refused = course.not (why_in v)
+unfoldable pub differences_given : List ℕ → ℕ → Option ℕ → course.Drawn Differences (ℕ × ℕ)
+differences_given v k (Some x) = course.got (x, place_in v) (differences_in v k)
+differences_given v k None = course.not (why_in v)
 
-unfoldable pub bytes_given : List ℕ → ℕ → Drawn → course.Drawn Octets (ℕ × ℕ)
-bytes_given v k (Number x) = course.got (x, place_in v) (bytes_in v k)
-bytes_given v k Refused = course.not (why_in v)
+unfoldable pub bytes_given : List ℕ → ℕ → Option ℕ → course.Drawn Octets (ℕ × ℕ)
+bytes_given v k (Some x) = course.got (x, place_in v) (bytes_in v k)
+bytes_given v k None = course.not (why_in v)
 
 -- ---- what a draw from column k does, from words w to words v
 
 -- where a key's number was drawn there are words for keys
-abbrev pub Roomy : ℕ → List ℕ → Drawn → Type 0
-Roomy k v (Number x) = k ≡ 0 → 580 ≤ length v
-Roomy k v Refused = Unit {0}
+abbrev pub Roomy : ℕ → List ℕ → Option ℕ → Type 0
+Roomy k v (Some x) = k ≡ 0 → 580 ≤ length v
+Roomy k v None = Unit {0}
 
 -- the column's answer a
-abbrev pub NumberPut : ℕ → List ℕ → List ℕ → Drawn → number-answer.Answer → Type 0
+abbrev pub NumberPut : ℕ → List ℕ → List ℕ → Option ℕ → number-answer.Answer → Type 0
 NumberPut k w v r a = Small v × Elsewhere k w v × (numbers_given v k r ≡ number_drawn (λ c. c) (cell w k 4) a) × Kept k w v
 
-abbrev pub DifferencePut : ℕ → List ℕ → List ℕ → Drawn → difference-answer.Answer → Type 0
+abbrev pub DifferencePut : ℕ → List ℕ → List ℕ → Option ℕ → difference-answer.Answer → Type 0
 DifferencePut k w v r a = Small v × Elsewhere k w v × (differences_given v k r ≡ difference_drawn (λ c. c) (cell w k 4) a) × Roomy k v r
 
 -- the column's place p
 abbrev pub BytePut : ℕ → List ℕ → List ℕ → byte-place.Place → Type 0
 BytePut k w v p = Small v × Elsewhere k w v × (place_in v ≡ p.from) × (bytes_in v k ≡ record { place = p; to = cell w k 4 })
 
-abbrev pub NumberDrawn : List ℕ → ℕ → List ℕ → List ℕ → Drawn → Type 0
+abbrev pub NumberDrawn : List ℕ → ℕ → List ℕ → List ℕ → Option ℕ → Type 0
 NumberDrawn u k w v r = Small v × Elsewhere k w v × (numbers_given v k r ≡ from_numbers u (numbers_in w k) (λ c. c)) × Kept k w v
 
-abbrev pub DifferenceDrawn : List ℕ → ℕ → List ℕ → List ℕ → Drawn → Type 0
+abbrev pub DifferenceDrawn : List ℕ → ℕ → List ℕ → List ℕ → Option ℕ → Type 0
 DifferenceDrawn u k w v r = Small v × Elsewhere k w v × (differences_given v k r ≡ from_differences u (differences_in w k) (λ c. c)) × Roomy k v r
 
-abbrev pub ByteDrawn : List ℕ → ℕ → List ℕ → List ℕ → Drawn → Type 0
+abbrev pub ByteDrawn : List ℕ → ℕ → List ℕ → List ℕ → Option ℕ → Type 0
 ByteDrawn u k w v r = Small v × Elsewhere k w v × (bytes_given v k r ≡ from_bytes u (bytes_in w k) (λ c. c))

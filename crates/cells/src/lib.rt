@@ -2,11 +2,10 @@
 // words and gives back one, where a state given back by value was 390 bytes.
 #![tactic(auto)]
 
-ghost use Rattle.std.specs.Prelude.{◌≡◌, ◌≢◌, ◌+◌, ◌≤◌, ◌<◌, take, eqb};
+ghost use Rattle.std.specs.Prelude.{◌≡◌, ◌≢◌, ◌+◌, ◌≤◌, ◌<◌, take, eqb, None};
 ghost use Rattle.columns.specs.Number as numbers;
 ghost use Rattle.columns.specs.Difference as differences;
 ghost use Rattle.columns.specs.Difference.{outside, key_read};
-ghost use Rattle.cells.specs.declared.Drawn.TheVariants as drawn;
 ghost use Rattle.cells.specs.Cells.{cell, why_in, Small, Wide, Narrow, Elsewhere};
 ghost use Rattle.cells.specs.Cells.{NumberPut, DifferencePut, BytePut, NumberDrawn, DifferenceDrawn, ByteDrawn};
 
@@ -31,29 +30,15 @@ pub const KEYS: usize = 68;
 // How many keys form 2 may have.
 pub const MAX_KEYS: u64 = 256;
 
-// A number; the words have the place that it is blamed at, or why there is none.
-#[derive(Clone, Copy)]
-pub enum Drawn {
-    Number(u64),
-    Refused,
-}
-
-// Whether a field is in its row; the words have why not.
-#[derive(Clone, Copy)]
-pub enum Field {
-    Done,
-    Refused,
-}
-
-// The words say why.
-pub fn refuse(w: &mut [u64], number: u8, place: usize) -> Drawn
+// A number that is drawn is Some, and the words have the place that it is blamed at; a field in its row is Some(()). None: the words say why.
+pub fn refuse(w: &mut [u64], number: u8, place: usize) -> Option<u64>
     requires { Small w.old }
-    ensures { (result ≡ drawn.Refused) × Small w.new × Elsewhere 9 w.old w.new
+    ensures { (result ≡ None) × Small w.new × Elsewhere 9 w.old w.new
         × (why_in w.new ≡ record { number = number; place = place }) }
 {
     w[NUMBER] = number as u64;
     w[BLAMED] = place as u64;
-    Drawn::Refused
+    None
 }
 
 pub fn why(w: &[u64]) -> Refusal
@@ -78,7 +63,7 @@ pub fn upto(update: &[u8], to: usize) -> &[u8]
 // ---- the next value of column k
 
 // A run under way takes two words.
-pub fn draw_number(update: &[u8], w: &mut [u64], k: usize) -> Drawn
+pub fn draw_number(update: &[u8], w: &mut [u64], k: usize) -> Option<u64>
     requires { Small w.old × Wide k }
     ensures { NumberDrawn update.now k w.old w.new result }
 {
@@ -94,12 +79,12 @@ pub fn draw_number(update: &[u8], w: &mut [u64], k: usize) -> Drawn
     }
     w[b + 3] = count - 1;
     w[PLACE] = from;
-    Drawn::Number(last)
+    Some(last)
 }
 
 // The run that begins at the column's place, and its first value. Called from two places: a function with one caller becomes part of it, and `draw_number`
 // should stay small enough to become part of its own.
-pub fn begin_numbers(update: &[u8], w: &mut [u64], k: usize) -> Drawn
+pub fn begin_numbers(update: &[u8], w: &mut [u64], k: usize) -> Option<u64>
     requires { Small w.old × Wide k × (cell w.old k 3 ≡ 0) }
     ensures { NumberDrawn update.now k w.old w.new result }
 {
@@ -127,7 +112,7 @@ pub fn begin_numbers(update: &[u8], w: &mut [u64], k: usize) -> Drawn
 }
 
 // The run of x that begins at `from`, its first value drawn: it stands `left` times more.
-fn put_number(w: &mut [u64], k: usize, past: usize, from: usize, x: u64, left: u64) -> Drawn
+fn put_number(w: &mut [u64], k: usize, past: usize, from: usize, x: u64, left: u64) -> Option<u64>
     requires { Small w.old × Wide k }
     ensures { NumberPut k w.old w.new result (numbers.drawn (numbers.place_at past from x (left + 1))) }
 {
@@ -140,7 +125,7 @@ fn put_number(w: &mut [u64], k: usize, past: usize, from: usize, x: u64, left: u
     w[b + 2] = x;
     w[b + 3] = left;
     w[PLACE] = from as u64;
-    Drawn::Number(x)
+    Some(x)
 }
 
 fn is_outside(minus: bool, x: u64) -> bool
@@ -163,7 +148,7 @@ fn key_read(minus: bool, x: u64) -> u64
     2147483648 + x / 2
 }
 
-pub fn draw_difference(update: &[u8], w: &mut [u64], k: usize) -> Drawn
+pub fn draw_difference(update: &[u8], w: &mut [u64], k: usize) -> Option<u64>
     requires { Small w.old × Narrow k }
     ensures { DifferenceDrawn update.now k w.old w.new result }
 {
@@ -184,10 +169,10 @@ pub fn draw_difference(update: &[u8], w: &mut [u64], k: usize) -> Drawn
     w[b + 2] = v;
     w[b + 3] = count - 1;
     w[PLACE] = from;
-    Drawn::Number(v)
+    Some(v)
 }
 
-fn begin_differences(update: &[u8], w: &mut [u64], k: usize) -> Drawn
+fn begin_differences(update: &[u8], w: &mut [u64], k: usize) -> Option<u64>
     requires { Small w.old × Narrow k × (cell w.old k 3 ≡ 0) }
     ensures { DifferenceDrawn update.now k w.old w.new result }
 {
@@ -219,7 +204,14 @@ fn begin_differences(update: &[u8], w: &mut [u64], k: usize) -> Drawn
 }
 
 // The run of a difference that begins at `from`, its first value drawn onto the value before: it applies `left` times more.
-fn put_difference(w: &mut [u64], k: usize, past: usize, from: usize, key: u64, left: u64) -> Drawn
+fn put_difference(
+    w: &mut [u64],
+    k: usize,
+    past: usize,
+    from: usize,
+    key: u64,
+    left: u64,
+) -> Option<u64>
     requires { Small w.old × Narrow k × (key ≤ 4294967295) × (cell w.old k 0 < cell w.old k 4) }
     ensures { DifferencePut k w.old w.new result
         (differences.drawn (differences.place_at past from (cell w.old k 2) key (left + 1))) }
@@ -239,10 +231,10 @@ fn put_difference(w: &mut [u64], k: usize, past: usize, from: usize, key: u64, l
     w[b + 3] = left;
     w[b + 5] = key;
     w[PLACE] = from as u64;
-    Drawn::Number(v)
+    Some(v)
 }
 
-pub fn draw_byte(update: &[u8], w: &mut [u64], k: usize) -> Drawn
+pub fn draw_byte(update: &[u8], w: &mut [u64], k: usize) -> Option<u64>
     requires { Small w.old × Wide k }
     ensures { ByteDrawn update.now k w.old w.new result }
 {
@@ -251,7 +243,7 @@ pub fn draw_byte(update: &[u8], w: &mut [u64], k: usize) -> Drawn
     let last = w[b + 2];
     if w[b + 5] == 1 {
         w[PLACE] = from;
-        return Drawn::Number(last);
+        return Some(last);
     }
     let count = w[b + 3];
     if count == 0 {
@@ -259,10 +251,10 @@ pub fn draw_byte(update: &[u8], w: &mut [u64], k: usize) -> Drawn
     }
     w[b + 3] = count - 1;
     w[PLACE] = from;
-    Drawn::Number(last)
+    Some(last)
 }
 
-fn begin_bytes(update: &[u8], w: &mut [u64], k: usize) -> Drawn
+fn begin_bytes(update: &[u8], w: &mut [u64], k: usize) -> Option<u64>
     requires { Small w.old × Wide k × (cell w.old k 3 ≡ 0) × (cell w.old k 5 ≢ 1) }
     ensures { ByteDrawn update.now k w.old w.new result }
 {
@@ -277,7 +269,7 @@ fn begin_bytes(update: &[u8], w: &mut [u64], k: usize) -> Drawn
     let e = at + 1;
     if column.len() <= e {
         put_byte(w, k, e, at, v, 0, 1);
-        return Drawn::Number(v);
+        return Some(v);
     }
     let n = numbers::read_unsigned(column, e);
     let Read::Number(c, f) = n else {
@@ -288,7 +280,7 @@ fn begin_bytes(update: &[u8], w: &mut [u64], k: usize) -> Drawn
         return refuse(w, 3, e);
     }
     put_byte(w, k, f, at, v, c, 0);
-    Drawn::Number(v)
+    Some(v)
 }
 
 // The run of a byte that begins at `from`, its first value drawn: it stands `left` times more, or (1) without end.

@@ -16,7 +16,8 @@ use Rattle.chaining.specs.declared.Chain.{Chain}
 use Rattle.placing.specs.declared.Span.{Span}
 use Rattle.placing.specs.Halving.{clipped, found}
 use Rattle.placing.specs.Placing.{past_row, sought, number_at, held_by, capped}
-use Rattle.placing.proofs.Borders.{below_or, Border, found-borders}
+use Rattle.placing.proofs.Borders.{Border, found-borders}
+use Rattle.numbers.proofs.Laws.{below_or}
 use Rattle.chaining.specs.Chaining.{no_chain, unlinked, skipped, linked, chain_from, chain_of}
 use Rattle.chaining.proofs.Ways.{link-off, link-long, link-skip, link_on}
 

@@ -3,7 +3,7 @@ use mathlib.Core.Path.{◌≡◌, refl, sym, ◌∙◌}
 use mathlib.Core.Logic.{◌≢◌}
 use mathlib.Core.Bool.{Bool, true, false}
 use mathlib.Core.List.{List}
-use Prim.Native.Nat.{ℕ, ◌+◌, ◌-◌, ◌*◌, ◌/◌, ◌≤◌, ◌<◌}
+use Prim.Native.Nat.{ℕ, ◌+◌, ◌-◌, ◌*◌, ◌/◌, ◌≤◌, ◌<◌, min}
 use lib.Dec.{ltb, leb}
 use lib.ListN.{length, get_or, set}
 use borrow.Author.Tests.{lt-ltb, le-ltb, le-leb, lt-leb, eq-eqb, ne_eqb}
@@ -16,7 +16,7 @@ use Rattle.picker.specs.Waits.{no_dependency}
 use Rattle.picker.specs.Picker.{met_at, is_met}
 use Rattle.placing.specs.declared.Span.{Span}
 use Rattle.placing.specs.Placing.{span_at, capped, on_number}
-use Rattle.placing.proofs.Places.{named-below}
+use Rattle.placing.proofs.Places.{named-below, min-pick}
 use Rattle.chaining.specs.declared.Chain.{Chain}
 use Rattle.chaining.specs.declared.Stand.{Stand}
 use Rattle.chaining.specs.Chaining.{no_chain, skipped, linked, put_chain, no_stand, stand_in, stand_at, stand_of, is_seen, is_clear, seen_next, seen, id_of, unmet_word, on_word}
@@ -24,13 +24,9 @@ use Rattle.chaining.specs.Chaining.{no_chain, skipped, linked, put_chain, no_sta
 -- ---- a chain
 
 module _ (c : Chain) (clock end : ℕ) where
-  pub skip_first : clock + 1 < c.clear → record { end = end; clear = clock + 1; resume = end - 1 } ≡ skipped c clock end
+  pub skip-least : record { end = end; clear = min c.clear (clock + 1); resume = end - 1 } ≡ skipped c clock end
   unfolding skipped
-  skip_first l = rw (lt-ltb (clock + 1) c.clear l) refl
-
-  pub skip-more : c.clear ≤ clock + 1 → record { end = end; clear = c.clear; resume = end - 1 } ≡ skipped c clock end
-  unfolding skipped
-  skip-more l = rw (le-ltb (clock + 1) c.clear l) refl
+  skip-least = rw (min-pick c.clear (clock + 1)) refl
 
 module _ (c : Chain) (b : Block) where
   pub link-off : c.end ≢ b.clock + 1 → no_chain ≡ linked c b

@@ -53,17 +53,9 @@ fn skip(chain: Chain, clock: u32, end: u64) -> Chain
     requires { 1 ≤ end }
     ensures { result ≡ skipped chain clock end }
 {
-    let from = clock as u64 + 1;
-    if from < chain.clear {
-        return Chain {
-            end,
-            clear: from,
-            resume: end - 1,
-        };
-    }
     Chain {
         end,
-        clear: chain.clear,
+        clear: chain.clear.min(u64::from(clock) + 1),
         resume: end - 1,
     }
 }
@@ -85,11 +77,7 @@ pub fn link(chain: Chain, b: Block) -> Chain
     if kind == block::SKIP {
         return skip(chain, clock, end);
     }
-    Chain {
-        end,
-        clear: chain.clear,
-        resume: chain.resume,
-    }
+    Chain { end, ..chain }
 }
 
 // What is kept of the chain of slot p, two words: `clear`, or 0 if the rows do not follow on each other, and `resume`.
@@ -134,23 +122,17 @@ fn none() -> Stand
 fn stand_in(s: Span, taken: u64, clear: u64, resume: u64) -> Stand
     ensures { result ≡ stand_in s taken clear resume }
 {
-    let count = numbers::words::less(s.hi as u64, s.lo as u64);
-    if count <= taken {
-        let last = numbers::words::less(s.hi as u64, 1);
-        return Stand {
-            first: s.lo,
-            next: last as usize,
-            taken,
-            all: 1,
-            clear,
-            resume,
-        };
-    }
+    let count = s.hi.saturating_sub(s.lo) as u64;
+    let (next, all) = if count <= taken {
+        (s.hi.saturating_sub(1), 1)
+    } else {
+        (s.lo + taken as usize, 0)
+    };
     Stand {
         first: s.lo,
-        next: s.lo + taken as usize,
+        next,
         taken,
-        all: 0,
+        all,
         clear,
         resume,
     }
@@ -189,24 +171,15 @@ pub const NEXT: u64 = 2;
 pub fn is_seen(t: Stand, rows: usize) -> bool
     ensures { result ≡ is_seen t rows }
 {
-    if t.clear == 0 {
-        return false;
-    }
-    if rows <= t.first {
-        return false;
-    }
-    t.next < rows
+    t.clear != 0 && t.first < rows && t.next < rows
 }
 
 // Whether a clock lies before all Skips or behind them.
 fn is_clear(t: Stand, clock: u32) -> bool
     ensures { result ≡ is_clear t clock }
 {
-    let k = clock as u64;
-    if k + 1 < t.clear {
-        return true;
-    }
-    t.resume <= k
+    let k = u64::from(clock);
+    k + 1 < t.clear || t.resume <= k
 }
 
 // What is seen of a clock in the next block.

@@ -1,247 +1,123 @@
 // Operations 5 to 12: the four columns, read by column readers, and written.
-ghost use Rattle.std.specs.Counts.{IsPrefixLen};
-
 use crate::lent;
-use crate::lent::Writer;
-use numbers::Refusal;
-use readers::Kind;
-use std::io::{Stdin, Stdout};
-use stream::input::Place;
-use stream::{Done, input, line};
+use numbers::{Refusal, Written};
+use readers::{Answer, Column, Kind};
+use std::fmt;
+use std::fmt::Write;
+use stream::shown;
+use stream::shown::{Hex, Verdict};
+use stream::sink::Sink;
+use stream::source::Source;
+use text::{Bytes, Part};
 
-// A reading: the refusal that ended it, zeros if every value asked came, and how many came.
+// Values that were drawn, each with the space before it.
 #[derive(Clone, Copy)]
-struct Drawn {
-    refusal: Refusal,
-    count: usize,
-}
+struct Values<'a>(&'a [Answer]);
 
-fn draw(column: &[u8], place: readers::Place, times: usize, values: &mut [u64]) -> Drawn
-    ensures { IsPrefixLen result.count values.new }
-{
-    let mut place = place;
-    let mut count = 0;
-    while count < values.len() && count < times {
-        let step = readers::next_at(column, place);
-        let answer = step.answer;
-        let refusal = answer.refusal;
-        if refusal.number != 0 {
-            return Drawn { refusal, count };
+impl fmt::Display for Values<'_> {
+    fn fmt<W: fmt::Write>(&self, f: &mut fmt::Formatter<W>) -> fmt::Result {
+        for answer in self.0 {
+            write!(f, " {}", answer.value)?;
         }
-        values[count] = answer.value;
-        place = step.place;
-        count += 1;
+        Ok(())
     }
-    let refusal = Refusal {
-        number: 0,
-        place: 0,
-    };
-    Drawn { refusal, count }
 }
 
-fn values(
-    stdout: Stdout,
-    sink: &mut [u8],
-    used: usize,
-    column: &[u8],
-    kind: Kind,
-    times: usize,
-) -> usize {
-    let mut list = [0u64; 4096];
-    let start = readers::open_at(column, kind);
-    let first = start.place;
-    let drawn = draw(column, first, times, &mut list);
-    let count = drawn.count;
-    let why = drawn.refusal;
-    let begun = line::verdict(stdout, sink, used, why.number, why.place);
-    let told = line::numbers(stdout, sink, begun, &list[..count]);
-    line::put(stdout, sink, told, b'\n')
+// Texts that were drawn from a column, each with the space before it.
+#[derive(Clone, Copy)]
+struct Texts<'a> {
+    column: &'a [u8],
+    drawn: &'a [Answer],
 }
 
-// 5 to 7: column, times. The line has the values that came before the refusal.
-pub fn read(
-    kind: Kind,
-    stdin: Stdin,
-    source: &mut [u8],
-    place: Place,
-    stdout: Stdout,
-    sink: &mut [u8],
-    used: usize,
-) -> Done {
-    let mut bytes = [0u8; 65536];
-    let taken = input::bytes(stdin, source, place, &mut bytes);
-    let times = input::number(stdin, source, taken.place, 4096);
-    let place = times.place;
-    if !place.good {
-        return Done { place, used };
-    }
-    let size = taken.count;
-    let used = values(
-        stdout,
-        sink,
-        used,
-        &bytes[..size],
-        kind,
-        times.value as usize,
-    );
-    Done { place, used }
-}
-
-// Texts are drawn twice, first to learn the refusal that the line begins with.
-fn draw_texts(column: &[u8], place: readers::Place, times: usize) -> Drawn {
-    let mut place = place;
-    let mut count = 0;
-    while count < times {
-        let step = readers::next_at(column, place);
-        let answer = step.answer;
-        let refusal = answer.refusal;
-        if refusal.number != 0 {
-            return Drawn { refusal, count };
+impl fmt::Display for Texts<'_> {
+    fn fmt<W: fmt::Write>(&self, f: &mut fmt::Formatter<W>) -> fmt::Result {
+        for answer in self.drawn {
+            let part = answer.part;
+            let (_, from) = shown::cut(self.column, part.place);
+            let (text, _) = shown::cut(from, part.bytes.0);
+            write!(f, " {}", Hex(text))?;
         }
-        place = step.place;
-        count += 1;
+        Ok(())
     }
-    let refusal = Refusal {
-        number: 0,
+}
+
+const NO_REFUSAL: Refusal = Refusal {
+    number: 0,
+    place: 0,
+};
+
+const NO_ANSWER: Answer = Answer {
+    refusal: NO_REFUSAL,
+    value: 0,
+    part: Part {
         place: 0,
-    };
-    Drawn { refusal, count }
-}
+        bytes: Bytes(0),
+    },
+};
 
-fn print_texts(
-    stdout: Stdout,
-    sink: &mut [u8],
-    used: usize,
-    column: &[u8],
-    place: readers::Place,
-    times: usize,
-) -> usize {
-    let mut place = place;
-    let mut used = used;
-    let mut left = times;
-    while 0 < left {
-        let step = readers::next_at(column, place);
-        let answer = step.answer;
-        let part = answer.part;
-        let bytes = part.bytes;
-        used = line::part(stdout, sink, used, column, part.place, bytes.0);
-        place = step.place;
-        left -= 1;
+// Draws from a column into what is lent, until it is full or a draw is refused: how many were drawn, and the refusal, zeros for none.
+fn draw(column: &mut Column, lent: &mut [Answer]) -> (usize, Refusal) {
+    for (count, drawn) in lent.iter_mut().enumerate() {
+        let answer = readers::next(column);
+        if answer.refusal.number != 0 {
+            return (count, answer.refusal);
+        }
+        *drawn = answer;
     }
-    used
+    (lent.len(), NO_REFUSAL)
 }
 
-fn texts(stdout: Stdout, sink: &mut [u8], used: usize, column: &[u8], times: usize) -> usize {
-    let start = readers::open_at(column, Kind::Text);
-    let not = start.refusal;
-    if not.number != 0 {
-        let begun = line::verdict(stdout, sink, used, not.number, not.place);
-        return line::put(stdout, sink, begun, b'\n');
+// The same for a column that is not opened yet.
+fn read_into(bytes: &[u8], kind: Kind, lent: &mut [Answer]) -> (usize, Refusal) {
+    let opened = readers::open(bytes, kind);
+    if opened.refusal.number != 0 {
+        return (0, opened.refusal);
     }
-    let first = start.place;
-    let drawn = draw_texts(column, first, times);
-    let why = drawn.refusal;
-    let begun = line::verdict(stdout, sink, used, why.number, why.place);
-    let told = print_texts(stdout, sink, begun, column, first, drawn.count);
-    line::put(stdout, sink, told, b'\n')
+    let mut column = opened.column;
+    draw(&mut column, lent)
 }
 
-// 8: column, times.
-pub fn read_texts(
-    stdin: Stdin,
-    source: &mut [u8],
-    place: Place,
-    stdout: Stdout,
-    sink: &mut [u8],
-    used: usize,
-) -> Done {
+// 5 to 8: column, times. The line has what came before the refusal.
+pub fn read(kind: Kind, source: &mut Source, sink: &mut Sink) -> Option<()> {
     let mut bytes = [0u8; 65536];
-    let taken = input::bytes(stdin, source, place, &mut bytes);
-    let times = input::number(stdin, source, taken.place, 4096);
-    let place = times.place;
-    if !place.good {
-        return Done { place, used };
+    let column = source.bytes(&mut bytes)?;
+    let times = source.count(4096)?;
+    let mut answers = [NO_ANSWER; 4096];
+    let lent = answers.get_mut(..times)?;
+    let (count, refusal) = read_into(column, kind, lent);
+    let (drawn, _) = shown::cut(lent, count);
+    let verdict = Verdict(refusal);
+    if let Kind::Text = kind {
+        return writeln!(sink, "{verdict}{}", Texts { column, drawn }).ok();
     }
-    let size = taken.count;
-    let used = texts(stdout, sink, used, &bytes[..size], times.value as usize);
-    Done { place, used }
+    writeln!(sink, "{verdict}{}", Values(drawn)).ok()
 }
 
 // 9 and 10: list, room.
-pub fn write(
-    writer: Writer,
-    stdin: Stdin,
-    source: &mut [u8],
-    place: Place,
-    stdout: Stdout,
-    sink: &mut [u8],
-    used: usize,
-) -> Done {
+pub fn write<F: FnOnce(&mut [u8], &[u64]) -> Written>(
+    writer: F,
+    source: &mut Source,
+    sink: &mut Sink,
+) -> Option<()>
+    requires { F.IsAlwaysCallable writer }
+{
     let mut list = [0u64; 4096];
-    let taken = input::list(stdin, source, place, &mut list);
-    let count = taken.count;
-    lent::write(
-        writer,
-        b"",
-        &list[..count],
-        stdin,
-        source,
-        taken.place,
-        stdout,
-        sink,
-        used,
-    )
+    let values = source.list(&mut list)?;
+    lent::write(|out| writer(out, values), source, sink)
 }
 
 // 11: bytes, room.
-pub fn write_bytes(
-    stdin: Stdin,
-    source: &mut [u8],
-    place: Place,
-    bytes: &mut [u8],
-    stdout: Stdout,
-    sink: &mut [u8],
-    used: usize,
-) -> Done {
-    let taken = input::bytes(stdin, source, place, bytes);
-    let count = taken.count;
-    lent::write(
-        Writer::Bytes,
-        &bytes[..count],
-        &[0u64; 0],
-        stdin,
-        source,
-        taken.place,
-        stdout,
-        sink,
-        used,
-    )
+pub fn write_bytes(source: &mut Source, bytes: &mut [u8], sink: &mut Sink) -> Option<()> {
+    let values = source.bytes(bytes)?;
+    lent::write(|out| wairokabi::write_bytes(out, values), source, sink)
 }
 
 // 12: text, list of unit lengths, room.
-pub fn write_texts(
-    stdin: Stdin,
-    source: &mut [u8],
-    place: Place,
-    stdout: Stdout,
-    sink: &mut [u8],
-    used: usize,
-) -> Done {
+pub fn write_texts(source: &mut Source, sink: &mut Sink) -> Option<()> {
     let mut bytes = [0u8; 65536];
     let mut list = [0u64; 4096];
-    let text = input::bytes(stdin, source, place, &mut bytes);
-    let units = input::list(stdin, source, text.place, &mut list);
-    let size = text.count;
-    let count = units.count;
-    lent::write(
-        Writer::Texts,
-        &bytes[..size],
-        &list[..count],
-        stdin,
-        source,
-        units.place,
-        stdout,
-        sink,
-        used,
-    )
+    let text = source.bytes(&mut bytes)?;
+    let units = source.list(&mut list)?;
+    lent::write(|out| wairokabi::write_texts(out, text, units), source, sink)
 }

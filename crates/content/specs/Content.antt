@@ -1,13 +1,13 @@
 -- The stored part of block n: a part of the update itself, once the whole update reads.
-use Rattle.std.specs.Prelude.{ℕ, zero, suc, Bool, ◌||◌, List}
+use Rattle.text.specs.declared.Part.{Part}
+use Rattle.numbers.specs.declared.Refusal.{Refusal}
+use Rattle.std.specs.Prelude.{ℕ, zero, suc, Bool, ◌||◌, List, Result, Ok, Err}
 use Rattle.numbers.specs.Number.{pick}
 use Rattle.block.specs.declared.Block.{Block}
 use Rattle.block.specs.Row.{no_block}
 use Rattle.block.specs.Kinds.{is_binary, is_text}
 use Rattle.grammar.specs.Course.{Course, thing, over, stopped, ending}
 use Rattle.decoder.specs.Update.{blocks_of, delete_set}
-use Rattle.content.specs.declared.Found.{Found}
-use Rattle.content.specs.declared.Found.TheVariants.{Part, Refused}
 
 -- block n, from 0; the row that has none where there are not so many
 unfoldable pub nth : ℕ → Course Block → Block
@@ -20,11 +20,11 @@ nth n (stopped why) = no_block
 unfoldable pub is_given : ℕ → Bool
 is_given kind = is_binary kind || is_text kind
 
-unfoldable pub stored : Block → Found
-stored b = pick (is_given b.kind) (Part b.part) (Refused (record { number = 11; place = 0 }))
+unfoldable pub stored : Block → Result Part Refusal
+stored b = pick (is_given b.kind) (Ok b.part) (Err (record { number = 11; place = 0 }))
 
-unfoldable pub content_at : ℕ → List ℕ → ℕ → Found
+unfoldable pub content_at : ℕ → List ℕ → ℕ → Result Part Refusal
 content_at form u n =
     ending (blocks_of form u)
-    (λ at. ending (delete_set form u at) (λ e. stored (nth n (blocks_of form u))) (λ why. Refused why))
-    (λ why. Refused why)
+    (λ at. ending (delete_set form u at) (λ e. stored (nth n (blocks_of form u))) (λ why. Err why))
+    (λ why. Err why)

@@ -1,4 +1,6 @@
 -- A block's stored part lies inside the update, whole: every block that is read is sound (readings), and `content` hands back its part or nothing.
+use Rattle.std.specs.Prelude.{Result, Ok, Err}
+use Rattle.text.specs.declared.Part.{Part}
 use Prim.Native.Nat.{ℕ, zero, suc}
 use mathlib.Core.Bool.{Bool, true, false}
 use mathlib.Core.List.{List}
@@ -14,8 +16,6 @@ use Rattle.decoder.specs.Update.{blocks_of, delete_set}
 use Rattle.readings.specs.Sound.{All}
 use Rattle.readings.specs.SoundInner.{Sound}
 use Rattle.readings.proofs.Sounds.{blocks-sound}
-use Rattle.content.specs.declared.Found.{Found}
-use Rattle.content.specs.declared.Found.TheVariants as found
 use Rattle.content.specs.Content.{nth, stored, content_at, is_given}
 use Rattle.contents.specs.declared.Where.{Where}
 use Rattle.contents.specs.Promises.{refused_where, where_found, where_of}
@@ -37,11 +37,11 @@ module _ (u : List ℕ) where
 
   -- ---- what is found
 
-  abbrev pub FoundIn : Found → Type 0
-  FoundIn (found.Part p) = In u p
-  FoundIn (found.Refused why) = Unit {0}
+  abbrev pub FoundIn : Result Part Refusal → Type 0
+  FoundIn (Ok p) = In u p
+  FoundIn (Err why) = Unit {0}
 
-  by_end : {A : Type 0} (c : Course A) (f : ℕ → Found) (g : Refusal → Found) → ((s : ℕ) → FoundIn (f s)) → ((why : Refusal) → FoundIn (g why)) → FoundIn (ending c f g)
+  by_end : {A : Type 0} (c : Course A) (f : ℕ → Result Part Refusal) (g : Refusal → Result Part Refusal) → ((s : ℕ) → FoundIn (f s)) → ((why : Refusal) → FoundIn (g why)) → FoundIn (ending c f g)
   unfolding ending
   by_end (thing a p c) f g h k = by_end c f g h k
   by_end (over x s) f g h k = h s
@@ -66,6 +66,6 @@ where-inside form u n =
     (either (WhereIn u) (ltb 2 form) _ _ (omega arith)
     (either (WhereIn u) (ltb max_update (length u)) _ _ (omega arith) (go (content_at form u n) (content-inside u form n))))
   where
-    go : (r : Found) → FoundIn u r → WhereIn u (where_found r)
-    go (found.Part p) h = h
-    go (found.Refused why) h = omega arith
+    go : (r : Result Part Refusal) → FoundIn u r → WhereIn u (where_found r)
+    go (Ok p) h = h
+    go (Err why) h = omega arith

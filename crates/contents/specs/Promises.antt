@@ -1,12 +1,10 @@
 -- The promise of `content`: its refusal, and the part that it hands back, as equations of the inputs.
-use Rattle.std.specs.Prelude.{ℕ, ◌+◌, ◌≡◌, List, ltb, length, take, drop}
+use Rattle.std.specs.Prelude.{ℕ, ◌+◌, ◌≡◌, List, ltb, length, take, drop, Result, Ok, Err}
 use Rattle.std.specs.Borrow.{Bor}
 use Rattle.numbers.specs.declared.Refusal.{Refusal}
 use Rattle.numbers.specs.Number.{pick, none, nowhere}
 use Rattle.numbers.specs.Limits.{max_update}
 use Rattle.text.specs.declared.Part.{Part}
-use Rattle.content.specs.declared.Found.{Found}
-use Rattle.content.specs.declared.Found.TheVariants as found
 use Rattle.content.specs.Content.{content_at}
 use Rattle.contents.specs.declared.Where.{Where}
 
@@ -14,9 +12,9 @@ use Rattle.contents.specs.declared.Where.{Where}
 unfoldable pub refused_where : Refusal → Where
 refused_where why = record { refusal = why; part = record { place = 0; bytes = record { 0 = 0 } } }
 
-unfoldable pub where_found : Found → Where
-where_found (found.Part p) = record { refusal = none; part = p }
-where_found (found.Refused why) = refused_where why
+unfoldable pub where_found : Result Part Refusal → Where
+where_found (Ok p) = record { refusal = none; part = p }
+where_found (Err why) = refused_where why
 
 -- the form first (12), then the update's length (3), then what the update has
 unfoldable pub where_of : ℕ → List ℕ → ℕ → Where

@@ -8,7 +8,6 @@ ghost use Rattle.contents.specs.Promises.{refused_where, Looks, PartOf, Contents
 ghost use Rattle.contents.specs.PromisesInner.{In};
 
 use answer::Content;
-use content::Found;
 use numbers::Refusal;
 use text::{Bytes, Part};
 
@@ -55,14 +54,14 @@ pub fn look(form: u8, update: &[u8], n: usize) -> Where
         });
     }
     match content::find(form, update, n) {
-        Found::Part(part) => Where {
+        Ok(part) => Where {
             refusal: Refusal {
                 number: 0,
                 place: 0,
             },
             part,
         },
-        Found::Refused(why) => refused_where(why),
+        Err(why) => refused_where(why),
     }
 }
 

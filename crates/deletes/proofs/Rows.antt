@@ -1,4 +1,5 @@
 -- The rows that the steps fill: those stored and those to come are all that the words take.
+use Rattle.std.specs.Prelude.{Result, Ok, Err}
 use Prim.Native.Nat.{ℕ, zero, suc, ◌+◌, ◌-◌, ◌*◌, ◌/◌, ◌≤◌, ◌<◌}
 use mathlib.Core.Path.{◌≡◌, refl, sym, ap, ◌∙◌, subst}
 use mathlib.Core.List.{List, [], ◌∷◌, ◌++◌, append-nil, append_assoc}
@@ -12,8 +13,6 @@ use Rattle.ranges.specs.Table.{flat}
 use Rattle.ranges.specs.TableInner.{row, put, rows_from, Fine, AllFine}
 use Rattle.ranges.proofs.Flat.{length-rows, take-flat, rows-flat, flat-put}
 use Rattle.ranges.proofs.Rows.{length-put, row-put-same, row-put-other, lt-or}
-use Rattle.deletes.specs.declared.Collected.{Collected}
-use Rattle.deletes.specs.declared.Collected.TheVariants as collected
 use Rattle.deletes.specs.Steps.{Kept}
 
 -- ---- a row stored after the others
@@ -48,13 +47,17 @@ unfolding fit
 fit-stopped zero why = refl
 fit-stopped (suc n) why = refl
 
+-- how a course ends, told with a count of rows
+abbrev pub told_with : ℕ → Course Range → Result (ℕ × ℕ) Refusal
+told_with m c = ending c (λ t. Ok (m, t)) Err
+
 -- n rows of the course c are stored in w, which was e, and d is to come
 pub record Held (e : List ℕ) (c : Course Range) (w : List ℕ) (d : Course Range) (n : ℕ) : Type 0 where
   pub size : length w ≡ length e
   pub below : n ≤ length e / 3
   pub fine : AllFine w n
   pub all : things (fit (length e / 3) c) ≡ rows_from w 0 n ++ things (fit (length e / 3 - n) d)
-  pub ends : (m : ℕ) → ending (fit (length e / 3) c) (collected.Rows m) collected.Refused ≡ ending (fit (length e / 3 - n) d) (collected.Rows m) collected.Refused
+  pub ends : (m : ℕ) → told_with m (fit (length e / 3) c) ≡ told_with m (fit (length e / 3 - n) d)
 
 pub held-begin : (e : List ℕ) (c : Course Range) → Held e c e c 0
 unfolding AllFine rows_from
@@ -81,7 +84,7 @@ module _ (e : List ℕ) (c : Course Range) (w : List ℕ) (d : Course Range) (n 
       }
 
   -- nothing follows: these are the rows
-  held-over : (r : Collected) (x : Course Range) → fit (length e / 3 - n) d ≡ x → things x ≡ [] → r ≡ ending x (collected.Rows n) collected.Refused → Kept e w (fit (length e / 3) c) r
+  held-over : (r : Result (ℕ × ℕ) Refusal) (x : Course Range) → fit (length e / 3 - n) d ≡ x → things x ≡ [] → r ≡ told_with n x → Kept e w (fit (length e / 3) c) r
   held-over r x f none told =
       let all : things (fit (length e / 3) c) ≡ rows_from w 0 n = h.all ∙ rw (f, none) (append-nil (rows_from w 0 n)) in
       let count : length (things (fit (length e / 3) c)) ≡ n = ap length all ∙ length-rows w 0 n in
@@ -93,17 +96,17 @@ module _ (e : List ℕ) (c : Course Range) (w : List ℕ) (d : Course Range) (n 
         told = rw count (told ∙ sym (h.ends n ∙ rw f refl));
       }
 
-  pub held-done : (t : ℕ) → d ≡ over tt t → Kept e w (fit (length e / 3) c) (collected.Rows n t)
+  pub held-done : (t : ℕ) → d ≡ over tt t → Kept e w (fit (length e / 3) c) (Ok (n, t))
   unfolding things ending
-  held-done t q = held-over (collected.Rows n t) (over tt t) (rw q (fit-over (length e / 3 - n) t)) refl refl
+  held-done t q = held-over (Ok (n, t)) (over tt t) (rw q (fit-over (length e / 3 - n) t)) refl refl
 
-  held-stopped : (why : Refusal) → fit (length e / 3 - n) d ≡ stopped why → Kept e w (fit (length e / 3) c) (collected.Refused why)
+  held-stopped : (why : Refusal) → fit (length e / 3 - n) d ≡ stopped why → Kept e w (fit (length e / 3) c) (Err why)
   unfolding things ending
-  held-stopped why q = held-over (collected.Refused why) (stopped why) q refl refl
+  held-stopped why q = held-over (Err why) (stopped why) q refl refl
 
-  pub held-refused : (why : Refusal) → d ≡ stopped why → Kept e w (fit (length e / 3) c) (collected.Refused why)
+  pub held-refused : (why : Refusal) → d ≡ stopped why → Kept e w (fit (length e / 3) c) (Err why)
   held-refused why q = held-stopped why (rw q (fit-stopped (length e / 3 - n) why))
 
-  pub held-full : (r : Range) (p : ℕ) (d' : Course Range) → d ≡ thing r p d' → length e / 3 ≤ n → Kept e w (fit (length e / 3) c) (collected.Refused (record { number = 8; place = p }))
+  pub held-full : (r : Range) (p : ℕ) (d' : Course Range) → d ≡ thing r p d' → length e / 3 ≤ n → Kept e w (fit (length e / 3) c) (Err (record { number = 8; place = p }))
   unfolding fit
   held-full r p d' q l = let z : length e / 3 - n ≡ 0 = omega arith in held-stopped (record { number = 8; place = p }) (rw (q, z) refl)

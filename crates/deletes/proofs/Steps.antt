@@ -1,4 +1,5 @@
 -- The laws of the delete set's steps: what a number read at a place says of its field, and each way out of a step of what is to come.
+use Rattle.std.specs.Prelude.{Ok, Err}
 use Prim.Native.Nat.{ℕ, suc, ◌+◌, ◌-◌, ◌≤◌, ◌<◌}
 use mathlib.Core.Path.{◌≡◌, refl, sym, ap, ◌∙◌}
 use mathlib.Core.Logic.{◌≢◌}
@@ -104,28 +105,28 @@ module _ (form : ℕ) (u : List ℕ) (p : Spot) (m : 0 < p.ranges) where
   unfolding comes to_come
   one_more = let e : p.ranges ≡ suc (p.ranges - 1) = omega arith in ap (λ (k : ℕ). run (line form u) (ranges k p.client p.end >>= λ _. deleted_clients p.clients) p.at) e
 
-  pub range-no-clock : (why : Refusal) → delete_at form p.end u p.at ≡ not why → Follows form u p (move.Refused why)
+  pub range-no-clock : (why : Refusal) → delete_at form p.end u p.at ≡ not why → Follows form u p (Err why)
   unfolding ranges ◌>>=◌ run on_drawn line number_by after Keeps
   range-no-clock why h = (one_more ∙ rw h refl, tt)
 
   module _ (clock t : ℕ) (h : delete_at form p.end u p.at ≡ got (clock, p.at) t) where
-    pub range-no-len : (why : Refusal) → delete_at form 1 u t ≡ not why → Follows form u p (move.Refused why)
+    pub range-no-len : (why : Refusal) → delete_at form 1 u t ≡ not why → Follows form u p (Err why)
     unfolding ranges ◌>>=◌ run on_drawn line number_by after Keeps
     range-no-len why k = (one_more ∙ rw (h, k) refl, tt)
 
     module _ (len e : ℕ) (k : delete_at form 1 u t ≡ got (len, t) e) where
-      pub range-over : max_clock < clock + len → Follows form u p (move.Refused (record { number = 3; place = p.at }))
+      pub range-over : max_clock < clock + len → Follows form u p (Err (record { number = 3; place = p.at }))
       unfolding ranges ◌>>=◌ run on_drawn line number_by after Keeps
       range-over l = (one_more ∙ rw (h, k) (chosen _ _ _ _ e _ true (lt-ltb _ _ l)), tt)
 
       abbrev past : Spot
       past = record { at = e; clients = p.clients; ranges = p.ranges - 1; client = p.client; end = clock + len }
 
-      pub range-empty : clock + len ≤ max_clock → len ≡ 0 → Follows form u p (move.On past)
+      pub range-empty : clock + len ≤ max_clock → len ≡ 0 → Follows form u p (Ok (move.On past))
       unfolding ranges ◌>>=◌ run on_drawn line number_by after comes to_come Keeps left
       range-empty l z = (one_more ∙ rw (h, k) (chosen _ _ _ _ e _ false (le-ltb _ _ l) ∙ chosen _ _ _ _ e _ true (eq-eqb _ 0 z)), (omega arith, λ b. b))
 
-      pub range-some : clock + len ≤ max_clock → len ≢ 0 → Follows form u p (move.Range p.client clock len p.at past)
+      pub range-some : clock + len ≤ max_clock → len ≢ 0 → Follows form u p (Ok (move.Range p.client clock len p.at past))
       unfolding ranges ◌>>=◌ run on_drawn line number_by after comes to_come Keeps left
       range-some l z = (one_more ∙ rw (h, k) (chosen _ _ _ _ e _ false (le-ltb _ _ l) ∙ chosen _ _ _ _ e _ false (ne_eqb _ 0 z)), (omega arith, λ b. (record { some = omega arith; end = l; client = b }, b)))
 
@@ -136,22 +137,22 @@ module _ (form : ℕ) (u : List ℕ) (p : Spot) (m : 0 < p.clients) (z : p.range
   unfolding comes to_come ranges ◌>>=◌
   one-client = let e : p.clients ≡ suc (p.clients - 1) = omega arith in rw z (ap (λ (n : ℕ). run (line form u) (deleted_clients n) p.at) e)
 
-  pub head-no-client : (why : Refusal) → up_to max_value u p.at ≡ not why → Follows form u p (move.Refused why)
+  pub head-no-client : (why : Refusal) → up_to max_value u p.at ≡ not why → Follows form u p (Err why)
   unfolding deleted_clients ◌>>=◌ run on_drawn line number_by after Keeps
   head-no-client why h = (one-client ∙ rw h refl, tt)
 
   module _ (client t : ℕ) (h : up_to max_value u p.at ≡ got (client, p.at) t) where
-    pub head-no-count : (why : Refusal) → var_at u t ≡ not why → Follows form u p (move.Refused why)
+    pub head-no-count : (why : Refusal) → var_at u t ≡ not why → Follows form u p (Err why)
     unfolding deleted_clients ◌>>=◌ run on_drawn line number_by after Keeps
     head-no-count why k = (one-client ∙ rw (h, k) refl, tt)
 
     pub head-on : (count e : ℕ) → var_at u t ≡ got (count, t) e → client ≤ max_value → count < 18446744073709551616
-        → Follows form u p (move.On (record { at = e; clients = p.clients - 1; ranges = count; client = client; end = 0 }))
+        → Follows form u p (Ok (move.On (record { at = e; clients = p.clients - 1; ranges = count; client = client; end = 0 })))
     unfolding deleted_clients ◌>>=◌ run on_drawn line number_by after comes to_come Keeps left
     head-on count e k l c = (one-client ∙ rw (h, k) refl, (omega arith, λ _. l))
 
 -- ---- nothing is left
 
-pub no_more : (form : ℕ) (u : List ℕ) (p : Spot) → p.ranges ≡ 0 → p.clients ≡ 0 → Follows form u p (move.Done p.at)
+pub no_more : (form : ℕ) (u : List ℕ) (p : Spot) → p.ranges ≡ 0 → p.clients ≡ 0 → Follows form u p (Ok (move.Done p.at))
 unfolding comes to_come ranges deleted_clients ◌>>=◌ run after Keeps
 no_more form u p z y = (rw (z, y) refl, tt)

@@ -2,11 +2,10 @@
 // line, so it is read by its place.
 #![tactic(auto)]
 
-ghost use Rattle.std.specs.Prelude.{◌≡◌, ◌/◌, ◌<◌, eqb, length};
+ghost use Rattle.std.specs.Prelude.{◌≡◌, ◌/◌, ◌<◌, eqb, length, Ok, Err};
 ghost use Rattle.numbers.specs.Number.{pick, read_unsigned};
 ghost use Rattle.grammar.specs.Course.{fit, ending};
 ghost use Rattle.decoder.specs.Update.{delete_set};
-ghost use Rattle.deletes.specs.declared.Checked.TheVariants as checked;
 ghost use Rattle.deletes.specs.DeleteSet.{set_of, words_of};
 ghost use Rattle.deletes.specs.Steps.{restored_to, first_of, Follows, Kept};
 
@@ -75,21 +74,20 @@ enum Move {
     Range(u64, u64, u64, usize, Spot),
     On(Spot),
     Done(usize),
-    Refused(Refusal),
 }
 
-fn next_client(form: u8, update: &[u8], p: Spot) -> Move
+fn next_client(form: u8, update: &[u8], p: Spot) -> Result<Move, Refusal>
     requires { (0 < p.clients) × (p.ranges ≡ 0) }
     ensures { Follows form update.now p result }
 {
     let place = p.at;
     let c = read_at(update, place, 0, numbers::MAX_VALUE);
     let Read::Number(client, t) = c else {
-        return Move::Refused(numbers::why_read(c));
+        return Err(numbers::why_read(c));
     };
     let k = numbers::read_unsigned(update, t);
     let Read::Number(count, at) = k else {
-        return Move::Refused(numbers::why_read(k));
+        return Err(numbers::why_read(k));
     };
     let left = p.clients - 1;
     let after = Spot {
@@ -99,10 +97,10 @@ fn next_client(form: u8, update: &[u8], p: Spot) -> Move
         client,
         end: 0,
     };
-    Move::On(after)
+    Ok(Move::On(after))
 }
 
-fn next_range(form: u8, update: &[u8], p: Spot) -> Move
+fn next_range(form: u8, update: &[u8], p: Spot) -> Result<Move, Refusal>
     requires { 0 < p.ranges }
     ensures { Follows form update.now p result }
 {
@@ -110,16 +108,16 @@ fn next_range(form: u8, update: &[u8], p: Spot) -> Move
     let before = base(form, p.end);
     let d = read_at(update, place, before, numbers::MAX_CLOCK);
     let Read::Number(clock, t) = d else {
-        return Move::Refused(numbers::why_read(d));
+        return Err(numbers::why_read(d));
     };
     let one = base(form, 1);
     let e = read_at(update, t, one, numbers::MAX_CLOCK);
     let Read::Number(len, at) = e else {
-        return Move::Refused(numbers::why_read(e));
+        return Err(numbers::why_read(e));
     };
     let end = clock + len;
     if numbers::MAX_CLOCK < end {
-        return Move::Refused(Refusal { number: 3, place });
+        return Err(Refusal { number: 3, place });
     }
     let client = p.client;
     let left = p.ranges - 1;
@@ -131,13 +129,13 @@ fn next_range(form: u8, update: &[u8], p: Spot) -> Move
         end,
     };
     if len == 0 {
-        return Move::On(after);
+        return Ok(Move::On(after));
     }
-    Move::Range(client, clock, len, place, after)
+    Ok(Move::Range(client, clock, len, place, after))
 }
 
 // One step: a client's head, or one range.
-fn move_on(form: u8, update: &[u8], p: Spot) -> Move
+fn move_on(form: u8, update: &[u8], p: Spot) -> Result<Move, Refusal>
     ensures { Follows form update.now p result }
 {
     if 0 < p.ranges {
@@ -147,109 +145,73 @@ fn move_on(form: u8, update: &[u8], p: Spot) -> Move
         return next_client(form, update, p);
     }
     let at = p.at;
-    Move::Done(at)
+    Ok(Move::Done(at))
 }
 
-#[derive(Clone, Copy)]
-pub enum Checked {
-    Done(usize),
-    Refused(Refusal),
-}
-
-// The delete set is read through, and nothing kept.
-pub fn check_delete_set(form: u8, update: &[u8], at: usize) -> Checked
-    ensures { result ≡ ending (delete_set form update.now at) checked.Done checked.Refused }
+// The delete set is read through, and nothing kept: the place after it.
+pub fn check_delete_set(form: u8, update: &[u8], at: usize) -> Result<usize, Refusal>
+    ensures { result ≡ ending (delete_set form update.now at) Ok Err }
 {
     let r = read_at(update, at, 0, numbers::MAX_CLIENTS);
     let Read::Number(clients, e) = r else {
-        return Checked::Refused(numbers::why_read(r));
+        return Err(numbers::why_read(r));
     };
     let mut p = first(clients, e);
     loop {
-        let x = move_on(form, update, p);
-        match x {
-            Move::Range(_, _, _, _, t) => {
-                p = t;
-                continue;
-            }
-            Move::On(t) => {
-                p = t;
-                continue;
-            }
-            Move::Done(to) => {
-                return Checked::Done(to);
-            }
-            Move::Refused(why) => {
-                return Checked::Refused(why);
-            }
+        match move_on(form, update, p)? {
+            Move::Range(_, _, _, _, t) => p = t,
+            Move::On(t) => p = t,
+            Move::Done(to) => return Ok(to),
         }
     }
 }
 
-#[derive(Clone, Copy)]
-enum Collected {
-    Rows(usize, usize),
-    Refused(Refusal),
-}
-
-// The ranges as they are read, three words each, while there are words.
-fn collect(form: u8, update: &[u8], at: usize, words: &mut [u64]) -> Collected
+// The ranges as they are read, three words each, while there are words: how many there are, and the place after them.
+fn collect(form: u8, update: &[u8], at: usize, words: &mut [u64]) -> Result<(usize, usize), Refusal>
     ensures { Kept words.old words.new (fit (length words.old / 3) (delete_set form update.now at)) result }
 {
     let most = words.len() / 3;
     let r = read_at(update, at, 0, numbers::MAX_CLIENTS);
     let Read::Number(clients, e) = r else {
-        return Collected::Refused(numbers::why_read(r));
+        return Err(numbers::why_read(r));
     };
     let mut p = first(clients, e);
     let mut n: usize = 0;
     loop {
-        let x = move_on(form, update, p);
-        match x {
+        match move_on(form, update, p)? {
             Move::Range(client, clock, len, place, t) => {
                 if most <= n {
-                    return Collected::Refused(Refusal { number: 8, place });
+                    return Err(Refusal { number: 8, place });
                 }
                 ranges::store(words, n, client, clock, len);
                 n += 1;
                 p = t;
-                continue;
             }
-            Move::On(t) => {
-                p = t;
-                continue;
-            }
-            Move::Done(to) => {
-                return Collected::Rows(n, to);
-            }
-            Move::Refused(why) => {
-                return Collected::Refused(why);
-            }
+            Move::On(t) => p = t,
+            Move::Done(to) => return Ok((n, to)),
         }
     }
 }
 
-// How many ranges the normal form has, and the place after them.
-#[derive(Clone, Copy)]
-pub enum Set {
-    Ranges(usize, usize),
-    Refused(Refusal),
-}
-
-// The delete set in normal form, three words a range, and zeros after it; on a refusal all words are zero.
-pub fn read_delete_set(form: u8, update: &[u8], at: usize, words: &mut [u64]) -> Set
+// The delete set in normal form, three words a range, and zeros after it: how many ranges that has, and the place after them. On a refusal all
+// words are zero.
+pub fn read_delete_set(
+    form: u8,
+    update: &[u8],
+    at: usize,
+    words: &mut [u64],
+) -> Result<(usize, usize), Refusal>
     ensures { (result ≡ set_of form update.now at (length words.old))
         × (words.new ≡ words_of form update.now at (length words.old)) }
 {
-    let c = collect(form, update, at, words);
-    match c {
-        Collected::Rows(n, to) => {
+    match collect(form, update, at, words) {
+        Ok((n, to)) => {
             let m = ranges::normalize(words, n);
-            return Set::Ranges(m, to);
+            Ok((m, to))
         }
-        Collected::Refused(why) => {
+        Err(why) => {
             numbers::words::clear(words, 0);
-            return Set::Refused(why);
+            Err(why)
         }
     }
 }

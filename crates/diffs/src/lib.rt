@@ -20,16 +20,15 @@ pub struct Diff {
     pub ranges: usize,
 }
 
+#[tactic(auto, unfolding(updates::specs::Promises::known))]
 fn is_known(form: u8) -> bool
     ensures { result ≡ known form }
 {
-    if form == 1 {
-        return true;
-    }
-    form == 2
+    form == 1 || form == 2
 }
 
 // A refusal, and counts of 0.
+#[tactic(auto, unfolding(crate::specs::Promises::answered))]
 fn none(why: Refusal) -> Diff
     ensures { result ≡ answered (refused_with why) }
 {

@@ -1,13 +1,12 @@
 -- Rows measured one by one: what the plan of one row names, that a section's count is in no column, and the loop that measures the planned rows.
 use Prim.Native.Nat.{ℕ, ◌-◌, ◌*◌, ◌≤◌, ◌<◌}
 use mathlib.Core.Path.{◌≡◌, refl, sym, ap, ◌∙◌}
-use mathlib.Core.Logic.{◌≢◌}
 use mathlib.Core.Bool.{Bool, true, false, ◌&&◌}
 use mathlib.Core.List.{List, [], ◌∷◌, ◌++◌, append-nil, append_assoc}
 use native.Mathlib.Omega.{arith}
 use lib.Dec.{eqb}
 use lib.ListN.{length, get_or, set}
-use borrow.Author.Tests.{lt-ltb, eqb-true, eq-eqb, ne_eqb}
+use borrow.Author.Tests.{lt-ltb, eqb-true}
 use Rattle.numbers.specs.Number.{pick}
 use Rattle.block.specs.declared.Block.{Block}
 use Rattle.block.specs.Row.{no_block}
@@ -62,13 +61,6 @@ pub one-plan : (w : List ℕ) (c : Cursor) (head : ℕ) → length w ≡ 5 → h
     → set (set (set (set (set w 0 0) 1 c.row) 2 head) 3 c.from.0) 4 c.skip.0 ≡ one_plan c
 unfolding one_plan
 one-plan w c head l h = rw h (five w l 0 c.row (pick (eqb c.head 0) 0 1) c.from.0 c.skip.0)
-
-module _ (c : Cursor) (head : ℕ) where
-  pub a-head : c.head ≢ 0 → head ≡ 1 → head ≡ pick (eqb c.head 0) 0 1
-  a-head h e = rw (ne_eqb c.head 0 h) e
-
-  pub no-head : c.head ≡ 0 → head ≡ 0 → head ≡ pick (eqb c.head 0) 0 1
-  no-head h e = rw (eq-eqb c.head 0 h) e
 
 -- ---- a section's count stands among the rest: no column has it
 
@@ -167,23 +159,6 @@ measured-plain {u} rows c f p g =
 pub not_plain : {u lanes lanes₁ : List ℕ} (b : Block) → plain b ≡ false → Gauged (pick (plain b) (block_tokens u b) []) lanes lanes₁ → Sized u [] lanes lanes₁
 unfolding keyless
 not_plain b p g = sized-gauged refl (rw p at g)
-
-module _ (c : Cursor) where
-  pub not-headless : c.head ≢ 0 → false ≡ further_at c
-  unfolding further_at
-  not-headless h = rw (ne_eqb c.head 0 h)
-
-  pub not-whole : c.from.0 ≢ 0 → false ≡ further_at c
-  unfolding further_at
-  not-whole h = rw (ne_eqb c.from.0 0 h) (go (eqb c.head 0))
-    where
-      go : (x : Bool) → false ≡ x && false && eqb c.skip.0 0
-      go true = refl
-      go false = refl
-
-  pub whole-unskipped : c.head ≡ 0 → c.from.0 ≡ 0 → eqb c.skip.0 0 ≡ further_at c
-  unfolding further_at
-  whole-unskipped h k = rw (eq-eqb c.head 0 h, eq-eqb c.from.0 0 k)
 
 -- ---- the loop: what is measured and what is before the cursor make up the plan
 

@@ -30,11 +30,9 @@ pub fn plan_rows(
         plan.old (take n rows.now)) }
 {
     let mut s = kept::plan::begin();
-    let mut i = 0;
-    while i < n {
+    for i in 0..n {
         let b = table::fetch(rows, i);
         s = kept::plan::see(update, clients, clocks, m, plan, s, i, b);
-        i += 1;
     }
     steps::end_plan(plan, s)
 }
@@ -50,21 +48,18 @@ pub fn is_plain(rows: &[Block], plan: &[u64], sections: usize, form: u8) -> bool
     if form == 1 {
         return true;
     }
-    let mut seen = 0;
     let mut c = kept::cursor::open(plan, sections, 0);
-    while c.row < rows.len() {
-        if FEW <= seen {
-            return false;
+    for _ in 0..FEW {
+        if rows.len() <= c.row {
+            return true;
         }
         let b = table::fetch(rows, c.row);
-        let keyed = steps::has_key(b);
-        if keyed {
+        if steps::has_key(b) {
             return false;
         }
         c = kept::cursor::advance(plan, sections, c);
-        seen += 1;
     }
-    true
+    rows.len() <= c.row
 }
 
 // The planned rows onto the lanes of a form, the place in line being `at`; where there is no room they are measured. The place in line after them.
@@ -85,6 +80,7 @@ pub fn put_rows(
 {
     let mut end = at;
     let mut c = kept::cursor::open(plan, sections, 0);
+    // Kept, point 3 (no plainer): no index is counted, the cursor goes to the row that the plan names next.
     while c.row < rows.len() {
         let b = table::fetch(rows, c.row);
         end = records::write_row(out, update, lanes, form, end, c, b);
@@ -94,18 +90,11 @@ pub fn put_rows(
 }
 
 // Whether the row at a cursor is whole and not the first of its section.
+#[tactic(auto, unfolding(crate::specs::Alone::further_at))]
 fn is_further(c: Cursor) -> bool
     ensures { result ≡ further_at c }
 {
-    let from = c.from;
-    let skip = c.skip;
-    if c.head != 0 {
-        return false;
-    }
-    if from.0 != 0 {
-        return false;
-    }
-    skip.0 == 0
+    c.head == 0 && c.from.0 == 0 && c.skip.0 == 0
 }
 
 // The plan of one row: its section's count is 1, or 0 where it has no head.
@@ -113,17 +102,11 @@ fn plan_one(plan: &mut [u64], c: Cursor)
     requires { length plan.old ≡ 5 }
     ensures { plan.new ≡ one_plan c }
 {
-    let from = c.from;
-    let skip = c.skip;
-    let mut head = 0;
-    if c.head != 0 {
-        head = 1;
-    }
     plan[0] = 0;
     plan[1] = c.row as u64;
-    plan[2] = head;
-    plan[3] = from.0;
-    plan[4] = skip.0 as u64;
+    plan[2] = c.head.min(1) as u64;
+    plan[3] = c.from.0;
+    plan[4] = c.skip.0 as u64;
 }
 
 // Any row measured for form 2: as a plan of its own, written where there is no room.
@@ -160,6 +143,7 @@ pub fn measure_rows(lanes: &mut [u64], update: &[u8], rows: &[Block], plan: &[u6
         lanes.old lanes.new }
 {
     let mut c = kept::cursor::open(plan, sections, 0);
+    // Kept, point 3 (no plainer): no index is counted, the cursor goes to the row that the plan names next.
     while c.row < rows.len() {
         measure_row(lanes, update, rows, c);
         c = kept::cursor::advance(plan, sections, c);

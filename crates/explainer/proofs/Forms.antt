@@ -1,4 +1,5 @@
 -- Following in either form over one state finds what each form's own reader finds.
+use Rattle.std.specs.Prelude.{Option, Some, None}
 use Prim.Native.Nat.{ℕ, zero, suc}
 use mathlib.Core.Path.{◌≡◌, refl, sym, ap, ◌∙◌}
 use mathlib.Core.Logic.{◌≢◌}
@@ -16,8 +17,6 @@ use Rattle.decoder.specs.ColumnedInner.{fields}
 use Rattle.decoder.specs.Opening.{opened_of}
 use Rattle.decoder.specs.Update.{rest_places, in_columns, blocks_of}
 use Rattle.decoder.proofs.Laws.{placed-line, fields-columned, run-columned}
-use Rattle.cells.specs.declared.Drawn as cells-drawn
-use Rattle.cells.specs.declared.Drawn.TheVariants as drawn
 use Rattle.cells.specs.Cells.{at_in, state_in}
 use Rattle.opening.specs.Opening.{opened_in}
 use Rattle.roles.specs.declared.Plan.{Plan}
@@ -99,12 +98,12 @@ module _ (form : ℕ) (u w : List ℕ) (one : form ≡ 1) (at : at_in w ≡ 0) w
   line-explains n = rw (one) (line-found u all_blocks start blank n (state_in w) ∙ ap (λ (x : ℕ). found lines_in_line start blank n (watch (line 1 u) all_blocks x)) at)
 
 -- what opening a form gave
-pub opened-as : (u w : List ℕ) (x y : cells-drawn.Drawn) → opened_in w x ≡ opened_of u → x ≡ y → opened_in w y ≡ opened_of u
+pub opened-as : (u w : List ℕ) (x y : Option ℕ) → opened_in w x ≡ opened_of u → x ≡ y → opened_in w y ≡ opened_of u
 opened-as u w x y o e = ap (opened_in w) (sym e) ∙ o
 
 module _ (form : ℕ) (u w : List ℕ) (other : form ≢ 1) where
   -- form 2, from words that it was opened into
-  module _ (k : ℕ) (opened : opened_in w (drawn.Number k) ≡ opened_of u) where
+  module _ (k : ℕ) (opened : opened_in w (Some k) ≡ opened_of u) where
     behind-columns : in_columns u ≡ run (fields form u) all_blocks (state_in w)
     unfolding in_columns on_drawn opened_in
     behind-columns = rw (← opened) (sym (run-columned form u other all_blocks (state_in w)))
@@ -121,7 +120,7 @@ module _ (form : ℕ) (u w : List ℕ) (other : form ≢ 1) where
     column-explains n = column-found form u other all_blocks start blank n (state_in w) ∙ sym (rw (ne_eqb form 1 other, ← opened) refl)
 
   -- or not
-  pub unopened-explains : (sh : List ℕ) (n : ℕ) → opened_in w drawn.Refused ≡ opened_of u → lines_from sh 0 0 ≡ explanation form u n
+  pub unopened-explains : (sh : List ℕ) (n : ℕ) → opened_in w None ≡ opened_of u → lines_from sh 0 0 ≡ explanation form u n
   unfolding lines_from explanation on_opened opened_in
   unopened-explains sh n e = sym (rw (ne_eqb form 1 other, ← e) refl)
 

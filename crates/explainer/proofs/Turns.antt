@@ -1,4 +1,5 @@
 -- A turn of following: what is found from here is what is found from the start.
+use Rattle.std.specs.Prelude.{Option, Some, None}
 use Prim.Native.Nat.{ℕ, zero, suc, ◌+◌, ◌*◌, ◌-◌, ◌<◌, ◌≤◌}
 use native.Mathlib.Omega.{arith}
 use mathlib.Core.Path.{◌≡◌, refl, sym, ap, subst, ◌∙◌}
@@ -28,8 +29,6 @@ use Rattle.roles.specs.Roles.{start, code_of, after, onward, moved_on, is_ended}
 use Rattle.roles.specs.RolesInner.{is_over, is_kept}
 use Rattle.origins.specs.declared.Line.{Line}
 use Rattle.origins.specs.Sheets.{lines_from}
-use Rattle.telling.specs.declared.Told as telling-told
-use Rattle.telling.specs.declared.Told.TheVariants as tell
 use Rattle.telling.specs.Telling.{heard}
 use Rattle.telling.specs.TellingInner.{field_at, lines_of, Draws, Draws-not, Says, Tells}
 use Rattle.explainer.specs.Watch.{Seen, kept, on_seen, watch}
@@ -281,19 +280,19 @@ module _ (form : ℕ) (u : List ℕ) (goal : List Line) (w sh : List ℕ) (q : P
       tell-low = omega (arith, low, placed.above.size, inv.size)
 
     -- told from line i on
-    module _ (w₁ sh₁ sh₂ : List ℕ) (i : ℕ) (placed : Placed q own sh sh₁ i) (x : telling-told.Told) (tells : Tells form u (code_of q.role) (field_at q) w w₁ sh₁ sh₂ i x) where
+    module _ (w₁ sh₁ sh₂ : List ℕ) (i : ℕ) (placed : Placed q own sh sh₁ i) (x : Option (ℕ × ℕ × ℕ)) (tells : Tells form u (code_of q.role) (field_at q) w w₁ sh₁ sh₂ i x) where
       -- a field is not refused, since all blocks can be read
-      pub not-refused : x ≡ tell.Refused → ⊥
+      pub not-refused : x ≡ None → ⊥
       unfolding Says is_whole ending on_drawn
       not-refused e = not-both (sym asks.reads ∙ ap (λ (d : Drawn State (Answer (field_at q))). is_whole (on_drawn d (λ a t. run (fields form u) (asks.then a) t))) no.refused)
         where
           no : Draws-not form u (field_at q) w
-          no = subst (λ (y : telling-told.Told). Says form u (code_of q.role) (field_at q) w w₁ sh₂ i y) e tells.2
+          no = subst (λ (y : Option (ℕ × ℕ × ℕ)). Says form u (code_of q.role) (field_at q) w w₁ sh₂ i y) e tells.2
 
-      module _ (v p k : ℕ) (e : x ≡ tell.Lines v p k) where
+      module _ (v p k : ℕ) (e : x ≡ Some (v, p, k)) where
         says : Draws form u (code_of q.role) (field_at q) w w₁ sh₂ i v p k
         unfolding Says
-        says = subst (λ (y : telling-told.Told). Says form u (code_of q.role) (field_at q) w w₁ sh₂ i y) e tells.2
+        says = subst (λ (y : Option (ℕ × ℕ × ℕ)). Says form u (code_of q.role) (field_at q) w w₁ sh₂ i y) e tells.2
 
         met : Meets (field_at q) says.answer
         met = meets form u (field_at q) (state_in w) says.answer (state_in w₁) says.drawn

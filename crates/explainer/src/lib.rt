@@ -8,10 +8,8 @@ ghost use Rattle.origins.specs.Sheets.{lines_from};
 ghost use Rattle.explainer.specs.Explanation.{explanation, clock_line};
 ghost use Rattle.explainer.specs.Following.{Readable, Reads, line_for, Placed, is_found, ahead_of, followed};
 
-use cells::Drawn;
 use origins::{Line, Rise, Stand};
 use roles::Plan;
-use telling::Told;
 use text::{Bytes, Part};
 
 // The line that a draw is told at: the next of the block's own, but the head's have their places, and a block begins anew with its info byte.
@@ -114,7 +112,7 @@ fn follow(form: u8, update: &[u8], w: &mut [u64], n: usize, sheet: &mut [u64]) -
                 return 0;
             }
             let i = place(sheet, q, own);
-            let Told::Lines(v, p, k) = telling::tell(form, update, w, &mut part, sheet, i, q) else {
+            let Some((v, p, k)) = telling::tell(form, update, w, &mut part, sheet, i, q) else {
                 return 0;
             };
             own = i + k;
@@ -132,7 +130,7 @@ pub fn explain_block(form: u8, update: &[u8], n: usize, sheet: &mut [u64]) -> us
     if form == 1 {
         return follow(form, update, &mut words, n, sheet);
     }
-    let Drawn::Number(_) = opening::open(update, &mut words) else {
+    let Some(_) = opening::open(update, &mut words) else {
         return 0;
     };
     follow(form, update, &mut words, n, sheet)

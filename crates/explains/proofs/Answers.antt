@@ -1,10 +1,9 @@
 -- The answers of `explain`, at each way out.
-use Prim.Native.Nat.{ℕ, zero, suc, ◌+◌, ◌-◌, ◌*◌, ◌≤◌, ◌<◌}
+use Prim.Native.Nat.{ℕ, zero, suc, ◌-◌, ◌*◌, ◌≤◌, ◌<◌}
 use native.Mathlib.Omega.{arith}
 use mathlib.Core.Path.{◌≡◌, refl, sym, ap, ap₂, ◌∙◌, subst}
 use mathlib.Core.List.{List, ◌++◌}
 use lib.ListN.{length, take, replicate}
-use lib.Seq.{paste, take-paste, length-paste}
 use borrow.Author.Tests.{lt-ltb, le-ltb}
 use Rattle.numbers.specs.declared.Refusal.{Refusal}
 use Rattle.numbers.specs.Number.{none, nowhere}
@@ -14,7 +13,7 @@ use Rattle.numbers.proofs.Output.{padded-some}
 use Rattle.origins.specs.Sheets.{lines_from}
 use Rattle.explainer.specs.Explanation.{explanation, words}
 use Rattle.explains.specs.declared.Explained.{Explained}
-use Rattle.explains.specs.declared.Whole.TheVariants.{Reads, Refused}
+use Rattle.std.proofs.Common.{Ok, Err}
 use Rattle.explains.specs.Whole.{whole_of}
 use Rattle.explains.specs.Promises.{Outcome, refused, fitting, explain_of, answer_of, Gives}
 use Rattle.explains.proofs.Sheets.{length-lines, length-words, sheet-words}
@@ -41,13 +40,10 @@ module _ (room : ℕ) (sh : List ℕ) where
   no_room zero any h = absurd (any refl)
   no_room (suc n) any h = rw (lt-ltb room (length (words (lines_from sh 0 (suc n)))) (omega (arith, h, length-words (lines_from sh 0 (suc n)), length-lines sh 0 (suc n))))
 
-module _ (out sh : List ℕ) (n : ℕ) (any : n ≡ 0 → ⊥) (fits : 12 * n ≤ length out) (long : 12 * n ≤ length sh) (out₁ out₂ : List ℕ) (copied : out₁ ≡ paste out 0 sh (12 * n))
-    (cleared : out₂ ≡ take (12 * n) out₁ ++ replicate (length out₁ - 12 * n) 0) where
-  as_long : length out₁ ≡ length out
-  as_long = ap length copied ∙ length-paste out 0 sh (12 * n) (omega (arith, fits)) long
-
+module _ (out sh : List ℕ) (n : ℕ) (any : n ≡ 0 → ⊥) (fits : 12 * n ≤ length out) (long : 12 * n ≤ length sh) (out₁ out₂ : List ℕ) (as_long : length out₁ ≡ length out)
+    (copied : take (12 * n) out₁ ≡ take (12 * n) sh) (cleared : out₂ ≡ take (12 * n) out₁ ++ replicate (length out₁ - 12 * n) 0) where
   front : take (12 * n) out₁ ≡ words (lines_from sh 0 n)
-  front = ap₂ take (let e : 12 * n ≡ 0 + 12 * n = omega arith in e) copied ∙ take-paste out 0 sh (12 * n) (omega arith) long ∙ sym (sheet-words sh n long)
+  front = copied ∙ sym (sheet-words sh n long)
 
   pub told : Gives (fitting (length out) (lines_from sh 0 n)) out (record { refusal = none; lines = n }) out₂
   unfolding answer_of
@@ -73,10 +69,10 @@ module _ (form : ℕ) (u : List ℕ) (n room : ℕ) where
       too_long h = rw (le-ltb form 1 low, le-ltb 2 form high, lt-ltb max_update (length u) h)
 
       module _ (short : length u ≤ max_update) where
-        pub not-read : (why : Refusal) → Refused why ≡ whole_of form u → explain_of form u n room ≡ refused why
+        pub not-read : (why : Refusal) → Err why ≡ whole_of form u → explain_of form u n room ≡ refused why
         unfolding explain_of
-        not-read why e = rw (le-ltb form 1 low, le-ltb 2 form high, le-ltb max_update (length u) short) (by_whole form u _ _ (Refused why) e)
+        not-read why e = rw (le-ltb form 1 low, le-ltb 2 form high, le-ltb max_update (length u) short) (by_whole form u _ _ (Err why) e)
 
-        pub is_read : Reads ≡ whole_of form u → explain_of form u n room ≡ fitting room (explanation form u n)
+        pub is_read : Ok tt ≡ whole_of form u → explain_of form u n room ≡ fitting room (explanation form u n)
         unfolding explain_of
-        is_read e = rw (le-ltb form 1 low, le-ltb 2 form high, le-ltb max_update (length u) short) (by_whole form u _ _ Reads e)
+        is_read e = rw (le-ltb form 1 low, le-ltb 2 form high, le-ltb max_update (length u) short) (by_whole form u _ _ (Ok tt) e)

@@ -3,15 +3,11 @@
 #![tactic(auto)]
 
 ghost use Rattle.std.specs.Prelude.{◌≡◌, ◌≤◌, length};
-ghost use Rattle.std.proofs.Math.Seq.{paste};
 ghost use Rattle.origins.specs.Sheets.{lines_from};
 ghost use Rattle.explains.specs.Promises.{refused, fitting, Gives, Explains};
 ghost use Rattle.explains.specs.Whole.{whole_of};
 
-use content::Scanned;
-use deletes::Checked;
 use numbers::Refusal;
-use update::Begun;
 
 // A refusal, zeros for done, and how many lines of twelve words each were told.
 #[repr(C)]
@@ -21,28 +17,15 @@ pub struct Explained {
     pub lines: usize,
 }
 
-// Whether an update reads, from its form to its delete set.
-#[derive(Clone, Copy)]
-pub enum Whole {
-    Reads,
-    Refused(Refusal),
-}
-
-// Reads the whole update, and keeps nothing of it.
-fn read_whole(form: u8, update: &[u8]) -> Whole
+// Whether an update reads, from its form to its delete set. Nothing of it is kept.
+fn read_whole(form: u8, update: &[u8]) -> Result<(), Refusal>
     ensures { result ≡ whole_of form update.now }
 {
     let mut w = [0u64; 580];
-    match update::begin(form, update, &mut w) {
-        Begun::At(s) => match content::scan(form, update, &mut w, s, 0) {
-            Scanned::Row(_, at) => match deletes::check_delete_set(form, update, at) {
-                Checked::Done(_) => Whole::Reads,
-                Checked::Refused(why) => Whole::Refused(why),
-            },
-            Scanned::Refused(why) => Whole::Refused(why),
-        },
-        Begun::Refused(why) => Whole::Refused(why),
-    }
+    let s = update::begin(form, update, &mut w)?;
+    let (_, at) = content::scan(form, update, &mut w, s, 0)?;
+    deletes::check_delete_set(form, update, at)?;
+    Ok(())
 }
 
 fn refuse(out: &mut [u64], why: Refusal) -> Explained
@@ -52,19 +35,6 @@ fn refuse(out: &mut [u64], why: Refusal) -> Explained
     Explained {
         refusal: why,
         lines: 0,
-    }
-}
-
-// The first n words of the sheet.
-fn copy(out: &mut [u64], sheet: &[u64], n: usize)
-    requires { (n ≤ length out.old) × (n ≤ length sheet.now) }
-    ensures { out.new ≡ paste out.old 0 sheet.now n }
-{
-    let mut i = 0;
-    while i < n {
-        let word = sheet[i];
-        out[i] = word;
-        i += 1;
     }
 }
 
@@ -92,7 +62,7 @@ fn told(out: &mut [u64], sheet: &[u64], lines: usize) -> Explained
             },
         );
     }
-    copy(out, sheet, n);
+    out[..n].copy_from_slice(&sheet[..n]);
     numbers::words::clear(out, n);
     Explained {
         refusal: Refusal {
@@ -127,11 +97,11 @@ pub fn explain(form: u8, update: &[u8], n: usize, out: &mut [u64]) -> Explained
         );
     }
     match read_whole(form, update) {
-        Whole::Reads => {
+        Ok(()) => {
             let mut sheet = [0u64; 192];
             let lines = explainer::explain_block(form, update, n, &mut sheet);
             told(out, &sheet, lines)
         }
-        Whole::Refused(why) => refuse(out, why),
+        Err(why) => refuse(out, why),
     }
 }

@@ -1,4 +1,5 @@
 -- What the words are after a field, for the reader of either form: one that stands in line moves the place alone, one of a column that column.
+use Rattle.std.specs.Prelude.{Option, Some, None}
 use Prim.Native.Nat.{ℕ, ◌+◌, ◌-◌, ◌≤◌, ◌<◌}
 use mathlib.Core.Path.{◌≡◌, refl, sym, ap, subst, ◌∙◌}
 use mathlib.Core.Logic.{◌≢◌}
@@ -28,12 +29,9 @@ use Rattle.decoder.specs.States.{Texts, State, moved_to, client_moved, left_move
 use Rattle.decoder.specs.Columned.{onto, number_in, columned}
 use Rattle.decoder.specs.ColumnedInner.{fields}
 use Rattle.decoder.proofs.Laws.{fields-columned}
-use Rattle.cells.specs.declared.Drawn.{Drawn}
-use Rattle.cells.specs.declared.Drawn.TheVariants.{Number, Refused}
 use Rattle.cells.specs.Cells.{texts_in, at_in, why_in, state_in, Small, part_in, given, NumberDrawn, DifferenceDrawn, ByteDrawn}
 use Rattle.cells.proofs.Words.{held, put-place, held-wide, elsewhere-behind}
 use Rattle.cells.proofs.States.{state-client, state-left, state-right, state-info, state-text, state-parent, state-len, state-same, state-at, small_at, place-moved, row_first, row-second, mapped, text-mapped, number-onto, difference-onto, byte-onto}
-use Rattle.cells.specs.declared.Field.TheVariants as field
 use Rattle.fields.specs.Fields.{clock_at, Narrow, Given, Rising, part_given, text_given, texts_given, TextDrawn}
 
 -- ---- in line
@@ -61,12 +59,12 @@ module _ (w : List ℕ) (s : Small w) (e p : ℕ) where
       let h = held 1 v (small_at w s e) in
       held-wide 1 v _ moved (put-place 1 v _ v (omega arith) h p) (omega arith, (λ q. omega arith), (λ q. omega arith), (λ q. omega arith)) (small_at w s e)
 
-  pub given-moved : (x : ℕ) → given moved (Number x) ≡ course.got (x, p) (moved_to (state_in w) e)
+  pub given-moved : (x : ℕ) → given moved (Some x) ≡ course.got (x, p) (moved_to (state_in w) e)
   unfolding given
   given-moved x =
       rw (state-same (set w 63 e) moved (elsewhere-behind 9 64 p (set w 63 e) (omega arith) (omega arith)) ∙ state-at w s e, place-moved (set w 63 e) (small_at w s e) p) refl
 
-module _ (v : List ℕ) {r : Drawn} {why : Refusal} (e : r ≡ Refused) (q : why_in v ≡ why) where
+module _ (v : List ℕ) {r : Option ℕ} {why : Refusal} (e : r ≡ None) (q : why_in v ≡ why) where
   pub given-refused : given v r ≡ course.not why
   unfolding given
   given-refused = rw e (ap course.not q)
@@ -135,7 +133,7 @@ unfolding part_in
 part-put k a b r l = rw (row_first k a b r l, row-second k a b r l) refl
 
 pub part_moved : (w : List ℕ) → Small w → (e k a b : ℕ) (r : List ℕ) → k + 1 < length r
-    → part_given k (set w 63 e) (set (set r k a) (k + 1) b) field.Done ≡ course.got (record { place = a; bytes = record { 0 = b } }) (moved_to (state_in w) e)
+    → part_given k (set w 63 e) (set (set r k a) (k + 1) b) (Some tt) ≡ course.got (record { place = a; bytes = record { 0 = b } }) (moved_to (state_in w) e)
 unfolding part_given
 part_moved w s e k a b r l = rw (part-put k a b r l, state-at w s e) refl
 
@@ -191,7 +189,7 @@ module _ (u : List ℕ) (s : State) where
 
 -- ---- from a column
 
-module _ (form : ℕ) (u w v : List ℕ) (other : form ≢ 1) (r : Drawn) where
+module _ (form : ℕ) (u w v : List ℕ) (other : form ≢ 1) (r : Option ℕ) where
   abbrev From : grammar.Number → Type 0
   From n = given v r ≡ fields form u (grammar.number n) (state_in w)
 
@@ -235,10 +233,10 @@ module _ (form : ℕ) (u w v : List ℕ) (other : form ≢ 1) (r : Drawn) where
       ∙ sym (fields-columned form u other (grammar.number grammar.len) (state_in w))
 
   module _ (k : ℕ) (before q : List ℕ) where
-    texts-given : (f : Texts → State) (d : Drawn) → state_in v ≡ f (texts_in v 5) → text_given k v q d ≡ mapped f (texts_given v q k d)
+    texts-given : (f : Texts → State) (d : Option ℕ) → state_in v ≡ f (texts_in v 5) → text_given k v q d ≡ mapped f (texts_given v q k d)
     unfolding mapped text_given texts_given
-    texts-given f (Number n) e = ap (course.got (part_in q k, record { 0 = n })) e
-    texts-given f Refused e = refl
+    texts-given f (Some n) e = ap (course.got (part_in q k, record { 0 = n })) e
+    texts-given f None e = refl
 
     pub text-drawn : TextDrawn u k w v before q r → text_given k v q r ≡ fields form u grammar.text (state_in w)
     unfolding columned state_in
@@ -250,7 +248,7 @@ module _ (form : ℕ) (u w v : List ℕ) (other : form ≢ 1) (r : Drawn) where
 
 -- ---- a clock of either form
 
-pub clock-read : (form : ℕ) (u w v : List ℕ) (r : Drawn) (k : ℕ) → Narrow k → Rising form u k w v r
+pub clock-read : (form : ℕ) (u w v : List ℕ) (r : Option ℕ) (k : ℕ) → Narrow k → Rising form u k w v r
     → Given w v r (fields form u (grammar.number (clock_at k)) (state_in w))
 clock-read form u w v r k n d = go (eqb form 1) refl
   where

@@ -1,4 +1,5 @@
 -- What a draw from the text column comes to: the units are the number drawn, and the part goes to a row.
+use Rattle.std.specs.Prelude.{Option, Some, None}
 use Prim.Native.Nat.{ℕ, ◌+◌, ◌-◌, ◌<◌}
 use mathlib.Core.Path.{◌≡◌, refl, sym, ap, ◌∙◌}
 use mathlib.Core.List.{List}
@@ -26,8 +27,6 @@ use Rattle.string.specs.String as strings
 use Rattle.grammar.specs.Course as course
 use Rattle.decoder.specs.States.{Numbers}
 use Rattle.decoder.specs.Columned.{number_drawn, text_drawn, from_texts}
-use Rattle.cells.specs.declared.Drawn.{Drawn}
-use Rattle.cells.specs.declared.Drawn.TheVariants.{Number, Refused}
 use Rattle.cells.specs.Cells.{cell, numbers_in, texts_in, why_in, Small, Elsewhere, part_in, numbers_given, NumberDrawn}
 use Rattle.cells.proofs.Words.{Held, column, held, put-at, texts-held, held-wide, elsewhere-any, elsewhere-on}
 use Rattle.cells.proofs.States.{beside_none, beside-put, row_first, row-second}
@@ -88,7 +87,7 @@ abbrev reason : Refusal → course.Drawn Numbers (ℕ × ℕ) → Refusal
 reason r (course.got x s) = r
 reason r (course.not why) = why
 
-number_of : (v : List ℕ) (n to : ℕ) (a : number-answer.Answer) → numbers_given v 5 (Number n) ≡ number_drawn (λ c. c) to a
+number_of : (v : List ℕ) (n to : ℕ) (a : number-answer.Answer) → numbers_given v 5 (Some n) ≡ number_drawn (λ c. c) to a
     → (a ≡ number.Next n (numbers_in v 5).place) × ((numbers_in v 5).to ≡ to)
 unfolding numbers_given number_drawn
 number_of v n to (number.Next x c) e =
@@ -100,7 +99,7 @@ number_of v n to (number.Bad why) e = absurd (let z : ◌≡◌ {A = ℕ} 1 0 = 
 -- ---- the text
 
 -- no number, no text
-pub text-none : (u w v : List ℕ) (k : ℕ) (r : List ℕ) (d : Drawn) → d ≡ Refused → NumberDrawn u 5 w v d → TextDrawn u k w v r r d
+pub text-none : (u w v : List ℕ) (k : ℕ) (r : List ℕ) (d : Option ℕ) → d ≡ None → NumberDrawn u 5 w v d → TextDrawn u k w v r r d
 unfolding texts_given numbers_given number_drawn text_drawn texts_in numbers_in strings.next_text strings.units_drawn
 text-none u w v k r d h p =
     let a = next_number (take (cell w 5 4) u) (numbers_in w 5).place in
@@ -111,7 +110,7 @@ text-none u w v k r d h p =
     go (number.Next x c) e = absurd (let z : ◌≡◌ {A = ℕ} 0 1 = ap told e in omega arith)
     go (number.Bad why) e = ap course.not (ap (reason (why_in v)) e)
 
-module _ (u w v : List ℕ) (n : ℕ) (p : NumberDrawn u 5 w v (Number n)) where
+module _ (u w v : List ℕ) (n : ℕ) (p : NumberDrawn u 5 w v (Some n)) where
   found : (next_number (take (cell w 5 4) u) (numbers_in w 5).place ≡ number.Next n (numbers_in v 5).place) × (cell v 5 4 ≡ cell w 5 4)
   unfolding numbers_in
   found = number_of v n (cell w 5 4) (next_number (take (cell w 5 4) u) (numbers_in w 5).place) p.2
@@ -122,9 +121,9 @@ module _ (u w v : List ℕ) (n : ℕ) (p : NumberDrawn u 5 w v (Number n)) where
   text-next t x et ex = rw (ex, et, found.1, p.3.0, p.3.1, found.0) refl
 
   -- its units end past the texts, or in a pair
-  pub text-refused : (z r t : List ℕ) (d : Drawn) (k at number : ℕ) (x : Taken) → at ≡ cell v 5 5 → x ≡ units.Refused number
+  pub text-refused : (z r t : List ℕ) (d : Option ℕ) (k at number : ℕ) (x : Taken) → at ≡ cell v 5 5 → x ≡ units.Refused number
       → t ≡ take (cell v 5 4) u → x ≡ take_units 7 n (slice at (cell v 5 6) t)
-      → (d ≡ Refused) × Small z × Elsewhere 9 v z × (why_in z ≡ record { number = number; place = at })
+      → (d ≡ None) × Small z × Elsewhere 9 v z × (why_in z ≡ record { number = number; place = at })
       → TextDrawn u k w z r r d
   unfolding texts_given text_drawn strings.text_ending
   text-refused z r t d k at number x ea told et ex h = (
@@ -137,7 +136,7 @@ module _ (u w v : List ℕ) (n : ℕ) (p : NumberDrawn u 5 w v (Number n)) where
   -- its bytes
   pub text-took : (r t : List ℕ) (k at : ℕ) (x : Taken) (b : Bytes) → k + 1 < length r → at ≡ cell v 5 5 → x ≡ units.Took b
       → t ≡ take (cell v 5 4) u → x ≡ take_units 7 n (slice at (cell v 5 6) t)
-      → TextDrawn u k w (set v 40 (at + b.0)) r (set (set r k at) (k + 1) b.0) (Number n)
+      → TextDrawn u k w (set v 40 (at + b.0)) r (set (set r k at) (k + 1) b.0) (Some n)
   unfolding texts_given text_drawn strings.text_ending part_in numbers_in
   text-took r t k at x b room ea told et ex =
       let z = set v 40 (at + b.0) in

@@ -11,14 +11,14 @@ ghost use Rattle.cells.specs.Cells as cells;
 ghost use Rattle.cells.specs.Cells.{NumberDrawn, at_in, state_in, Small, Beside, given};
 ghost use Rattle.fields.specs.Fields.{clock_at, Narrow, part_given, text_given, Given, PartGiven, TextGiven, Rising, TextDrawn};
 
-use cells::{AT, Drawn, Field, PLACE};
+use cells::{AT, PLACE};
 use numbers::Read;
 use text::Taken;
 
 // ---- in line
 
 // A number up to a limit.
-pub fn read_var(update: &[u8], w: &mut [u64], most: u64) -> Drawn
+pub fn read_var(update: &[u8], w: &mut [u64], most: u64) -> Option<u64>
     requires { Small w.old }
     ensures { Given w.old w.new result (onto (state_in w.old) (up_to most update.now (at_in w.old))) }
 {
@@ -33,10 +33,10 @@ pub fn read_var(update: &[u8], w: &mut [u64], most: u64) -> Drawn
     }
     w[AT] = e as u64;
     w[PLACE] = at as u64;
-    Drawn::Number(v)
+    Some(v)
 }
 
-fn read_u8(update: &[u8], w: &mut [u64]) -> Drawn
+fn read_u8(update: &[u8], w: &mut [u64]) -> Option<u64>
     requires { Small w.old }
     ensures { Given w.old w.new result (onto (state_in w.old) (byte_at update.now (at_in w.old))) }
 {
@@ -48,11 +48,11 @@ fn read_u8(update: &[u8], w: &mut [u64]) -> Drawn
     let next = at + 1;
     w[AT] = next as u64;
     w[PLACE] = at as u64;
-    Drawn::Number(v)
+    Some(v)
 }
 
 // A length and so many bytes: their place and how many they are go to words k and k + 1 of the row.
-pub fn read_buf(update: &[u8], w: &mut [u64], r: &mut [u64], k: usize) -> Field
+pub fn read_buf(update: &[u8], w: &mut [u64], r: &mut [u64], k: usize) -> Option<()>
     requires { Small w.old × (k + 1 < length r.old) }
     ensures { PartGiven update.now k w.old w.new r.old r.new result }
 {
@@ -61,29 +61,27 @@ pub fn read_buf(update: &[u8], w: &mut [u64], r: &mut [u64], k: usize) -> Field
     let Read::Number(size, from) = n else {
         let why = numbers::why_read(n);
         cells::refuse(w, why.number, why.place);
-        return Field::Refused;
+        return None;
     };
     let left = (update.len() - from) as u64;
     if left < size {
         cells::refuse(w, 1, update.len());
-        return Field::Refused;
+        return None;
     }
     let end = from + size as usize;
     r[k] = from as u64;
     r[k + 1] = size;
     w[AT] = end as u64;
-    Field::Done
+    Some(())
 }
 
 // So many bytes that are a text: its units are given back.
-fn read_string(update: &[u8], w: &mut [u64], r: &mut [u64], k: usize) -> Drawn
+fn read_string(update: &[u8], w: &mut [u64], r: &mut [u64], k: usize) -> Option<u64>
     requires { Small w.old × (k + 1 < length r.old) }
     ensures { TextGiven k w.old w.new r.old r.new result
         (onto (state_in w.old) (checked update.now (bytes_at update.now (at_in w.old)))) }
 {
-    let Field::Done = read_buf(update, w, r, k) else {
-        return Drawn::Refused;
-    };
+    read_buf(update, w, r, k)?;
     let from = r[k] as usize;
     let end = from + r[k + 1] as usize;
     let c = text::count_units(update, from, end);
@@ -91,12 +89,12 @@ fn read_string(update: &[u8], w: &mut [u64], r: &mut [u64], k: usize) -> Drawn
         return cells::refuse(w, 6, from);
     }
     let units = c.units;
-    Drawn::Number(units.0)
+    Some(units.0)
 }
 
 // ---- as the form has it
 
-pub fn read_client(form: u8, update: &[u8], w: &mut [u64]) -> Drawn
+pub fn read_client(form: u8, update: &[u8], w: &mut [u64]) -> Option<u64>
     requires { Small w.old }
     ensures { Given w.old w.new result (fields form update.now (grammar.number grammar.client) (state_in w.old)) }
 {
@@ -108,7 +106,7 @@ pub fn read_client(form: u8, update: &[u8], w: &mut [u64]) -> Drawn
 
 // The next value of difference column k; in form 1 a clock in line. Called from two places, clocks of ids and numbers of keys, so that it stays a function of
 // its own and what reads an id becomes part of its caller: measured, a tenth of reading.
-pub fn read_difference(form: u8, update: &[u8], w: &mut [u64], k: usize) -> Drawn
+pub fn read_difference(form: u8, update: &[u8], w: &mut [u64], k: usize) -> Option<u64>
     requires { Small w.old × cells.Narrow k }
     ensures { Rising form update.now k w.old w.new result }
 {
@@ -119,14 +117,14 @@ pub fn read_difference(form: u8, update: &[u8], w: &mut [u64], k: usize) -> Draw
 }
 
 // The clock of an id: of a left id (2) or of a right one (3).
-pub fn read_clock(form: u8, update: &[u8], w: &mut [u64], k: usize) -> Drawn
+pub fn read_clock(form: u8, update: &[u8], w: &mut [u64], k: usize) -> Option<u64>
     requires { Small w.old × Narrow k }
     ensures { Given w.old w.new result (fields form update.now (grammar.number (clock_at k)) (state_in w.old)) }
 {
     read_difference(form, update, w, k)
 }
 
-pub fn read_info(form: u8, update: &[u8], w: &mut [u64]) -> Drawn
+pub fn read_info(form: u8, update: &[u8], w: &mut [u64]) -> Option<u64>
     requires { Small w.old }
     ensures { Given w.old w.new result (fields form update.now (grammar.number grammar.info) (state_in w.old)) }
 {
@@ -136,7 +134,7 @@ pub fn read_info(form: u8, update: &[u8], w: &mut [u64]) -> Drawn
     cells::draw_byte(update, w, 4)
 }
 
-pub fn read_parent_info(form: u8, update: &[u8], w: &mut [u64]) -> Drawn
+pub fn read_parent_info(form: u8, update: &[u8], w: &mut [u64]) -> Option<u64>
     requires { Small w.old }
     ensures { Given w.old w.new result
         (fields form update.now (grammar.number grammar.parent_info) (state_in w.old)) }
@@ -148,25 +146,23 @@ pub fn read_parent_info(form: u8, update: &[u8], w: &mut [u64]) -> Drawn
 }
 
 // A length must be a clock.
-pub fn read_len(form: u8, update: &[u8], w: &mut [u64]) -> Drawn
+pub fn read_len(form: u8, update: &[u8], w: &mut [u64]) -> Option<u64>
     requires { Small w.old }
     ensures { Given w.old w.new result (fields form update.now (grammar.number grammar.len) (state_in w.old)) }
 {
     if form == 1 {
         return read_var(update, w, numbers::MAX_CLOCK);
     }
-    let Drawn::Number(v) = cells::draw_number(update, w, 8) else {
-        return Drawn::Refused;
-    };
+    let v = cells::draw_number(update, w, 8)?;
     if numbers::MAX_CLOCK < v {
         let place = w[PLACE] as usize;
         return cells::refuse(w, 3, place);
     }
-    Drawn::Number(v)
+    Some(v)
 }
 
 // The units of the next text.
-fn draw_units(update: &[u8], w: &mut [u64]) -> Drawn
+fn draw_units(update: &[u8], w: &mut [u64]) -> Option<u64>
     requires { Small w.old }
     ensures { NumberDrawn update.now 5 w.old w.new result }
 {
@@ -177,14 +173,11 @@ fn draw_units(update: &[u8], w: &mut [u64]) -> Drawn
 }
 
 // The text's place and bytes go to words k and k + 1 of the row; its units, which are the number drawn, are given back.
-fn draw_text(update: &[u8], w: &mut [u64], r: &mut [u64], k: usize) -> Drawn
+fn draw_text(update: &[u8], w: &mut [u64], r: &mut [u64], k: usize) -> Option<u64>
     requires { Small w.old × (k + 1 < length r.old) }
     ensures { TextDrawn update.now k w.old w.new r.old r.new result }
 {
-    let d = draw_units(update, w);
-    let Drawn::Number(units) = d else {
-        return d;
-    };
+    let units = draw_units(update, w)?;
     let to = w[39] as usize;
     let at = w[40] as usize;
     let end = w[41] as usize;
@@ -195,14 +188,14 @@ fn draw_text(update: &[u8], w: &mut [u64], r: &mut [u64], k: usize) -> Drawn
             w[40] = next as u64;
             r[k] = at as u64;
             r[k + 1] = size as u64;
-            Drawn::Number(units)
+            Some(units)
         }
         Taken::Refused(number) => cells::refuse(w, number, at),
     }
 }
 
 // A text: its place and bytes go to words k and k + 1 of the row, its units are given back.
-pub fn read_text(form: u8, update: &[u8], w: &mut [u64], r: &mut [u64], k: usize) -> Drawn
+pub fn read_text(form: u8, update: &[u8], w: &mut [u64], r: &mut [u64], k: usize) -> Option<u64>
     requires { Small w.old × (k + 1 < length r.old) }
     ensures { TextGiven k w.old w.new r.old r.new result
         (fields form update.now grammar.text (state_in w.old)) }

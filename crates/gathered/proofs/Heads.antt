@@ -1,4 +1,8 @@
 -- A section's head, with no machine: what is to come before it, by what was read of it. And where the sections begin.
+use Rattle.std.specs.Prelude.{Option, Some, None}
+use Rattle.std.specs.Prelude.{Result}
+use Rattle.update.specs.declared.Spot.{Spot}
+use Rattle.numbers.specs.declared.Refusal.{Refusal}
 use Prim.Native.Nat.{ℕ, suc, ◌+◌, ◌-◌, ◌≤◌}
 use native.Mathlib.Omega.{arith}
 use mathlib.Core.Path.{◌≡◌, refl, ap, ◌∙◌, subst}
@@ -24,11 +28,8 @@ use Rattle.decoder.specs.States.{Numbers, State, client_moved}
 use Rattle.decoder.specs.Columned.{onto, columned, number_in, number_drawn}
 use Rattle.decoder.specs.ColumnedInner.{fields}
 use Rattle.decoder.specs.Update.{rest_places, blocks_of}
-use Rattle.cells.specs.declared.Drawn.{Drawn}
-use Rattle.cells.specs.declared.Drawn.TheVariants as drawn
 use Rattle.cells.specs.Cells.{at_in, place_in, why_in, state_in, given, Small}
 use Rattle.readings.proofs.Columns.{ValueHeld, number-held}
-use Rattle.update.specs.declared.Begun.{Begun}
 use Rattle.update.specs.Steps.{to_come, reads, begins, Counted, Starts}
 use Rattle.update.proofs.Laws.{in-line, within, asked, refused, uncounted, count}
 use Rattle.tally.specs.Tally.{clients_in, inserted_in, Inserted}
@@ -36,25 +37,25 @@ use Rattle.gathered.specs.Gathered.{sections_from, Begins}
 
 -- ---- the section count
 
-pub begun-at : (form : ℕ) (u w v : List ℕ) (d : Drawn) → Small v → given v d ≡ onto (state_in w) (up_to max_clients u (at_in w)) → ((x : Begun) → Counted form u w v x → Starts form u v x)
+pub begun-at : (form : ℕ) (u w v : List ℕ) (d : Option ℕ) → Small v → given v d ≡ onto (state_in w) (up_to max_clients u (at_in w)) → ((x : Result Spot Refusal) → Counted form u w v x → Starts form u v x)
     → Begins form u v d
 unfolding Begins begins rest_places reads to_come blocks ◌>>=◌ sections_from
-begun-at form u w v (drawn.Number n) small e starts =
+begun-at form u w v (Some n) small e starts =
     let few = within max_clients u (at_in w) (state_in w) v n e in
-    ((starts _ (count form u w v small n few (in-line form u max_clients w v (drawn.Number n) e))).told [], few)
-begun-at form u w v drawn.Refused small e starts = (starts _ (uncounted form u w v small (in-line form u max_clients w v drawn.Refused e))).told []
+    ((starts _ (count form u w v small n few (in-line form u max_clients w v (Some n) e))).told [], few)
+begun-at form u w v None small e starts = (starts _ (uncounted form u w v small (in-line form u max_clients w v None e))).told []
 
-pub begins-at : (form : ℕ) (u w : List ℕ) (d : Drawn) → Begins form u w d → (n : ℕ) → d ≡ drawn.Number n → (blocks_of form u ≡ rest_places (sections_from form u n [] max_blocks w)) × (n ≤ max_clients)
+pub begins-at : (form : ℕ) (u w : List ℕ) (d : Option ℕ) → Begins form u w d → (n : ℕ) → d ≡ Some n → (blocks_of form u ≡ rest_places (sections_from form u n [] max_blocks w)) × (n ≤ max_clients)
 unfolding Begins
 begins-at form u w d h n e = subst (Begins form u w) e h
 
-pub begins-not : (form : ℕ) (u w : List ℕ) (d : Drawn) → Begins form u w d → d ≡ drawn.Refused → blocks_of form u ≡ stopped (why_in w)
+pub begins-not : (form : ℕ) (u w : List ℕ) (d : Option ℕ) → Begins form u w d → d ≡ None → blocks_of form u ≡ stopped (why_in w)
 unfolding Begins
 begins-not form u w d h e = subst (Begins form u w) e h
 
 -- ---- a client is a number that clients have
 
-pub client-within : (form : ℕ) (u : List ℕ) (s : State) (v : List ℕ) (x : ℕ) → given v (drawn.Number x) ≡ fields form u (grammar.number grammar.client) s → x ≤ max_value
+pub client-within : (form : ℕ) (u : List ℕ) (s : State) (v : List ℕ) (x : ℕ) → given v (Some x) ≡ fields form u (grammar.number grammar.client) s → x ≤ max_value
 unfolding fields line number_by columned number_in number_drawn given
 client-within form u s v x e = go (eqb form 1) e
   where
@@ -84,17 +85,17 @@ module _ (form : ℕ) (u w : List ℕ) (n : ℕ) (cs : List ℕ) (room : ℕ) wh
   unfolding sections_from sections ◌>>=◌
   begins-with = refl
 
-  pub no-count : (v : List ℕ) → given v drawn.Refused ≡ fields form u (grammar.number (grammar.up_to room)) (state_in w) → sections_from form u (suc n) cs room w ≡ stopped (why_in v)
+  pub no-count : (v : List ℕ) → given v None ≡ fields form u (grammar.number (grammar.up_to room)) (state_in w) → sections_from form u (suc n) cs room w ≡ stopped (why_in v)
   no-count v e = begins-with ∙ refused form u _ _ w v e
 
-  module _ (w₁ : List ℕ) (k : ℕ) (ek : given w₁ (drawn.Number k) ≡ fields form u (grammar.number (grammar.up_to room)) (state_in w)) where
+  module _ (w₁ : List ℕ) (k : ℕ) (ek : given w₁ (Some k) ≡ fields form u (grammar.number (grammar.up_to room)) (state_in w)) where
     counted : sections_from form u (suc n) cs room w ≡ run (fields form u) (ask (grammar.number grammar.client) (rest k)) (state_in w₁)
     counted = begins-with ∙ asked form u _ _ w w₁ k ek
 
-    pub no-client : (v : List ℕ) → given v drawn.Refused ≡ fields form u (grammar.number grammar.client) (state_in w₁) → sections_from form u (suc n) cs room w ≡ stopped (why_in v)
+    pub no-client : (v : List ℕ) → given v None ≡ fields form u (grammar.number grammar.client) (state_in w₁) → sections_from form u (suc n) cs room w ≡ stopped (why_in v)
     no-client v e = counted ∙ refused form u _ _ w₁ v e
 
-    module _ (w₂ : List ℕ) (c : ℕ) (ec : given w₂ (drawn.Number c) ≡ fields form u (grammar.number grammar.client) (state_in w₁)) where
+    module _ (w₂ : List ℕ) (c : ℕ) (ec : given w₂ (Some c) ≡ fields form u (grammar.number grammar.client) (state_in w₁)) where
       named : sections_from form u (suc n) cs room w ≡ run (fields form u) (rest k (c, place_in w₂)) (state_in w₂)
       named = counted ∙ asked form u _ _ w₁ w₂ c ec
 
@@ -107,10 +108,10 @@ module _ (form : ℕ) (u w : List ℕ) (n : ℕ) (cs : List ℕ) (room : ℕ) wh
         unfolding ◌>>=◌
         clocked = named ∙ rw new refl
 
-        pub no-clock : (v : List ℕ) → given v drawn.Refused ≡ fields form u (grammar.number (grammar.up_to max_clock)) (state_in w₂) → sections_from form u (suc n) cs room w ≡ stopped (why_in v)
+        pub no-clock : (v : List ℕ) → given v None ≡ fields form u (grammar.number (grammar.up_to max_clock)) (state_in w₂) → sections_from form u (suc n) cs room w ≡ stopped (why_in v)
         no-clock v e = clocked ∙ refused form u _ _ w₂ v e
 
-        pub headed : (w₃ : List ℕ) (t : ℕ) → given w₃ (drawn.Number t) ≡ fields form u (grammar.number (grammar.up_to max_clock)) (state_in w₂)
+        pub headed : (w₃ : List ℕ) (t : ℕ) → given w₃ (Some t) ≡ fields form u (grammar.number (grammar.up_to max_clock)) (state_in w₂)
             → sections_from form u (suc n) cs room w ≡ run (fields form u) (blocks k c t >>= λ _. sections n (cs ++ (c ∷ [])) (room - k)) (state_in w₃)
         headed w₃ t e = clocked ∙ asked form u _ _ w₂ w₃ t e
 

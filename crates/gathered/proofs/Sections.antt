@@ -1,4 +1,5 @@
 -- All sections as a walk: those read have a row each, and a word in the order of their clients; those to come are all others.
+use Rattle.std.specs.Prelude.{Result, Ok, Err}
 use Prim.Native.Nat.{ℕ, zero, suc, ◌+◌, ◌-◌, ◌*◌, ◌/◌, ◌%◌, ◌≤◌, ◌<◌}
 use mathlib.Core.Path.{◌≡◌, refl, sym, ap, ap₂, ◌∙◌, subst}
 use mathlib.Core.Bool.{Bool, true, false}
@@ -23,17 +24,11 @@ use Rattle.decoder.specs.ColumnedInner.{fields}
 use Rattle.cells.specs.Cells.{at_in, state_in, Small}
 use Rattle.readings.specs.Sound.{All}
 use Rattle.readings.proofs.Columns.{clash}
-use Rattle.deletes.specs.declared.Checked.TheVariants as checked
 use Rattle.summary.specs.Rows.{Row}
 use Rattle.summary.specs.Words.{summary_row, words_in}
 use Rattle.summary.specs.WordsInner.{row_in, rows_in}
 use Rattle.summary.proofs.Laws.{rows_are, length-words, words_append}
 use Rattle.tally.specs.Tally.{Descends, clients_in, place_of, inserted_in, rows_by, kept}
-use Rattle.gathered.specs.declared.Head.{Head}
-use Rattle.gathered.specs.declared.Head.TheVariants as head
-use Rattle.gathered.specs.declared.Tallied.{Tallied}
-use Rattle.gathered.specs.declared.Tallied.TheVariants as tallied
-use Rattle.gathered.specs.declared.Scanned.TheVariants as scanned
 use Rattle.gathered.specs.RowsOf.{of_client, first_clock, last_end, row_of, insert_client, rows_of}
 use Rattle.gathered.specs.Gathered.{Ends, sections_from, blocks_from, outcome, end_of, Same, Opens, Headed, Tallies, Scans}
 use Rattle.gathered.proofs.Owners.{all_of}
@@ -198,7 +193,7 @@ module _ (c : ℕ) (ds bs : List Block) (own : All (λ (b : Block). b.client ≡
 
 -- ---- a head that is read
 
-pub opens : (form : ℕ) (u w o : List ℕ) (seen room : ℕ) (w₁ o₁ : List ℕ) (x : Head) (k c t : ℕ) → Headed form u w o seen room w₁ o₁ x → x ≡ head.At k c t
+pub opens : (form : ℕ) (u w o : List ℕ) (seen room : ℕ) (w₁ o₁ : List ℕ) (x : Result (ℕ × ℕ × ℕ) Refusal) (k c t : ℕ) → Headed form u w o seen room w₁ o₁ x → x ≡ Ok (k, c, t)
     → Opens form u w o seen room w₁ o₁ k c t
 unfolding Headed
 opens form u w o seen room w₁ o₁ x k c t h e = subst (Headed form u w o seen room w₁ o₁) e h
@@ -247,12 +242,12 @@ walk_begins form u w rows order n small few size words can =
     }
 
 module _ (form : ℕ) (u : List ℕ) (c₀ : CourseTo State Block (Unit {0})) (w rows order : List ℕ) (left room seen : ℕ) (i : Walked form u c₀ w rows order left room seen) where
-  refused-by : (why : Refusal) → outcome c₀ ≡ course.not why → Scans c₀ rows order (scanned.Refused why)
+  refused-by : (why : Refusal) → outcome c₀ ≡ course.not why → Scans c₀ rows order (Err why)
   unfolding Scans end_of
-  refused-by why e = ends-not (λ s. checked.Done s.at) checked.Refused c₀ why e
+  refused-by why e = ends-not (λ s. Ok s.at) Err c₀ why e
 
   -- no section is left
-  pub at-end : left ≤ 0 → Scans c₀ rows order (scanned.Sections seen (at_in w))
+  pub at-end : left ≤ 0 → Scans c₀ rows order (Ok (seen, at_in w))
   unfolding Scans end_of sections_from sections run outcome ending things state_in
   at-end z =
       let none : sections_from form u left i.clients room w ≡ over tt (state_in w) = ap (λ (n : ℕ). sections_from form u n i.clients room w) (let y : left ≡ 0 = omega (arith, z) in y) in
@@ -262,7 +257,7 @@ module _ (form : ℕ) (u : List ℕ) (c₀ : CourseTo State Block (Unit {0})) (w
         omega (arith, i.few),
         ap kept (rows_named (row_of i.blocks) i.clients rows rows-are-in (take seen order) i.names)
             ∙ rows-by i.blocks (clients_in (take seen order)) i.falls (λ x e. i.owned x (i.same x ∙ e)) ∙ ap rows_of (sym all),
-        ends-got (λ s. checked.Done s.at) checked.Refused c₀ (state_in w) (i.ends ∙ ap outcome none),
+        ends-got (λ s. Ok s.at) Err c₀ (state_in w) (i.ends ∙ ap outcome none),
       )
 
   module _ (some : 0 < left) where
@@ -272,7 +267,7 @@ module _ (form : ℕ) (u : List ℕ) (c₀ : CourseTo State Block (Unit {0})) (w
     at_head : {x : CourseTo State Block (Unit {0})} → sections_from form u (suc (left - 1)) i.clients room w ≡ x → sections_from form u left i.clients room w ≡ x
     at_head e = ap (λ (n : ℕ). sections_from form u n i.clients room w) one_more ∙ e
 
-    pub no-head : (w₁ o₁ : List ℕ) (x : Head) (why : Refusal) → Headed form u w order seen room w₁ o₁ x → x ≡ head.Refused why → Scans c₀ rows o₁ (scanned.Refused why)
+    pub no-head : (w₁ o₁ : List ℕ) (x : Result (ℕ × ℕ × ℕ) Refusal) (why : Refusal) → Headed form u w order seen room w₁ o₁ x → x ≡ Err why → Scans c₀ rows o₁ (Err why)
     unfolding Headed outcome ending Scans end_of
     no-head w₁ o₁ x why h e =
         refused-by why (i.ends ∙ ap outcome (at_head (subst (Headed form u w order seen room w₁ o₁) e h (left - 1) i.clients i.same)))
@@ -298,12 +293,12 @@ module _ (form : ℕ) (u : List ℕ) (c₀ : CourseTo State Block (Unit {0})) (w
       unfolding outcome
       outcome-here = i.ends ∙ ap outcome here ∙ ending-then then-come (λ s. course.got tt s) (λ why. course.not why) (blocks_from form u k c t w₁)
 
-      pub no_blocks : (w₂ : List ℕ) (x : Tallied) (why : Refusal) → Tallies (blocks_from form u k c t w₁) w₂ x → x ≡ tallied.Refused why → Scans c₀ rows o₁ (scanned.Refused why)
+      pub no_blocks : (w₂ : List ℕ) (x : Result (ℕ × ℕ × ℕ) Refusal) (why : Refusal) → Tallies (blocks_from form u k c t w₁) w₂ x → x ≡ Err why → Scans c₀ rows o₁ (Err why)
       unfolding Tallies Scans end_of
       no_blocks w₂ x why h e =
           refused-by why (outcome-here ∙ ends-not (λ s. outcome (then-come tt s)) (λ w. course.not w) (blocks_from form u k c t w₁) why (subst (Tallies (blocks_from form u k c t w₁) w₂) e h))
 
-      module _ (w₂ rows₁ : List ℕ) (x : Tallied) (f e n : ℕ) (s₂ : Small w₂) (h : Tallies (blocks_from form u k c t w₁) w₂ x) (is : x ≡ tallied.Blocks f e n)
+      module _ (w₂ rows₁ : List ℕ) (x : Result (ℕ × ℕ × ℕ) Refusal) (f e n : ℕ) (s₂ : Small w₂) (h : Tallies (blocks_from form u k c t w₁) w₂ x) (is : x ≡ Ok (f, e, n))
           (put_in : rows₁ ≡ sets rows (4 * seen) (words_in (summary_row c f e n ∷ []))) where
         abbrev bs : List Block
         bs = things (blocks_from form u k c t w₁)

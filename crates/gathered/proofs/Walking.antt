@@ -1,4 +1,5 @@
 -- The blocks of a section as a walk: those seen are tallied, and those to come are all others.
+use Rattle.std.specs.Prelude.{Result, Ok, Err}
 use Prim.Native.Nat.{ℕ, ◌+◌, ◌≤◌, ◌<◌}
 use mathlib.Core.Path.{◌≡◌, refl, sym, ap, ◌∙◌, subst}
 use mathlib.Core.List.{List, [], ◌∷◌, ◌++◌, append_assoc, append-nil}
@@ -22,7 +23,6 @@ use Rattle.update.specs.declared.Step.{Step}
 use Rattle.update.specs.declared.Step.TheVariants as step
 use Rattle.update.specs.Steps.{to_come, reads, Fine, left, Stepped}
 use Rattle.update.proofs.Answers.{reads-block, reads_on, reads-done, reads-refused, on-block, on-on}
-use Rattle.gathered.specs.declared.Tallied.TheVariants as tallied
 use Rattle.gathered.specs.RowsOf.{first_clock, last_end}
 use Rattle.gathered.specs.Gathered.{Ends, blocks_from, outcome, Tallies}
 
@@ -110,19 +110,19 @@ module _ (form : ℕ) (u : List ℕ) (c : CourseTo State Block (Unit {0})) (k : 
   pub countable : n ≤ max_blocks
   countable = omega (arith, i.count, i.steps, i.few)
 
-  tallied-all : (s₁ : State) (w₁ : List ℕ) → reads form u m w s ≡ over tt s₁ → s₁ ≡ state_in w₁ → Tallies c w₁ (tallied.Blocks f e n)
+  tallied-all : (s₁ : State) (w₁ : List ℕ) → reads form u m w s ≡ over tt s₁ → s₁ ≡ state_in w₁ → Tallies c w₁ (Ok (f, e, n))
   unfolding Tallies outcome ending things
   tallied-all s₁ w₁ q z =
       let all : things c ≡ i.seen = i.all ∙ ap (λ (d : CourseTo State Block (Unit {0})). i.seen ++ things d) q ∙ append-nil i.seen in
       (i.first ∙ ap first_clock (sym all), i.end ∙ ap last_end (sym all), i.count ∙ ap length (sym all), i.ends ∙ ap outcome q ∙ ap (course.got tt) z)
 
   -- no block is left
-  pub at-end : s.blocks ≤ 0 → Tallies c w (tallied.Blocks f e n)
+  pub at-end : s.blocks ≤ 0 → Tallies c w (Ok (f, e, n))
   unfolding left
   at-end z = tallied-all (state_in w) w (reads_over form u w m s (omega (arith, z)) (omega (arith, i.steps, i.few))) refl
 
-  module _ (m₁ w₁ r₁ : List ℕ) (x : Step) (st : Stepped form u m w r s m₁ w₁ r₁ x) where
-    module _ (p : ℕ) (t : Spot) (q : x ≡ step.Block p t) where
+  module _ (m₁ w₁ r₁ : List ℕ) (x : Result Step Refusal) (st : Stepped form u m w r s m₁ w₁ r₁ x) where
+    module _ (p : ℕ) (t : Spot) (q : x ≡ Ok (step.Block p t)) where
       here : reads form u m w s ≡ thing (row_in r₁) p (reads form u m₁ w₁ t)
       here = reads-block form u m w r s m₁ w₁ r₁ x st p t q
 
@@ -155,7 +155,7 @@ module _ (form : ℕ) (u : List ℕ) (c : CourseTo State Block (Unit {0})) (k : 
             count = omega (arith, i.count, length-append i.seen (row_in r₁ ∷ []));
           }
 
-    module _ (t : Spot) (q : x ≡ step.On t) where
+    module _ (t : Spot) (q : x ≡ Ok (step.On t)) where
       on-here : reads form u m w s ≡ reads form u m₁ w₁ t
       on-here = reads_on form u m w r s m₁ w₁ r₁ x st t q
 
@@ -180,12 +180,12 @@ module _ (form : ℕ) (u : List ℕ) (c : CourseTo State Block (Unit {0})) (k : 
             count = i.count;
           }
 
-    pub at_done : (at : ℕ) → x ≡ step.Done at → Tallies c (set w₁ 63 at) (tallied.Blocks f e n)
+    pub at_done : (at : ℕ) → x ≡ Ok (step.Done at) → Tallies c (set w₁ 63 at) (Ok (f, e, n))
     at_done at q = tallied-all (moved_to (state_in w₁) at) (set w₁ 63 at) (reads-done form u m w r s m₁ w₁ r₁ x st at q) (sym (state-at w₁ st.small at))
 
     pub done-small : (at : ℕ) → Small (set w₁ 63 at)
     done-small at = small_at w₁ st.small at
 
-    pub at-refused : (why : Refusal) → x ≡ step.Refused why → Tallies c w₁ (tallied.Refused why)
+    pub at-refused : (why : Refusal) → x ≡ Err why → Tallies c w₁ (Err why)
     unfolding Tallies outcome ending
     at-refused why q = i.ends ∙ ap outcome (reads-refused form u m w r s m₁ w₁ r₁ x st why q)

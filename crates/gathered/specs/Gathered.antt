@@ -1,7 +1,7 @@
 -- What gathering rows does: a section's head read, its blocks, all sections, and the rows that are left in the words lent.
-use Rattle.std.specs.Prelude.{ℕ, suc, ◌+◌, ◌-◌, ◌*◌, ◌≤◌, ◌≡◌, false, List, [], ◌∷◌, ◌++◌, length, take}
+use Rattle.std.specs.Prelude.{Option, Some, None}
+use Rattle.std.specs.Prelude.{ℕ, suc, ◌+◌, ◌-◌, ◌*◌, ◌≤◌, ◌≡◌, false, List, [], ◌∷◌, ◌++◌, length, take, Result, Ok, Err}
 use Rattle.numbers.specs.declared.Refusal.{Refusal}
-use Rattle.numbers.specs.Number.{none}
 use Rattle.numbers.specs.Words.{among}
 use Rattle.numbers.specs.Limits.{max_clock, max_clients, max_blocks}
 use Rattle.block.specs.declared.Block.{Block}
@@ -12,21 +12,9 @@ use Rattle.grammar.specs.Blocks.{blocks, sections}
 use Rattle.decoder.specs.States.{State}
 use Rattle.decoder.specs.ColumnedInner.{fields}
 use Rattle.decoder.specs.Update.{rest_places, blocks_of}
-use Rattle.cells.specs.declared.Drawn.{Drawn}
-use Rattle.cells.specs.declared.Drawn.TheVariants as drawn
 use Rattle.cells.specs.Cells.{state_in, why_in}
-use Rattle.deletes.specs.declared.Checked.{Checked}
-use Rattle.deletes.specs.declared.Checked.TheVariants as checked
 use Rattle.summary.specs.Words.{words_in}
 use Rattle.tally.specs.Tally.{clients_in, inserted_in, rows_by, kept}
-use Rattle.gathered.specs.declared.Head.{Head}
-use Rattle.gathered.specs.declared.Head.TheVariants as head
-use Rattle.gathered.specs.declared.Tallied.{Tallied}
-use Rattle.gathered.specs.declared.Tallied.TheVariants as tallied
-use Rattle.gathered.specs.declared.Scanned.{Scanned}
-use Rattle.gathered.specs.declared.Scanned.TheVariants as scanned
-use Rattle.gathered.specs.declared.Gathered.{Gathered}
-use Rattle.gathered.specs.declared.Gathered.TheVariants as gathered
 use Rattle.gathered.specs.RowsOf.{first_clock, last_end, rows_of, Told, rows, refused}
 
 -- blocks whose ends are clocks
@@ -54,13 +42,13 @@ unfoldable pub outcome : CourseTo State Block (Unit {0}) → course.Drawn State 
 outcome c = ending c (λ s. course.got tt s) (λ why. course.not why)
 
 -- and the place of that state
-unfoldable pub end_of : CourseTo State Block (Unit {0}) → Checked
-end_of c = ending c (λ s. checked.Done s.at) (λ why. checked.Refused why)
+unfoldable pub end_of : CourseTo State Block (Unit {0}) → Result ℕ Refusal
+end_of c = ending c (λ s. Ok s.at) (λ why. Err why)
 
 -- the section count of an update, to the words w
-unfoldable pub Begins : ℕ → List ℕ → List ℕ → Drawn → Type 0
-Begins form u w (drawn.Number n) = (blocks_of form u ≡ rest_places (sections_from form u n [] max_blocks w)) × (n ≤ max_clients)
-Begins form u w drawn.Refused = blocks_of form u ≡ stopped (why_in w)
+unfoldable pub Begins : ℕ → List ℕ → List ℕ → Option ℕ → Type 0
+Begins form u w (Some n) = (blocks_of form u ≡ rest_places (sections_from form u n [] max_blocks w)) × (n ≤ max_clients)
+Begins form u w None = blocks_of form u ≡ stopped (why_in w)
 
 -- ---- a section's head: w, o before it and w₁, o₁ after it, where `seen` words of o are the sections before
 
@@ -76,43 +64,25 @@ pub record Opens (form : ℕ) (u w o : List ℕ) (seen room : ℕ) (w₁ o₁ : 
   pub new : among c (clients_in (take seen o)) ≡ false
   pub order : take (seen + 1) o₁ ≡ inserted_in c seen (take seen o)
 
-unfoldable pub Headed : ℕ → List ℕ → List ℕ → List ℕ → ℕ → ℕ → List ℕ → List ℕ → Head → Type 0
-Headed form u w o seen room w₁ o₁ (head.At k c t) = Opens form u w o seen room w₁ o₁ k c t
-Headed form u w o seen room w₁ o₁ (head.Refused why) =
+unfoldable pub Headed : ℕ → List ℕ → List ℕ → List ℕ → ℕ → ℕ → List ℕ → List ℕ → Result (ℕ × ℕ × ℕ) Refusal → Type 0
+Headed form u w o seen room w₁ o₁ (Ok (k, c, t)) = Opens form u w o seen room w₁ o₁ k c t
+Headed form u w o seen room w₁ o₁ (Err why) =
     (n : ℕ) (cs : List ℕ) → Same cs (clients_in (take seen o)) → sections_from form u (suc n) cs room w ≡ stopped why
 
 -- ---- its blocks, to the words w: the first's clock, the last's end, how many
 
-unfoldable pub Tallies : CourseTo State Block (Unit {0}) → List ℕ → Tallied → Type 0
-Tallies c w (tallied.Blocks f e n) =
+unfoldable pub Tallies : CourseTo State Block (Unit {0}) → List ℕ → Result (ℕ × ℕ × ℕ) Refusal → Type 0
+Tallies c w (Ok (f, e, n)) =
     (f ≡ first_clock (things c)) × (e ≡ last_end (things c)) × (n ≡ length (things c)) × (outcome c ≡ course.got tt (state_in w))
-Tallies c w (tallied.Refused why) = outcome c ≡ course.not why
+Tallies c w (Err why) = outcome c ≡ course.not why
 
 -- ---- all sections, into rows w in the order of the words o
 
-unfoldable pub Scans : CourseTo State Block (Unit {0}) → List ℕ → List ℕ → Scanned → Type 0
-Scans c w o (scanned.Sections n at) = (n ≤ 64) × (kept (rows_by w (take n o)) ≡ rows_of (things c)) × (end_of c ≡ checked.Done at)
-Scans c w o (scanned.Refused why) = end_of c ≡ checked.Refused why
+unfoldable pub Scans : CourseTo State Block (Unit {0}) → List ℕ → List ℕ → Result (ℕ × ℕ) Refusal → Type 0
+Scans c w o (Ok (n, at)) = (n ≤ 64) × (kept (rows_by w (take n o)) ≡ rows_of (things c)) × (end_of c ≡ Ok at)
+Scans c w o (Err why) = end_of c ≡ Err why
 
 -- the rows of an update, in the words w
-unfoldable pub Tells : Told → List ℕ → Gathered → Type 0
-Tells (rows rs) w g = (g ≡ gathered.Rows (length rs)) × (take (4 * length rs) w ≡ words_in rs) × (length rs ≤ 64)
-Tells (refused why) w g = g ≡ gathered.Refused why
-
--- ---- why not
-
-abbrev pub why_head : Head → Refusal
-why_head (head.At k c t) = none
-why_head (head.Refused why) = why
-
-abbrev pub why_tallied : Tallied → Refusal
-why_tallied (tallied.Blocks f e n) = none
-why_tallied (tallied.Refused why) = why
-
-abbrev pub why_scanned : Scanned → Refusal
-why_scanned (scanned.Sections n at) = none
-why_scanned (scanned.Refused why) = why
-
-abbrev pub why_checked : Checked → Refusal
-why_checked (checked.Done e) = none
-why_checked (checked.Refused why) = why
+unfoldable pub Tells : Told → List ℕ → Result ℕ Refusal → Type 0
+Tells (rows rs) w g = (g ≡ Ok (length rs)) × (take (4 * length rs) w ≡ words_in rs) × (length rs ≤ 64)
+Tells (refused why) w g = g ≡ Err why

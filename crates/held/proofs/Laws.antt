@@ -1,4 +1,5 @@
 -- What a grammar reads, step by step, with `run` kept shut: a field drawn, one grammar behind another, an end.
+use Rattle.std.specs.Prelude.{Option, Some, None}
 use Prim.Native.Nat.{ℕ}
 use mathlib.Core.Path.{◌≡◌, refl, sym, ap, ◌∙◌}
 use mathlib.Core.List.{List}
@@ -12,9 +13,6 @@ use Rattle.grammar.specs.Grammar.{◌>>=◌}
 use Rattle.grammar.specs.Course.{Drawn, got, not, Reader, CourseTo, over, stopped, on_drawn, run}
 use Rattle.grammar.proofs.Runs.{and_then, run_bind}
 use Rattle.decoder.specs.ColumnedInner.{fields}
-use Rattle.cells.specs.declared.Drawn.TheVariants as drawn
-use Rattle.cells.specs.declared.Field as cells-field
-use Rattle.cells.specs.declared.Field.TheVariants as field
 use Rattle.cells.specs.Cells.{state_in, place_in, why_in, part_in, given}
 use Rattle.fields.specs.Fields.{part_given, text_given}
 use Rattle.held.specs.Row.{row_in, onto, Reads}
@@ -50,30 +48,30 @@ module _ {S E A B : Type 0} (r : Reader S) (x : Grammar E A) (g : A → Grammar 
 
 module _ (form : ℕ) (u : List ℕ) where
   -- a row that is done with
-  pub row_done : (v z : List ℕ) (b : Block) → row_in z ≡ b → onto v z field.Done ≡ Reads form u v (done b)
+  pub row_done : (v z : List ℕ) (b : Block) → row_in z ≡ b → onto v z (Some tt) ≡ Reads form u v (done b)
   unfolding onto run
   row_done v z b e = ap (λ (b : Block). over b (state_in v)) e
 
   module _ {A : Type 0} (w v : List ℕ) where
     -- a number
     pub number-then : (n : Number) (g : ℕ × ℕ → Grammar Block A) (x : ℕ)
-        → given v (drawn.Number x) ≡ fields form u (number n) (state_in w) → Reads form u v (g (x, place_in v)) ≡ Reads form u w (draw (number n) >>= g)
+        → given v (Some x) ≡ fields form u (number n) (state_in w) → Reads form u v (g (x, place_in v)) ≡ Reads form u w (draw (number n) >>= g)
     unfolding given
     number-then n g x e = sym (draw-got (fields form u) (number n) g (state_in w) (x, place_in v) (state_in v) (sym e))
 
     pub number-stopped : (n : Number) (g : ℕ × ℕ → Grammar Block A)
-        → given v drawn.Refused ≡ fields form u (number n) (state_in w) → stopped (why_in v) ≡ Reads form u w (draw (number n) >>= g)
+        → given v None ≡ fields form u (number n) (state_in w) → stopped (why_in v) ≡ Reads form u w (draw (number n) >>= g)
     unfolding given
     number-stopped n g e = sym (draw-not (fields form u) (number n) g (state_in w) (why_in v) (sym e))
 
     -- a text, in words k and k + 1 of the row q
     pub text-then : (k : ℕ) (q : List ℕ) (g : Part × Units → Grammar Block A) (n : ℕ)
-        → text_given k v q (drawn.Number n) ≡ fields form u text (state_in w) → Reads form u v (g (part_in q k, record { 0 = n })) ≡ Reads form u w (draw text >>= g)
+        → text_given k v q (Some n) ≡ fields form u text (state_in w) → Reads form u v (g (part_in q k, record { 0 = n })) ≡ Reads form u w (draw text >>= g)
     unfolding text_given
     text-then k q g n e = sym (draw-got (fields form u) text g (state_in w) (part_in q k, record { 0 = n }) (state_in v) (sym e))
 
     pub text-stopped : (k : ℕ) (q : List ℕ) (g : Part × Units → Grammar Block A)
-        → text_given k v q drawn.Refused ≡ fields form u text (state_in w) → stopped (why_in v) ≡ Reads form u w (draw text >>= g)
+        → text_given k v q None ≡ fields form u text (state_in w) → stopped (why_in v) ≡ Reads form u w (draw text >>= g)
     unfolding text_given
     text-stopped k q g e = sym (draw-not (fields form u) text g (state_in w) (why_in v) (sym e))
 
@@ -88,18 +86,18 @@ module _ (form : ℕ) (u : List ℕ) where
 
     -- a part of a row
     pub row-then : (q : List ℕ) (x : Grammar Block Block) (g : Block → Grammar Block A)
-        → onto v q field.Done ≡ Reads form u w x → Reads form u v (g (row_in q)) ≡ Reads form u w (x >>= g)
+        → onto v q (Some tt) ≡ Reads form u w x → Reads form u v (g (row_in q)) ≡ Reads form u w (x >>= g)
     unfolding onto
     row-then q x g e = sym (bind-over (fields form u) x g (state_in w) (row_in q) (state_in v) (sym e))
 
     pub row-stopped : (q : List ℕ) (x : Grammar Block Block) (g : Block → Grammar Block A)
-        → onto v q field.Refused ≡ Reads form u w x → stopped (why_in v) ≡ Reads form u w (x >>= g)
+        → onto v q None ≡ Reads form u w x → stopped (why_in v) ≡ Reads form u w (x >>= g)
     unfolding onto
     row-stopped q x g e = sym (bind_stopped (fields form u) x g (state_in w) (why_in v) (sym e))
 
   -- a key that is a mark, in words 21 and 22 of the row q
-  pub marked : (w v r q : List ℕ) (f : cells-field.Field) → row_in q ≡ with_mark (part_in q 21) (row_in r) → part_given 21 v q f ≡ fields form u key (state_in w)
+  pub marked : (w v r q : List ℕ) (f : Option (Unit {0})) → row_in q ≡ with_mark (part_in q 21) (row_in r) → part_given 21 v q f ≡ fields form u key (state_in w)
       → onto v q f ≡ Reads form u w (draw key >>= λ k. done (with_mark k (row_in r)))
   unfolding part_given onto
-  marked w v r q field.Done e h = row_done v q _ e ∙ field-then w v key (λ k. done (with_mark k (row_in r))) (part_in q 21) h
-  marked w v r q field.Refused e h = field-stopped w v key (λ k. done (with_mark k (row_in r))) h
+  marked w v r q (Some tt) e h = row_done v q _ e ∙ field-then w v key (λ k. done (with_mark k (row_in r))) (part_in q 21) h
+  marked w v r q None e h = field-stopped w v key (λ k. done (with_mark k (row_in r))) h

@@ -1,4 +1,5 @@
 -- The row that is being read, as words: one for each field, `has_left` before the left id and so on. And what a part of a block leaves in it.
+use Rattle.std.specs.Prelude.{Option, Some, None}
 use Rattle.std.specs.Prelude.{ℕ, ◌+◌, ◌≤◌, ◌≡◌, List, eqb, length, get_or}
 use Rattle.block.specs.declared.Id.{Id}
 use Rattle.block.specs.declared.Block.{Block}
@@ -9,8 +10,6 @@ use Rattle.grammar.specs.Course as course
 use Rattle.grammar.specs.Course.{CourseTo, run}
 use Rattle.decoder.specs.States.{State}
 use Rattle.decoder.specs.ColumnedInner.{fields}
-use Rattle.cells.specs.declared.Field as cells-field
-use Rattle.cells.specs.declared.Field.TheVariants as field
 use Rattle.cells.specs.Cells.{state_in, why_in, Small, part_in}
 
 unfoldable pub id_in : List ℕ → ℕ → Id
@@ -34,14 +33,14 @@ pub record Narrow (r : List ℕ) : Type 0 where
   pub type : get_or r 23 0 ≤ 65535
 
 -- an answer, with the words v and the row q that it leaves
-unfoldable pub onto : List ℕ → List ℕ → cells-field.Field → CourseTo State Block Block
-onto v q field.Done = course.over (row_in q) (state_in v)
-onto v q field.Refused = course.stopped (why_in v)
+unfoldable pub onto : List ℕ → List ℕ → Option (Unit {0}) → CourseTo State Block Block
+onto v q (Some tt) = course.over (row_in q) (state_in v)
+onto v q None = course.stopped (why_in v)
 
 -- what the grammar x reads of either form, from words w
 abbrev pub Reads : {A : Type 0} → ℕ → List ℕ → List ℕ → Grammar Block A → CourseTo State Block A
 Reads form u w x = run (fields form u) x (state_in w)
 
 -- a part of a block that the grammar x says
-abbrev pub Put : ℕ → List ℕ → List ℕ → List ℕ → List ℕ → cells-field.Field → Grammar Block Block → Type 0
+abbrev pub Put : ℕ → List ℕ → List ℕ → List ℕ → List ℕ → Option (Unit {0}) → Grammar Block Block → Type 0
 Put form u w v q f x = Small v × Narrow q × (onto v q f ≡ Reads form u w x)

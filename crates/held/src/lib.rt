@@ -6,8 +6,6 @@ ghost use Rattle.grammar.specs.Blocks as blocks;
 ghost use Rattle.cells.specs.Cells.{Small};
 ghost use Rattle.held.specs.Row.{row_in, Narrow, Put};
 
-use cells::{Drawn, Field};
-
 // Which words of a row they are.
 pub const LENGTH: usize = 2;
 
@@ -19,81 +17,69 @@ pub const MARK: usize = 21;
 
 pub const TYPE: usize = 23;
 
-fn read_deleted(form: u8, update: &[u8], w: &mut [u64], r: &mut [u64]) -> Field
+fn read_deleted(form: u8, update: &[u8], w: &mut [u64], r: &mut [u64]) -> Option<()>
     requires { Small w.old × Narrow r.old }
     ensures { Put form update.now w.old w.new r.new result (blocks.deleted (row_in r.old)) }
 {
-    let Drawn::Number(v) = fields::read_len(form, update, w) else {
-        return Field::Refused;
-    };
+    let v = fields::read_len(form, update, w)?;
     r[PART] = 0;
     r[PART + 1] = 0;
     r[LENGTH] = v;
     r[KIND] = block::DELETED as u64;
-    Field::Done
+    Some(())
 }
 
-fn read_binary(form: u8, update: &[u8], w: &mut [u64], r: &mut [u64]) -> Field
+fn read_binary(form: u8, update: &[u8], w: &mut [u64], r: &mut [u64]) -> Option<()>
     requires { Small w.old × Narrow r.old }
     ensures { Put form update.now w.old w.new r.new result (blocks.binary (row_in r.old)) }
 {
-    let Field::Done = fields::read_buf(update, w, r, PART) else {
-        return Field::Refused;
-    };
+    fields::read_buf(update, w, r, PART)?;
     r[LENGTH] = 1;
     r[KIND] = block::BINARY as u64;
-    Field::Done
+    Some(())
 }
 
-fn read_string(form: u8, update: &[u8], w: &mut [u64], r: &mut [u64]) -> Field
+fn read_string(form: u8, update: &[u8], w: &mut [u64], r: &mut [u64]) -> Option<()>
     requires { Small w.old × Narrow r.old }
     ensures { Put form update.now w.old w.new r.new result (blocks.string (row_in r.old)) }
 {
-    let Drawn::Number(units) = fields::read_text(form, update, w, r, PART) else {
-        return Field::Refused;
-    };
+    let units = fields::read_text(form, update, w, r, PART)?;
     r[LENGTH] = units;
     r[KIND] = block::TEXT as u64;
-    Field::Done
+    Some(())
 }
 
 // A key and its value, of a block whose info byte stands at `place`.
-fn read_format(form: u8, update: &[u8], w: &mut [u64], r: &mut [u64], place: usize) -> Field
+fn read_format(form: u8, update: &[u8], w: &mut [u64], r: &mut [u64], place: usize) -> Option<()>
     requires { Small w.old × Narrow r.old }
     ensures { Put form update.now w.old w.new r.new result (blocks.format place (row_in r.old)) }
 {
-    let Field::Done = keyed::read_key(form, update, w, r, MARK) else {
-        return Field::Refused;
-    };
-    let Field::Done = keyed::read_value(form, update, w, r, PART, place) else {
-        return Field::Refused;
-    };
+    keyed::read_key(form, update, w, r, MARK)?;
+    keyed::read_value(form, update, w, r, PART, place)?;
     r[LENGTH] = 1;
     r[KIND] = block::FORMAT as u64;
-    Field::Done
+    Some(())
 }
 
 // The node name of a type that has one.
-fn read_node(form: u8, update: &[u8], w: &mut [u64], r: &mut [u64], number: u64) -> Field
+fn read_node(form: u8, update: &[u8], w: &mut [u64], r: &mut [u64], number: u64) -> Option<()>
     requires { Small w.old × Narrow r.old × (number ≤ 65535) }
     ensures { Put form update.now w.old w.new r.new result (blocks.node number (row_in r.old)) }
 {
     if block::is_named(number as u16) {
         return keyed::read_key(form, update, w, r, MARK);
     }
-    Field::Done
+    Some(())
 }
 
-fn read_type(form: u8, update: &[u8], w: &mut [u64], r: &mut [u64], place: usize) -> Field
+fn read_type(form: u8, update: &[u8], w: &mut [u64], r: &mut [u64], place: usize) -> Option<()>
     requires { Small w.old × Narrow r.old }
     ensures { Put form update.now w.old w.new r.new result (blocks.type place (row_in r.old)) }
 {
-    let Drawn::Number(number) = keyed::read_type(form, update, w) else {
-        return Field::Refused;
-    };
+    let number = keyed::read_type(form, update, w)?;
     if block::MAX_TYPE < number {
         cells::refuse(w, 5, place);
-        return Field::Refused;
+        return None;
     }
     r[PART] = 0;
     r[PART + 1] = 0;
@@ -104,19 +90,15 @@ fn read_type(form: u8, update: &[u8], w: &mut [u64], r: &mut [u64], place: usize
 }
 
 // A list of plain values.
-fn read_any(form: u8, update: &[u8], w: &mut [u64], r: &mut [u64], place: usize) -> Field
+fn read_any(form: u8, update: &[u8], w: &mut [u64], r: &mut [u64], place: usize) -> Option<()>
     requires { Small w.old × Narrow r.old }
     ensures { Put form update.now w.old w.new r.new result (blocks.any_list place (row_in r.old)) }
 {
-    let Drawn::Number(n) = fields::read_len(form, update, w) else {
-        return Field::Refused;
-    };
-    let Field::Done = keyed::read_values(form, update, w, r, PART, place, n) else {
-        return Field::Refused;
-    };
+    let n = fields::read_len(form, update, w)?;
+    keyed::read_values(form, update, w, r, PART, place, n)?;
     r[LENGTH] = n;
     r[KIND] = block::ANY as u64;
-    Field::Done
+    Some(())
 }
 
 // The content, by the low five bits of the info byte, which stands at `place`.
@@ -127,7 +109,7 @@ pub fn read_content(
     r: &mut [u64],
     info: u64,
     place: usize,
-) -> Field
+) -> Option<()>
     requires { Small w.old × Narrow r.old }
     ensures { Put form update.now w.old w.new r.new result (blocks.content info place (row_in r.old)) }
 {
@@ -141,7 +123,7 @@ pub fn read_content(
         8 => read_any(form, update, w, r, place),
         _ => {
             cells::refuse(w, 5, place);
-            Field::Refused
+            None
         }
     }
 }

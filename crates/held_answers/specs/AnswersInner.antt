@@ -4,7 +4,6 @@ use Rattle.numbers.specs.Number.{none}
 use Rattle.grammar.specs.Course.{things, ending}
 use Rattle.ranges.specs.Ranges.{normal}
 use Rattle.deletes.specs.DeleteSet.{taken, words_of}
-use Rattle.updates.specs.Promises.{refused}
 use Rattle.updates.specs.declared.Update.{Update}
 use Rattle.sorter.specs.declared.Sorting.{Sorting}
 use Rattle.held_answers.specs.declared.SortedHeld.{SortedHeld}

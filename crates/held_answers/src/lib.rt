@@ -5,7 +5,6 @@ ghost use Rattle.std.specs.Prelude.{◌≡◌, length};
 ghost use Rattle.held_answers.specs.Answers.{refused_with, answered};
 ghost use Rattle.held_answers.specs.AnswersInner.{read_held, words_given, answer_to};
 
-use deletes::Set;
 use numbers::Refusal;
 use sorter::Sorting;
 use updates::Update;
@@ -37,12 +36,12 @@ pub fn read_held(held: &[u8], words: &mut [u64]) -> HeldRead
         × (words.new ≡ words_given held.now (length words.old)) }
 {
     match deletes::read_delete_set(1, held, 0, words) {
-        Set::Ranges(n, _) => HeldRead {
+        Ok((n, _)) => HeldRead {
             refused: false,
             number: 0,
             ranges: n,
         },
-        Set::Refused(why) => HeldRead {
+        Err(why) => HeldRead {
             refused: true,
             number: why.number,
             ranges: 0,
@@ -51,6 +50,7 @@ pub fn read_held(held: &[u8], words: &mut [u64]) -> HeldRead
 }
 
 // A refusal, and counts of 0.
+#[tactic(auto, unfolding(crate::specs::Answers::answered))]
 pub fn none(why: Refusal) -> SortedHeld
     ensures { result ≡ answered (refused_with why) }
 {
@@ -66,6 +66,7 @@ pub fn none(why: Refusal) -> SortedHeld
 }
 
 // What is answered of a sorting that is not refused.
+#[tactic(auto, unfolding(crate::specs::AnswersInner::answer_to))]
 pub fn done(read: Update, held: usize, s: Sorting) -> SortedHeld
     ensures { result ≡ answer_to read held s }
 {

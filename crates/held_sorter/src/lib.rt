@@ -35,6 +35,7 @@ fn pick_chained(
         reach.old fronts.old order.old) result reach.new fronts.new order.new }
 {
     let mut p = picker::begin(28, fronts, reach, n, blocks);
+    // Kept, point 3 (no plainer): p.row is where the front stands that is looked at next, in any order, and counts nothing.
     while p.row < rows.len() {
         let b = nearby::look_row(rows, slots, n, held, ranges, chains, reach, p.slot, p.row);
         p = picker::offer(28, slots, n, p, reach, fronts, order, b);
@@ -79,12 +80,14 @@ fn report_front(
     out: &mut [u64],
     at: usize,
 ) -> usize
-    requires { (3 * n ≤ length slots.now) × Falling (slots_from slots.now 0 n) × (3 * ranges ≤ length held.now) × (3 * (i + 1) ≤ length
-        slots.now) × (at ≤ 3 * i) }
-    ensures { (result ≡ at + length (waiting_of (slots_from slots.now 0 n) reach.now rows.now (rows_by held.now ranges (slots_from slots.now 0 n) rows.now 0 rows.now) (slot_at slots.now i)
-        (front_at fronts.now i)))
-        × (out.new ≡ sets out.old at (waiting_of (slots_from slots.now 0 n) reach.now rows.now (rows_by
-        held.now ranges (slots_from slots.now 0 n) rows.now 0 rows.now) (slot_at slots.now i) (front_at fronts.now i))) }
+    requires { (3 * n ≤ length slots.now) × Falling (slots_from slots.now 0 n) × (3 * ranges ≤ length held.now)
+        × (3 * (i + 1) ≤ length slots.now) × (at ≤ 3 * i) }
+    ensures { (result ≡ at + length (waiting_of (slots_from slots.now 0 n) reach.now rows.now
+        (rows_by held.now ranges (slots_from slots.now 0 n) rows.now 0 rows.now)
+        (slot_at slots.now i) (front_at fronts.now i)))
+        × (out.new ≡ sets out.old at (waiting_of (slots_from slots.now 0 n) reach.now rows.now
+        (rows_by held.now ranges (slots_from slots.now 0 n) rows.now 0 rows.now)
+        (slot_at slots.now i) (front_at fronts.now i))) }
 {
     let f = picker::fronts::front_at(fronts, i);
     if awaited::is_left(f, rows.len()) {
@@ -108,16 +111,14 @@ fn report_pending(
     out: &mut [u64],
 ) -> usize
     requires { (3 * n ≤ length slots.now) × Falling (slots_from slots.now 0 n) × (3 * ranges ≤ length held.now) }
-    ensures { (result ≡ length (waiting_from (slots_from slots.now 0 n) reach.now fronts.now rows.now (rows_by
-        held.now ranges (slots_from slots.now 0 n) rows.now 0 rows.now) 0 (slots_from slots.now 0 n)))
-        × (out.new ≡ fitted (length out.old) (waiting_from (slots_from slots.now 0 n) reach.now fronts.now rows.now (rows_by held.now ranges (slots_from slots.now 0 n) rows.now 0
-        rows.now) 0 (slots_from slots.now 0 n))) }
+    ensures { (result ≡ length (waiting_from (slots_from slots.now 0 n) reach.now fronts.now rows.now
+        (rows_by held.now ranges (slots_from slots.now 0 n) rows.now 0 rows.now) 0 (slots_from slots.now 0 n)))
+        × (out.new ≡ fitted (length out.old) (waiting_from (slots_from slots.now 0 n) reach.now fronts.now rows.now
+        (rows_by held.now ranges (slots_from slots.now 0 n) rows.now 0 rows.now) 0 (slots_from slots.now 0 n))) }
 {
     let mut at = 0;
-    let mut i = 0;
-    while i < n {
+    for i in 0..n {
         at = report_front(rows, slots, n, held, ranges, fronts, reach, i, out, at);
-        i += 1;
     }
     reports::clear_after(out, at);
     at
@@ -167,8 +168,10 @@ pub fn sort_kept(
     ensures { (result ≡ sorting_by held.now ranges (slots_for max_reaches (take blocks rows.now) []) rows.now blocks order.old)
         × (order.new ≡ order_by held.now ranges (slots_for max_reaches (take blocks rows.now) []) rows.now blocks
         order.old)
-        × (counts.new ≡ fitted (length counts.old) (counts_by held.now ranges (slots_for max_reaches (take blocks rows.now) []) rows.now blocks order.old))
-        × (pending.new ≡ fitted (length pending.old) (pending_by held.now ranges (slots_for max_reaches (take blocks rows.now) []) rows.now blocks order.old)) }
+        × (counts.new ≡ fitted (length counts.old)
+        (counts_by held.now ranges (slots_for max_reaches (take blocks rows.now) []) rows.now blocks order.old))
+        × (pending.new ≡ fitted (length pending.old)
+        (pending_by held.now ranges (slots_for max_reaches (take blocks rows.now) []) rows.now blocks order.old)) }
 {
     let mut words = [0u64; 384];
     let slots = &mut words[..];

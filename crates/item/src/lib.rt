@@ -12,7 +12,7 @@ ghost use Rattle.cells.specs.Cells.{Small, part_in};
 ghost use Rattle.item.specs.Row.{id_in, row_in, Narrow, Begun, bare_in, body_in, Put, PutId, PutBlock};
 
 use block::{Block, Id};
-use cells::{Drawn, Field, PLACE};
+use cells::PLACE;
 use held::{KIND, LENGTH, MARK, PART, TYPE};
 use text::{Part, Units};
 
@@ -46,106 +46,86 @@ const KEY: usize = 17;
 // ---- where an item stands
 
 // An id, into words k and k + 1 of the row: client, then clock, which has column c.
-fn read_id(form: u8, update: &[u8], w: &mut [u64], r: &mut [u64], c: usize, k: usize) -> Field
+fn read_id(form: u8, update: &[u8], w: &mut [u64], r: &mut [u64], c: usize, k: usize) -> Option<()>
     requires { Small w.old × (2 ≤ c) × (c ≤ 3) × (k + 1 < length r.old) × (get_or r.old (k + 1) 0 ≤ 4294967295) }
     ensures { PutId form update.now k w.old w.new r.old r.new result (blocks.an_id (clock_at c)) }
 {
-    let Drawn::Number(client) = fields::read_client(form, update, w) else {
-        return Field::Refused;
-    };
-    let Drawn::Number(clock) = fields::read_clock(form, update, w, c) else {
-        return Field::Refused;
-    };
+    let client = fields::read_client(form, update, w)?;
+    let clock = fields::read_clock(form, update, w, c)?;
     r[k] = client;
     r[k + 1] = clock;
-    Field::Done
+    Some(())
 }
 
-fn read_left(form: u8, update: &[u8], w: &mut [u64], r: &mut [u64], info: u64) -> Field
+fn read_left(form: u8, update: &[u8], w: &mut [u64], r: &mut [u64], info: u64) -> Option<()>
     requires { Small w.old × Narrow r.old }
     ensures { Put form update.now w.old w.new r.new result (blocks.left info (row_in r.old)) }
 {
     if info < 128 {
-        return Field::Done;
+        return Some(());
     }
-    let Field::Done = read_id(form, update, w, r, 2, LEFT) else {
-        return Field::Refused;
-    };
+    read_id(form, update, w, r, 2, LEFT)?;
     r[HAS_LEFT] = 1;
-    Field::Done
+    Some(())
 }
 
-fn read_right(form: u8, update: &[u8], w: &mut [u64], r: &mut [u64], info: u64) -> Field
+fn read_right(form: u8, update: &[u8], w: &mut [u64], r: &mut [u64], info: u64) -> Option<()>
     requires { Small w.old × Narrow r.old }
     ensures { Put form update.now w.old w.new r.new result (blocks.right info (row_in r.old)) }
 {
     if info % 128 < 64 {
-        return Field::Done;
+        return Some(());
     }
-    let Field::Done = read_id(form, update, w, r, 3, RIGHT) else {
-        return Field::Refused;
-    };
+    read_id(form, update, w, r, 3, RIGHT)?;
     r[HAS_RIGHT] = 1;
-    Field::Done
+    Some(())
 }
 
 // The parent that a parent info announces: 1 a name, otherwise an id.
-fn read_parent_after(form: u8, update: &[u8], w: &mut [u64], r: &mut [u64], v: u64) -> Field
+fn read_parent_after(form: u8, update: &[u8], w: &mut [u64], r: &mut [u64], v: u64) -> Option<()>
     requires { Small w.old × Narrow r.old }
     ensures { Put form update.now w.old w.new r.new result (blocks.parent_after (row_in r.old) v) }
 {
     if v == 1 {
-        let Drawn::Number(_) = fields::read_text(form, update, w, r, NAME) else {
-            return Field::Refused;
-        };
+        fields::read_text(form, update, w, r, NAME)?;
         r[HAS_NAME] = 1;
-        return Field::Done;
+        return Some(());
     }
-    let Field::Done = read_id(form, update, w, r, 2, PARENT) else {
-        return Field::Refused;
-    };
+    read_id(form, update, w, r, 2, PARENT)?;
     r[HAS_PARENT] = 1;
-    Field::Done
+    Some(())
 }
 
-fn read_parent(form: u8, update: &[u8], w: &mut [u64], r: &mut [u64]) -> Field
+fn read_parent(form: u8, update: &[u8], w: &mut [u64], r: &mut [u64]) -> Option<()>
     requires { Small w.old × Narrow r.old }
     ensures { Put form update.now w.old w.new r.new result (blocks.parent (row_in r.old)) }
 {
-    let Drawn::Number(v) = fields::read_parent_info(form, update, w) else {
-        return Field::Refused;
-    };
+    let v = fields::read_parent_info(form, update, w)?;
     read_parent_after(form, update, w, r, v)
 }
 
-fn read_key(form: u8, update: &[u8], w: &mut [u64], r: &mut [u64], info: u64) -> Field
+fn read_key(form: u8, update: &[u8], w: &mut [u64], r: &mut [u64], info: u64) -> Option<()>
     requires { Small w.old × Narrow r.old }
     ensures { Put form update.now w.old w.new r.new result (blocks.key info (row_in r.old)) }
 {
     if info < 32 {
-        return Field::Done;
+        return Some(());
     }
-    let Drawn::Number(_) = fields::read_text(form, update, w, r, KEY) else {
-        return Field::Refused;
-    };
+    fields::read_text(form, update, w, r, KEY)?;
     r[HAS_KEY] = 1;
-    Field::Done
+    Some(())
 }
 
 // Left and right id; if there is neither, parent and key.
-fn read_place(form: u8, update: &[u8], w: &mut [u64], r: &mut [u64], info: u64) -> Field
+fn read_place(form: u8, update: &[u8], w: &mut [u64], r: &mut [u64], info: u64) -> Option<()>
     requires { Small w.old × Narrow r.old }
     ensures { Put form update.now w.old w.new r.new result (blocks.place info (row_in r.old)) }
 {
     if info < 64 {
-        let Field::Done = read_parent(form, update, w, r) else {
-            return Field::Refused;
-        };
+        read_parent(form, update, w, r)?;
         return read_key(form, update, w, r, info);
     }
-    let Field::Done = read_left(form, update, w, r, info) else {
-        return Field::Refused;
-    };
+    read_left(form, update, w, r, info)?;
     read_right(form, update, w, r, info)
 }
 
@@ -158,39 +138,33 @@ fn read_item(
     r: &mut [u64],
     info: u64,
     place: usize,
-) -> Field
+) -> Option<()>
     requires { Small w.old × Narrow r.old }
     ensures { Put form update.now w.old w.new r.new result (blocks.an_item info place (row_in r.old)) }
 {
-    let Field::Done = read_place(form, update, w, r, info) else {
-        return Field::Refused;
-    };
+    read_place(form, update, w, r, info)?;
     held::read_content(form, update, w, r, info, place)
 }
 
-fn read_skip(form: u8, update: &[u8], w: &mut [u64], r: &mut [u64]) -> Field
+fn read_skip(form: u8, update: &[u8], w: &mut [u64], r: &mut [u64]) -> Option<()>
     requires { Small w.old × Narrow r.old × Begun r.old }
     ensures { Put form update.now w.old w.new r.new result
         (bare_in r.old SKIP (grammar.up_to max_clock)) }
 {
-    let Drawn::Number(v) = fields::read_var(update, w, numbers::MAX_CLOCK) else {
-        return Field::Refused;
-    };
+    let v = fields::read_var(update, w, numbers::MAX_CLOCK)?;
     r[LENGTH] = v;
     r[KIND] = block::SKIP as u64;
-    Field::Done
+    Some(())
 }
 
-fn read_gc(form: u8, update: &[u8], w: &mut [u64], r: &mut [u64]) -> Field
+fn read_gc(form: u8, update: &[u8], w: &mut [u64], r: &mut [u64]) -> Option<()>
     requires { Small w.old × Narrow r.old × Begun r.old }
     ensures { Put form update.now w.old w.new r.new result (bare_in r.old GC grammar.len) }
 {
-    let Drawn::Number(v) = fields::read_len(form, update, w) else {
-        return Field::Refused;
-    };
+    let v = fields::read_len(form, update, w)?;
     r[LENGTH] = v;
     r[KIND] = block::GC as u64;
-    Field::Done
+    Some(())
 }
 
 // The row of a block of which nothing is read yet.
@@ -232,7 +206,7 @@ fn read_body(
     r: &mut [u64],
     info: u64,
     place: usize,
-) -> Field
+) -> Option<()>
     requires { Small w.old × Narrow r.old × Begun r.old }
     ensures { Put form update.now w.old w.new r.new result (body_in r.old info place) }
 {
@@ -251,19 +225,15 @@ pub fn read_block(
     r: &mut [u64],
     client: u64,
     clock: u64,
-) -> Drawn
+) -> Option<u64>
     requires { Small w.old × (length r.old ≡ 24) × (clock ≤ max_clock) }
     ensures { PutBlock form update.now w.old w.new r.new result (blocks.block client clock) }
 {
     begin_row(r, client, clock);
-    let Drawn::Number(info) = fields::read_info(form, update, w) else {
-        return Drawn::Refused;
-    };
+    let info = fields::read_info(form, update, w)?;
     let place = w[PLACE];
-    let Field::Done = read_body(form, update, w, r, info, place as usize) else {
-        return Drawn::Refused;
-    };
-    Drawn::Number(place)
+    read_body(form, update, w, r, info, place as usize)?;
+    Some(place)
 }
 
 // ---- the row itself

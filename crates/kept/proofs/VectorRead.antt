@@ -1,4 +1,5 @@
 -- The entries of a vector that was read into words lent for clients and clocks.
+use Rattle.std.specs.Prelude.{Result, Ok, Err}
 use Prim.Native.Nat.{ℕ, ◌-◌, ◌≤◌}
 use mathlib.Core.Path.{◌≡◌, refl, sym, ap, subst, ◌∙◌}
 use mathlib.Core.List.{List, [], ◌∷◌, ◌++◌, map}
@@ -8,8 +9,6 @@ use lib.ListN.{length, take, replicate, length-append, length-map}
 use Rattle.numbers.specs.declared.Refusal.{Refusal}
 use Rattle.numbers.specs.Output.{padded}
 use Rattle.grammar.specs.Course.{Course, thing, over, stopped, things, ending}
-use Rattle.vector.specs.declared.Entries.{Entries}
-use Rattle.vector.specs.declared.Entries.TheVariants.{Read, Refused}
 use Rattle.vector.specs.Vector.{Entry, clients_in}
 use Rattle.vector.specs.VectorInner.{clocks_in, kept}
 use Rattle.vector.specs.VectorInner as vector-inner
@@ -69,17 +68,17 @@ entries-again es n m = rw (take-map (λ (e : Entry). e.client) es _, take-map (�
 
 -- ---- what was answered, and what the vector is then
 
-abbrev read_is : Entries → Type 0
-read_is (Read n) = Unit {0}
-read_is (Refused why) = ⊥
+abbrev read_is : Result ℕ Refusal → Type 0
+read_is (Ok n) = Unit {0}
+read_is (Err why) = ⊥
 
-abbrev count : Entries → ℕ
-count (Read n) = n
-count (Refused why) = 0
+abbrev count : Result ℕ Refusal → ℕ
+count (Ok n) = n
+count (Err why) = 0
 
-abbrev why-of : Entries → Refusal → Refusal
-why-of (Read n) r = r
-why-of (Refused why) r = why
+abbrev why-of : Result ℕ Refusal → Refusal → Refusal
+why-of (Ok n) r = r
+why-of (Err why) r = why
 
 -- m entries were read
 pub record WasRead (c : Course Entry) (m : ℕ) : Type 1 where
@@ -90,7 +89,7 @@ pub record WasRead (c : Course Entry) (m : ℕ) : Type 1 where
   pub clients : (k : ℕ) → take m (padded k (clients_in (kept c))) ≡ clients_in (things c)
   pub entries : (k l : ℕ) → entries_of m (padded k (clients_in (kept c))) (padded l (clocks_in (kept c))) ≡ things c
 
-pub was_read : (c : Course Entry) (m : ℕ) → vector-inner.entries_of c ≡ Read m → WasRead c m
+pub was_read : (c : Course Entry) (m : ℕ) → vector-inner.entries_of c ≡ Ok m → WasRead c m
 unfolding vector-inner.entries_of kept
 was_read c m e = go (ends c)
   where
@@ -98,7 +97,7 @@ was_read c m e = go (ends c)
     go (inl x) =
         let h = x.1 in
         let all : kept c ≡ things c = over-ends c x.0 (λ (s : ℕ). things c) (λ (why : Refusal). []) h in
-        let size : m ≡ length (things c) = sym (ap count e) ∙ ap count (over-ends c x.0 (λ (s : ℕ). Read (length (things c))) (λ (why : Refusal). Refused why) h) in
+        let size : m ≡ length (things c) = sym (ap count e) ∙ ap count (over-ends c x.0 (λ (s : ℕ). Ok (length (things c))) (λ (why : Refusal). Err why) h) in
         record {
           after = x.0;
           ends_so = λ f g. over-ends c x.0 f g h;
@@ -107,15 +106,15 @@ was_read c m e = go (ends c)
           clients = λ k. rw (all, size) (clients-again (things c) k);
           entries = λ k l. rw (all, size) (entries-again (things c) k l);
         }
-    go (inr x) = absurd (subst read_is (sym e ∙ stopped-ends c x.0 (λ (s : ℕ). Read (length (things c))) (λ (why : Refusal). Refused why) x.1) tt)
+    go (inr x) = absurd (subst read_is (sym e ∙ stopped-ends c x.0 (λ (s : ℕ). Ok (length (things c))) (λ (why : Refusal). Err why) x.1) tt)
 
 -- it was refused
-pub was-refused : {X : Type 0} (c : Course Entry) (why : Refusal) → vector-inner.entries_of c ≡ Refused why → (f : ℕ → X) (g : Refusal → X) → ending c f g ≡ g why
+pub was-refused : {X : Type 0} (c : Course Entry) (why : Refusal) → vector-inner.entries_of c ≡ Err why → (f : ℕ → X) (g : Refusal → X) → ending c f g ≡ g why
 unfolding vector-inner.entries_of
 was-refused {X} c why e f g = go (ends c)
   where
     go : ((s : ℕ) × Over c s) ⊎ ((r : Refusal) × Stopped c r) → ending c f g ≡ g why
-    go (inl x) = absurd (subst read_is (sym (over-ends c x.0 (λ (s : ℕ). Read (length (things c))) (λ (r : Refusal). Refused r) x.1) ∙ e) tt)
+    go (inl x) = absurd (subst read_is (sym (over-ends c x.0 (λ (s : ℕ). Ok (length (things c))) (λ (r : Refusal). Err r) x.1) ∙ e) tt)
     go (inr x) =
-        let same : x.0 ≡ why = ap (λ (a : Entries). why-of a why) (sym (stopped-ends c x.0 (λ (s : ℕ). Read (length (things c))) (λ (r : Refusal). Refused r) x.1) ∙ e) in
+        let same : x.0 ≡ why = ap (λ (a : Result ℕ Refusal). why-of a why) (sym (stopped-ends c x.0 (λ (s : ℕ). Ok (length (things c))) (λ (r : Refusal). Err r) x.1) ∙ e) in
         stopped-ends c x.0 f g x.1 ∙ ap g same

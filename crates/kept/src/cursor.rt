@@ -37,6 +37,7 @@ fn ended() -> Cursor
 }
 
 // The first row of section k of n.
+#[tactic(auto, unfolding(crate::specs::Plan::opened_at, crate::specs::Plan::planned))]
 pub fn open(plan: &[u64], n: usize, k: usize) -> Cursor
     ensures { result ≡ opened_at plan.now n k }
 {
@@ -51,19 +52,18 @@ pub fn open(plan: &[u64], n: usize, k: usize) -> Cursor
     let head = plan[at + 2] as usize;
     let from = plan[at + 3];
     let skip = plan[at + 4] as usize;
-    let left = numbers::words::less(head as u64, 1) as usize;
-    let next = k + 1;
     Cursor {
         row,
         from: Units(from),
         skip: Bytes(skip),
         head,
-        left,
-        next,
+        left: head.saturating_sub(1),
+        next: k + 1,
     }
 }
 
 // The row after.
+#[tactic(auto, unfolding(crate::specs::Plan::advanced))]
 pub fn advance(plan: &[u64], n: usize, c: Cursor) -> Cursor
     ensures { result ≡ advanced plan.now n c }
 {
@@ -73,12 +73,10 @@ pub fn advance(plan: &[u64], n: usize, c: Cursor) -> Cursor
     if c.left == 0 {
         return open(plan, n, c.next);
     }
-    let from = Units(0);
-    let skip = Bytes(0);
     let mut next = c;
     next.row = c.row + 1;
-    next.from = from;
-    next.skip = skip;
+    next.from = Units(0);
+    next.skip = Bytes(0);
     next.head = 0;
     next.left = c.left - 1;
     next
@@ -97,18 +95,15 @@ pub struct Ends {
 pub fn rest(b: Block, from: Units, skip: Bytes) -> Ends
     ensures { result ≡ rest_of b from.0 skip.0 }
 {
-    let part = b.part;
-    let bytes = part.bytes;
-    let to = b.length;
-    let kept = numbers::words::less(bytes.0 as u64, skip.0 as u64) as usize;
     Ends {
         from,
-        to,
+        to: b.length,
         skip,
-        keep: Bytes(kept),
+        keep: Bytes(b.part.bytes.0.saturating_sub(skip.0)),
     }
 }
 
+#[tactic(auto, unfolding(crate::specs::Plan::units_lie))]
 fn units_lie(b: Block, from: Units, to: Units) -> bool
     ensures { result ≡ units_lie b from.0 to.0 }
 {
@@ -145,6 +140,7 @@ fn bytes_lie(part: Part, skip: Bytes, keep: Bytes) -> bool
 }
 
 // Whether both ends lie in the row, and the row within the limits: they always do.
+#[tactic(auto, unfolding(crate::specs::Plan::sane))]
 pub fn is_sane(b: Block, e: Ends) -> bool
     ensures { result ≡ sane b e }
 {
@@ -183,11 +179,7 @@ fn left_of(b: Block, from: Units) -> Id
 fn is_cut(kind: u8) -> bool
     ensures { result ≡ (is_text kind || is_any kind) }
 {
-    match kind {
-        block::TEXT => true,
-        block::ANY => true,
-        _ => false,
-    }
+    matches!(kind, block::TEXT | block::ANY)
 }
 
 fn part_at(b: Block, e: Ends) -> Part
@@ -249,6 +241,7 @@ fn cut_behind(b: Block, e: Ends) -> Block
 }
 
 // What stands between both ends of a row.
+#[tactic(auto, unfolding(crate::specs::Plan::cut_at, crate::specs::Cut::is_whole))]
 pub fn cut(b: Block, e: Ends) -> Block
     requires { sane b e ≡ true }
     ensures { result ≡ cut_at b e }

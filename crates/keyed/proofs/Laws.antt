@@ -1,4 +1,5 @@
 -- What keys and values come to over words: a text of which the bytes alone are wanted, so many values in line, a key by its number, a key that joins.
+use Rattle.std.specs.Prelude.{Option, Some, None}
 use Prim.Native.Nat.{ℕ, zero, suc, ◌+◌, ◌-◌, ◌≤◌, ◌<◌}
 use mathlib.Core.Path.{◌≡◌, refl, sym, ap, subst, ◌∙◌}
 use mathlib.Core.Logic.{◌≢◌}
@@ -27,9 +28,6 @@ use Rattle.decoder.specs.States.{max_keys, State, moved_to, key_moved, text_move
 use Rattle.decoder.specs.Columned.{onto, text_drawn, text_in, joining, key_by_number, key_in, columned}
 use Rattle.decoder.specs.ColumnedInner.{fields}
 use Rattle.decoder.proofs.Laws.{fields-columned}
-use Rattle.cells.specs.declared.Drawn as cells-drawn
-use Rattle.cells.specs.declared.Drawn.TheVariants as drawn
-use Rattle.cells.specs.declared.Field.TheVariants as field
 use Rattle.cells.specs.Cells.{at_in, place_in, key_count, keys_in, state_in, why_in, Small, part_in, given, Roomy, DifferenceDrawn}
 use Rattle.cells.proofs.Keys.{keys_length, joined}
 use Rattle.cells.proofs.States.{state-key, state-joined, difference-onto}
@@ -39,11 +37,11 @@ use Rattle.fields.proofs.Laws.{in-line}
 -- ---- a text of which the bytes alone are wanted
 
 module _ (k : ℕ) (v q : List ℕ) where
-  pub word-done : (n : ℕ) → part_given k v q field.Done ≡ word_of (text_given k v q (drawn.Number n))
+  pub word-done : (n : ℕ) → part_given k v q (Some tt) ≡ word_of (text_given k v q (Some n))
   unfolding part_given text_given word_of
   word-done n = refl
 
-  pub word-refused : part_given k v q field.Refused ≡ word_of (text_given k v q drawn.Refused)
+  pub word-refused : part_given k v q None ≡ word_of (text_given k v q None)
   unfolding part_given text_given word_of
   word-refused = refl
 
@@ -104,29 +102,29 @@ module _ (form : ℕ) (u w : List ℕ) (blame n : ℕ) where
 -- ---- a key by its number
 
 -- which is drawn from its column
-pub key-drawn : (u w v : List ℕ) (r : cells-drawn.Drawn) → DifferenceDrawn u 0 w v r → key_by_number u (given v r) ≡ key_in u (state_in w)
+pub key-drawn : (u w v : List ℕ) (r : Option ℕ) → DifferenceDrawn u 0 w v r → key_by_number u (given v r) ≡ key_in u (state_in w)
 unfolding key_in state_in
 key-drawn u w v r d = ap (key_by_number u) (difference-onto u w v 0 r (λ c. key_moved c (state_in w)) (state-key w v d.1) d)
 
 -- where a number was drawn there are words for keys
-pub room-drawn : (v : List ℕ) (r : cells-drawn.Drawn) (x : ℕ) → r ≡ drawn.Number x → Roomy 0 v r → 580 ≤ length v
-room-drawn v r x e a = subst (λ (d : cells-drawn.Drawn). Roomy 0 v d) e a refl
+pub room-drawn : (v : List ℕ) (r : Option ℕ) (x : ℕ) → r ≡ Some x → Roomy 0 v r → 580 ≤ length v
+room-drawn v r x e a = subst (λ (d : Option ℕ). Roomy 0 v d) e a refl
 
 module _ (u v : List ℕ) where
-  pub key-none : not (why_in v) ≡ key_by_number u (given v drawn.Refused)
+  pub key-none : not (why_in v) ≡ key_by_number u (given v None)
   unfolding key_by_number given
   key-none = refl
 
   module _ (x : ℕ) where
-    pub key-known : x < key_count v → got (get_or (keys_in v) x no_part) (state_in v) ≡ key_by_number u (given v (drawn.Number x))
+    pub key-known : x < key_count v → got (get_or (keys_in v) x no_part) (state_in v) ≡ key_by_number u (given v (Some x))
     unfolding key_by_number given state_in
     key-known l = rw (keys_length v, lt-ltb x (key_count v) l) refl
 
-    pub key-over : key_count v ≤ x → max_keys ≤ key_count v → not (record { number = 3; place = place_in v }) ≡ key_by_number u (given v (drawn.Number x))
+    pub key-over : key_count v ≤ x → max_keys ≤ key_count v → not (record { number = 3; place = place_in v }) ≡ key_by_number u (given v (Some x))
     unfolding key_by_number given state_in
     key-over l m = rw (keys_length v, le-ltb x (key_count v) l, le-ltb (key_count v) max_keys m) refl
 
-    pub key-new : key_count v ≤ x → key_count v < max_keys → joining (text_in u (state_in v)) ≡ key_by_number u (given v (drawn.Number x))
+    pub key-new : key_count v ≤ x → key_count v < max_keys → joining (text_in u (state_in v)) ≡ key_by_number u (given v (Some x))
     unfolding key_by_number given state_in
     key-new l m = rw (keys_length v, le-ltb x (key_count v) l, lt-ltb (key_count v) max_keys m) refl
 
@@ -160,11 +158,11 @@ word-keys u s = go (next_text (take s.text.to u) s.text.place)
     go (string.Bad why) = refl
 
 module _ (u w v q : List ℕ) (k : ℕ) where
-  pub join-none : part_given k v q field.Refused ≡ word_of (fields 2 u grammar.text (state_in w)) → part_given k v q field.Refused ≡ joining (text_in u (state_in w))
+  pub join-none : part_given k v q None ≡ word_of (fields 2 u grammar.text (state_in w)) → part_given k v q None ≡ joining (text_in u (state_in w))
   unfolding part_given keeping
   join-none h = ap keeping (h ∙ word_in u (state_in w)) ∙ word-keeping (text_in u (state_in w))
 
-  module _ (h : part_given k v q field.Done ≡ word_of (fields 2 u grammar.text (state_in w))) where
+  module _ (h : part_given k v q (Some tt) ≡ word_of (fields 2 u grammar.text (state_in w))) where
     pub count_kept : key_count v ≡ key_count w
     unfolding part_given keys_after state_in
     count_kept =
@@ -172,7 +170,7 @@ module _ (u w v q : List ℕ) (k : ℕ) where
         sym (keys_length v) ∙ ap length e ∙ keys_length w
 
     pub join-done : (s : Small v) (wide : 580 ≤ length v) (n : ℕ) (e : n ≡ key_count v) (few : n < max_keys)
-        → part_given k (joined v s wide n e few (get_or q k 0) (get_or q (k + 1) 0)) q field.Done ≡ joining (text_in u (state_in w))
+        → part_given k (joined v s wide n e few (get_or q k 0) (get_or q (k + 1) 0)) q (Some tt) ≡ joining (text_in u (state_in w))
     unfolding part_given keeping state_in part_in
     join-done s wide n e few =
         ap (got (part_in q k)) (state-joined v s wide n e few (get_or q k 0) (get_or q (k + 1) 0))

@@ -1,4 +1,5 @@
 -- Type numbers: in line any unsigned number, which nine bytes keep within its limit, and from the type column.
+use Rattle.std.specs.Prelude.{Option}
 use Prim.Native.Nat.{ℕ, zero, suc, ◌+◌, ◌-◌, ◌*◌, ◌^◌, ◌≤◌, ◌<◌}
 use mathlib.Core.Path.{◌≡◌, refl, sym, ap, subst, ◌∙◌}
 use mathlib.Core.Logic.{◌≢◌}
@@ -18,7 +19,6 @@ use Rattle.decoder.specs.States.{types_moved}
 use Rattle.decoder.specs.Columned.{onto, number_in, columned}
 use Rattle.decoder.specs.ColumnedInner.{fields}
 use Rattle.decoder.proofs.Laws.{fields-columned}
-use Rattle.cells.specs.declared.Drawn.{Drawn}
 use Rattle.cells.specs.Cells.{at_in, state_in, given, NumberDrawn}
 use Rattle.cells.proofs.States.{state-types, number-onto}
 use Rattle.fields.proofs.Laws.{in-line}
@@ -69,7 +69,7 @@ module _ (u : List ℕ) (bytes : (j : ℕ) → get_or u j 0 < 256) where
 
 -- ---- from the column
 
-pub type-drawn : (form : ℕ) (u w v : List ℕ) (r : Drawn) → form ≢ 1 → NumberDrawn u 7 w v r → given v r ≡ fields form u (grammar.number grammar.type_number) (state_in w)
+pub type-drawn : (form : ℕ) (u w v : List ℕ) (r : Option ℕ) → form ≢ 1 → NumberDrawn u 7 w v r → given v r ≡ fields form u (grammar.number grammar.type_number) (state_in w)
 unfolding columned number_in state_in
 type-drawn form u w v r other d =
     number-onto u w v 7 r (λ c. types_moved c (state_in w)) (state-types w v d.1) d

@@ -13,20 +13,18 @@ ghost use Rattle.cells.specs.Cells.{key_count, keys_in, state_in, Small, Beside,
 ghost use Rattle.fields.specs.Fields.{Given, WordGiven};
 
 use anys::Skipped;
-use cells::{AT, Drawn, Field, PLACE};
+use cells::{AT, PLACE};
 
 // ---- keys
 
 // A text of which the bytes alone are wanted.
-fn read_word(form: u8, update: &[u8], w: &mut [u64], r: &mut [u64], k: usize) -> Field
+fn read_word(form: u8, update: &[u8], w: &mut [u64], r: &mut [u64], k: usize) -> Option<()>
     requires { Small w.old × (k + 1 < length r.old) }
     ensures { WordGiven k w.old w.new r.old r.new result
         (word_of (fields form update.now grammar.text (state_in w.old))) }
 {
-    let Drawn::Number(_) = fields::read_text(form, update, w, r, k) else {
-        return Field::Refused;
-    };
-    Field::Done
+    fields::read_text(form, update, w, r, k)?;
+    Some(())
 }
 
 // The key that was read under this number.
@@ -40,46 +38,42 @@ fn known_key(w: &[u64], r: &mut [u64], k: usize, number: usize)
 }
 
 // The next text, which is a key from now on.
-fn new_key(update: &[u8], w: &mut [u64], r: &mut [u64], k: usize, count: usize) -> Field
+fn new_key(update: &[u8], w: &mut [u64], r: &mut [u64], k: usize, count: usize) -> Option<()>
     requires { Small w.old × (k + 1 < length r.old) × (count ≡ key_count w.old) × (count < max_keys) × (580 ≤ length w.old) }
     ensures { WordGiven k w.old w.new r.old r.new result
         (joining (text_in update.now (state_in w.old))) }
 {
-    let Field::Done = read_word(2, update, w, r, k) else {
-        return Field::Refused;
-    };
+    read_word(2, update, w, r, k)?;
     let base = cells::KEYS + 2 * count;
     w[base] = r[k];
     w[base + 1] = r[k + 1];
     let more = count + 1;
     w[cells::KEY_COUNT] = more as u64;
-    Field::Done
+    Some(())
 }
 
 // A key of form 2, by its number.
-fn draw_key(update: &[u8], w: &mut [u64], r: &mut [u64], k: usize) -> Field
+fn draw_key(update: &[u8], w: &mut [u64], r: &mut [u64], k: usize) -> Option<()>
     requires { Small w.old × (k + 1 < length r.old) }
     ensures { WordGiven k w.old w.new r.old r.new result
         (key_in update.now (state_in w.old)) }
 {
-    let Drawn::Number(number) = fields::read_difference(2, update, w, 0) else {
-        return Field::Refused;
-    };
+    let number = fields::read_difference(2, update, w, 0)?;
     let count = w[cells::KEY_COUNT];
     if number < count {
         known_key(w, r, k, number as usize);
-        return Field::Done;
+        return Some(());
     }
     if cells::MAX_KEYS <= count {
         let place = w[PLACE] as usize;
         cells::refuse(w, 3, place);
-        return Field::Refused;
+        return None;
     }
     new_key(update, w, r, k, count as usize)
 }
 
 // A mark's key or a node name: its place and bytes go to words k and k + 1 of the row.
-pub fn read_key(form: u8, update: &[u8], w: &mut [u64], r: &mut [u64], k: usize) -> Field
+pub fn read_key(form: u8, update: &[u8], w: &mut [u64], r: &mut [u64], k: usize) -> Option<()>
     requires { Small w.old × (k + 1 < length r.old) }
     ensures { WordGiven k w.old w.new r.old r.new result
         (fields form update.now grammar.key (state_in w.old)) }
@@ -101,7 +95,7 @@ pub fn read_values(
     k: usize,
     blame: usize,
     n: u64,
-) -> Field
+) -> Option<()>
     requires { Small w.old × (k + 1 < length r.old) }
     ensures { WordGiven k w.old w.new r.old r.new result
         (fields form update.now (grammar.values blame n) (state_in w.old)) }
@@ -113,11 +107,11 @@ pub fn read_values(
             r[k] = at as u64;
             r[k + 1] = size as u64;
             w[AT] = end as u64;
-            Field::Done
+            Some(())
         }
         Skipped::Refused(why) => {
             cells::refuse(w, why.number, why.place);
-            Field::Refused
+            None
         }
     }
 }
@@ -130,7 +124,7 @@ pub fn read_value(
     r: &mut [u64],
     k: usize,
     blame: usize,
-) -> Field
+) -> Option<()>
     requires { Small w.old × (k + 1 < length r.old) }
     ensures { WordGiven k w.old w.new r.old r.new result
         (fields form update.now (grammar.value blame) (state_in w.old)) }
@@ -144,7 +138,7 @@ pub fn read_value(
 // ---- type numbers
 
 // Any unsigned number in form 1, one of the type column in form 2.
-pub fn read_type(form: u8, update: &[u8], w: &mut [u64]) -> Drawn
+pub fn read_type(form: u8, update: &[u8], w: &mut [u64]) -> Option<u64>
     requires { Small w.old }
     ensures { Given w.old w.new result
         (fields form update.now (grammar.number grammar.type_number) (state_in w.old)) }

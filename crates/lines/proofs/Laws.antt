@@ -4,13 +4,14 @@ use mathlib.Core.Path.{◌≡◌, sym, ap, ap₂, ◌∙◌}
 use mathlib.Core.Bool.{cond}
 use mathlib.Core.List.{List, [], ◌∷◌, ◌++◌, append_assoc, append-nil}
 use mathlib.Core.Logic.{⊎_elim}
-use native.Mathlib.Nat.{add-zero, zero-add, add-suc, suc-add, div-lt_iff_lt-mul, pow-suc}
+use native.Mathlib.Nat.{add-zero, zero-add, div-lt_iff_lt-mul, pow-suc}
 use native.Mathlib.Omega.{arith}
 use lib.ListN.{length, take, drop, set, length-set, length-append, drop_of_length-le, take-append-drop}
 use lib.Seq.{sets, length-sets, take_all, take-nil, take-suc-set, drop-set-lt, set_out}
 use lib.Dec.{ltb, lit<}
 use borrow.Author.Tests.{lt-ltb, le-ltb}
 use Rattle.numbers.proofs.Laws.{below_or}
+use Rattle.numbers.proofs.Output.{sets-append}
 use Rattle.lines.specs.Lines.{digits, decimal}
 use Rattle.lines.specs.LinesInner.{overlay}
 
@@ -52,16 +53,12 @@ stores (b ∷ bs) out u = overlay-cons out u b bs ∙ stores bs (set out u b) (s
 pub length-overlay : (out : List ℕ) (u : ℕ) (bs : List ℕ) → length (overlay out u bs) ≡ length out
 length-overlay out u bs = ap length (stores bs out u) ∙ length-sets out u bs
 
-sets-append : (xs bs out : List ℕ) (u : ℕ) → sets (sets out u xs) (u + length xs) bs ≡ sets out u (xs ++ bs)
-sets-append [] bs out u = ap (λ (n : ℕ). sets out n bs) (add-zero u)
-sets-append (a ∷ xs) bs out u = ap (λ (n : ℕ). sets (sets (set out u a) (suc u) xs) n bs) (add-suc u (length xs) ∙ sym (suc-add u (length xs))) ∙ sets-append xs bs (set out u a) (suc u)
-
 -- text after text
 pub overlay-append : (out : List ℕ) (u : ℕ) (xs bs : List ℕ) → overlay (overlay out u xs) (u + length xs) bs ≡ overlay out u (xs ++ bs)
 overlay-append out u xs bs =
     stores bs (overlay out u xs) (u + length xs)
     ∙ ap (λ (l : List ℕ). sets l (u + length xs) bs) (stores xs out u)
-    ∙ sets-append xs bs out u
+    ∙ sym (sets-append xs bs out u)
     ∙ sym (stores (xs ++ bs) out u)
 
 -- the same, at a place that is known to be there

@@ -21,10 +21,8 @@ pub fn put_text(out: &mut [u8], used: usize, text: &[u8]) -> usize
     ensures { (result ≡ used + length text.now) × (out.new ≡ overlay out.old used text.now) }
 {
     let mut at = used;
-    let mut i = 0;
-    while i < text.len() {
-        at = put_byte(out, at, text[i]);
-        i += 1;
+    for b in text {
+        at = put_byte(out, at, *b);
     }
     at
 }

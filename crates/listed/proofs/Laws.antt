@@ -1,15 +1,16 @@
 -- The laws of the listing, with no machine: bytes compared from the front, the parts of a listing put one after another, and what a reading's tables list.
 use Prim.Native.Nat.{ℕ, suc, ◌+◌, ◌-◌, ◌*◌, ◌/◌, ◌^◌, ◌≤◌, ◌<◌}
 use mathlib.Core.Path.{◌≡◌, refl, sym, ap, ap₂, ◌∙◌}
-use mathlib.Core.Bool.{Bool, true, false}
+use mathlib.Core.Bool.{Bool, true, false, ◌&&◌}
+use mathlib.Core.Logic.{◌≢◌}
+use lib.Pointwise.{pointwise}
 use mathlib.Core.List.{List, [], ◌∷◌}
 use native.Mathlib.Nat.{zero-add}
-use native.Mathlib.Numerals.{add-one}
 use native.Mathlib.Omega.{arith}
-use borrow.Author.Tests.{eq-eqb, ne_eqb}
+use borrow.Author.Tests.{ne_eqb}
 use lib.Dec.{eqb, ltb}
-use lib.ListN.{length, take, drop, get_or, replicate, length-append, drop_of_length-le}
-use lib.Seq.{drop-cons, length-take-le, take_all, take_at}
+use lib.ListN.{length, take, drop, get_or, replicate, length-append}
+use lib.Seq.{length-take-le, take_all, take_at}
 use Rattle.numbers.specs.Number.{pick, nowhere}
 use Rattle.numbers.specs.Output.{padded}
 use Rattle.block.specs.declared.Block.{Block}
@@ -27,29 +28,17 @@ use Rattle.listed.specs.Listed.{max_input, same, is_empty, empty_v1, empty_v2, l
 
 -- ---- bytes compared from the front
 
-pub other_length : (a b : List ℕ) → (length a ≡ length b → ⊥) → same a b ≡ false
+-- what `==` says of them
+same-pointwise : (a b : List ℕ) → pointwise eqb a b ≡ same a b
 unfolding same
-other_length [] [] h = absurd (h refl)
-other_length [] (y ∷ ys) h = refl
-other_length (x ∷ xs) [] h = refl
-other_length (x ∷ xs) (y ∷ ys) h = go (eqb x y) (other_length xs ys (λ e. h (ap suc e)))
+same-pointwise [] [] = refl
+same-pointwise [] (y ∷ ys) = refl
+same-pointwise (x ∷ xs) [] = refl
+same-pointwise (x ∷ xs) (y ∷ ys) = go (eqb x y) (same-pointwise xs ys)
   where
-    go : (t : Bool) → same xs ys ≡ false → pick t (same xs ys) false ≡ false
+    go : (t : Bool) → pointwise eqb xs ys ≡ same xs ys → (t && pointwise eqb xs ys) ≡ pick t (same xs ys) false
     go true e = e
     go false e = refl
-
-module _ (a b : List ℕ) (i : ℕ) (here : i < length a) (there : i < length b) where
-  pub same_turn : get_or a i 0 ≡ get_or b i 0 → same (drop (i + 1) a) (drop (i + 1) b) ≡ same (drop i a) (drop i b)
-  unfolding same
-  same_turn e = rw (drop-cons a i 0 here, drop-cons b i 0 there, eq-eqb (get_or a i 0) (get_or b i 0) e, add-one i) refl
-
-  pub same_not : (get_or a i 0 ≡ get_or b i 0 → ⊥) → same (drop i a) (drop i b) ≡ false
-  unfolding same
-  same_not h = rw (drop-cons a i 0 here, drop-cons b i 0 there, ne_eqb (get_or a i 0) (get_or b i 0) h) refl
-
-pub same_end : (a b : List ℕ) (i : ℕ) → length a ≤ i → length b ≤ i → same (drop i a) (drop i b) ≡ true
-unfolding same
-same_end a b i h k = rw (drop_of_length-le a {i = i} h, drop_of_length-le b {i = i} k) refl
 
 -- ---- the first rows of both tables
 
@@ -132,17 +121,17 @@ pub front : (out t : List ℕ) → length t ≤ length out → take (length t) (
 front out t h = ap (take (length t)) (overlay-whole out t h) ∙ take_at t (drop (length t) out) (length t) refl
 
 module _ (form : ℕ) (u : List ℕ) where
-  pub empty-first : eqb form 1 ≡ true → same u empty_v1 ≡ is_empty form u
+  pub empty-first : form ≡ 1 → pointwise eqb u empty_v1 ≡ is_empty form u
   unfolding is_empty
-  empty-first e = rw e refl
+  empty-first e = rw e (same-pointwise u empty_v1)
 
-  pub empty-second : eqb form 1 ≡ false → eqb form 2 ≡ true → same u empty_v2 ≡ is_empty form u
+  pub empty-second : form ≡ 2 → pointwise eqb u empty_v2 ≡ is_empty form u
   unfolding is_empty
-  empty-second e h = rw (e, h) refl
+  empty-second e = rw e (same-pointwise u empty_v2)
 
-  pub empty-no-form : eqb form 1 ≡ false → eqb form 2 ≡ false → false ≡ is_empty form u
+  pub empty-no-form : form ≢ 1 → form ≢ 2 → false ≡ is_empty form u
   unfolding is_empty
-  empty-no-form e h = rw (e, h) refl
+  empty-no-form e h = rw (ne_eqb form 1 e, ne_eqb form 2 h) refl
 
   pub text-empty : is_empty form u ≡ true → empty_line ≡ listed_update form u
   unfolding listed_update

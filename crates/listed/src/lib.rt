@@ -5,7 +5,7 @@ ghost use Rattle.std.specs.Prelude.{◌≡◌, ◌+◌, ◌*◌, ◌^◌, ◌≤
 ghost use Rattle.ranges.specs.TableInner.{rows_from};
 ghost use Rattle.lines.specs.LinesInner.{overlay};
 ghost use Rattle.listing_text.specs.Listing.{listing};
-ghost use Rattle.listed.specs.Listed.{max_text, same, is_empty, listed_reading, listed_update, listed, Lists};
+ghost use Rattle.listed.specs.Listed.{max_text, is_empty, listed_reading, listed_update, listed, Lists};
 
 use block::Block;
 use numbers::{Refusal, Written};
@@ -28,32 +28,14 @@ pub fn max_text() -> usize
     MAX_TEXT
 }
 
-fn same(a: &[u8], b: &[u8]) -> bool
-    ensures { result ≡ same a.now b.now }
-{
-    if a.len() != b.len() {
-        return false;
-    }
-    let mut i = 0;
-    while i < a.len() {
-        if a[i] != b[i] {
-            return false;
-        }
-        i += 1;
-    }
-    true
-}
-
 fn is_empty(form: u8, update: &[u8]) -> bool
     ensures { result ≡ is_empty form update.now }
 {
-    if form == 1 {
-        return same(update, &EMPTY_V1);
+    match form {
+        1 => update == &EMPTY_V1[..],
+        2 => update == &EMPTY_V2[..],
+        _ => false,
     }
-    if form == 2 {
-        return same(update, &EMPTY_V2);
-    }
-    false
 }
 
 // The first rows of both tables, as a whole listing.

@@ -35,31 +35,17 @@ fn put_kind(out: &mut [u8], used: usize, kind: u8) -> usize
     requires { used + 7 < 2 ^ 63 }
     ensures { (result ≡ used + length (kind_name kind)) × (out.new ≡ overlay out.old used (kind_name kind)) }
 {
-    if kind == block::GC {
-        return put_text(out, used, b"gc");
+    match kind {
+        block::GC => put_text(out, used, b"gc"),
+        block::SKIP => put_text(out, used, b"skip"),
+        block::DELETED => put_text(out, used, b"deleted"),
+        block::BINARY => put_text(out, used, b"binary"),
+        block::TEXT => put_text(out, used, b"text"),
+        block::FORMAT => put_text(out, used, b"format"),
+        block::TYPE => put_text(out, used, b"type"),
+        block::ANY => put_text(out, used, b"any"),
+        _ => used,
     }
-    if kind == block::SKIP {
-        return put_text(out, used, b"skip");
-    }
-    if kind == block::DELETED {
-        return put_text(out, used, b"deleted");
-    }
-    if kind == block::BINARY {
-        return put_text(out, used, b"binary");
-    }
-    if kind == block::TEXT {
-        return put_text(out, used, b"text");
-    }
-    if kind == block::FORMAT {
-        return put_text(out, used, b"format");
-    }
-    if kind == block::TYPE {
-        return put_text(out, used, b"type");
-    }
-    if kind == block::ANY {
-        return put_text(out, used, b"any");
-    }
-    used
 }
 
 pub fn put_block(out: &mut [u8], used: usize, b: Block) -> usize
@@ -91,14 +77,12 @@ pub fn put_ranges(out: &mut [u8], used: usize, words: &[u64], n: usize) -> usize
         × (out.new ≡ overlay out.old used (range_lines (rows_from words.now 0 n))) }
 {
     let mut at = used;
-    let mut i = 0;
-    while i < n {
+    for i in 0..n {
         let first = 3 * i;
         let client = words[first];
         let clock = words[first + 1];
         let len = words[first + 2];
         at = put_range(out, at, client, clock, len);
-        i += 1;
     }
     at
 }
@@ -142,11 +126,9 @@ pub fn put_blocks(out: &mut [u8], used: usize, rows: &[Block], n: usize) -> usiz
         × (out.new ≡ overlay out.old used (block_lines (take n rows.now))) }
 {
     let mut at = used;
-    let mut i: usize = 0;
-    while i < n {
+    for i in 0..n {
         let b = table::fetch(rows, i);
         at = put_block(out, at, b);
-        i += 1;
     }
     at
 }

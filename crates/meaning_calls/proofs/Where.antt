@@ -1,4 +1,5 @@
 -- That a block's stored part is where `look` promises.
+use Rattle.std.specs.Prelude.{Err}
 use Prim.Native.Nat.{ℕ, zero, suc}
 use mathlib.Core.Path.{◌≡◌, refl, sym}
 use mathlib.Core.Bool.{Bool, true, false, ◌||◌}
@@ -9,7 +10,6 @@ use Rattle.block.specs.declared.Block.{Block}
 use Rattle.block.specs.Row.{no_block}
 use Rattle.grammar.specs.Course.{Course, thing, over, stopped, things}
 use Rattle.decoder.specs.Update.{blocks_of}
-use Rattle.content.specs.declared.Found.TheVariants as found
 use Rattle.content.specs.Content as content
 use Rattle.content.specs.Content.{nth, is_given, content_at}
 use Rattle.contents.specs.Promises as contents
@@ -38,5 +38,5 @@ pub where-same : (form : ℕ) (u : List ℕ) (n : ℕ) → contents.where_of for
 unfolding contents.where_of content_at where_found where_of row refused_where
 where-same form u n =
     let b = nth n (blocks_of form u) in
-    rw (ended-then form u where_found (content.stored b) found.Refused, stored_same b, nth-thing n (blocks_of form u))
+    rw (ended-then form u where_found (content.stored b) Err, stored_same b, nth-thing n (blocks_of form u))
     (sym (all-is form u (λ bs. part_in (get_or bs n no_block)) refused_where))

@@ -4,7 +4,6 @@ use mathlib.Core.Path.{◌≡◌, refl, sym, ap, ◌∙◌}
 use mathlib.Core.Bool.{Bool, true, false}
 use mathlib.Core.List.{List}
 use native.Mathlib.Omega.{arith}
-use native.Mathlib.Nat.{sub-zero}
 use native.Mathlib.Numerals.{add-one}
 use lib.Dec.{ltb, eqb}
 use lib.ListN.{length, get_or}
@@ -43,9 +42,6 @@ module _ (rows : List Block) (s : Span) where
     link-first l = record { same = rw (lt-ltb s.lo s.hi some, le-ltb (length rows) s.hi l) refl; there = l }
 
   module _ (w : Chain) (i : ℕ) (g : Linking w i) where
-    pub link_row : i < s.hi → i < length rows
-    link_row l = omega (arith, g.there)
-
     pub link-turn : i < s.hi → Linking (linked w (get_or rows i no_block)) (i + 1)
     unfolding chain_from
     link-turn l =
@@ -63,9 +59,6 @@ module _ (rows : List Block) (s : Span) where
 module _ (rows : List Block) (slots : List ℕ) (n : ℕ) (w₀ : List ℕ) where
   pub record Filling (w : List ℕ) (p : ℕ) : Type 0 where
     pub same : chains_from p (slots_from slots p (n - p)) rows w ≡ chains_from 0 (slots_from slots 0 n) rows w₀
-
-  pub fill-first : Filling w₀ 0
-  fill-first = record { same = rw sub-zero refl }
 
   module _ (w : List ℕ) (p : ℕ) (g : Filling w p) where
     pub fill-turn : p < n → Filling (put_chain w p (chain_of rows (span_at (slot_at slots p)))) (p + 1)

@@ -8,7 +8,7 @@ ghost use Rattle.slots.specs.Slots.{slots_from, Falling};
 ghost use Rattle.chaining.specs.Chaining.{chain_of, chains_from, Chains, near_of, settled, looked_by};
 
 use block::Block;
-use chaining::{Chain, Stand};
+use chaining::{Ask, Chain, Stand};
 use placing::Span;
 
 // The chain of a span of rows.
@@ -23,11 +23,9 @@ fn chain_rows(rows: &[Block], s: Span) -> Chain
     }
     let a = table::fetch(rows, s.lo);
     let mut chain = chaining::begin(a);
-    let mut i = s.lo;
-    while i < s.hi {
+    for i in s.lo..s.hi {
         let b = table::fetch(rows, i);
         chain = chaining::link(chain, b);
-        i += 1;
     }
     chain
 }
@@ -37,12 +35,10 @@ pub fn chain_slots(rows: &[Block], slots: &[u64], n: usize, chains: &mut [u64])
     requires { 3 * n ≤ length slots.now }
     ensures { chains.new ≡ chains_from 0 (slots_from slots.now 0 n) rows.now chains.old }
 {
-    let mut p = 0;
-    while p < n {
+    for p in 0..n {
         let s = placing::span_at(slots, p);
         let chain = chain_rows(rows, s);
         chaining::put_chain(chains, p, chain);
-        p += 1;
     }
 }
 
@@ -59,43 +55,44 @@ fn near(rows: &[Block], t: Stand, clock: u32) -> u64
     chaining::AFAR
 }
 
-// What an id waits for, in one word, if it is there: one more than the number of its holder; 0 where it is held at first or its holder is taken.
-fn settle(
-    rows: &[Block],
-    slots: &[u64],
+// What an id is looked up in: the rows, the slots, the ranges held at first, and the chain and the reach of each slot.
+#[derive(Clone, Copy)]
+struct Lookup<'a> {
+    rows: &'a [Block],
+    slots: &'a [u64],
     n: usize,
-    held: &[u64],
+    held: &'a [u64],
     ranges: usize,
-    chains: &[u64],
-    reach: &[u64],
-    there: bool,
-    client: u64,
-    clock: u32,
-) -> u64
-    requires { (3 * n ≤ length slots.now) × Falling (slots_from slots.now 0 n) × (3 * ranges ≤ length held.now)
-        × Chains (slots_from slots.now 0 n) rows.now chains.now }
+    chains: &'a [u64],
+    reach: &'a [u64],
+}
+
+// What an id waits for, in one word, if it is there: one more than the number of its holder; 0 where it is held at first or its holder is taken.
+fn settle(l: &Lookup, a: Ask) -> u64
+    requires { (3 * l.now.n ≤ length l.now.slots.now) × Falling (slots_from l.now.slots.now 0 l.now.n)
+        × (3 * l.now.ranges ≤ length l.now.held.now) × Chains (slots_from l.now.slots.now 0 l.now.n) l.now.rows.now l.now.chains.now }
     ensures { result
-        ≡ settled held.now ranges (slots_from slots.now 0 n) rows.now reach.now there client clock }
+        ≡ settled l.now.held.now l.now.ranges (slots_from l.now.slots.now 0 l.now.n) l.now.rows.now l.now.reach.now a.there a.client a.clock }
 {
-    if !there {
+    if !a.there {
         return 0;
     }
-    let t = chaining::stand_of(slots, n, chains, reach, client);
-    let how = near(rows, t, clock);
+    let t = chaining::stand_of(l.slots, l.n, l.chains, l.reach, a.client);
+    let how = near(l.rows, t, a.clock);
     if how == chaining::TAKEN {
         return 0;
     }
-    let gone = chaining::is_held(held, ranges, client, clock);
+    let gone = chaining::is_held(l.held, l.ranges, a.client, a.clock);
     if gone {
         return 0;
     }
     if how == chaining::NEXT {
         let next = chaining::next_number(t);
-        return chaining::unmet_word(slots, n, reach, client, next);
+        return chaining::unmet_word(l.slots, l.n, l.reach, a.client, next);
     }
-    let s = placing::span_of(slots, n, client);
-    let number = seeker::number(rows, s, clock);
-    chaining::unmet_word(slots, n, reach, client, number)
+    let s = placing::span_of(l.slots, l.n, a.client);
+    let number = seeker::number(l.rows, s, a.clock);
+    chaining::unmet_word(l.slots, l.n, l.reach, a.client, number)
 }
 
 // Row i by number, hanging only on what is not met. Slot `near` may be its client's.
@@ -116,45 +113,21 @@ pub fn look_row(
         ≡ looked_by held.now ranges (slots_from slots.now 0 n) rows.now reach.now i
         (get_or rows.now i no_block) }
 {
+    let l = Lookup {
+        rows,
+        slots,
+        n,
+        held,
+        ranges,
+        chains,
+        reach,
+    };
     let b = table::fetch(rows, i);
     let first = chaining::stage_of(b, 0);
-    let left = settle(
-        rows,
-        slots,
-        n,
-        held,
-        ranges,
-        chains,
-        reach,
-        first.there,
-        first.client,
-        first.clock,
-    );
+    let left = settle(&l, first);
     let second = chaining::stage_of(b, 1);
-    let right = settle(
-        rows,
-        slots,
-        n,
-        held,
-        ranges,
-        chains,
-        reach,
-        second.there,
-        second.client,
-        second.clock,
-    );
+    let right = settle(&l, second);
     let third = chaining::stage_of(b, 2);
-    let parent = settle(
-        rows,
-        slots,
-        n,
-        held,
-        ranges,
-        chains,
-        reach,
-        third.there,
-        third.client,
-        third.clock,
-    );
+    let parent = settle(&l, third);
     chaining::numbered(slots, n, near, i, b, left, right, parent)
 }

@@ -18,11 +18,7 @@ fn is_part(lanes: &[u64], i: usize, part: Part) -> bool
     ensures { result ≡ same_part (alias_at lanes.now i) part }
 {
     let base = FIRST + 3 * i;
-    let bytes = part.bytes;
-    if lanes[base] != part.place as u64 {
-        return false;
-    }
-    lanes[base + 1] == bytes.0 as u64
+    lanes[base] == part.place as u64 && lanes[base + 1] == part.bytes.0 as u64
 }
 
 // A part's alias; how many there are, if it has none.
@@ -31,12 +27,10 @@ pub fn find(lanes: &[u64], part: Part) -> usize
     ensures { result < alias_count lanes.now → alias_at lanes.now result ≡ part }
 {
     let count = lanes[COUNT] as usize;
-    let mut i = 0;
-    while i < count {
+    for i in 0..count {
         if is_part(lanes, i, part) {
             return i;
         }
-        i += 1;
     }
     count
 }

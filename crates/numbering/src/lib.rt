@@ -56,21 +56,7 @@ fn known(lanes: &[u64], i: usize) -> Part
 fn is_same(update: &[u8], p: Part, q: Part) -> bool
     ensures { result ≡ same (bytes_in update.now p) (bytes_in update.now q) }
 {
-    let first = p.place;
-    let second = q.place;
-    let n = parts::bytes_inside(update, p);
-    let m = parts::bytes_inside(update, q);
-    if n != m {
-        return false;
-    }
-    let mut i = 0;
-    while i < n {
-        if update[first + i] != update[second + i] {
-            return false;
-        }
-        i += 1;
-    }
-    true
+    parts::bytes(update, p) == parts::bytes(update, q)
 }
 
 // The number of a key: the next one, if it is not known.
@@ -79,13 +65,10 @@ fn find(update: &[u8], lanes: &[u64], part: Part) -> usize
     ensures { result ≡ number_of (bytes_in update.now part) (known_in update.now lanes.now) }
 {
     let count = lanes[COUNT] as usize;
-    let mut i = 0;
-    while i < count {
-        let key = known(lanes, i);
-        if is_same(update, part, key) {
+    for i in 0..count {
+        if is_same(update, part, known(lanes, i)) {
             return i;
         }
-        i += 1;
     }
     count
 }

@@ -1,5 +1,5 @@
 -- The laws of texts written in one pass: a text's bytes behind its length, texts taken one after the other, and the writer's refusals in their order.
-use Prim.Native.Nat.{ℕ, suc, ◌+◌, ◌≤◌, ◌<◌}
+use Prim.Native.Nat.{ℕ, suc, ◌+◌, ◌-◌, ◌≤◌, ◌<◌}
 use mathlib.Core.Path.{◌≡◌, refl, sym, ap, ◌∙◌}
 use mathlib.Core.List.{List, [], ◌++◌}
 use mathlib.Core.Bool.{Bool, true, false}
@@ -8,9 +8,12 @@ use native.Mathlib.Nat.{zero-add}
 use native.Mathlib.Numerals.{add-one}
 use native.Mathlib.Omega.{arith}
 use lib.Dec.{eqb}
-use lib.ListN.{length, take, drop, get_or, set, length-append, length-drop, drop_of_length-le}
-use lib.Seq.{sets, length-sets, take-suc, drop-cons, drop-drop, length-take-le}
+use lib.ListN.{length, take, drop, get_or, length-append, length-drop, drop_of_length-le}
+use lib.Seq.{sets, length-sets, drop-cons, drop-drop}
 use borrow.Author.Tests.{eqb-true}
+use borrow.Rule.Slice.PartMut.{put_mid, Post-is}
+use Rattle.std.proofs.Common.{append_assoc}
+use Rattle.std.proofs.lemmas.List.Edits.{sets-eq}
 use Rattle.numbers.specs.Number.{pick, unsigned}
 use Rattle.numbers.specs.Output.{padded, written, put}
 use Rattle.numbers.specs.OutputInner.{refusal}
@@ -73,9 +76,10 @@ module _ (s us : List ℕ) (i : ℕ) (t : Taking) (h : TakenTo s us i t) where
 
 -- ---- the text's bytes behind its length
 
--- one more
-pub bytes_on : (e t : List ℕ) (at i : ℕ) → i < length t → set (sets e at (take i t)) (at + i) (get_or t i 0) ≡ sets e at (take (i + 1) t)
-bytes_on e t at i l = rw (add-one, take-suc t i 0 l, sets-append, length-take-le i t (omega arith))
+-- a part that was written, as stores
+pub put-sets : (out : List ℕ) (at end : ℕ) (b p : List ℕ) → p ≡ b → end ≡ at + length b → end ≤ length out → put_mid at (end - at) out p ≡ sets out at b
+put-sets out at end b p e m l =
+    rw (Post-is at end out (omega arith), e, m) (sym (append_assoc (take at out) b (drop (at + length b) out)) ∙ sym (sets-eq b out at (omega arith)))
 
 pub head-length : (t : List ℕ) → length (text_head t) ≡ length (unsigned (length t)) + length t
 unfolding text_head

@@ -19,16 +19,11 @@ use runs::writer::Writer;
 use text::{Taken, Units};
 
 // Whether the key k ends a run of a key that stood so often.
+#[tactic(auto, unfolding(crate::specs::Once::ends_run))]
 fn is_ended(key: u64, count: u64, k: u64) -> bool
     ensures { result ≡ ends_run key count k }
 {
-    if count == 0 {
-        return false;
-    }
-    if k == key {
-        return false;
-    }
-    true
+    count != 0 && k != key
 }
 
 // Whether the run that k ends, if it ends one, can be stored.
@@ -118,10 +113,7 @@ pub fn write_differences(out: &mut [u8], values: &[u64]) -> Written
     let mut key: u64 = 0;
     let mut count: u64 = 0;
     let mut far = false;
-    let mut i = 0;
-    while i < values.len() {
-        let v = values[i];
-        i += 1;
+    for &v in values {
         if numbers::MAX_CLOCK < v {
             return numbers::refuse(out, 3);
         }
@@ -159,10 +151,7 @@ pub fn write_numbers(out: &mut [u8], values: &[u64]) -> Written
     let mut at: usize = 0;
     let mut key: u64 = 0;
     let mut count: u64 = 0;
-    let mut i = 0;
-    while i < values.len() {
-        let v = values[i];
-        i += 1;
+    for &v in values {
         if numbers::MAX_VALUE < v {
             return numbers::refuse(out, 3);
         }
@@ -186,12 +175,6 @@ pub fn write_numbers(out: &mut [u8], values: &[u64]) -> Written
     )
 }
 
-fn wide(b: u8) -> u64
-    ensures { result ≡ b }
-{
-    b as u64
-}
-
 // Bytes: each is its own key, and none is over the limit.
 pub fn write_bytes(out: &mut [u8], values: &[u8]) -> Written
     ensures { Writes ColumnKind.Byte values.now out.old result out.new }
@@ -199,10 +182,8 @@ pub fn write_bytes(out: &mut [u8], values: &[u8]) -> Written
     let mut at: usize = 0;
     let mut key: u64 = 0;
     let mut count: u64 = 0;
-    let mut i = 0;
-    while i < values.len() {
-        let v = wide(values[i]);
-        i += 1;
+    for &b in values {
+        let v = b as u64;
         if !is_storable(ColumnKind::Byte, key, count, v) {
             return numbers::refuse(out, 3);
         }
@@ -277,15 +258,10 @@ fn put_text(out: &mut [u8], text: &[u8]) -> usize
     requires { length (text_head text.now) ≤ length out.old }
     ensures { (result ≡ length (text_head text.now)) × (out.new ≡ sets out.old 0 (text_head text.now)) }
 {
-    let n = text.len() as u64;
-    let mut at = numbers::write_unsigned(out, 0, n);
-    let mut i = 0;
-    while i < text.len() {
-        out[at] = text[i];
-        at += 1;
-        i += 1;
-    }
-    at
+    let at = numbers::write_unsigned(out, 0, text.len() as u64);
+    let end = at + text.len();
+    out[at..end].copy_from_slice(text);
+    end
 }
 
 // The same, if there is room: the place after them, or the one past the end.
@@ -335,10 +311,7 @@ pub fn write_texts(out: &mut [u8], text: &[u8], units: &[u64]) -> Written
     let mut t = Taking { at: 0, found: true };
     let mut key: u64 = 0;
     let mut count: u64 = 0;
-    let mut i = 0;
-    while i < units.len() {
-        let u = units[i];
-        i += 1;
+    for &u in units {
         if numbers::MAX_VALUE < u {
             let number = six_or(text, t.at, 3);
             return numbers::refuse(out, number);

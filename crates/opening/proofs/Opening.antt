@@ -1,4 +1,5 @@
 -- Form 2 opened: what is cut so far is in the words, what is still to come is the rest of the grammar; then the text is opened.
+use Rattle.std.specs.Prelude.{Option, Some, None}
 use Prim.Native.Nat.{ℕ, suc, ◌+◌, ◌*◌, ◌-◌, ◌≤◌, ◌<◌}
 use mathlib.Core.Path.{◌≡◌, refl, sym, ap, subst, ◌∙◌}
 use mathlib.Core.Logic.{◌≢◌}
@@ -24,8 +25,6 @@ use Rattle.grammar.specs.Course as course
 use Rattle.decoder.specs.Line.{line, number_by, byte_at, so_many, bytes_at}
 use Rattle.decoder.specs.States.{State, Texts, text_moved, with_keys, moved_to}
 use Rattle.decoder.specs.Opening.{cut, heads, end_of, numbers_from, differences_from, bytes_from, standing, with_opened, text_opened, on_heads, opened_of}
-use Rattle.cells.specs.declared.Drawn.{Drawn}
-use Rattle.cells.specs.declared.Drawn.TheVariants.{Number, Refused}
 use Rattle.cells.specs.Cells.{cell, numbers_in, differences_in, bytes_in, texts_in, state_in, why_in, Idle, Small, Elsewhere}
 use Rattle.opening.specs.Opening.{Cut, opened_in, Opened}
 use Rattle.cells.proofs.Words.{Held, put-at, run, put-run, texts-held, held-wide, held-short}
@@ -53,7 +52,7 @@ module _ (u w : List ℕ) (s : Small w) where
     unfolding text_opened state_in texts_in numbers_in
     text-opened = rw (ex, et, ea) refl
 
-    pub text-open : (p : string-place.Place) → x ≡ opened.At p → Small (text_put p) × (opened_in (text_put p) (Number 0) ≡ text_opened u (state_in w))
+    pub text-open : (p : string-place.Place) → x ≡ opened.At p → Small (text_put p) × (opened_in (text_put p) (Some 0) ≡ text_opened u (state_in w))
     unfolding opened_in with_opened
     text-open p told =
         let h = text-held p in
@@ -62,7 +61,7 @@ module _ (u w : List ℕ) (s : Small w) where
           rw (text-opened, told) (ap (course.got tt) (state-text w v h.elsewhere ∙ ap (λ (c : Texts). text_moved c (state_in w)) (texts-held 5 w _ v h ∙ rw text-to refl))),
         )
 
-    pub text-not : (v : List ℕ) (r : Drawn) (why : Refusal) → x ≡ opened.Not why → (r ≡ Refused) × Small v × Elsewhere 9 w v × (why_in v ≡ why)
+    pub text-not : (v : List ℕ) (r : Option ℕ) (why : Refusal) → x ≡ opened.Not why → (r ≡ None) × Small v × Elsewhere 9 w v × (why_in v ≡ why)
         → Small v × (opened_in v r ≡ text_opened u (state_in w))
     unfolding opened_in with_opened
     text-not v r why told p = (p.1, rw (p.0, text-opened, told) (ap course.not p.3))
@@ -233,7 +232,7 @@ module _ (u : List ℕ) where
 
 -- ---- the words that say so
 
-pub open-refused : (u w v : List ℕ) (r : Drawn) (why : Refusal) → opened_of u ≡ course.not why → (r ≡ Refused) × Small v × Elsewhere 9 w v × (why_in v ≡ why) → Opened u v r
+pub open-refused : (u w v : List ℕ) (r : Option ℕ) (why : Refusal) → opened_of u ≡ course.not why → (r ≡ None) × Small v × Elsewhere 9 w v × (why_in v ≡ why) → Opened u v r
 unfolding opened_in
 open-refused u w v r why e p = (p.1, rw (p.0, e) (ap course.not p.3))
 

@@ -1,10 +1,9 @@
 -- What opening form 2 leaves in the words.
+use Rattle.std.specs.Prelude.{Option, Some, None}
 use Rattle.std.specs.Prelude.{ℕ, ◌≡◌, List}
 use Rattle.grammar.specs.Course as course
 use Rattle.decoder.specs.States.{State}
 use Rattle.decoder.specs.Opening.{opened_of}
-use Rattle.cells.specs.declared.Drawn.{Drawn}
-use Rattle.cells.specs.declared.Drawn.TheVariants.{Number, Refused}
 use Rattle.cells.specs.Cells.{cell, state_in, why_in, Small, Elsewhere}
 
 -- column k is cut: it stands from a place to its end
@@ -16,9 +15,9 @@ pub record Cut (k from to : ℕ) (w v : List ℕ) : Type 0 where
   pub rest : (cell v k 2 ≡ 0) × (cell v k 3 ≡ 0) × (cell v k 5 ≡ 2147483648) × (cell v k 6 ≡ 0)
 
 -- form 2 opened
-unfoldable pub opened_in : List ℕ → Drawn → course.Drawn State (Unit {0})
-opened_in v (Number n) = course.got tt (state_in v)
-opened_in v Refused = course.not (why_in v)
+unfoldable pub opened_in : List ℕ → Option ℕ → course.Drawn State (Unit {0})
+opened_in v (Some n) = course.got tt (state_in v)
+opened_in v None = course.not (why_in v)
 
-abbrev pub Opened : List ℕ → List ℕ → Drawn → Type 0
+abbrev pub Opened : List ℕ → List ℕ → Option ℕ → Type 0
 Opened u v r = Small v × (opened_in v r ≡ opened_of u)

@@ -6,10 +6,10 @@ ghost use Rattle.decoder.specs.Opening.{text_opened};
 ghost use Rattle.cells.specs.Cells.{state_in, Small, Enough};
 ghost use Rattle.opening.specs.Opening.{Cut, opened_in, Opened};
 
-use cells::{AT, Drawn, KEY_COUNT};
+use cells::{AT, KEY_COUNT};
 use numbers::Read;
 
-fn open_text(update: &[u8], w: &mut [u64]) -> Drawn
+fn open_text(update: &[u8], w: &mut [u64]) -> Option<u64>
     requires { Small w.old }
     ensures { Small w.new × (opened_in w.new result ≡ text_opened update.now (state_in w.old)) }
 {
@@ -25,7 +25,7 @@ fn open_text(update: &[u8], w: &mut [u64]) -> Drawn
             w[38] = units.count as u64;
             w[40] = place.at as u64;
             w[41] = place.end as u64;
-            Drawn::Number(0)
+            Some(0)
         }
     }
 }
@@ -46,7 +46,7 @@ fn put_column(w: &mut [u64], k: usize, from: usize, to: usize)
 }
 
 // The state before form 2's first number: a flag byte of any value, nine columns, and the text among them opened. No key was read yet.
-pub fn open(update: &[u8], w: &mut [u64]) -> Drawn
+pub fn open(update: &[u8], w: &mut [u64]) -> Option<u64>
     requires { Small w.old × Enough update.now w.old }
     ensures { Opened update.now w.new result }
 {
@@ -54,8 +54,7 @@ pub fn open(update: &[u8], w: &mut [u64]) -> Drawn
         return cells::refuse(w, 1, 0);
     }
     let mut at: usize = 1;
-    let mut k: usize = 0;
-    while k < 9 {
+    for k in 0..9 {
         let n = numbers::read_unsigned(update, at);
         let Read::Number(size, from) = n else {
             let why = numbers::why_read(n);
@@ -68,7 +67,6 @@ pub fn open(update: &[u8], w: &mut [u64]) -> Drawn
         let to = from + size as usize;
         put_column(w, k, from, to);
         at = to;
-        k += 1;
     }
     w[AT] = at as u64;
     w[KEY_COUNT] = 0;

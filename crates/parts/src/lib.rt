@@ -13,13 +13,13 @@ pub const BRIM: usize = 4611686018427387904;
 pub fn bytes_inside(update: &[u8], part: Part) -> usize
     ensures { (result ≡ length (bytes_in update.now part)) × (result ≤ length update.now - part.place) }
 {
-    let n = part.bytes.0;
-    if update.len() <= part.place {
-        return 0;
-    }
-    let left = update.len() - part.place;
-    if left < n {
-        return left;
-    }
-    n
+    update.len().saturating_sub(part.place).min(part.bytes.0)
+}
+
+// Those bytes.
+pub fn bytes(update: &[u8], part: Part) -> &[u8]
+    ensures { result.now ≡ bytes_in update.now part }
+{
+    let from = part.place.min(update.len());
+    &update[from..from + bytes_inside(update, part)]
 }

@@ -8,8 +8,9 @@ use native.Mathlib.Omega.{arith}
 use native.Mathlib.Numerals.{add-one}
 use borrow.Author.Tests.{eq-eqb, ne_eqb, lt-ltb, eqb-true, eqb-false}
 use lib.Dec.{ltb, leb, eqb}
-use lib.ListN.{length, get_or, set, take, length-set, get_or-eq_default}
-use lib.Seq.{get_or-set_same, get_or-set_other, take-suc-set, take_all}
+use lib.ListN.{length, get_or, set, take, drop, replicate, length-append, length-set, get_or-append, get_or-eq_default}
+use Rattle.std.proofs.lemmas.List.{length-replicate, get_or-replicate}
+use lib.Seq.{get_or-set_same, get_or-set_other, take-suc-set, take_all, length-take-le}
 use Rattle.numbers.specs.Number.{pick}
 use Rattle.runs.specs.Writer.{Sound}
 use Rattle.parts.specs.Brim.{brim}
@@ -233,36 +234,30 @@ module _ (out₀ z : List ℕ) where
       let n = lead_is z whole {out = out₀} {at = 0} (whole-tokens z whole refl) line-none in
       rw (eq-eqb form 1 f) (ap (λ (a : ℕ). fresh_lane whole a ∷ []) n.0, n.1, blank-tidy w h, h.keys, h.aliases)
 
--- ---- words cleared, the first i of them
+-- ---- words cleared, the first 52 of them
 
-pub record Clearing (w : List ℕ) (i : ℕ) : Type 0 where
-  pub below : i ≤ 52
+pub record Cleared (w : List ℕ) : Type 0 where
   pub size : 52 ≤ length w
-  pub zeros : (j : ℕ) → j < i → get_or w j 0 ≡ 0
+  pub zeros : (j : ℕ) → j < 52 → get_or w j 0 ≡ 0
 
-pub clears : (w : List ℕ) → 52 ≤ length w → Clearing w 0
-clears w h = record { below = omega arith; size = h; zeros = λ j l. absurd (omega (arith, l)) }
+pub clears : (w : List ℕ) {front : List ℕ} → 52 ≤ length w → front ≡ replicate (length (take 52 w)) 0 → Cleared (front ++ drop 52 w)
+clears w {front} h e =
+    let t : length (take 52 w) ≡ 52 = length-take-le 52 w h in
+    let f : length front ≡ 52 = ap length e ∙ length-replicate (length (take 52 w)) 0 ∙ t in
+    record {
+      size = simp length-append (omega arith);
+      zeros = λ j l. get_or-append front (drop 52 w) 0 j (omega arith) ∙ ap (λ (x : List ℕ). get_or x j 0) e ∙ get_or-replicate (length (take 52 w)) j 0 0 (omega arith);
+    }
 
-pub clears-on : {w : List ℕ} {i : ℕ} → Clearing w i → i < 52 → Clearing (set w i 0) (i + 1)
-clears-on {w} {i} g l = record {
-  below = omega (arith, l);
-  size = rw (length-set w i 0) g.size;
-  zeros = λ j m. go j m (eqb j i) refl;
-}
-  where
-    go : (j : ℕ) → j < i + 1 → (b : Bool) → eqb j i ≡ b → get_or (set w i 0) j 0 ≡ 0
-    go j m true e = let q = eqb-true j i e in rw q (get_or-set_same w i 0 0 (omega (arith, l, g.size)))
-    go j m false e = let d = eqb-false j i e in get_or-set_other w i j 0 0 d ∙ g.zeros j (omega (arith, m, d))
-
-module _ {w : List ℕ} {i : ℕ} (g : Clearing w i) (l : 52 ≤ i) where
+module _ {w : List ℕ} (g : Cleared w) where
   -- there are no words for aliases
   pub cleared-short : length w ≤ 564 → Blank w
   unfolding key_count alias_count
   cleared-short s = record {
     size = g.size;
-    lanes = λ j m. g.zeros j (omega (arith, m, l));
-    keys = g.zeros 50 (omega (arith, l));
-    crowd = g.zeros 51 (omega (arith, l));
+    lanes = λ j m. g.zeros j (omega (arith, m));
+    keys = g.zeros 50 (omega arith);
+    crowd = g.zeros 51 (omega arith);
     aliases = get_or-eq_default w 0 {n = 564} s;
   }
 
@@ -277,7 +272,7 @@ module _ {w : List ℕ} {i : ℕ} (g : Clearing w i) (l : 52 ≤ i) where
   }
     where
       other : (j : ℕ) → j < 52 → get_or (set w 564 0) j 0 ≡ 0
-      other j m = get_or-set_other w 564 j 0 0 (λ q. absurd (omega (arith, m, q))) ∙ g.zeros j (omega (arith, m, l))
+      other j m = get_or-set_other w 564 j 0 0 (λ q. absurd (omega (arith, m, q))) ∙ g.zeros j m
 
 -- ---- ends: a lane in line has none
 

@@ -62,11 +62,7 @@ pub fn clear(lanes: &mut [u64])
     requires { 52 ≤ length lanes.old }
     ensures { Blank lanes.new }
 {
-    let mut i = 0;
-    while i < LANES {
-        lanes[i] = 0;
-        i += 1;
-    }
+    lanes[..LANES].fill(0);
     if lanes.len() <= numbering::aliases::COUNT {
         return;
     }
@@ -84,12 +80,10 @@ pub fn open(out: &mut [u8], lanes: &mut [u64], sizes: &[u64], form: u8) -> usize
         return 0;
     }
     let mut at = 0;
-    let mut k = 0;
-    while k < 10 {
+    for k in 0..10 {
         let lead = put_lead(out, at, sizes, k);
         lanes[5 * k] = lead as u64;
         at = on_to(lead, sizes[k]);
-        k += 1;
     }
     at
 }
@@ -119,13 +113,11 @@ pub fn note(sizes: &mut [u64], lanes: &[u64]) -> bool
     ensures { (result ≡ any_far (lanes_in lanes.now)) × (sizes.new ≡ places_of (lanes_in lanes.now)) }
 {
     let mut far = false;
-    let mut k = 0;
-    while k < 10 {
+    for k in 0..10 {
         sizes[k] = lanes[5 * k];
         if lanes[5 * k + 4] != 0 {
             far = true;
         }
-        k += 1;
     }
     far
 }

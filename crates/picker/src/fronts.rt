@@ -92,12 +92,9 @@ pub fn open(slots: &[u64], n: usize, fronts: &mut [u64])
     requires { 3 * n ≤ length slots.now }
     ensures { fronts.new ≡ opened_from 0 (slots_from slots.now 0 n) fronts.old }
 {
-    let mut i = 0;
-    while i < n {
-        let at = 3 * i;
-        let f = begin(slots[at + 1] as usize, slots[at + 2] as usize);
+    for i in 0..n {
+        let f = begin(slots[3 * i + 1] as usize, slots[3 * i + 2] as usize);
         put_front(fronts, i, f);
-        i += 1;
     }
 }
 
@@ -114,11 +111,9 @@ pub fn fill_reaches(
     ensures { reach.new
         ≡ filled_from 0 (slots_from slots.now 0 n) (entries_of m clients.now clocks.now) reach.old }
 {
-    let mut i = 0;
-    while i < n {
+    for i in 0..n {
         let clock = kept::plan::remote_clock(clients, clocks, m, slots[3 * i]);
         numbers::words::put_word(reach, i, clock);
-        i += 1;
     }
 }
 
@@ -142,12 +137,10 @@ fn is_due(fronts: &[u64], reach: &[u64], i: usize) -> bool
 pub fn first_due(fronts: &[u64], reach: &[u64], n: usize) -> usize
     ensures { (result ≡ due_from fronts.now reach.now 0 n) × (result ≤ n) }
 {
-    let mut i = 0;
-    while i < n {
+    for i in 0..n {
         if is_due(fronts, reach, i) {
             return i;
         }
-        i += 1;
     }
     n
 }

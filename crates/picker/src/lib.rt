@@ -33,39 +33,32 @@ pub const NOWHERE: usize = 18446744073709551615;
 fn wait_for(f: Front, stage: usize, p: usize, named: bool, id: Id) -> Front
     ensures { result ≡ awaiting_at f stage p named id }
 {
-    let mut next = f;
-    next.stage = stage;
-    next.missing = id.client;
-    next.slot = 0;
-    next.need = fronts::NEVER;
-    if named {
-        next.slot = p;
-        next.need = id.clock as u64 + 1;
-        return next;
+    let (slot, need) = if named {
+        (p, u64::from(id.clock) + 1)
+    } else {
+        (0, fronts::NEVER)
+    };
+    Front {
+        slot,
+        need,
+        stage,
+        missing: id.client,
+        ..f
     }
-    next
 }
 
 // Whether an id is met where its client has slot p, if it is named.
 pub fn is_met(reach: &[u64], p: usize, named: bool, id: Id) -> bool
     ensures { result ≡ met_at reach.now p named id }
 {
-    if !named {
-        return false;
-    }
-    if reach.len() <= p {
-        return false;
-    }
-    (id.clock as u64) < reach[p]
+    named && p < reach.len() && u64::from(id.clock) < reach[p]
 }
 
 // The front of a block that nothing holds.
 fn set_ready(f: Front) -> Front
     ensures { result ≡ ready f }
 {
-    let mut next = f;
-    next.need = 0;
-    next
+    Front { need: 0, ..f }
 }
 
 // A front, so many stages having been looked at, this one last, unless they were before: it is ready, or it waits. Slot `near` may be the id's client's.
@@ -147,9 +140,10 @@ fn move_on(f: Front, i: usize) -> Front
 {
     let next = one_more(i);
     if f.left <= 1 {
-        let mut last = fronts::none();
-        last.next = next;
-        return last;
+        return Front {
+            next,
+            ..fronts::none()
+        };
     }
     fronts::begin(next, f.left - 1)
 }
@@ -169,10 +163,8 @@ pub fn raise(reach: &mut [u64], p: usize, b: Block)
     if reach.len() <= p {
         return;
     }
-    let end = b.clock as u64 + length.0;
-    if reach[p] < end {
-        reach[p] = end;
-    }
+    let end = u64::from(b.clock) + length.0;
+    reach[p] = reach[p].max(end);
 }
 
 // ---- one look after another
@@ -236,7 +228,7 @@ pub fn offer(
         (desk p reach.old fronts.old order.old) b).order) }
 {
     let f = fronts::front_at(fronts, p.slot);
-    let left = numbers::words::less(p.left as u64, 1) as usize;
+    let left = p.left.saturating_sub(1);
     let g = examine(rule, slots, n, reach, f, p.slot, b);
     if g.need != 0 {
         fronts::put_front(fronts, p.slot, g);

@@ -11,15 +11,12 @@ pub const STAGES: usize = 4;
 pub fn own(b: Block) -> Dependency
     ensures { result ≡ own b }
 {
-    let client = b.client;
-    let clock = b.clock;
-    if clock == 0 {
-        let id = Id { client, clock };
-        return Dependency { there: false, id };
-    }
     let id = Id {
-        client,
-        clock: clock - 1,
+        client: b.client,
+        clock: b.clock.saturating_sub(1),
     };
-    Dependency { there: true, id }
+    Dependency {
+        there: 0 < b.clock,
+        id,
+    }
 }

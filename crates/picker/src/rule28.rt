@@ -13,10 +13,10 @@ pub const STAGES: usize = 3;
 fn other(client: u64, there: bool, id: Id) -> Dependency
     ensures { result ≡ other client there id }
 {
-    if id.client == client {
-        return Dependency { there: false, id };
+    Dependency {
+        there: there && id.client != client,
+        id,
     }
-    Dependency { there, id }
 }
 
 // Stage k.

@@ -7,14 +7,8 @@ use native.Mathlib.Omega.{arith}
 use lib.Dec.{ltb}
 use borrow.Author.Tests.{ltb-true, ltb-false}
 use Rattle.numbers.specs.Number.{pick}
+use Rattle.numbers.proofs.Laws.{below_or}
 use Rattle.placing.specs.Halving.{middle, halved, found}
-
-pub below_or : (a b : ℕ) → (a < b) ⊎ (b ≤ a)
-below_or a b = go (ltb a b) refl
-  where
-    go : (x : Bool) → ltb a b ≡ x → (a < b) ⊎ (b ≤ a)
-    go true e = inl (ltb-true a b e)
-    go false e = inr (ltb-false a b e)
 
 pub record Border (past : ℕ → Bool) (lo hi r : ℕ) : Type 0 where
   pub from : lo ≤ r

@@ -35,22 +35,20 @@ fn narrow(s: Span, mid: usize, past: bool) -> Span
     ensures { result ≡ narrowed s mid past }
 {
     if past {
-        return Span {
-            lo: mid + 1,
-            hi: s.hi,
-        };
+        Span { lo: mid + 1, ..s }
+    } else {
+        Span { hi: mid, ..s }
     }
-    Span { lo: s.lo, hi: mid }
 }
 
 // No more rows than there are.
 pub fn clip(s: Span, rows: usize) -> Span
     ensures { result ≡ clipped s rows }
 {
-    if rows < s.hi {
-        return Span { lo: s.lo, hi: rows };
+    Span {
+        hi: s.hi.min(rows),
+        ..s
     }
-    s
 }
 
 // ---- ranges in normal form, three words each
@@ -64,17 +62,11 @@ fn is_before(words: &[u64], i: usize, id: Id) -> bool
     let client = words[at];
     let clock = words[at + 1];
     let len = words[at + 2];
-    let k = id.clock as u64;
-    if id.client < client {
-        return true;
+    let k = u64::from(id.clock);
+    if id.client != client {
+        return id.client < client;
     }
-    if client < id.client {
-        return false;
-    }
-    if k < clock {
-        return false;
-    }
-    len <= k - clock
+    clock <= k && len <= k - clock
 }
 
 // The first of n ranges that does not lie before an id.
@@ -83,6 +75,7 @@ fn seek_range(words: &[u64], n: usize, id: Id) -> usize
     ensures { result ≡ found (λ i. is_before (row words.now i) id) 0 n }
 {
     let mut s = Span { lo: 0, hi: n };
+    // Kept, point 3 (needed): it halves, and the contract says what that finds in ranges of any order, of which partition_point says nothing.
     while s.lo < s.hi {
         let mid = middle(s);
         let past = is_before(words, mid, id);
@@ -99,10 +92,7 @@ fn is_begun(words: &[u64], n: usize, i: usize, id: Id) -> bool
     if n <= i {
         return false;
     }
-    if words[3 * i] != id.client {
-        return false;
-    }
-    words[3 * i + 1] <= id.clock as u64
+    words[3 * i] == id.client && words[3 * i + 1] <= u64::from(id.clock)
 }
 
 // Whether n ranges hold an id.
@@ -154,10 +144,7 @@ fn is_past(b: Block, clock: u32) -> bool
 {
     let from = b.clock;
     let length = b.length;
-    if clock < from {
-        return false;
-    }
-    length.0 <= (clock - from) as u64
+    from <= clock && length.0 <= u64::from(clock - from)
 }
 
 // What is left of a client's rows where the middle one has this block.
@@ -173,10 +160,7 @@ pub fn narrow_rows(s: Span, mid: usize, b: Block, clock: u32) -> Span
 pub fn cap(n: usize) -> u32
     ensures { result ≡ capped n }
 {
-    if numbers::MAX_CLOCK < n as u64 {
-        return 2147483647;
-    }
-    n as u32
+    (n as u64).min(numbers::MAX_CLOCK) as u32
 }
 
 // The number of the block in row i among those of its client, if it holds the clock, above which it ends.
@@ -194,8 +178,7 @@ pub fn number_of(s: Span, i: usize, b: Block, clock: u32) -> u32
     if clock < from {
         return 2147483647;
     }
-    let k = numbers::words::less(i as u64, s.lo as u64);
-    cap(k as usize)
+    cap(i.saturating_sub(s.lo))
 }
 
 // ---- a dependency on the number of its holder
@@ -212,12 +195,7 @@ pub fn is_asked(words: &[u64], n: usize, a: Dependency) -> bool
     requires { 3 * n ≤ length words.now }
     ensures { result ≡ is_asked words.now n a }
 {
-    let id = a.id;
-    if !a.there {
-        return false;
-    }
-    let held = is_held(words, n, id);
-    !held
+    a.there && !is_held(words, n, a.id)
 }
 
 // The rows of its client.
@@ -225,24 +203,21 @@ pub fn span_for(slots: &[u64], n: usize, a: Dependency) -> Span
     requires { (3 * n ≤ length slots.now) × Falling (slots_from slots.now 0 n) }
     ensures { result ≡ span_of (slots_from slots.now 0 n) a.id.client }
 {
-    let id = a.id;
-    span_of(slots, n, id.client)
+    span_of(slots, n, a.id.client)
 }
 
 pub fn clock_of(a: Dependency) -> u32
     ensures { result ≡ a.id.clock }
 {
-    let id = a.id;
-    id.clock
+    a.id.clock
 }
 
 // The same client's block of this number.
 pub fn on_number(a: Dependency, number: u32) -> Dependency
     ensures { result ≡ on_number a.id.client number }
 {
-    let old = a.id;
     let id = Id {
-        client: old.client,
+        client: a.id.client,
         clock: number,
     };
     Dependency { there: true, id }
@@ -276,31 +251,26 @@ pub fn numbered(
     requires { (3 * n ≤ length slots.now) × Falling (slots_from slots.now 0 n) }
     ensures { result ≡ numbered_block (slots_from slots.now 0 n) i b left right parent }
 {
-    let client = b.client;
-    let left_id = left.id;
-    let right_id = right.id;
-    let parent_id = parent.id;
-    let first = first_of(slots, n, near, client);
-    let k = numbers::words::less(i as u64, first as u64);
-    let clock = cap(k as usize);
+    let first = first_of(slots, n, near, b.client);
+    let clock = cap(i.saturating_sub(first));
     let part = Part {
         place: 0,
         bytes: Bytes(0),
     };
     Block {
-        client,
-        left_client: left_id.client,
-        right_client: right_id.client,
-        parent_client: parent_id.client,
+        client: b.client,
+        left_client: left.id.client,
+        right_client: right.id.client,
+        parent_client: parent.id.client,
         length: Units(1),
         name: part,
         key: part,
         part,
         mark: part,
         clock,
-        left_clock: left_id.clock,
-        right_clock: right_id.clock,
-        parent_clock: parent_id.clock,
+        left_clock: left.id.clock,
+        right_clock: right.id.clock,
+        parent_clock: parent.id.clock,
         kind: block::GC,
         has_left: left.there,
         has_right: right.there,

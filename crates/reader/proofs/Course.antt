@@ -1,4 +1,5 @@
 -- The reader's laws, with no machine: what a step makes of what is known of the rows, and what the rows are at each way out. Assumes nothing.
+use Rattle.std.specs.Prelude.{Result, Ok, Err}
 use mathlib.Core.Path.{◌≡◌, refl, sym, subst, ◌∙◌, ap}
 use Prim.Native.Nat.{ℕ, zero, suc, ◌+◌, ◌-◌, ◌<◌, ◌≤◌}
 use native.Mathlib.Omega.{arith}
@@ -13,8 +14,6 @@ use Rattle.table.specs.Rows.{cleared_from, filled_from}
 use Rattle.grammar.specs.Course.{CourseTo, Course, thing, over, stopped, fit, things, ending}
 use Rattle.decoder.specs.States.{State, moved_to}
 use Rattle.cells.specs.Cells.{state_in}
-use Rattle.reader.specs.declared.Filled.{Filled}
-use Rattle.reader.specs.declared.Filled.TheVariants.{Rows, Refused}
 use Rattle.reader.specs.Reader.{filled_of, rows_of, Stands}
 
 -- ---- how a course ends, as a value
@@ -37,9 +36,9 @@ ending-last (stopped why) d r = refl
 
 -- ---- so many rows: the blocks and the end, each known apart
 module _ (N : ℕ) (c : Course Block) where
-  filled-by : (bs : List Block) (l : Last) → things (fit N c) ≡ bs → last (fit N c) ≡ l → filled_of N c ≡ on_last l (λ s. Rows (length bs) s) (λ why. Refused why)
+  filled-by : (bs : List Block) (l : Last) → things (fit N c) ≡ bs → last (fit N c) ≡ l → filled_of N c ≡ on_last l (λ s. Ok (length bs, s)) (λ why. Err why)
   unfolding filled_of
-  filled-by bs l e h = ending-last (fit N c) (λ s. Rows (length (things (fit N c))) s) (λ why. Refused why) ∙ ap (λ (k : Last). on_last k (λ s. Rows (length (things (fit N c))) s) (λ why. Refused why)) h ∙ ap (λ (ws : List Block). on_last l (λ s. Rows (length ws) s) (λ why. Refused why)) e
+  filled-by bs l e h = ending-last (fit N c) (λ s. Ok (length (things (fit N c)), s)) (λ why. Err why) ∙ ap (λ (k : Last). on_last k (λ s. Ok (length (things (fit N c)), s)) (λ why. Err why)) h ∙ ap (λ (ws : List Block). on_last l (λ s. Ok (length ws, s)) (λ why. Err why)) e
 
   rows-by : (bs : List Block) (l : Last) → things (fit N c) ≡ bs → last (fit N c) ≡ l → rows_of N c ≡ on_last l (λ s. bs ++ replicate (N - length bs) no_block) (λ why. replicate N no_block)
   unfolding rows_of
@@ -81,7 +80,7 @@ abbrev pub Known : ℕ → Course Block → ℕ → List Block → Course Block 
 Known N c₀ n rows c = (n ≤ N) × (things (fit N c₀) ≡ take n rows ++ things (fit (N - n) c)) × (last (fit N c₀) ≡ last (fit (N - n) c))
 
 -- the contract at a way out
-abbrev Ends : ℕ → Course Block → Filled → List Block → Type 0
+abbrev Ends : ℕ → Course Block → Result (ℕ × ℕ) Refusal → List Block → Type 0
 Ends N c₀ r rows = (r ≡ filled_of N c₀) × (rows ≡ rows_of N c₀)
 
 module _ (N : ℕ) (c₀ : Course Block) where
@@ -91,14 +90,14 @@ module _ (N : ℕ) (c₀ : Course Block) where
       all : N ≡ N - 0
       all = omega (arith)
 
-  refuses : (rows : List Block) (why : Refusal) → length rows ≡ N → last (fit N c₀) ≡ refused why → Ends N c₀ (Refused why) (cleared_from 0 rows)
+  refuses : (rows : List Block) (why : Refusal) → length rows ≡ N → last (fit N c₀) ≡ refused why → Ends N c₀ (Err why) (cleared_from 0 rows)
   unfolding cleared_from filled_from
   refuses rows why size h = (sym (filled-by N c₀ (things (fit N c₀)) (refused why) refl h), ap (λ (k : ℕ). replicate k no_block) all ∙ sym (rows-by N c₀ (things (fit N c₀)) (refused why) refl h))
     where
       all : length rows - 0 ≡ N
       all = omega (arith, size)
 
-  pub on_none : (rows : List Block) (why : Refusal) → length rows ≡ N → c₀ ≡ stopped why → Ends N c₀ (Refused why) (cleared_from 0 rows)
+  pub on_none : (rows : List Block) (why : Refusal) → length rows ≡ N → c₀ ≡ stopped why → Ends N c₀ (Err why) (cleared_from 0 rows)
   on_none rows why size e = refuses rows why size (ap (λ (x : Course Block). last (fit N x)) e ∙ last-stopped N why)
 
   module _ (n : ℕ) (rows : List Block) (c : Course Block) (known : Known N c₀ n rows c) where
@@ -120,19 +119,19 @@ module _ (N : ℕ) (c₀ : Course Block) where
           one_more : take (n + 1) (set rows n b) ≡ take n rows ++ (b ∷ [])
           one_more = ap (λ (k : ℕ). take k (set rows n b)) (add-one n) ∙ take-suc-set rows n b (omega (arith, l, size))
 
-      pub on-full : (b : Block) (p : ℕ) (rest : Course Block) → c ≡ thing b p rest → N ≤ n → Ends N c₀ (Refused (record { number = 8; place = p })) (cleared_from 0 rows)
+      pub on-full : (b : Block) (p : ℕ) (rest : Course Block) → c ≡ thing b p rest → N ≤ n → Ends N c₀ (Err (record { number = 8; place = p })) (cleared_from 0 rows)
       on-full b p rest e l = refuses rows (record { number = 8; place = p }) size ((passed (thing b p rest) e).2 ∙ ap (λ (k : ℕ). last (fit k (thing b p rest))) none_left ∙ last-full b p rest)
         where
           none_left : N - n ≡ 0
           none_left = omega (arith, l)
 
-      pub on-refusal : (why : Refusal) → c ≡ stopped why → Ends N c₀ (Refused why) (cleared_from 0 rows)
+      pub on-refusal : (why : Refusal) → c ≡ stopped why → Ends N c₀ (Err why) (cleared_from 0 rows)
       on-refusal why e = refuses rows why size ((passed (stopped why) e).2 ∙ last-stopped (N - n) why)
 
-      pub on-end : (s : ℕ) → c ≡ over tt s → Ends N c₀ (Rows n s) (cleared_from n rows)
+      pub on-end : (s : ℕ) → c ≡ over tt s → Ends N c₀ (Ok (n, s)) (cleared_from n rows)
       unfolding cleared_from filled_from
       on-end s e = (
-        sym (filled-by N c₀ (take n rows) (done s) blocks end ∙ ap (λ (k : ℕ). Rows k s) taken),
+        sym (filled-by N c₀ (take n rows) (done s) blocks end ∙ ap (λ (k : ℕ). Ok (k, s)) taken),
         ap (λ (k : ℕ). take n rows ++ replicate (k - n) no_block) size ∙ sym (rows-by N c₀ (take n rows) (done s) blocks end ∙ ap (λ (k : ℕ). take n rows ++ replicate (N - k) no_block) taken),
       )
         where

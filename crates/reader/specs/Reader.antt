@@ -1,17 +1,16 @@
 -- What so many rows hold of the blocks of an update: the blocks, then rows without one; or no block at all after a refusal. And where the words then
 -- stand; and whether no key can be read.
-use Rattle.std.specs.Prelude.{ℕ, ◌-◌, ◌≡◌, List, ◌++◌, Bool, true, eqb, length, get_or, replicate}
+use Rattle.numbers.specs.declared.Refusal.{Refusal}
+use Rattle.std.specs.Prelude.{ℕ, ◌-◌, ◌≡◌, List, ◌++◌, Bool, true, eqb, length, get_or, replicate, Result, Ok, Err}
 use Rattle.numbers.specs.Number.{pick}
 use Rattle.block.specs.declared.Block.{Block}
 use Rattle.block.specs.Row.{no_block}
 use Rattle.grammar.specs.Course.{CourseTo, thing, over, stopped, Course, fit, things, ending}
 use Rattle.decoder.specs.States.{State, moved_to}
 use Rattle.cells.specs.Cells.{state_in}
-use Rattle.reader.specs.declared.Filled.{Filled}
-use Rattle.reader.specs.declared.Filled.TheVariants.{Rows, Refused}
 
-unfoldable pub filled_of : ℕ → Course Block → Filled
-filled_of n c = ending (fit n c) (λ at. Rows (length (things (fit n c))) at) (λ why. Refused why)
+unfoldable pub filled_of : ℕ → Course Block → Result (ℕ × ℕ) Refusal
+filled_of n c = ending (fit n c) (λ at. Ok (length (things (fit n c)), at)) (λ why. Err why)
 
 unfoldable pub rows_of : ℕ → Course Block → List Block
 rows_of n c = ending (fit n c) (λ at. things (fit n c) ++ replicate (n - length (things (fit n c))) no_block) (λ why. replicate n no_block)

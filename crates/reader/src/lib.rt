@@ -10,17 +10,17 @@ ghost use Rattle.reader.specs.Reader.{filled_of, rows_of, Stands, keyless};
 
 use block::Block;
 use numbers::Refusal;
-use update::{Begun, Spot, Step};
+use update::{Spot, Step};
 
-// How many rows hold a block and the place after the blocks, or why there are none.
-#[derive(Clone, Copy)]
-pub enum Filled {
-    Rows(usize, usize),
-    Refused(Refusal),
-}
-
-// From the first section on, where the words stand; they stand behind the last block then.
-fn read_sections(form: u8, update: &[u8], w: &mut [u64], rows: &mut [Block], first: Spot) -> Filled
+// From the first section on, where the words stand; they stand behind the last block then. How many rows hold a block, and the place after the blocks;
+// or why there are none.
+fn read_sections(
+    form: u8,
+    update: &[u8],
+    w: &mut [u64],
+    rows: &mut [Block],
+    first: Spot,
+) -> Result<(usize, usize), Refusal>
     requires { Small w.old × Fine (replicate 64 0) first }
     ensures { (result ≡ filled_of (length rows.old) (comes form update.now (replicate 64 0) w.old first))
         × (rows.new ≡ rows_of (length rows.old) (comes form update.now (replicate 64 0) w.old first))
@@ -35,48 +35,53 @@ fn read_sections(form: u8, update: &[u8], w: &mut [u64], rows: &mut [Block], fir
     let mut n = 0;
     loop {
         match update::next(form, update, w, r, seen, s) {
-            Step::Block(place, t) => {
+            Ok(Step::Block(place, t)) => {
                 if rows.len() <= n {
                     table::clear(rows, 0);
-                    return Filled::Refused(Refusal { number: 8, place });
+                    return Err(Refusal { number: 8, place });
                 }
                 let b = item::row_in(r);
                 table::fill(rows, n, b);
                 n += 1;
                 s = t;
             }
-            Step::On(t) => s = t,
-            Step::Done(at) => {
+            Ok(Step::On(t)) => s = t,
+            Ok(Step::Done(at)) => {
                 table::clear(rows, n);
-                return Filled::Rows(n, at);
+                return Ok((n, at));
             }
-            Step::Refused(why) => {
+            Err(why) => {
                 table::clear(rows, 0);
-                return Filled::Refused(why);
+                return Err(why);
             }
         }
     }
 }
 
 // The blocks of an update in the first rows; the others have none. After a refusal no row has one. Of form 2 the words hold the columns as they are behind
-// the last block.
-pub fn read_blocks_over(form: u8, update: &[u8], w: &mut [u64], rows: &mut [Block]) -> Filled
+// the last block. How many rows hold a block, and the place after the blocks.
+pub fn read_blocks_over(
+    form: u8,
+    update: &[u8],
+    w: &mut [u64],
+    rows: &mut [Block],
+) -> Result<(usize, usize), Refusal>
     requires { Small w.old × (form ≢ 1 → Enough update.now w.old) }
     ensures { (result ≡ filled_of (length rows.old) (blocks_of form update.now))
         × (rows.new ≡ rows_of (length rows.old) (blocks_of form update.now))
         × (form ≢ 1 → Stands (fit (length rows.old) (in_columns update.now)) w.new) × Small w.new }
 {
     match update::begin(form, update, w) {
-        Begun::At(first) => read_sections(form, update, w, rows, first),
-        Begun::Refused(why) => {
+        Ok(first) => read_sections(form, update, w, rows, first),
+        Err(why) => {
             table::clear(rows, 0);
-            Filled::Refused(why)
+            Err(why)
         }
     }
 }
 
 // The same, over words of its own. Those for keys are 512, and setting them to zero takes 20 to 30 ns of the 144 of a message of one block.
-pub fn read_blocks(form: u8, update: &[u8], rows: &mut [Block]) -> Filled
+pub fn read_blocks(form: u8, update: &[u8], rows: &mut [Block]) -> Result<(usize, usize), Refusal>
     ensures { (result ≡ filled_of (length rows.old) (blocks_of form update.now))
         × (rows.new ≡ rows_of (length rows.old) (blocks_of form update.now)) }
 {

@@ -5,6 +5,7 @@ ghost use Rattle.readings.specs.Groups.{groups};
 ghost use Rattle.records.specs.Records.{owner_of, delete_tokens};
 ghost use Rattle.records.specs.DeleteRows.{is_first, end_before, siblings, owner_tokens, range_tokens, InLine};
 
+#[tactic(auto, unfolding(ranges::specs::TableInner::row))]
 fn client_at(ranges: &[u64], i: usize) -> u64
     requires { 3 * i + 3 ≤ length ranges.now }
     ensures { result ≡ (row ranges.now i).client }
@@ -12,6 +13,7 @@ fn client_at(ranges: &[u64], i: usize) -> u64
     ranges[3 * i]
 }
 
+#[tactic(auto, unfolding(ranges::specs::TableInner::row))]
 fn clock_at(ranges: &[u64], i: usize) -> u64
     requires { 3 * i + 3 ≤ length ranges.now }
     ensures { result ≡ (row ranges.now i).clock }
@@ -19,6 +21,7 @@ fn clock_at(ranges: &[u64], i: usize) -> u64
     ranges[3 * i + 1]
 }
 
+#[tactic(auto, unfolding(ranges::specs::TableInner::row))]
 fn length_at(ranges: &[u64], i: usize) -> u64
     requires { 3 * i + 3 ≤ length ranges.now }
     ensures { result ≡ (row ranges.now i).len }
@@ -43,12 +46,9 @@ fn count_clients(ranges: &[u64], n: usize) -> usize
     requires { 3 * n ≤ length ranges.now }
     ensures { result ≡ length (groups owner_of (rows_from ranges.now 0 n)) }
 {
-    let mut count: usize = 0;
-    let mut i: usize = 0;
-    while i < n {
-        let first = is_first(ranges, i);
-        i += 1;
-        if first {
+    let mut count = 0;
+    for i in 0..n {
+        if is_first(ranges, i) {
             count += 1;
         }
     }
@@ -61,12 +61,10 @@ fn count_ranges(ranges: &[u64], i: usize, n: usize) -> usize
     ensures { result ≡ siblings ranges.now i (n - (i + 1)) }
 {
     let client = client_at(ranges, i);
-    let mut j = i + 1;
-    while j < n {
+    for j in i + 1..n {
         if client_at(ranges, j) != client {
             return j - i;
         }
-        j += 1;
     }
     n - i
 }
@@ -80,8 +78,8 @@ fn increase(ranges: &[u64], i: usize) -> u64
     if is_first(ranges, i) {
         return clock;
     }
-    let since = numbers::words::less(clock, clock_at(ranges, i - 1));
-    numbers::words::less(since, length_at(ranges, i - 1))
+    let since = clock.saturating_sub(clock_at(ranges, i - 1));
+    since.saturating_sub(length_at(ranges, i - 1))
 }
 
 // Before a client's first range: the client, and how many ranges it has.
@@ -112,7 +110,7 @@ fn write_range(out: &mut [u8], form: u8, at: usize, ranges: &[u64], i: usize, n:
     }
     let clock = increase(ranges, i);
     let begun = tokens::line::number(out, owned, clock);
-    tokens::line::number(out, begun, numbers::words::less(len, 1))
+    tokens::line::number(out, begun, len.saturating_sub(1))
 }
 
 // The first n ranges. They are numbers without columns, in line in both forms.
@@ -122,10 +120,8 @@ pub fn write_delete_set(out: &mut [u8], form: u8, at: usize, ranges: &[u64], n: 
 {
     let clients = count_clients(ranges, n);
     let mut end = tokens::line::number(out, at, clients as u64);
-    let mut i: usize = 0;
-    while i < n {
+    for i in 0..n {
         end = write_range(out, form, end, ranges, i, n);
-        i += 1;
     }
     end
 }

@@ -37,10 +37,7 @@ pub fn info_byte(b: Block) -> u8
 pub fn is_linked(b: Block) -> bool
     ensures { result ≡ linked b }
 {
-    if b.has_left {
-        return true;
-    }
-    b.has_right
+    b.has_left || b.has_right
 }
 
 // A name or a key: form 1 has no use for its units, so they are counted for form 2 alone.

@@ -21,10 +21,7 @@ pub fn clear_after(out: &mut [u64], n: usize)
 pub fn reach_at(reach: &[u64], i: usize) -> u64
     ensures { result ≡ get_or reach.now i 0 }
 {
-    if reach.len() <= i {
-        return 0;
-    }
-    reach[i]
+    reach.get(i).copied().unwrap_or(0)
 }
 
 // The reach that a front waits for: 0 where its client has no slot.
@@ -49,7 +46,7 @@ fn report_count(slots: &[u64], i: usize, fronts: &[u64], out: &mut [u64], at: us
         return at;
     }
     let f = picker::fronts::front_at(fronts, i);
-    let taken = numbers::words::less(count, f.left as u64);
+    let taken = count.saturating_sub(f.left as u64);
     numbers::words::put_word(out, at, client);
     numbers::words::put_word(out, at + 1, taken);
     at + 2
@@ -62,10 +59,8 @@ pub fn report_counts(slots: &[u64], n: usize, fronts: &[u64], out: &mut [u64]) -
         × (out.new ≡ fitted (length out.old) (counts_from 0 (slots_from slots.now 0 n) fronts.now)) }
 {
     let mut at = 0;
-    let mut i = 0;
-    while i < n {
+    for i in 0..n {
         at = report_count(slots, i, fronts, out, at);
-        i += 1;
     }
     clear_after(out, at);
     at
@@ -77,13 +72,10 @@ pub fn report_reaches(slots: &[u64], n: usize, reach: &[u64], out: &mut [u64]) -
     ensures { (result ≡ length (reaches_from 0 (slots_from slots.now 0 n) reach.now))
         × (out.new ≡ fitted (length out.old) (reaches_from 0 (slots_from slots.now 0 n) reach.now)) }
 {
-    let mut i = 0;
-    while i < n {
-        let client = slots[3 * i];
+    for i in 0..n {
         let clock = reach_at(reach, i);
-        numbers::words::put_word(out, 2 * i, client);
+        numbers::words::put_word(out, 2 * i, slots[3 * i]);
         numbers::words::put_word(out, 2 * i + 1, clock);
-        i += 1;
     }
     clear_after(out, 2 * n);
     2 * n
@@ -128,10 +120,8 @@ pub fn report_pending(
         (pending_from 0 (slots_from slots.now 0 n) fronts.now reach.now)) }
 {
     let mut at = 0;
-    let mut i = 0;
-    while i < n {
+    for i in 0..n {
         at = report_waiting(slots, i, fronts, reach, out, at);
-        i += 1;
     }
     clear_after(out, at);
     at

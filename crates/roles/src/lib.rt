@@ -75,23 +75,15 @@ pub fn start() -> Plan
 
 // ---- how a plan goes on
 
+#[tactic(auto, unfolding(crate::specs::Roles::go_to))]
 fn go_to(role: Role, q: Plan) -> Plan
     ensures { result ≡ go_to role q }
 {
-    Plan {
-        role,
-        sections: q.sections,
-        blocks: q.blocks,
-        room: q.room,
-        first: q.first,
-        clock: q.clock,
-        info: q.info,
-        place: q.place,
-        length: q.length,
-    }
+    Plan { role, ..q }
 }
 
 // What stands before a section: its head, or the end.
+#[tactic(auto, unfolding(crate::specs::Roles::section_role))]
 fn section_role(sections: u64) -> Role
     ensures { result ≡ roles.section_role sections }
 {
@@ -101,6 +93,7 @@ fn section_role(sections: u64) -> Role
     Role::Blocks
 }
 
+#[tactic(auto, unfolding(crate::specs::Roles::sectioned))]
 fn to_sections(n: u64, q: Plan) -> Plan
     ensures { result ≡ sectioned n q }
 {
@@ -117,6 +110,7 @@ fn to_sections(n: u64, q: Plan) -> Plan
     }
 }
 
+#[tactic(auto, unfolding(crate::specs::Roles::announced))]
 fn announce(k: u64, q: Plan) -> Plan
     ensures { result ≡ announced k q }
 {
@@ -134,6 +128,7 @@ fn announce(k: u64, q: Plan) -> Plan
 }
 
 // What stands behind a block, or a section's head.
+#[tactic(auto, unfolding(crate::specs::Roles::block_role))]
 fn block_role(blocks: u64, sections: u64) -> Role
     ensures { result ≡ roles.block_role blocks sections }
 {
@@ -144,6 +139,7 @@ fn block_role(blocks: u64, sections: u64) -> Role
 }
 
 // Behind a block, or a section's head: the next block of this section, which begins where the one before ended; where none is left, the next section.
+#[tactic(auto, unfolding(crate::specs::Roles::onward))]
 pub fn onward(q: Plan) -> Plan
     requires { q.clock + q.length ≤ 18446744073709551615 }
     ensures { result ≡ roles.onward q }
@@ -162,36 +158,29 @@ pub fn onward(q: Plan) -> Plan
 }
 
 // The first clock of a section.
+#[tactic(auto, unfolding(crate::specs::Roles::headed))]
 fn head(clock: u64, q: Plan) -> Plan
     ensures { result ≡ headed clock q }
 {
-    let before = Plan {
+    onward(Plan {
         role: Role::Ended,
-        sections: q.sections,
-        blocks: q.blocks,
-        room: q.room,
         first: clock,
         clock,
         info: 0,
         place: 0,
         length: 0,
-    };
-    onward(before)
+        ..q
+    })
 }
 
+#[tactic(auto, unfolding(crate::specs::Roles::lengthened))]
 fn lengthen(role: Role, n: u64, q: Plan) -> Plan
     ensures { result ≡ lengthened role n q }
 {
     Plan {
         role,
-        sections: q.sections,
-        blocks: q.blocks,
-        room: q.room,
-        first: q.first,
-        clock: q.clock,
-        info: q.info,
-        place: q.place,
         length: n,
+        ..q
     }
 }
 
@@ -205,6 +194,7 @@ fn last(n: u64, q: Plan) -> Plan
 // ---- what an info byte announces
 
 // Exactly 10 is a Skip, exactly 0 a GC; else a left id, a right id, or neither, and then a parent.
+#[tactic(auto, unfolding(crate::specs::Roles::info_role))]
 fn info_role(info: u64) -> Role
     ensures { result ≡ info_role info }
 {
@@ -224,23 +214,21 @@ fn info_role(info: u64) -> Role
 }
 
 // The info byte, and its place.
+#[tactic(auto, unfolding(crate::specs::Roles::informed))]
 fn inform(info: u64, place: u64, q: Plan) -> Plan
     ensures { result ≡ informed (info_role info) info place q }
 {
     Plan {
         role: info_role(info),
-        sections: q.sections,
-        blocks: q.blocks,
-        room: q.room,
-        first: q.first,
-        clock: q.clock,
         info,
         place,
         length: 0,
+        ..q
     }
 }
 
 // By the low five bits.
+#[tactic(auto, unfolding(crate::specs::Roles::content_role))]
 fn content_role(n: u64) -> Role
     ensures { result ≡ content_role n }
 {
@@ -271,6 +259,7 @@ fn to_key(q: Plan) -> Plan
 }
 
 // Behind a left id: a right id, where the info byte has one.
+#[tactic(auto, unfolding(crate::specs::Roles::to_right))]
 fn to_right(q: Plan) -> Plan
     ensures { result ≡ roles.to_right q }
 {
@@ -281,6 +270,7 @@ fn to_right(q: Plan) -> Plan
 }
 
 // A parent info of 1: a name; otherwise an id.
+#[tactic(auto, unfolding(crate::specs::Roles::to_parent))]
 fn to_parent(v: u64, q: Plan) -> Plan
     ensures { result ≡ roles.to_parent v q }
 {
@@ -291,6 +281,7 @@ fn to_parent(v: u64, q: Plan) -> Plan
 }
 
 // A type number too high ends the plan: it is refused.
+#[tactic(auto, unfolding(crate::specs::Roles::to_node))]
 fn to_node(v: u64, q: Plan) -> Plan
     ensures { result ≡ roles.to_node v q }
 {
@@ -306,11 +297,11 @@ fn to_node(v: u64, q: Plan) -> Plan
 // ---- behind a draw
 
 // The plan behind the draw that it names, which gave v, a number or a text's units, and is blamed at p.
+#[tactic(auto, unfolding(crate::specs::Roles::plan_after, crate::specs::Roles::after))]
 pub fn after(q: Plan, v: u64, p: u64) -> Plan
     ensures { result ≡ roles.after q v p }
 {
-    let role = q.role;
-    match role {
+    match q.role {
         Role::Sections => to_sections(v, q),
         Role::Blocks => announce(v, q),
         Role::Client => go_to(Role::FirstClock, q),
@@ -344,6 +335,7 @@ pub fn after(q: Plan, v: u64, p: u64) -> Plan
 // ---- what is told of a role
 
 // Its number: what a line's first word says. 5 is the block's own clock, which is not drawn, and 27 the text of a key that has a number.
+#[tactic(auto, unfolding(crate::specs::Roles::code_of))]
 pub fn code_of(r: Role) -> u64
     ensures { result ≡ code_of r }
 {
@@ -379,38 +371,33 @@ pub fn code_of(r: Role) -> u64
 }
 
 // Nothing more of a block is drawn.
+#[tactic(auto, unfolding(crate::specs::Roles::is_ended))]
 pub fn is_ended(q: Plan) -> bool
     ensures { result ≡ roles.is_ended q }
 {
-    let role = q.role;
-    code_of(role) == 0
+    code_of(q.role) == 0
 }
 
 // Nothing more of the update's blocks is drawn.
+#[tactic(auto, unfolding(crate::specs::RolesInner::is_over))]
 pub fn is_over(q: Plan) -> bool
     ensures { result ≡ roles-inner.is_over q }
 {
-    let role = q.role;
-    code_of(role) == 28
+    code_of(q.role) == 28
 }
 
 // A GC or a Skip.
+#[tactic(auto, unfolding(crate::specs::RolesInner::is_bare))]
 fn is_bare(info: u64) -> bool
     ensures { result ≡ is_bare info }
 {
-    match info {
-        0 => true,
-        10 => true,
-        _ => false,
-    }
+    matches!(info, 0 | 10)
 }
 
 // The block that ended is kept: it is not an item of length 0.
+#[tactic(auto, unfolding(crate::specs::RolesInner::is_kept))]
 pub fn is_kept(q: Plan) -> bool
     ensures { result ≡ is_kept q }
 {
-    if q.length != 0 {
-        return true;
-    }
-    is_bare(q.info)
+    q.length != 0 || is_bare(q.info)
 }

@@ -15,6 +15,7 @@ fn seek(rows: &[Block], s: Span, clock: u32) -> usize
     ensures { result ≡ sought rows.now s clock }
 {
     let mut t = placing::clip(s, rows.len());
+    // Kept, point 3 (needed): it halves, and the contract says what that finds in rows of any order, of which partition_point says nothing.
     while t.lo < t.hi {
         let mid = placing::middle(t);
         let b = table::fetch(rows, mid);
@@ -35,23 +36,26 @@ pub fn number(rows: &[Block], s: Span, clock: u32) -> u32
     placing::never()
 }
 
-// A dependency on the number of its holder; none where its id is held at first.
-fn place(
-    rows: &[Block],
-    slots: &[u64],
+// What an id is looked up in: the rows, the slots, and the ranges held at first.
+#[derive(Clone, Copy)]
+struct Lookup<'a> {
+    rows: &'a [Block],
+    slots: &'a [u64],
     n: usize,
-    held: &[u64],
+    held: &'a [u64],
     ranges: usize,
-    a: Dependency,
-) -> Dependency
-    requires { (3 * n ≤ length slots.now) × Falling (slots_from slots.now 0 n) × (3 * ranges ≤ length held.now) }
-    ensures { result ≡ placed_dep held.now ranges (slots_from slots.now 0 n) rows.now a }
+}
+
+// A dependency on the number of its holder; none where its id is held at first.
+fn place(l: &Lookup, a: Dependency) -> Dependency
+    requires { (3 * l.now.n ≤ length l.now.slots.now) × Falling (slots_from l.now.slots.now 0 l.now.n) × (3 * l.now.ranges ≤ length l.now.held.now) }
+    ensures { result ≡ placed_dep l.now.held.now l.now.ranges (slots_from l.now.slots.now 0 l.now.n) l.now.rows.now a }
 {
-    let asked = placing::is_asked(held, ranges, a);
+    let asked = placing::is_asked(l.held, l.ranges, a);
     if asked {
-        let s = placing::span_for(slots, n, a);
+        let s = placing::span_for(l.slots, l.n, a);
         let clock = placing::clock_of(a);
-        let k = number(rows, s, clock);
+        let k = number(l.rows, s, clock);
         return placing::on_number(a, k);
     }
     picker::stages::none()
@@ -71,12 +75,19 @@ pub fn number_row(
     ensures { result
         ≡ row_by held.now ranges (slots_from slots.now 0 n) rows.now i (get_or rows.now i no_block) }
 {
+    let l = Lookup {
+        rows,
+        slots,
+        n,
+        held,
+        ranges,
+    };
     let b = table::fetch(rows, i);
     let first = picker::stages::at(28, b, 0);
-    let left = place(rows, slots, n, held, ranges, first);
+    let left = place(&l, first);
     let second = picker::stages::at(28, b, 1);
-    let right = place(rows, slots, n, held, ranges, second);
+    let right = place(&l, second);
     let third = picker::stages::at(28, b, 2);
-    let parent = place(rows, slots, n, held, ranges, third);
+    let parent = place(&l, third);
     placing::numbered(slots, n, near, i, b, left, right, parent)
 }

@@ -31,15 +31,11 @@ fn is_in_limits(b: Block) -> bool
     bytes.0 < room
 }
 
+#[tactic(auto, unfolding(crate::specs::Plain::simple))]
 fn is_simple(kind: u8) -> bool
     ensures { result ≡ simple kind }
 {
-    match kind {
-        block::DELETED => true,
-        block::BINARY => true,
-        block::TEXT => true,
-        _ => false,
-    }
+    matches!(kind, block::DELETED | block::BINARY | block::TEXT)
 }
 
 fn size_left(lanes: &mut [u64], b: Block)

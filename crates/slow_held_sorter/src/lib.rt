@@ -64,20 +64,16 @@ fn report_pending(
         taken.now 0 (slots_from slots.now 0 n))) }
 {
     let mut at = 0;
-    let mut i = 0;
-    while i < n {
+    for i in 0..n {
         at = report_front(rows, slots, n, held, ranges, reach, taken, i, out, at);
-        i += 1;
     }
     reports::clear_after(out, at);
     at
 }
 
-// The rows, swept by held ranges, in n slots. How far a client reaches is how many of its blocks were taken, words of up to 128 clients (`maxReaches`).
-// How many rows are blocks is not asked: it is told as the quick sorter is, so that one walk proves the callers of both.
+// The rows, swept by held ranges, in n slots. How far a client reaches is how many of its blocks were taken, words of up to 128 clients (`max_reaches`).
 fn sweep_slots(
     rows: &[Block],
-    blocks: usize,
     slots: &[u64],
     n: usize,
     held: &[u64],
@@ -130,7 +126,6 @@ pub fn sweep_kept(
     let noted = sorter::note_rows(rows, blocks, slots);
     sweep_slots(
         rows,
-        blocks,
         slots,
         noted.slots,
         held,

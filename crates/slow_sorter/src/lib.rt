@@ -10,7 +10,6 @@ ghost use Rattle.slow_sorter.specs.Slowly.{sorting_by, swept_on, swept_read, Lea
 
 use block::Block;
 use sorter::Sorting;
-use vector::Entries;
 
 // How many steps were made, and how many words each report needs.
 pub fn sorted(steps: usize, counts: usize, reaches: usize, pending: usize) -> Sorting
@@ -25,12 +24,11 @@ pub fn sorted(steps: usize, counts: usize, reaches: usize, pending: usize) -> So
     }
 }
 
-// The rows, swept against m entries, in n slots. Reaches and counts of blocks taken are words of up to 128 clients (`maxReaches`). Rows are seen as they are:
-// of no words 0 ranges are held. How many rows are blocks is not asked: it is told as the quick sorter is, so that one walk proves the callers of both.
+// The rows, swept against m entries, in n slots. Reaches and counts of blocks taken are words of up to 128 clients (`max_reaches`). Rows are seen as they are:
+// of no words 0 ranges are held.
 fn sweep_slots(
     rule: u8,
     rows: &[Block],
-    blocks: usize,
     slots: &[u64],
     n: usize,
     clients: &[u64],
@@ -81,7 +79,7 @@ fn sweep_kept(
     let slots = &mut words[..];
     let n = sorter::open_slots(rows, blocks, clients, m, slots);
     sweep_slots(
-        rule, rows, blocks, slots, n, clients, clocks, m, order, counts, reaches, pending,
+        rule, rows, slots, n, clients, clocks, m, order, counts, reaches, pending,
     )
 }
 
@@ -106,9 +104,9 @@ pub fn sweep_read(
     let mut second = [0u64; 64];
     let clocks = &mut second[..];
     match vector::read_entries(vector, clients, clocks) {
-        Entries::Read(m) => sweep_kept(
+        Ok(m) => sweep_kept(
             rule, rows, blocks, clients, clocks, m, order, counts, reaches, pending,
         ),
-        Entries::Refused(why) => sorter::refused(why.number),
+        Err(why) => sorter::refused(why.number),
     }
 }

@@ -23,16 +23,15 @@ pub struct Sorted {
 }
 
 // Whether a caller may name this rule.
+#[tactic(auto, unfolding(crate::specs::Answers::is_rule))]
 pub fn is_rule(rule: u8) -> bool
     ensures { result ≡ is_rule rule }
 {
-    if rule == 13 {
-        return true;
-    }
-    rule == 28
+    rule == 13 || rule == 28
 }
 
 // A refusal, and counts of 0.
+#[tactic(auto, unfolding(crate::specs::Answers::answered))]
 pub fn none(why: Refusal) -> Sorted
     ensures { result ≡ answered (refused_with why) }
 {
@@ -48,6 +47,7 @@ pub fn none(why: Refusal) -> Sorted
 }
 
 // The number of a refusal, or 0: a sorting that was refused, too few words for the order (8), or for a report (10).
+#[tactic(auto, unfolding(crate::specs::AnswersInner::judged, crate::specs::Answers::why_not))]
 pub fn judge(s: Sorting, order: usize, counts: usize, reaches: usize, pending: usize) -> u8
     ensures { result ≡ judged s order counts reaches pending }
 {
@@ -57,19 +57,14 @@ pub fn judge(s: Sorting, order: usize, counts: usize, reaches: usize, pending: u
     if order < s.steps {
         return 8;
     }
-    if counts < s.counts {
-        return 10;
-    }
-    if reaches < s.reaches {
-        return 10;
-    }
-    if pending < s.pending {
+    if counts < s.counts || reaches < s.reaches || pending < s.pending {
         return 10;
     }
     0
 }
 
 // What is answered of a sorting that is not refused.
+#[tactic(auto, unfolding(crate::specs::AnswersInner::answer_to))]
 pub fn done(read: Update, s: Sorting) -> Sorted
     ensures { result ≡ answer_to read s }
 {

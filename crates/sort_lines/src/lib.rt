@@ -1,110 +1,71 @@
-// What the lines of sorts have beside rows: the order, clients with a number each, and what waits.
+// What the lines of sorts have beside tables: the order, clients with a number each, and what waits.
 #![tactic(auto)]
 
-use part_cases::vectors;
+ghost use Rattle.std.specs.Prelude.{◌≡◌, ◌*◌, ◌&&◌};
+ghost use Rattle.update_cases.specs.Entries.{are_zero_behind};
+
 use sort_answers::Sorted;
-use std::io::Stdout;
-use stream::line;
-use update_cases::lines;
-use update_cases::lines::Listed;
-use update_cases::rows::Told;
+use std::fmt;
+use stream::shown;
+use stream::shown::{Numbers, Pairs, Verdict};
+use update_cases::tables;
 
-// The numbers of the blocks taken; more than there is room for, which the library never says, are not printed.
-pub fn put_order(
-    stdout: Stdout,
-    sink: &mut [u8],
-    used: usize,
-    steps: usize,
-    order: &[u64],
-) -> Told {
-    if order.len() < steps {
-        return Told { used, zero: false };
-    }
-    let told = line::numbers(stdout, sink, used, &order[..steps]);
-    let zero = lines::are_zero(order, steps);
-    Told { used: told, zero }
-}
+// Clients that wait, the client that each waits for, and how far that reaches, or the clock that is missing of it.
+#[derive(Clone, Copy)]
+pub struct Waits<'a>(pub &'a [u64]);
 
-// Clients, each with a number.
-pub fn put_entries(
-    stdout: Stdout,
-    sink: &mut [u8],
-    told: Told,
-    count: usize,
-    words: &[u64],
-) -> Told {
-    let parted = line::text(stdout, sink, told.used, b" ;");
-    let listed = vectors::entries(stdout, sink, parted, count, words);
-    let zero = told.zero && lines::are_zero(words, listed.at);
-    Told {
-        used: listed.used,
-        zero,
-    }
-}
-
-// A client that waits, with the space before it, the client that it waits for, and how far that reaches, or the clock that is missing of it.
-fn wait(
-    stdout: Stdout,
-    sink: &mut [u8],
-    used: usize,
-    client: u64,
-    missing: u64,
-    clock: u64,
-) -> usize {
-    let begun = line::number(stdout, sink, used, client);
-    let parted = line::put(stdout, sink, begun, b'>');
-    lines::id(stdout, sink, parted, missing, clock)
-}
-
-fn waits(stdout: Stdout, sink: &mut [u8], used: usize, count: usize, words: &[u64]) -> Listed {
-    let mut used = used;
-    let mut at = 0;
-    let mut left = count;
-    while 0 < left {
-        if words.len() - at < 3 {
-            return Listed { used, at };
+impl fmt::Display for Waits<'_> {
+    fn fmt<W: fmt::Write>(&self, f: &mut fmt::Formatter<W>) -> fmt::Result {
+        for [client, missing, clock] in self.0.as_chunks::<3>().0 {
+            write!(f, " {client}>{missing}:{clock}")?;
         }
-        used = wait(stdout, sink, used, words[at], words[at + 1], words[at + 2]);
-        at += 3;
-        left -= 1;
-    }
-    Listed { used, at }
-}
-
-pub fn put_pending(
-    stdout: Stdout,
-    sink: &mut [u8],
-    told: Told,
-    count: usize,
-    words: &[u64],
-) -> Told {
-    let parted = line::text(stdout, sink, told.used, b" ;");
-    let listed = waits(stdout, sink, parted, count, words);
-    let zero = told.zero && lines::are_zero(words, listed.at);
-    Told {
-        used: listed.used,
-        zero,
+        Ok(())
     }
 }
 
-pub fn put_reports(
-    stdout: Stdout,
-    sink: &mut [u8],
-    told: Told,
-    answer: Sorted,
-    counts: &[u64],
-    reaches: &[u64],
-    pending: &[u64],
-) -> Told {
-    let counted = put_entries(stdout, sink, told, answer.counts, counts);
-    let reached = put_entries(stdout, sink, counted, answer.reaches, reaches);
-    put_pending(stdout, sink, reached, answer.pending, pending)
+// A sort's answer, and the words lent for its order and its reports.
+#[derive(Clone, Copy)]
+pub struct Reports<'a> {
+    pub answer: Sorted,
+    pub order: &'a [u64],
+    pub counts: &'a [u64],
+    pub reaches: &'a [u64],
+    pub pending: &'a [u64],
 }
 
-// Whether all words lent for four things are zero.
-pub fn are_zero(order: &[u64], counts: &[u64], reaches: &[u64], pending: &[u64]) -> bool {
-    lines::are_zero(order, 0)
-        && lines::are_zero(counts, 0)
-        && lines::are_zero(reaches, 0)
-        && lines::are_zero(pending, 0)
+impl Reports<'_> {
+    // Whether all words that hold nothing are zero.
+    pub fn is_clean(&self) -> bool
+        ensures { result ≡ (are_zero_behind self.now.answer.steps self.now.order.now
+            && are_zero_behind (self.now.answer.counts * 2) self.now.counts.now
+            && are_zero_behind (self.now.answer.reaches * 2) self.now.reaches.now
+            && are_zero_behind (self.now.answer.pending * 3) self.now.pending.now) }
+    {
+        let answer = self.answer;
+        let (_, order) = shown::cut(self.order, answer.steps);
+        let (_, counts) = tables::entries(self.counts, answer.counts, 2);
+        let (_, reaches) = tables::entries(self.reaches, answer.reaches, 2);
+        let (_, pending) = tables::entries(self.pending, answer.pending, 3);
+        shown::is_zero(order)
+            && shown::is_zero(counts)
+            && shown::is_zero(reaches)
+            && shown::is_zero(pending)
+    }
+}
+
+// The line up to the tables.
+impl fmt::Display for Reports<'_> {
+    fn fmt<W: fmt::Write>(&self, f: &mut fmt::Formatter<W>) -> fmt::Result {
+        let answer = self.answer;
+        write!(f, "{}", Verdict(answer.refusal))?;
+        if answer.refusal.number != 0 {
+            return Ok(());
+        }
+        let (order, _) = shown::cut(self.order, answer.steps);
+        let (counts, _) = tables::entries(self.counts, answer.counts, 2);
+        let (reaches, _) = tables::entries(self.reaches, answer.reaches, 2);
+        let (pending, _) = tables::entries(self.pending, answer.pending, 3);
+        write!(f, "{} ;{} ;", Numbers(order), Pairs(counts))?;
+        write!(f, "{} ;{} ;", Pairs(reaches), Waits(pending))
+    }
 }

@@ -1,4 +1,5 @@
 -- What the sorter's functions come to: slots in words, and the same against a vector that was read.
+use Rattle.std.specs.Prelude.{Ok, Err}
 use Prim.Native.Nat.{ℕ, suc, ◌-◌, ◌*◌, ◌/◌, ◌≤◌}
 use mathlib.Core.Path.{◌≡◌, refl, sym, ap, subst, ◌∙◌}
 use mathlib.Core.List.{List, [], ◌∷◌, ◌++◌}
@@ -8,7 +9,6 @@ use Rattle.numbers.specs.declared.Refusal.{Refusal}
 use Rattle.numbers.specs.Output.{padded}
 use Rattle.block.specs.declared.Block.{Block}
 use Rattle.grammar.specs.Course.{Course, things, ending}
-use Rattle.vector.specs.declared.Entries.TheVariants.{Read, Refused}
 use Rattle.vector.specs.Vector.{Entry, clients_in}
 use Rattle.vector.specs.VectorInner.{clocks_in, kept}
 use Rattle.vector.specs.VectorInner as vector-inner
@@ -146,7 +146,7 @@ module _ (rule : ℕ) (rows : List Block) (blocks : ℕ) (names : List ℕ) (v :
 
 -- ---- a vector that was read, or refused
 
-module _ (c : Course Entry) (m k : ℕ) (e : vector-inner.entries_of c ≡ Read m) where
+module _ (c : Course Entry) (m k : ℕ) (e : vector-inner.entries_of c ≡ Ok m) where
   abbrev names : List ℕ
   names = take m (padded k (clients_in (kept c)))
 
@@ -168,7 +168,7 @@ module _ (rule : ℕ) (c : Course Entry) (rows : List Block) (blocks : ℕ) (ord
       (r ≡ sorting_read rule c rows blocks order) × (order₁ ≡ order_read rule c rows blocks order) × (counts₁ ≡ counts_read rule c rows blocks order counts)
       × (reaches₁ ≡ reaches_read rule c rows blocks order reaches) × (pending₁ ≡ pending_read rule c rows blocks order pending)
 
-  module _ (m k : ℕ) (e : vector-inner.entries_of c ≡ Read m) where
+  module _ (m k : ℕ) (e : vector-inner.entries_of c ≡ Ok m) where
     abbrev slots_of : List ℕ → List Slot
     slots_of ns = slots_for max_reaches (take blocks rows) ns
 
@@ -190,7 +190,7 @@ module _ (rule : ℕ) (c : Course Entry) (rows : List Block) (blocks : ℕ) (ord
       by_read c m k e (λ ns v. fitted (length pending) (pending_on rule (slots_of ns) rows blocks v order)) (λ why. pending),
     )
 
-  pub exit-refused : (why : Refusal) → vector-inner.entries_of c ≡ Refused why → Right (no_sorting why.number) order counts reaches pending
+  pub exit-refused : (why : Refusal) → vector-inner.entries_of c ≡ Err why → Right (no_sorting why.number) order counts reaches pending
   unfolding sorting_read order_read counts_read reaches_read pending_read
   exit-refused why e = (
     sym (was-refused c why e _ (λ r. no_sorting r.number)),

@@ -13,7 +13,6 @@ ghost use Rattle.sorter.specs.Sorter.{sorting_read, order_read, counts_read, rea
 use block::Block;
 use picker::Look;
 use slots::Noted;
-use vector::Entries;
 
 // How many steps were made, and how many words each report needs; or the number of a refusal.
 #[derive(Clone, Copy)]
@@ -32,11 +31,9 @@ pub fn note_rows(rows: &[Block], blocks: usize, slots: &mut [u64]) -> Noted
         × (slots.new ≡ stored slots.old (noted_all (length slots.old / 3) 0 (take blocks rows.now) [])) }
 {
     let mut s = slots::begin();
-    let mut i = 0;
-    while i < blocks {
+    for i in 0..blocks {
         let b = table::fetch(rows, i);
         s = slots::note(slots, s, i, b);
-        i += 1;
     }
     s
 }
@@ -63,6 +60,7 @@ fn pick_rows(
         fronts.old order.old).order) }
 {
     let mut p = picker::begin(rule, fronts, reach, n, blocks);
+    // Kept, point 3 (no plainer): p.row is where the front stands that is looked at next, in any order, and counts nothing.
     while p.row < rows.len() {
         let b = table::fetch(rows, p.row);
         p = picker::offer(rule, slots, n, p, reach, fronts, order, b);
@@ -70,6 +68,7 @@ fn pick_rows(
     p
 }
 
+#[tactic(auto, unfolding(crate::specs::Sorter::sorting_of))]
 pub fn sorted(p: Look, counts: usize, reaches: usize, pending: usize) -> Sorting
     ensures { result ≡ sorting_of p counts reaches pending }
 {
@@ -111,8 +110,8 @@ pub fn open_slots(
     slots::name_all(slots, noted.slots, clients, m)
 }
 
-// The first rows, as many as are blocks, sorted against m entries, in n slots. The reaches are clocks of up to 128 clients (`maxReaches`), with six words
-// (`frontWords`) for each one's front.
+// The first rows, as many as are blocks, sorted against m entries, in n slots. The reaches are clocks of up to 128 clients (`max_reaches`), with six words
+// (`front_words`) for each one's front.
 fn sort_slots(
     rule: u8,
     rows: &[Block],
@@ -215,9 +214,9 @@ pub fn sort_read(
     let mut second = [0u64; 64];
     let clocks = &mut second[..];
     match vector::read_entries(vector, clients, clocks) {
-        Entries::Read(m) => sort_kept(
+        Ok(m) => sort_kept(
             rule, rows, blocks, clients, clocks, m, order, counts, reaches, pending,
         ),
-        Entries::Refused(why) => refused(why.number),
+        Err(why) => refused(why.number),
     }
 }

@@ -1,4 +1,5 @@
 -- What each way out of strict reading says, with no machine: what today's reading says there, and that the two conditions were met or not.
+use Rattle.std.specs.Prelude.{Result, Ok, Err}
 use Prim.Native.Nat.{ℕ, zero, suc, ◌-◌, ◌/◌}
 use mathlib.Core.Path.{◌≡◌, refl, sym, ap, subst, ◌∙◌}
 use mathlib.Core.Logic.{◌≢◌}
@@ -12,15 +13,14 @@ use Rattle.numbers.specs.declared.Refusal.{Refusal}
 use Rattle.numbers.specs.Number.{pick, none, nowhere}
 use Rattle.block.specs.declared.Block.{Block}
 use Rattle.table.specs.Rows.{cleared_from}
-use Rattle.grammar.specs.Course.{CourseTo, thing, over, stopped, Course, fit, ending}
+use Rattle.grammar.specs.Course.{CourseTo, thing, over, stopped, Course, fit, things, ending}
 use Rattle.grammar.specs.Numbered as numbered
 use Rattle.decoder.specs.States.{State}
 use Rattle.decoder.specs.Update.{rest_places, in_columns, blocks_of, delete_set}
 use Rattle.leftover.specs.Leftover.{stretch, columns_at, columns_left, set_end, unread_of, lower, lowest, lowest_left}
 use Rattle.cells.specs.Cells.{state_in}
-use Rattle.deletes.specs.declared.Set.TheVariants as set
+use Rattle.ranges.specs.Ranges.{normal}
 use Rattle.deletes.specs.DeleteSet.{taken, set_of, words_of as set_words}
-use Rattle.reader.specs.declared.Filled.TheVariants as filled
 use Rattle.reader.specs.Reader.{filled_of, rows_of as filled_rows, Stands}
 use Rattle.updates.specs.declared.Update.{Update}
 use Rattle.updates.specs.Promises.{Reading, refused, early, reading, answer, table_of, range_words}
@@ -99,6 +99,13 @@ module _ {Y : Type 0} (tell : ℕ → Y) (no : Refusal → Y) (y : Y) where
   refused-by why never says (over a s) h e = absurd (never s e)
   refused-by why never says (stopped w) h e = λ z. omega (arith, h.0, ap (λ (x : Refusal). x.number) (says w e), z)
 
+-- so many, and a place
+abbrev counted : ℕ → ℕ → Result (ℕ × ℕ) Refusal
+counted m s = Ok (m, s)
+
+its-place : {a b c d : ℕ} → counted a b ≡ counted c d → b ≡ d
+its-place {a} {b} {c} {d} z = let q : ◌≡◌ {A = ℕ × ℕ} (a, b) (c, d) = cc in ap (λ (p : ℕ × ℕ). p.1) q
+
 -- ---- the ways out, of n rows and of m words
 
 module _ (form : ℕ) (u : List ℕ) (rows : List Block) (words : List ℕ) where
@@ -140,24 +147,24 @@ module _ (form : ℕ) (u : List ℕ) (rows : List Block) (words : List ℕ) wher
     unfolding explained answer
     as-today why rows₁ words₁ some h = says-by today _ _ _ (on ∙ rw (ne_eqb today.refusal.number 0 (λ z. some (ap (λ (x : Update). x.refusal.number) h.0 ∙ z))) refl) h
 
-    pub blocks-out : (why : Refusal) → filled_of N (blocks_of form u) ≡ filled.Refused why
+    pub blocks-out : (why : Refusal) → filled_of N (blocks_of form u) ≡ Err why
         → Left (answer (refused why)) (filled_rows N (blocks_of form u)) (take 0 words ++ replicate (M - 0) 0)
     unfolding filled_of
     blocks-out why e =
         as-today why _ _
-        (refused-by _ _ (filled.Refused why) why (λ s q. let z : ◌≡◌ {A = ℕ} 0 1 = cc in omega arith) (λ w q. cc) (fit N (blocks_of form u)) (fit-stops N (blocks_of form u) (blocks-numbered u form)) e)
+        (refused-by _ _ (Err why) why (λ s q. let z : ◌≡◌ {A = ℕ} 0 1 = cc in omega arith) (λ w q. cc) (fit N (blocks_of form u)) (fit-stops N (blocks_of form u) (blocks-numbered u form)) e)
         (on-blocks form u rows words early-none why e)
 
-    module _ (n at : ℕ) (e : filled_of N (blocks_of form u) ≡ filled.Rows n at) where
-      pub set_out : (why : Refusal) → set_of form u at M ≡ set.Refused why → length (filled_rows N (blocks_of form u)) ≡ N
+    module _ (n at : ℕ) (e : filled_of N (blocks_of form u) ≡ Ok (n, at)) where
+      pub set_out : (why : Refusal) → set_of form u at M ≡ Err why → length (filled_rows N (blocks_of form u)) ≡ N
           → Left (answer (refused why)) (cleared_from 0 (filled_rows N (blocks_of form u))) (set_words form u at M)
       unfolding set_of taken
       set_out why q size =
           as-today why _ _
-          (refused-by _ _ (set.Refused why) why (λ s z. let z : ◌≡◌ {A = ℕ} 0 1 = cc in omega arith) (λ w z. cc) (fit (M / 3) (delete_set form u at)) (fit-stops (M / 3) (delete_set form u at) (deletes-numbered form u at)) q)
+          (refused-by _ _ (Err why) why (λ s z. let z : ◌≡◌ {A = ℕ} 0 1 = cc in omega arith) (λ w z. cc) (fit (M / 3) (delete_set form u at)) (fit-stops (M / 3) (delete_set form u at) (deletes-numbered form u at)) q)
           (on-set form u rows words early-none n at e why q size)
 
-      module _ (k t : ℕ) (q : set_of form u at M ≡ set.Ranges k t) (v : List ℕ) (stands : form ≢ 1 → Stands (fit N (in_columns u)) v) where
+      module _ (k t : ℕ) (q : set_of form u at M ≡ Ok (k, t)) (v : List ℕ) (stands : form ≢ 1 → Stands (fit N (in_columns u)) v) where
         -- what the words say is left
         abbrev low : ℕ
         low = lowest (lower (length u) (stretch t (length u))) (pick (eqb form 1) [] (columns_at (state_in v)))
@@ -165,18 +172,18 @@ module _ (form : ℕ) (u : List ℕ) (rows : List Block) (words : List ℕ) wher
         set-end : set_end form u ≡ t
         unfolding set_end filled_of set_of taken
         set-end =
-            ends_at _ _ (filled.Rows n at) at (λ s z. cc) (λ why z. let z : ◌≡◌ {A = ℕ} 0 1 = cc in omega arith) (λ s. ending (delete_set form u s) (λ end. end) (λ why. length u)) (λ why. length u) N (blocks_of form u) e
-            ∙ ends_at _ _ (set.Ranges k t) t (λ s z. cc) (λ why z. let z : ◌≡◌ {A = ℕ} 0 1 = cc in omega arith) (λ end. end) (λ why. length u) (M / 3) (delete_set form u at) q
+            ends_at (counted (length (things (fit N (blocks_of form u))))) Err (counted n at) at (λ s z. its-place z) (λ why z. let z : ◌≡◌ {A = ℕ} 0 1 = cc in omega arith) (λ s. ending (delete_set form u s) (λ end. end) (λ why. length u)) (λ why. length u) N (blocks_of form u) e
+            ∙ ends_at (counted (length (normal (things (taken form u at M))))) Err (counted k t) t (λ s z. its-place z) (λ why z. let z : ◌≡◌ {A = ℕ} 0 1 = cc in omega arith) (λ end. end) (λ why. length u) (M / 3) (delete_set form u at) q
 
         columns-left : columns_left form u ≡ pick (eqb form 1) [] (columns_at (state_in v))
         unfolding columns_left filled_of blocks_of
         columns-left = go (eqb form 1) refl e
           where
-            go : (b : Bool) → eqb form 1 ≡ b → filled_of N (blocks_of form u) ≡ filled.Rows n at
+            go : (b : Bool) → eqb form 1 ≡ b → filled_of N (blocks_of form u) ≡ Ok (n, at)
                 → pick b [] (ending (in_columns u) columns_at (λ why. [])) ≡ pick b [] (columns_at (state_in v))
             go true f e = refl
             go false f e =
-                columns-at _ _ (filled.Rows n at) at (λ s z. cc) (λ why z. let z : ◌≡◌ {A = ℕ} 0 1 = cc in omega arith) N (in_columns u) v (rw f at e)
+                columns-at (counted (length (things (fit N (rest_places (in_columns u)))))) Err (counted n at) at (λ s z. its-place z) (λ why z. let z : ◌≡◌ {A = ℕ} 0 1 = cc in omega arith) N (in_columns u) v (rw f at e)
                 (stands (eqb-false form 1 f))
 
         same : lowest_left form u ≡ low

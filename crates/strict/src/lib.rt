@@ -7,9 +7,7 @@ ghost use Rattle.updates.specs.Promises.{refused, Leaves};
 ghost use Rattle.strict.specs.Promises.{beforehand, ReadStrictly};
 
 use block::Block;
-use deletes::Set;
 use numbers::Refusal;
-use reader::Filled;
 use updates::Update;
 
 // What is refused before anything is read: what `read_update` refuses then, and of form 2 a flag that is not 0 (14). An update of no bytes has no flag.
@@ -53,8 +51,8 @@ fn read_over(
     ensures { ReadStrictly form update.now rows.old ranges.old result rows.new ranges.new }
 {
     match reader::read_blocks_over(form, update, w, rows) {
-        Filled::Rows(blocks, at) => match deletes::read_delete_set(form, update, at, ranges) {
-            Set::Ranges(count, end) => {
+        Ok((blocks, at)) => match deletes::read_delete_set(form, update, at, ranges) {
+            Ok((count, end)) => {
                 let place = unread::lowest(form, update.len(), w, end);
                 if place < update.len() {
                     return refuse(rows, ranges, Refusal { number: 15, place });
@@ -68,12 +66,12 @@ fn read_over(
                     ranges: count,
                 }
             }
-            Set::Refused(why) => {
+            Err(why) => {
                 table::clear(rows, 0);
                 updates::none(why)
             }
         },
-        Filled::Refused(why) => {
+        Err(why) => {
             numbers::words::clear(ranges, 0);
             updates::none(why)
         }

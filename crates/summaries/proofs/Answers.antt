@@ -1,4 +1,5 @@
 -- The answers of the public calls on summaries, at each way out.
+use Rattle.std.specs.Prelude.{Result, Ok, Err}
 use Prim.Native.Nat.{ℕ, ◌+◌, ◌-◌, ◌*◌, ◌/◌, ◌≤◌, ◌<◌}
 use mathlib.Core.Path.{◌≡◌, refl, sym, ap, ap₂, ◌∙◌, subst}
 use mathlib.Core.List.{List, ◌++◌}
@@ -12,16 +13,13 @@ use Rattle.numbers.specs.Output.{padded}
 use Rattle.numbers.proofs.Output.{padded-some}
 use Rattle.bits.specs.Places.{Starts}
 use Rattle.bits.proofs.Places.{starts-are}
-use Rattle.summary.specs.declared.Rows as rows
-use Rattle.summary.specs.declared.Rows.TheVariants as rows_are
+use Rattle.std.proofs.Common.{Result, Ok, Err}
 use Rattle.summary.specs.Rows.{Row}
 use Rattle.summary.specs.Summary as summary
 use Rattle.summary.specs.Summary.{one, summary_bits, summary_of}
 use Rattle.summary.specs.WordsInner.{rows_in, answer_of}
 use Rattle.summary.proofs.Laws as laws
 use Rattle.summary.proofs.RoundTrip.{length-summary}
-use Rattle.gathered.specs.declared.Gathered.{Gathered}
-use Rattle.gathered.specs.declared.Gathered.TheVariants as gathered
 use Rattle.gathered.specs.RowsOf as told
 use Rattle.gathered.specs.RowsOf.{told_of}
 use Rattle.gathered.specs.Gathered.{Tells}
@@ -62,20 +60,20 @@ pub record SaysRows (t : told.Told) (w : List ℕ) (n : ℕ) : Type 0 where
   pub few : n ≤ 64
   pub are : t ≡ told.rows (rows_in n w)
 
-pub says-rows : (t : told.Told) (w : List ℕ) (g : Gathered) (n : ℕ) → Tells t w g → g ≡ gathered.Rows n → SaysRows t w n
+pub says-rows : (t : told.Told) (w : List ℕ) (g : Result ℕ Refusal) (n : ℕ) → Tells t w g → g ≡ Ok n → SaysRows t w n
 unfolding Tells
 says-rows (told.rows rs) w g n h e =
-    let count : length rs ≡ n = let z : gathered.Rows (length rs) ≡ gathered.Rows n = sym h.0 ∙ e in cc in
+    let count : length rs ≡ n = let z : Ok (length rs) ≡ Ok n = sym h.0 ∙ e in cc in
     record {
       few = omega (arith, h.2, count);
       are = ap told.rows (sym (laws.rows_are n w rs count (ap (λ (k : ℕ). take (4 * k) w) (sym count) ∙ h.1)));
     }
-says-rows (told.refused why) w g n h e = absurd (let y : gathered.Refused why ≡ gathered.Rows n = sym h ∙ e in let z : ◌≡◌ {A = ℕ} 0 1 = cc in omega arith)
+says-rows (told.refused why) w g n h e = absurd (let y : Err why ≡ Ok n = sym h ∙ e in let z : ◌≡◌ {A = ℕ} 0 1 = cc in omega arith)
 
-pub says-refused : (t : told.Told) (w : List ℕ) (g : Gathered) (why : Refusal) → Tells t w g → g ≡ gathered.Refused why → t ≡ told.refused why
+pub says-refused : (t : told.Told) (w : List ℕ) (g : Result ℕ Refusal) (why : Refusal) → Tells t w g → g ≡ Err why → t ≡ told.refused why
 unfolding Tells
-says-refused (told.rows rs) w g why h e = absurd (let y : gathered.Rows (length rs) ≡ gathered.Refused why = sym h.0 ∙ e in let z : ◌≡◌ {A = ℕ} 0 1 = cc in omega arith)
-says-refused (told.refused w') w g why h e = ap told.refused (let y : gathered.Refused w' ≡ gathered.Refused why = sym h ∙ e in let z : w' ≡ why = cc in z)
+says-refused (told.rows rs) w g why h e = absurd (let y : Ok (length rs) ≡ Err why = sym h.0 ∙ e in let z : ◌≡◌ {A = ℕ} 0 1 = cc in omega arith)
+says-refused (told.refused w') w g why h e = ap told.refused (let y : Err w' ≡ Err why = sym h ∙ e in let z : w' ≡ why = cc in z)
 
 pub of-rows : (rs : List Row) → made_of (told.rows rs) ≡ bytes (summary_of one rs)
 unfolding made_of
@@ -108,14 +106,14 @@ module _ (form : ℕ) (u : List ℕ) (n : ℕ) where
 
 -- ---- read
 
-pub read_some : (f : summary.RowsFound) (r : rows.Rows) (n : ℕ) → r ≡ answer_of f → r ≡ rows_are.Read n → record { refusal = nowhere 0; count = n } ≡ rows_answer f
+pub read_some : (f : summary.RowsFound) (r : Result ℕ ℕ) (n : ℕ) → r ≡ answer_of f → r ≡ Ok n → record { refusal = nowhere 0; count = n } ≡ rows_answer f
 unfolding answer_of rows_answer
 read_some (summary.read rs) r n e h =
-    ap (λ (k : ℕ). record { refusal = nowhere 0; count = k }) (let y : rows_are.Read n ≡ rows_are.Read (length rs) = sym h ∙ e in let z : n ≡ length rs = cc in z)
-read_some (summary.refused v) r n e h = absurd (let y : rows_are.Read n ≡ rows_are.Refused v = sym h ∙ e in let z : ◌≡◌ {A = ℕ} 0 1 = cc in omega arith)
+    ap (λ (k : ℕ). record { refusal = nowhere 0; count = k }) (let y : ◌≡◌ {A = Result ℕ ℕ} (Ok n) (Ok (length rs)) = sym h ∙ e in let z : n ≡ length rs = cc in z)
+read_some (summary.refused v) r n e h = absurd (let y : ◌≡◌ {A = Result ℕ ℕ} (Ok n) (Err v) = sym h ∙ e in let z : ◌≡◌ {A = ℕ} 0 1 = cc in omega arith)
 
-pub read_none : (f : summary.RowsFound) (r : rows.Rows) (v : ℕ) → r ≡ answer_of f → r ≡ rows_are.Refused v → record { refusal = nowhere v; count = 0 } ≡ rows_answer f
+pub read_none : (f : summary.RowsFound) (r : Result ℕ ℕ) (v : ℕ) → r ≡ answer_of f → r ≡ Err v → record { refusal = nowhere v; count = 0 } ≡ rows_answer f
 unfolding answer_of rows_answer
-read_none (summary.read rs) r v e h = absurd (let y : rows_are.Refused v ≡ rows_are.Read (length rs) = sym h ∙ e in let z : ◌≡◌ {A = ℕ} 0 1 = cc in omega arith)
+read_none (summary.read rs) r v e h = absurd (let y : ◌≡◌ {A = Result ℕ ℕ} (Err v) (Ok (length rs)) = sym h ∙ e in let z : ◌≡◌ {A = ℕ} 0 1 = cc in omega arith)
 read_none (summary.refused w) r v e h =
-    ap (λ (k : ℕ). record { refusal = nowhere k; count = 0 }) (let y : rows_are.Refused v ≡ rows_are.Refused w = sym h ∙ e in let z : v ≡ w = cc in z)
+    ap (λ (k : ℕ). record { refusal = nowhere k; count = 0 }) (let y : ◌≡◌ {A = Result ℕ ℕ} (Err v) (Err w) = sym h ∙ e in let z : v ≡ w = cc in z)

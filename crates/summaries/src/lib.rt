@@ -7,9 +7,7 @@ ghost use Rattle.summary.specs.Summary.{one, summary_of};
 ghost use Rattle.summary.specs.WordsInner.{rows_in};
 ghost use Rattle.summaries.specs.Promises.{bytes, refused, fitted, summarized, made_bytes, WriteSummary, ReadSummary};
 
-use gathered::Gathered;
 use numbers::Refusal;
-use summary::Rows;
 
 // What a summary that is written says: a refusal, zeros for done, and how many bytes.
 #[repr(C)]
@@ -90,8 +88,8 @@ pub fn write_summary(form: u8, update: &[u8], out: &mut [u8]) -> Summarized
     }
     let mut rows = [0u64; 256];
     match gathered::gather(form, update, &mut rows) {
-        Gathered::Rows(n) => write_rows(out, &rows, n),
-        Gathered::Refused(why) => refuse(out, why),
+        Ok(n) => write_rows(out, &rows, n),
+        Err(why) => refuse(out, why),
     }
 }
 
@@ -100,14 +98,14 @@ pub fn read_summary(bytes: &[u8], rows: &mut [u64]) -> SummaryRows
     ensures { ReadSummary bytes.now rows.old result rows.new }
 {
     match summary::read(bytes, rows) {
-        Rows::Read(count) => SummaryRows {
+        Ok(count) => SummaryRows {
             refusal: Refusal {
                 number: 0,
                 place: 0,
             },
             count,
         },
-        Rows::Refused(number) => SummaryRows {
+        Err(number) => SummaryRows {
             refusal: Refusal { number, place: 0 },
             count: 0,
         },

@@ -13,43 +13,40 @@ use Rattle.numbers.specs.Output.{padded}
 use Rattle.numbers.proofs.Output.{padded-some}
 use Rattle.bits.specs.Bits.{value_of, of_bytes}
 use Rattle.bits.proofs.Laws.{length-of-bytes}
-use Rattle.summary.specs.declared.Taken.{Taken}
-use Rattle.summary.specs.declared.Taken.TheVariants as taken
-use Rattle.summary.specs.declared.Rows as rows
-use Rattle.summary.specs.declared.Rows.TheVariants as rows_are
+use Rattle.std.proofs.Common.{Result, Ok, Err}
 use Rattle.summary.specs.Summary.{one, RowsFound, read, refused, filled, rows_after, after_version, read_of}
 use Rattle.summary.specs.Words.{words_of}
 use Rattle.summary.specs.WordsInner.{All, Took, answer_of, Answers}
 use Rattle.summary.proofs.Taking.{field-got, field-short}
 
 -- a refusal, whatever the words were before
-pub refused-answers : (found : RowsFound) (v : ℕ) (w₀ w₁ w₂ : List ℕ) (r : rows.Rows) → found ≡ refused v → length w₁ ≡ length w₀ → Answers (refused v) w₁ w₂ r → Answers found w₀ w₂ r
+pub refused-answers : (found : RowsFound) (v : ℕ) (w₀ w₁ w₂ : List ℕ) (r : Result ℕ ℕ) → found ≡ refused v → length w₁ ≡ length w₀ → Answers (refused v) w₁ w₂ r → Answers found w₀ w₂ r
 refused-answers found v w₀ w₁ w₂ r e l a = (a.0 ∙ ap answer_of (sym e), a.1 ∙ ap₂ (λ (n : ℕ) (f : RowsFound). padded n (words_of f)) l (sym e))
 
-pub same-answers : (found was : RowsFound) (w₀ w₁ : List ℕ) (r : rows.Rows) → found ≡ was → Answers was w₀ w₁ r → Answers found w₀ w₁ r
+pub same-answers : (found was : RowsFound) (w₀ w₁ : List ℕ) (r : Result ℕ ℕ) → found ≡ was → Answers was w₀ w₁ r → Answers found w₀ w₁ r
 same-answers found was w₀ w₁ r e a = subst (λ (f : RowsFound). Answers f w₀ w₁ r) (sym e) a
 
 -- ---- behind bit 11
 
 module _ (s : List ℕ) (n room : ℕ) (w : List ℕ) where
-  pub took-refused : (x : Taken) (v : ℕ) → x ≡ taken.Refused v → Took s n room w x → rows_after n room [] (drop 11 (of_bytes s)) ≡ refused v
+  pub took-refused : (x : Result Bool ℕ) (v : ℕ) → x ≡ Err v → Took s n room w x → rows_after n room [] (drop 11 (of_bytes s)) ≡ refused v
   unfolding Took
-  took-refused x v e t = subst (λ (y : Taken). Took s n room w y) e t
+  took-refused x v e t = subst (λ (y : Result Bool ℕ). Took s n room w y) e t
 
-  pub took-all : (x : Taken) (good : Bool) → x ≡ taken.All good → Took s n room w x → All s n room w good
+  pub took-all : (x : Result Bool ℕ) (good : Bool) → x ≡ Ok good → Took s n room w x → All s n room w good
   unfolding Took
-  took-all x good e t = subst (λ (y : Taken). Took s n room w y) e t
+  took-all x good e t = subst (λ (y : Result Bool ℕ). Took s n room w y) e t
 
   module _ (good : Bool) (a : All s n room w good) where
     pub is-wrong : (good && filled (drop (11 + 131 * n) (of_bytes s))) ≡ false → rows_after n room [] (drop 11 (of_bytes s)) ≡ refused 17
     is-wrong e = a.told ∙ rw e
 
     pub is_read : (w₀ v : List ℕ) → length w ≡ length w₀ → (good && filled (drop (11 + 131 * n) (of_bytes s))) ≡ true → v ≡ take (4 * n) w ++ replicate (length w - 4 * n) 0
-        → Answers (rows_after n room [] (drop 11 (of_bytes s))) w₀ v (rows_are.Read n)
+        → Answers (rows_after n room [] (drop 11 (of_bytes s))) w₀ v (Ok n)
     unfolding answer_of words_of
     is_read w₀ v l e c =
         let found : rows_after n room [] (drop 11 (of_bytes s)) ≡ read a.rows = a.told ∙ rw e in (
-          sym (ap answer_of found ∙ ap rows_are.Read a.count),
+          sym (ap answer_of found ∙ ap Ok a.count),
           c ∙ padded-some w (4 * n) a.fits ∙ ap₂ padded l a.words ∙ sym (ap (λ (f : RowsFound). padded (length w₀) (words_of f)) found),
         )
 

@@ -1,4 +1,4 @@
--- Rows taken from bits, one after the other: each way out of the loop is a law of `rowsAfter`.
+-- Rows taken from bits, one after the other: each way out of the loop is a law of `rows_after`.
 use Prim.Native.Nat.{ℕ, zero, suc, ◌+◌, ◌-◌, ◌*◌, ◌/◌, ◌^◌, ◌≤◌, ◌<◌}
 use mathlib.Core.Path.{◌≡◌, refl, sym, ap, ap₂, ◌∙◌, subst}
 use mathlib.Core.Bool.{Bool, true, false, ◌&&◌}
@@ -92,21 +92,6 @@ order-snoc a (x ∷ xs) r =
     ap (λ (t : Bool). ltb x.client a && (ltb 0 x.blocks && (leb x.first x.end && t))) (order-snoc x.client xs r)
     ∙ and-out (ltb x.client a) (ltb 0 x.blocks) (leb x.first x.end) (in_order x.client xs) (fine (last_of x.client xs) r)
 
--- a row by its three tests
-module _ (above client first end blocks : ℕ) where
-  pub not-below : above ≤ client → false ≡ fine above (summary_row client first end blocks)
-  unfolding fine
-  not-below h = rw (le-ltb client above h)
-
-  module _ (h : client < above) where
-    pub no_blocks : blocks < 1 → false ≡ fine above (summary_row client first end blocks)
-    unfolding fine
-    no_blocks l = rw (lt-ltb client above h, le-ltb 0 blocks (omega arith))
-
-    pub some-blocks : 1 ≤ blocks → leb first end ≡ fine above (summary_row client first end blocks)
-    unfolding fine
-    some-blocks l = rw (lt-ltb client above h, lt-ltb 0 blocks (omega arith))
-
 -- ---- the loop
 
 pub record Taking (s : List ℕ) (n room : ℕ) (w : List ℕ) (o k left above : ℕ) (good : Bool) : Type 0 where
@@ -127,7 +112,7 @@ begins s n room w h =
     record { seen = []; words = refl; count = omega arith; bit = refl; word = refl; told = ap (λ (m : ℕ). rows_after n m [] (drop 11 (of_bytes s))) (let e : room ≡ room - 0 = omega arith in e); order = refl; last = refl; there = omega arith; fits = omega arith }
 
 module _ (s : List ℕ) (n room : ℕ) (w : List ℕ) (o k left above : ℕ) (good : Bool) (t : Taking s n room w o k left above good) where
-  -- one row more, as `rowsAfter` says it
+  -- one row more, as `rows_after` says it
   after_more : 0 < left → (b : List Bool)
       → rows_after left (room - length t.seen) t.seen b
       ≡ a_row b (λ r rest. pick (eqb (room - length t.seen) 0) (refused 8) (rows_after (left - 1) (room - length t.seen - 1) (t.seen ++ (r ∷ [])) rest))

@@ -1,14 +1,10 @@
 -- Beside Words: what inner functions say and proofs need. No promise comes to it.
-use Rattle.std.specs.Prelude.{ℕ, zero, suc, ◌+◌, ◌*◌, ◌≤◌, ◌≡◌, Bool, ◌&&◌, List, [], ◌∷◌, ltb, leb, length, take, drop, get_or}
+use Rattle.std.specs.Prelude.{ℕ, zero, suc, ◌+◌, ◌*◌, ◌≤◌, ◌≡◌, Bool, ◌&&◌, List, [], ◌∷◌, ltb, leb, length, take, drop, get_or, Result, Ok, Err}
 use Rattle.numbers.specs.Number.{pick}
 use Rattle.numbers.specs.Output.{padded}
 use Rattle.bits.specs.Bits.{of_bytes}
 use Rattle.summary.specs.Rows.{Row}
 use Rattle.summary.specs.Summary.{RowsFound, read, refused, filled, rows_after}
-use Rattle.summary.specs.declared.Taken.{Taken}
-use Rattle.summary.specs.declared.Taken.TheVariants as taken
-use Rattle.summary.specs.declared.Rows as rows
-use Rattle.summary.specs.declared.Rows.TheVariants as rows_are
 use Rattle.summary.specs.Words.{summary_row, words_in, words_of}
 
 -- the first row of words, and the first n
@@ -32,16 +28,16 @@ pub record All (s : List ℕ) (n room : ℕ) (w : List ℕ) (good : Bool) : Type
   pub there : 11 + 131 * n ≤ 8 * length s
   pub fits : 4 * n ≤ length w
 
-unfoldable pub Took : List ℕ → ℕ → ℕ → List ℕ → Taken → Type 0
-Took s n room w (taken.All good) = All s n room w good
-Took s n room w (taken.Refused v) = rows_after n room [] (drop 11 (of_bytes s)) ≡ refused v
+unfoldable pub Took : List ℕ → ℕ → ℕ → List ℕ → Result Bool ℕ → Type 0
+Took s n room w (Ok good) = All s n room w good
+Took s n room w (Err v) = rows_after n room [] (drop 11 (of_bytes s)) ≡ refused v
 
 -- ---- an answer: how many rows, and their words
 
-unfoldable pub answer_of : RowsFound → rows.Rows
-answer_of (read rs) = rows_are.Read (length rs)
-answer_of (refused v) = rows_are.Refused v
+unfoldable pub answer_of : RowsFound → Result ℕ ℕ
+answer_of (read rs) = Ok (length rs)
+answer_of (refused v) = Err v
 
 -- what is found, as an answer r and from the words v to the words w
-abbrev pub Answers : RowsFound → List ℕ → List ℕ → rows.Rows → Type 0
+abbrev pub Answers : RowsFound → List ℕ → List ℕ → Result ℕ ℕ → Type 0
 Answers found v w r = (r ≡ answer_of found) × (w ≡ padded (length v) (words_of found))

@@ -79,14 +79,8 @@ fn put_rows(out: &mut [u8], rows: &[u64], n: usize)
     requires { (11 + 131 * n ≤ 8 * length out.old) × (4 * n ≤ length rows.now) × (n ≤ 64) }
     ensures { Adds 11 (rows_bits (rows_in n rows.now)) out.old out.new }
 {
-    let mut o = HEAD_BITS;
-    let mut k: usize = 0;
-    let mut left = n;
-    while 0 < left {
-        put_row(out, o, rows, k);
-        o += ROW_BITS;
-        k += WORDS;
-        left -= 1;
+    for i in 0..n {
+        put_row(out, HEAD_BITS + ROW_BITS * i, rows, WORDS * i);
     }
 }
 
@@ -102,26 +96,12 @@ pub fn write(out: &mut [u8], rows: &[u64], n: usize)
 
 // ---- read
 
-fn both(a: bool, b: bool) -> bool
-    ensures { result ≡ (a && b) }
-{
-    if a {
-        return b;
-    }
-    false
-}
-
 // A client below the one above it, some blocks, a first clock that is not above the last end.
+#[tactic(auto, unfolding(crate::specs::WordsInner::fine))]
 fn is_fine(above: u64, client: u64, first: u64, end: u64, blocks: u64) -> bool
     ensures { result ≡ fine above (summary_row client first end blocks) }
 {
-    if above <= client {
-        return false;
-    }
-    if blocks < 1 {
-        return false;
-    }
-    first <= end
+    client < above && 0 < blocks && first <= end
 }
 
 // A row's words, from word k on.
@@ -135,45 +115,32 @@ pub fn put_words(rows: &mut [u64], k: usize, client: u64, first: u64, end: u64, 
     rows[k + 3] = blocks;
 }
 
-// All rows taken, and whether they are fine; or the number of a refusal.
-#[derive(Clone, Copy)]
-pub enum Taken {
-    All(bool),
-    Refused(u8),
-}
-
-// n rows from bit 11 on: a row that is cut off is 1, one that has no words is 8.
-fn take_rows(s: &[u8], rows: &mut [u64], n: usize) -> Taken
+// n rows taken from bit 11 on, and whether they are fine; or a refusal: 1 where a row is cut off, 8 where it has no words.
+fn take_rows(s: &[u8], rows: &mut [u64], n: usize) -> Result<bool, u8>
     requires { (2 ≤ length s.now) × (n ≤ 64) }
     ensures { (length rows.new ≡ length rows.old)
         × Took s.now n (length rows.old / 4) rows.new result }
 {
-    let mut o = HEAD_BITS;
-    let mut k: usize = 0;
-    let mut left = n;
     let mut above = numbers::MAX_VALUE + 1;
     let mut good = true;
-    while 0 < left {
-        let next = o + ROW_BITS;
-        if s.len() < (next + 7) / 8 {
-            return Taken::Refused(1);
+    for i in 0..n {
+        let o = HEAD_BITS + ROW_BITS * i;
+        let k = WORDS * i;
+        if s.len() < (o + ROW_BITS + 7) / 8 {
+            return Err(1);
         }
         if rows.len() < k + WORDS {
-            return Taken::Refused(8);
+            return Err(8);
         }
         let client = bits::get(s, o, CLIENT_BITS);
         let first = bits::get(s, o + 53, CLOCK_BITS);
         let end = bits::get(s, o + 84, CLOCK_BITS);
         let blocks = bits::get(s, o + 115, BLOCKS_BITS);
         put_words(rows, k, client, first, end, blocks);
-        let is = is_fine(above, client, first, end, blocks);
-        good = both(good, is);
+        good &= is_fine(above, client, first, end, blocks);
         above = client;
-        o = next;
-        k += WORDS;
-        left -= 1;
     }
-    Taken::All(good)
+    Ok(good)
 }
 
 // Whether only zeros follow bit o, and no whole byte.
@@ -192,40 +159,33 @@ fn is_filled(s: &[u8], o: usize) -> bool
     bits::get(s, o, left) == 0
 }
 
-// How many rows were read, or the number of a refusal.
-#[derive(Clone, Copy)]
-pub enum Rows {
-    Read(usize),
-    Refused(u8),
-}
-
-fn refuse(rows: &mut [u64], number: u8) -> Rows
+fn refuse(rows: &mut [u64], number: u8) -> Result<usize, u8>
     ensures { (result ≡ answer_of (refused number)) × (rows.new ≡ padded (length rows.old) (words_of (refused number))) }
 {
     words::clear(rows, 0);
-    Rows::Refused(number)
+    Err(number)
 }
 
-// n rows, and what stands behind them.
-fn read_rows(s: &[u8], rows: &mut [u64], n: usize) -> Rows
+// n rows, and what stands behind them: as `read`.
+fn read_rows(s: &[u8], rows: &mut [u64], n: usize) -> Result<usize, u8>
     requires { (2 ≤ length s.now) × (n ≤ 64) }
     ensures { Answers (rows_after n (length rows.old / 4) [] (drop 11 (of_bytes s.now))) rows.old rows.new result }
 {
     match take_rows(s, rows, n) {
-        Taken::All(good) => {
+        Ok(good) => {
             let zeros = is_filled(s, HEAD_BITS + ROW_BITS * n);
-            if both(good, zeros) {
+            if good & zeros {
                 words::clear(rows, WORDS * n);
-                return Rows::Read(n);
+                return Ok(n);
             }
             refuse(rows, 17)
         }
-        Taken::Refused(v) => refuse(rows, v),
+        Err(v) => refuse(rows, v),
     }
 }
 
-// The rows of a summary, and zeros behind them; zeros only after a refusal.
-pub fn read(s: &[u8], rows: &mut [u64]) -> Rows
+// The rows of a summary, and zeros behind them: how many; or the number of a refusal, and zeros only.
+pub fn read(s: &[u8], rows: &mut [u64]) -> Result<usize, u8>
     ensures { Answers (read_of (length rows.old / 4) s.now) rows.old rows.new result }
 {
     if s.len() < 1 {

@@ -11,6 +11,7 @@ ghost use Rattle.sweep_reports.specs.Reports.{taken_of, taken_from, reach_for, b
 use block::Block;
 
 // How many blocks of slot i were taken, if it has any, from word `at` on. The place after.
+#[tactic(auto, unfolding(crate::specs::Reports::taken_of, slots::specs::Slots::slot_at))]
 fn report_count(slots: &[u64], i: usize, taken: &[u64], out: &mut [u64], at: usize) -> usize
     requires { (3 * (i + 1) ≤ length slots.now) × (i < length taken.now) × (at ≤ 2 * i) }
     ensures { (result ≡ at + length (taken_of (slot_at slots.now i) (get_or taken.now i 0))) × (result ≤ at + 2)
@@ -34,16 +35,15 @@ pub fn report_counts(slots: &[u64], n: usize, taken: &[u64], out: &mut [u64]) ->
         × (out.new ≡ fitted (length out.old) (taken_from 0 (slots_from slots.now 0 n) taken.now)) }
 {
     let mut at = 0;
-    let mut i = 0;
-    while i < n {
+    for i in 0..n {
         at = report_count(slots, i, taken, out, at);
-        i += 1;
     }
     reports::clear_after(out, at);
     at
 }
 
 // How far a client reaches: 0 where it has no slot.
+#[tactic(auto, unfolding(crate::specs::Reports::reach_for))]
 fn reach_for(slots: &[u64], n: usize, reach: &[u64], client: u64) -> u64
     requires { (3 * n ≤ length slots.now) × Falling (slots_from slots.now 0 n) }
     ensures { result ≡ reach_for (slots_from slots.now 0 n) reach.now client }
@@ -56,6 +56,7 @@ fn reach_for(slots: &[u64], n: usize, reach: &[u64], client: u64) -> u64
 }
 
 // What block b of slot i waits for, from word `at` on: its client, the client of the first id that is not met, and how far that reaches. The place after.
+#[tactic(auto, unfolding(crate::specs::Reports::block_waits, slots::specs::Slots::slot_at))]
 fn report_block(
     rule: u8,
     slots: &[u64],
@@ -86,6 +87,7 @@ fn report_block(
 }
 
 // The same of slot i's front, if it has one.
+#[tactic(auto, unfolding(crate::specs::Reports::front_waits))]
 fn report_front(
     rule: u8,
     rows: &[Block],
@@ -128,10 +130,8 @@ pub fn report_pending(
         reach.now taken.now (slots_from slots.now 0 n))) }
 {
     let mut at = 0;
-    let mut i = 0;
-    while i < n {
+    for i in 0..n {
         at = report_front(rule, rows, slots, n, i, reach, taken, out, at);
-        i += 1;
     }
     reports::clear_after(out, at);
     at

@@ -1,6 +1,6 @@
 -- What holds a front, and in which row it stands.
 use mathlib.Core.Path.{◌≡◌, refl, sym, ◌∙◌}
-use mathlib.Core.Bool.{Bool, true, false, not, false≢true}
+use mathlib.Core.Bool.{Bool, true, false, false≢true}
 use mathlib.Core.List.{List, [], ◌∷◌}
 use Prim.Native.Nat.{ℕ, zero, suc, ◌+◌, ◌≤◌, ◌<◌}
 use native.Mathlib.Omega.{arith}
@@ -9,28 +9,15 @@ use lib.ListN.{length, get_or, drop}
 use borrow.Author.Tests.{ltb-true, ltb-false, lt-ltb, le-ltb}
 use Rattle.numbers.specs.Number.{pick}
 use Rattle.parts.specs.Brim.{brim}
-use Rattle.slots.specs.Slots.{Slot, rank, is_named}
+use Rattle.slots.specs.Slots.{Slot}
 use Rattle.picker.specs.declared.stages.Dependency.{Dependency}
 use Rattle.picker.specs.Waits.{no_dependency}
-use Rattle.picker.specs.Picker.{nowhere, met_at, is_met, holds}
+use Rattle.picker.specs.Picker.{nowhere, holds}
 use Rattle.sweeper.specs.Sweeper.{first_held, front_row}
 
 -- ---- what holds a block
 
 module _ (ss : List Slot) (reach : List ℕ) where
-  pub absent-free : (a : Dependency) → a.there ≡ false → false ≡ holds ss reach a
-  unfolding holds
-  absent-free a e = rw e refl
-
-  pub there-held : (a : Dependency) → a.there ≡ true → (p : ℕ) (named : Bool) → p ≡ rank a.id.client ss → named ≡ is_named a.id.client ss
-      → (met : Bool) → met ≡ met_at reach p named a.id → not met ≡ holds ss reach a
-  unfolding holds is_met
-  there-held a e p named is at met m = rw (e, ← is, ← at, ← m) (go met)
-    where
-      go : (x : Bool) → not x ≡ pick x false true
-      go true = refl
-      go false = refl
-
   none_free : holds ss reach no_dependency ≡ false
   unfolding holds
   none_free = refl
@@ -64,14 +51,6 @@ module _ (s : Slot) (done : ℕ) where
   pub row-over : s.count ≤ done → nowhere ≡ front_row s done
   unfolding front_row
   row-over h = rw (le-ltb done s.count h) refl
-
-  pub row-far : done < s.count → brim < s.first → nowhere ≡ front_row s done
-  unfolding front_row
-  row-far h far = rw (lt-ltb done s.count h, lt-ltb brim s.first far) refl
-
-  pub row-late : done < s.count → s.first ≤ brim → brim < done → nowhere ≡ front_row s done
-  unfolding front_row
-  row-late h near late = rw (lt-ltb done s.count h, le-ltb brim s.first near, lt-ltb brim done late) refl
 
   pub row_is : done < s.count → s.first ≤ brim → done ≤ brim → s.first + done ≡ front_row s done
   unfolding front_row

@@ -16,10 +16,8 @@ use picker::stages::Dependency;
 
 // ---- a front
 
-// No row.
-pub const NOWHERE: usize = 18446744073709551615;
-
 // Whether a dependency holds its block: it is there, and its client's reach is at or below its clock, or its client has no slot.
+#[tactic(auto, unfolding(picker::specs::Picker::holds, picker::specs::Picker::is_met))]
 fn is_held(slots: &[u64], n: usize, reach: &[u64], a: Dependency) -> bool
     requires { (3 * n ≤ length slots.now) × Falling (slots_from slots.now 0 n) }
     ensures { result ≡ holds (slots_from slots.now 0 n) reach.now a }
@@ -38,17 +36,16 @@ pub fn unmet(rule: u8, slots: &[u64], n: usize, reach: &[u64], b: Block) -> Depe
     requires { (3 * n ≤ length slots.now) × Falling (slots_from slots.now 0 n) }
     ensures { result ≡ unmet_by rule (slots_from slots.now 0 n) reach.now b }
 {
-    let mut k = 0;
-    while k < stages::count(rule) {
+    for k in 0..stages::count(rule) {
         let a = stages::at(rule, b, k);
         if is_held(slots, n, reach, a) {
             return a;
         }
-        k += 1;
     }
     stages::none()
 }
 
+#[tactic(auto, unfolding(crate::specs::Sweeper::ready_by))]
 fn is_ready(rule: u8, slots: &[u64], n: usize, reach: &[u64], b: Block) -> bool
     requires { (3 * n ≤ length slots.now) × Falling (slots_from slots.now 0 n) }
     ensures { result ≡ ready_by rule (slots_from slots.now 0 n) reach.now b }
@@ -57,7 +54,8 @@ fn is_ready(rule: u8, slots: &[u64], n: usize, reach: &[u64], b: Block) -> bool
     !a.there
 }
 
-// The row of slot i's front, or NOWHERE where all its blocks are taken.
+// The row of slot i's front, or none (`picker::NOWHERE`) where all its blocks are taken.
+#[tactic(auto, unfolding(crate::specs::Sweeper::front_row, slots::specs::Slots::slot_at))]
 pub fn front_row(slots: &[u64], i: usize, taken: &[u64]) -> usize
     requires { (3 * (i + 1) ≤ length slots.now) × (i < length taken.now) }
     ensures { result ≡ front_row (slot_at slots.now i) (get_or taken.now i 0) }
@@ -65,14 +63,8 @@ pub fn front_row(slots: &[u64], i: usize, taken: &[u64]) -> usize
     let first = slots[3 * i + 1] as usize;
     let count = slots[3 * i + 2] as usize;
     let done = taken[i] as usize;
-    if count <= done {
-        return NOWHERE;
-    }
-    if parts::BRIM < first {
-        return NOWHERE;
-    }
-    if parts::BRIM < done {
-        return NOWHERE;
+    if count <= done || parts::BRIM < first || parts::BRIM < done {
+        return picker::NOWHERE;
     }
     first + done
 }
@@ -99,6 +91,7 @@ fn see(
 
 // The front of slot i, in this row, is taken: its client reaches to the block's end, one block more of it is taken, and the row is next in the order. How many
 // steps were made then.
+#[tactic(auto, unfolding(crate::specs::Sweeper::took, picker::specs::Picker::pushed))]
 fn take(
     i: usize,
     row: usize,
@@ -145,6 +138,7 @@ fn drain(
 {
     let mut steps = steps;
     let mut row = front_row(slots, i, taken);
+    // Kept, point 3 (no plainer): row is where the client's next front stands, asked for anew after each take, and counts nothing.
     while row < rows.len() {
         let b = see(numbered, rows, slots, n, held, ranges, i, row);
         if !is_ready(rule, slots, n, reach, b) {
@@ -178,9 +172,7 @@ fn sweep(
         result reach.new taken.new order.new }
 {
     let mut steps = steps;
-    let mut i = n;
-    while 0 < i {
-        i -= 1;
+    for i in (0..n).rev() {
         steps = drain(
             rule, numbered, rows, slots, n, held, ranges, i, reach, taken, order, steps,
         );

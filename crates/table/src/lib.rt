@@ -3,7 +3,7 @@
 
 ghost use Rattle.std.specs.Prelude.{◌≡◌, ◌<◌, length, get_or, set};
 ghost use Rattle.block.specs.Row.{no_block};
-ghost use Rattle.table.specs.Rows.{filled_from, cleared_from};
+ghost use Rattle.table.specs.Rows.{cleared_from};
 
 use block::Block;
 
@@ -23,21 +23,12 @@ pub fn fill(rows: &mut [Block], i: usize, b: Block)
     rows[i] = b;
 }
 
-// Each row from `from` on is b.
-fn fill_from(rows: &mut [Block], from: usize, b: Block)
-    ensures { rows.new ≡ filled_from from b rows.old }
-{
-    let mut i = from;
-    while i < rows.len() {
-        fill(rows, i, b);
-        i += 1;
-    }
-}
-
-// The rows from `from` on have no block from now on. No byte of a row is padding, so this is compiled to one memset.
+// The rows from `from` on have no block from now on. No byte of a row is padding, so this is compiled to a memset, and the last row.
 pub fn clear(rows: &mut [Block], from: usize)
     ensures { rows.new ≡ cleared_from from rows.old }
 {
-    let none = block::none();
-    fill_from(rows, from, none);
+    let n = rows.len();
+    if from < n {
+        rows[from..].fill(block::none());
+    }
 }

@@ -1,4 +1,5 @@
 -- A draw told: what the words, the row and the sheet have of it is what was drawn.
+use Rattle.std.specs.Prelude.{Option, Some, None}
 use Prim.Native.Nat.{ℕ, ◌≤◌}
 use mathlib.Core.Path.{◌≡◌, refl, sym, ap, subst, ◌∙◌}
 use mathlib.Core.Logic.{◌≢◌}
@@ -12,8 +13,6 @@ use Rattle.numbers.specs.Number.{pick}
 use Rattle.grammar.specs.Grammar as grammar
 use Rattle.grammar.specs.Grammar.{Field, Answer, Number}
 use Rattle.decoder.specs.ColumnedInner.{fields}
-use Rattle.cells.specs.declared.Drawn.TheVariants as drawn
-use Rattle.cells.specs.declared.Field.TheVariants as field
 use Rattle.cells.specs.Cells.{at_in, key_count, place_in, why_in, state_in, part_in, given, Beside, differences_in, cell}
 use Rattle.cells.proofs.Keys.{keys_length}
 use Rattle.fields.specs.Fields.{part_given, text_given}
@@ -22,8 +21,6 @@ use Rattle.origins.specs.Origins.{plain_line, stored_line, line_at, number_line,
 use Rattle.origins.specs.Sheets.{line_in, lines_from, Above}
 use Rattle.telling.specs.declared.Stored.{Stored}
 use Rattle.telling.specs.declared.Stored.TheVariants as stored-as
-use Rattle.telling.specs.declared.Told as telling-told
-use Rattle.telling.specs.declared.Told.TheVariants as told
 use Rattle.telling.specs.Asked.{stored, stored_in}
 use Rattle.telling.specs.Telling.{heard}
 use Rattle.telling.specs.TellingInner.{lines_of, Says, Tells}
@@ -57,14 +54,14 @@ module _ (form : ℕ) (u : List ℕ) (code : ℕ) (w v : List ℕ) where
 
   module _ (sh : List ℕ) (i : ℕ) where
     abbrev Told : Field → ℕ → ℕ → ℕ → Type 0
-    Told f x place n = Says form u code f w v sh i (told.Lines x place n)
+    Told f x place n = Says form u code f w v sh i (Some (x, place, n))
 
     one : {l : Line} → line_in sh i ≡ l → lines_from sh i 1 ≡ l ∷ []
     unfolding lines_from
     one e = ap (λ (l : Line). l ∷ []) e
 
     -- a number
-    module _ (n : Number) (x : ℕ) (h : given v (drawn.Number x) ≡ fields form u (grammar.number n) (state_in w)) where
+    module _ (n : Number) (x : ℕ) (h : given v (Some x) ≡ fields form u (grammar.number n) (state_in w)) where
       number-tells : lines_from sh i 1 ≡ Lines (grammar.number n) (x, place_in v) → Told (grammar.number n) x (place_in v) 1
       unfolding Says heard given
       number-tells e = record { answer = (x, place_in v); drawn = sym h; hears = refl; lines = e; few = (omega arith, omega arith) }
@@ -78,7 +75,7 @@ module _ (form : ℕ) (u : List ℕ) (code : ℕ) (w v : List ℕ) where
       number-in-column q e = number-tells (one e ∙ lines-columned q (grammar.number n) (x, place_in v))
 
     -- a text
-    module _ (q : List ℕ) (x : ℕ) (h : text_given 0 v q (drawn.Number x) ≡ fields form u grammar.text (state_in w)) where
+    module _ (q : List ℕ) (x : ℕ) (h : text_given 0 v q (Some x) ≡ fields form u grammar.text (state_in w)) where
       abbrev text : Answer grammar.text
       text = (part_in q 0, record { 0 = x })
 
@@ -95,7 +92,7 @@ module _ (form : ℕ) (u : List ℕ) (code : ℕ) (w v : List ℕ) where
       text_in-column o e = text-tells (one e ∙ lines-columned o grammar.text text)
 
     -- a key
-    module _ (q : List ℕ) (h : part_given 0 v q field.Done ≡ fields form u grammar.key (state_in w)) where
+    module _ (q : List ℕ) (h : part_given 0 v q (Some tt) ≡ fields form u grammar.key (state_in w)) where
       key-tells : (n : ℕ) → 1 ≤ n → n ≤ 2 → lines_from sh i n ≡ Lines grammar.key (part_in q 0) → Told grammar.key 0 0 n
       unfolding Says heard part_given
       key-tells n a b e = record { answer = part_in q 0; drawn = sym h; hears = refl; lines = e; few = (a, b) }
@@ -115,7 +112,7 @@ module _ (form : ℕ) (u : List ℕ) (code : ℕ) (w v : List ℕ) where
       abbrev line_of : Line
       line_of = stored_line code (part_in q 0).bytes.0 (part_in q 0) (at_in w)
 
-      pub stored-tells : (x : Stored) → part_given 0 v q field.Done ≡ stored_in form u x (state_in w) → line_in sh i ≡ line_of → Told (stored x) 0 0 1
+      pub stored-tells : (x : Stored) → part_given 0 v q (Some tt) ≡ stored_in form u x (state_in w) → line_in sh i ≡ line_of → Told (stored x) 0 0 1
       unfolding Says heard part_given stored_in stored lines_of line_at lines_in state_in
       stored-tells stored-as.Bytes h e =
           record { answer = part_in q 0; drawn = sym h; hears = refl; lines = one e ∙ either (eqb form 1); few = (omega arith, omega arith) }
@@ -126,26 +123,26 @@ module _ (form : ℕ) (u : List ℕ) (code : ℕ) (w v : List ℕ) where
 
     -- ---- what was not drawn
 
-    pub number-refused : (n : Number) → given v drawn.Refused ≡ fields form u (grammar.number n) (state_in w)
-        → Says form u code (grammar.number n) w v sh i told.Refused
+    pub number-refused : (n : Number) → given v None ≡ fields form u (grammar.number n) (state_in w)
+        → Says form u code (grammar.number n) w v sh i None
     unfolding Says given
     number-refused n h = record { why = why_in v; refused = sym h }
 
-    pub text-refused : (q : List ℕ) → text_given 0 v q drawn.Refused ≡ fields form u grammar.text (state_in w) → Says form u code grammar.text w v sh i told.Refused
+    pub text-refused : (q : List ℕ) → text_given 0 v q None ≡ fields form u grammar.text (state_in w) → Says form u code grammar.text w v sh i None
     unfolding Says text_given
     text-refused q h = record { why = why_in v; refused = sym h }
 
-    pub key-refused : (q : List ℕ) → part_given 0 v q field.Refused ≡ fields form u grammar.key (state_in w) → Says form u code grammar.key w v sh i told.Refused
+    pub key-refused : (q : List ℕ) → part_given 0 v q None ≡ fields form u grammar.key (state_in w) → Says form u code grammar.key w v sh i None
     unfolding Says part_given
     key-refused q h = record { why = why_in v; refused = sym h }
 
-    pub stored_refused : (q : List ℕ) (x : Stored) → part_given 0 v q field.Refused ≡ stored_in form u x (state_in w) → Says form u code (stored x) w v sh i told.Refused
+    pub stored_refused : (q : List ℕ) (x : Stored) → part_given 0 v q None ≡ stored_in form u x (state_in w) → Says form u code (stored x) w v sh i None
     unfolding Says part_given stored_in stored
     stored_refused q stored-as.Bytes h = record { why = why_in v; refused = sym h }
     stored_refused q (stored-as.Value blame) h = record { why = why_in v; refused = sym h }
     stored_refused q (stored-as.Values blame n) h = record { why = why_in v; refused = sym h }
 
 -- the same field, by the same number
-module _ (form : ℕ) (u w v sh sh₁ : List ℕ) (i : ℕ) (x : telling-told.Told) where
+module _ (form : ℕ) (u w v sh sh₁ : List ℕ) (i : ℕ) (x : Option (ℕ × ℕ × ℕ)) where
   pub retold : {f g : Field} {code k : ℕ} → f ≡ g → code ≡ k → Tells form u code f w v sh sh₁ i x → Tells form u k g w v sh sh₁ i x
   retold {f} {g} {code} {k} e c t = subst (λ (h : Field). Tells form u k h w v sh sh₁ i x) e (subst (λ (n : ℕ). Tells form u n f w v sh sh₁ i x) c t)

@@ -1,4 +1,5 @@
 -- Beside Telling: what inner functions say and proofs need. No promise comes to it.
+use Rattle.std.specs.Prelude.{Option, Some, None}
 use Rattle.std.specs.Prelude.{ℕ, ◌≤◌, ◌≡◌, List, eqb}
 use Rattle.numbers.specs.declared.Refusal.{Refusal}
 use Rattle.numbers.specs.Number.{pick}
@@ -13,8 +14,6 @@ use Rattle.roles.specs.declared.Role.{Role}
 use Rattle.roles.specs.declared.Role.TheVariants.{Sections, Blocks, Client, FirstClock, Info, SkipLength, GcLength, LeftClient, LeftClock, RightClient, RightClock, ParentInfo, ParentName, ParentClient, ParentClock, Key, DeletedLength, Binary, Text, MarkKey, MarkValue, TypeNumber, NodeName, ListLength, ListValues, Ended, Over}
 use Rattle.roles.specs.declared.Plan.{Plan}
 use Rattle.origins.specs.declared.Line.{Line}
-use Rattle.telling.specs.declared.Told as telling-told
-use Rattle.telling.specs.declared.Told.TheVariants as told
 use Rattle.origins.specs.Origins.{lines_in_line, lines_in}
 use Rattle.origins.specs.Sheets.{lines_from, Above}
 use Rattle.telling.specs.Telling.{heard}
@@ -71,9 +70,9 @@ pub record Draws-not (form : ℕ) (u : List ℕ) (f : Field) (w : List ℕ) : Ty
   pub why : Refusal
   pub refused : fields form u f (state_in w) ≡ not why
 
-unfoldable pub Says : ℕ → List ℕ → ℕ → Field → List ℕ → List ℕ → List ℕ → ℕ → telling-told.Told → Type 0
-Says form u code f w v sh i (told.Lines value place n) = Draws form u code f w v sh i value place n
-Says form u code f w v sh i told.Refused = Draws-not form u f w
+unfoldable pub Says : ℕ → List ℕ → ℕ → Field → List ℕ → List ℕ → List ℕ → ℕ → Option (ℕ × ℕ × ℕ) → Type 0
+Says form u code f w v sh i (Some (value, place, n)) = Draws form u code f w v sh i value place n
+Says form u code f w v sh i None = Draws-not form u f w
 
-abbrev pub Tells : ℕ → List ℕ → ℕ → Field → List ℕ → List ℕ → List ℕ → List ℕ → ℕ → telling-told.Told → Type 0
+abbrev pub Tells : ℕ → List ℕ → ℕ → Field → List ℕ → List ℕ → List ℕ → List ℕ → ℕ → Option (ℕ × ℕ × ℕ) → Type 0
 Tells form u code f w v sh sh₁ i x = Small v × Above i sh sh₁ × Says form u code f w v sh₁ i x

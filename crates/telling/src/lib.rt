@@ -11,17 +11,10 @@ ghost use Rattle.origins.specs.Numerals.{numeral};
 ghost use Rattle.telling.specs.TellingInner.{field_at, Tells};
 ghost use Rattle.telling.specs.Asked.{stored, stored_in, asks};
 
-use cells::{AT, Drawn, Field, KEY_COUNT, PLACE};
+use cells::{AT, KEY_COUNT, PLACE};
 use origins::Number;
 use roles::{Plan, Role};
 use text::{Bytes, Part};
-
-// What the plan hears of a draw: the number, or a text's units; the place that the number is blamed at; and how many lines were told.
-#[derive(Clone, Copy)]
-pub enum Told {
-    Lines(u64, u64, usize),
-    Refused,
-}
 
 // ---- what a plan asks for
 
@@ -78,7 +71,7 @@ fn ask(q: Plan) -> Asked
 
 // ---- a draw told
 
-fn draw(form: u8, update: &[u8], w: &mut [u64], n: Number) -> Drawn
+fn draw(form: u8, update: &[u8], w: &mut [u64], n: Number) -> Option<u64>
     requires { Small w.old }
     ensures { Given w.old w.new result (fields form update.now (grammar.number (numeral n)) (state_in w.old)) }
 {
@@ -102,25 +95,23 @@ fn tell_number(
     i: usize,
     code: u64,
     n: Number,
-) -> Told
+) -> Option<(u64, u64, usize)>
     requires { Small w.old × (12 * (i + 1) ≤ length sheet.old) }
     ensures { Tells form update.now code (grammar.number (numeral n)) w.old w.new
         sheet.old sheet.new i result }
 {
     let from = w[AT];
     let base = origins::base_of(w, n);
-    let Drawn::Number(v) = draw(form, update, w, n) else {
-        return Told::Refused;
-    };
+    let v = draw(form, update, w, n)?;
     let place = w[PLACE];
     if form == 1 {
         let l = origins::plain_line(code, v, from, w[AT]);
         origins::put_line(sheet, i, l);
-        return Told::Lines(v, place, 1);
+        return Some((v, place, 1));
     }
     let l = origins::number_line(update, w, code, n, v, from, base);
     origins::put_line(sheet, i, l);
-    Told::Lines(v, place, 1)
+    Some((v, place, 1))
 }
 
 // The part that was read into the first two words of a row.
@@ -144,27 +135,25 @@ fn tell_text(
     sheet: &mut [u64],
     i: usize,
     code: u64,
-) -> Told
+) -> Option<(u64, u64, usize)>
     requires { Small w.old × (length part.old ≡ 2) × (12 * (i + 1) ≤ length sheet.old) }
     ensures { Tells form update.now code grammar.text w.old w.new
         sheet.old sheet.new i result × (length part.new ≡ 2) }
 {
     let from = w[AT];
-    let Drawn::Number(units) = fields::read_text(form, update, w, part, 0) else {
-        return Told::Refused;
-    };
+    let units = fields::read_text(form, update, w, part, 0)?;
     let p = part_in(part);
     if form == 1 {
         let l = origins::stored_line(code, units, p, from);
         origins::put_line(sheet, i, l);
-        return Told::Lines(units, 0, 1);
+        return Some((units, 0, 1));
     }
     let l = origins::text_line(update, w, code, p);
     origins::put_line(sheet, i, l);
-    Told::Lines(units, 0, 1)
+    Some((units, 0, 1))
 }
 
-fn read_stored(form: u8, update: &[u8], w: &mut [u64], part: &mut [u64], x: Stored) -> Field
+fn read_stored(form: u8, update: &[u8], w: &mut [u64], part: &mut [u64], x: Stored) -> Option<()>
     requires { Small w.old × (length part.old ≡ 2) }
     ensures { WordGiven 0 w.old w.new part.old part.new result
         (stored_in form update.now x (state_in w.old)) }
@@ -187,19 +176,17 @@ fn tell_stored(
     i: usize,
     code: u64,
     x: Stored,
-) -> Told
+) -> Option<(u64, u64, usize)>
     requires { Small w.old × (length part.old ≡ 2) × (12 * (i + 1) ≤ length sheet.old) }
     ensures { Tells form update.now code (stored x) w.old w.new
         sheet.old sheet.new i result × (length part.new ≡ 2) }
 {
     let from = w[AT];
-    let Field::Done = read_stored(form, update, w, part, x) else {
-        return Told::Refused;
-    };
+    read_stored(form, update, w, part, x)?;
     let p = part_in(part);
     let l = origins::stored_line(code, part[1], p, from);
     origins::put_line(sheet, i, l);
-    Told::Lines(0, 0, 1)
+    Some((0, 0, 1))
 }
 
 // In form 2 a key has a number, and a text of its own where it is a new one.
@@ -211,7 +198,7 @@ fn tell_key(
     sheet: &mut [u64],
     i: usize,
     code: u64,
-) -> Told
+) -> Option<(u64, u64, usize)>
     requires { Small w.old × (length part.old ≡ 2) × (12 * (i + 2) ≤ length sheet.old) }
     ensures { Tells form update.now code grammar.key w.old w.new
         sheet.old sheet.new i result × (length part.new ≡ 2) }
@@ -219,20 +206,19 @@ fn tell_key(
     let from = w[AT];
     let base = w[2];
     let keys = w[KEY_COUNT];
-    let Field::Done = keyed::read_key(form, update, w, part, 0) else {
-        return Told::Refused;
-    };
+    keyed::read_key(form, update, w, part, 0)?;
     let p = part_in(part);
     if form == 1 {
         let l = origins::stored_line(code, part[1], p, from);
         origins::put_line(sheet, i, l);
-        return Told::Lines(0, 0, 1);
+        return Some((0, 0, 1));
     }
     let n = origins::put_key(update, w, sheet, i, code, p, base, keys);
-    Told::Lines(0, 0, n)
+    Some((0, 0, n))
 }
 
-// Draws what the plan asks for, and tells it from line i of the sheet on.
+// Draws what the plan asks for, and tells it from line i of the sheet on: what the plan hears of it (the number, or a text's units), the place that the
+// number is blamed at, and how many lines were told.
 pub fn tell(
     form: u8,
     update: &[u8],
@@ -241,7 +227,7 @@ pub fn tell(
     sheet: &mut [u64],
     i: usize,
     q: Plan,
-) -> Told
+) -> Option<(u64, u64, usize)>
     requires { Small w.old × (length part.old ≡ 2) × (12 * (i + 2) ≤ length sheet.old) }
     ensures { Tells form update.now (code_of q.role) (field_at q) w.old w.new
         sheet.old sheet.new i result × (length part.new ≡ 2) }

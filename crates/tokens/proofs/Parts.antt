@@ -1,12 +1,14 @@
--- The bytes of a part of an update: how many they are, and how a loop copies them.
-use Prim.Native.Nat.{ℕ, zero, suc, ◌+◌, ◌-◌, ◌<◌}
+-- The bytes of a part of an update: how many they are, and how they are copied.
+use Prim.Native.Nat.{ℕ, zero, suc, ◌+◌, ◌-◌, ◌≤◌}
 use mathlib.Core.Path.{◌≡◌, refl, sym, ap, ◌∙◌}
 use mathlib.Core.List.{List, [], ◌∷◌}
 use native.Mathlib.Nat.{suc-add, zero-add}
-use native.Mathlib.Numerals.{add-one}
 use native.Mathlib.Omega.{arith}
-use lib.ListN.{length, take, drop, set, get_or, length-append, length-drop}
-use lib.Seq.{sets, slice, take-suc, take-nil, length-take-le, get_or-drop}
+use lib.ListN.{length, take, drop, length-append}
+use lib.Seq.{sets, slice, take-nil}
+use borrow.Rule.Slice.PartMut.{put_mid, Post-is}
+use Rattle.std.proofs.Common.{append_assoc}
+use Rattle.std.proofs.lemmas.List.Edits.{sets-eq}
 use Rattle.numbers.specs.Number.{unsigned}
 use Rattle.numbers.proofs.Output.{sets-append}
 use Rattle.text.specs.declared.Part.{Part}
@@ -35,17 +37,11 @@ module _ (u : List ℕ) (p : Part) where
   pub part_slice : (n : ℕ) → n ≡ length (bytes_in u p) → slice p.place (p.place + n) u ≡ bytes_in u p
   part_slice n e = slice-take p.place n u ∙ rw (e, part-take) (take-length p.bytes.0 (drop p.place u))
 
--- ---- a copying loop
+-- ---- bytes copied into a part of those lent
 
-module _ (out : List ℕ) (at : ℕ) (u : List ℕ) (from : ℕ) where
-  pub copy-none : out ≡ sets out at (slice from (from + 0) u)
-  copy-none = rw slice-take
-
-  pub copy-on : (i : ℕ) → i < length u - from
-      → set (sets out at (slice from (from + i) u)) (at + i) (get_or u (from + i) 0) ≡ sets out at (slice from (from + (i + 1)) u)
-  copy-on i l =
-      let short : i < length (drop from u) = rw length-drop l in
-      rw (slice-take from i u, slice-take from (i + 1) u, add-one, take-suc (drop from u) i 0 short, sets-append, length-take-le i (drop from u) (omega arith), get_or-drop)
+pub put-sets : (out : List ℕ) (at end : ℕ) (b p : List ℕ) → p ≡ b → end ≡ at + length b → end ≤ length out → put_mid at (end - at) out p ≡ sets out at b
+put-sets out at end b p e m l =
+    rw (Post-is at end out (omega arith), e, m) (sym (append_assoc (take at out) b (drop (at + length b) out)) ∙ sym (sets-eq b out at (omega arith)))
 
 -- ---- bytes led by their length
 

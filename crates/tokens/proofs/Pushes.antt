@@ -11,7 +11,6 @@ use lib.ListN.{length, get_or}
 use borrow.Author.Tests.{le-leb, lt-leb, eq-eqb, ne_eqb}
 use Rattle.numbers.specs.Number.{pick}
 use Rattle.runs.specs.declared.ColumnKind.{ColumnKind}
-use Rattle.runs.specs.declared.ColumnKind.TheVariants.{Number, Difference, Byte}
 use Rattle.runs.specs.declared.writer.Writer.{Writer}
 use Rattle.runs.specs.Runs.{coding}
 use Rattle.runs.specs.RunsInner.{key_most}
@@ -183,28 +182,12 @@ module _ {w w₀ : List ℕ} {k v last key : ℕ} (s : Takes w w₀ k v last key
 
 -- ---- the lane's far
 
-module _ (w : List ℕ) (k v : ℕ) (t : Tidy w) (l : k < 10) where
-  -- columns whose keys can all be spelled
-  near-all : (coding (column_in k)).near (key_after (lane_in w k).run v) ≡ true → Alone k (far_noted w k v) w w
-  unfolding lane_in
-  near-all h =
-      alone-is k (lane_in w k) (far_noted w k v) w w (alone-none k w t l)
-      (ap (λ (b : Bool). record { lane = k; run = (lane_in w k).run; far = pick b (lane_in w k).far true }) (sym h))
-
-  pub near-number : column_in k ≡ Number → Alone k (far_noted w k v) w w
-  unfolding coding
-  near-number h = near-all (rw h)
-
-  pub near_byte : column_in k ≡ Byte → Alone k (far_noted w k v) w w
-  unfolding coding
-  near_byte h = near-all (rw h)
-
-pub far-difference : (w : List ℕ) (k v : ℕ) → column_in k ≡ Difference → (w₁ : List ℕ) (key : ℕ) → key ≡ (coding (column_in k)).key_of (get_or w (5 * k + 1) 0) v
-    → Alone k (record { lane = k; run = (lane_in w k).run; far = pick ((coding Difference).near key) (lane_in w k).far true }) w w₁
+pub far-after : (w : List ℕ) (k v : ℕ) (col : ColumnKind) → column_in k ≡ col → (w₁ : List ℕ) (key : ℕ) → key ≡ (coding (column_in k)).key_of (get_or w (5 * k + 1) 0) v
+    → Alone k (record { lane = k; run = (lane_in w k).run; far = pick ((coding col).near key) (lane_in w k).far true }) w w₁
     → Alone k (far_noted w k v) w w₁
 unfolding lane_in key_after
-far-difference w k v h w₁ key e a =
-    alone-is k (record { lane = k; run = (lane_in w k).run; far = pick ((coding Difference).near key) (lane_in w k).far true }) (far_noted w k v) w w₁ a
+far-after w k v col h w₁ key e a =
+    alone-is k (record { lane = k; run = (lane_in w k).run; far = pick ((coding col).near key) (lane_in w k).far true }) (far_noted w k v) w w₁ a
     (ap (λ (b : Bool). record { lane = k; run = (lane_in w k).run; far = pick b (lane_in w k).far true })
     (ap (λ (c : ColumnKind). (coding c).near key) (sym h) ∙ ap (coding (column_in k)).near e))
 

@@ -11,6 +11,7 @@ ghost use Rattle.tokens.specs.Tokens.{in_line, column_in};
 ghost use Rattle.tokens.specs.Lanes.{lay, forward, laid_bytes, pushed_on, laid_value, closed, laid_end};
 ghost use Rattle.tokens.specs.Desk.{lane_in, lanes_in, Tidy, Alone, closed_each, laid_ends};
 
+use runs::ColumnKind;
 use text::Part;
 
 // The lanes, in the order in which they stand; the rest is the eleventh.
@@ -60,106 +61,72 @@ fn note(lanes: &mut [u64], k: usize, at: usize, last: u64, key: u64, count: u64)
     lanes[base + 3] = count;
 }
 
-// ---- runs, each by its column's rule; measured only where there is not plenty of room, for no run has more than 21 bytes
+// ---- a column's rule
 
-fn number_run(out: &mut [u8], at: usize, key: u64, n: u64) -> usize
-    requires { at < brim }
-    ensures { (result ≡ at + length ((coding Number).spell key n)) × (out.new ≡ lay out.old at ((coding Number).spell key n)) }
+// The largest value that it takes.
+#[inline(always)]
+#[tactic(auto, unfolding(runs::specs::Runs::coding))]
+fn most(column: ColumnKind) -> u64
+    ensures { result ≡ (coding column).most }
+{
+    match column {
+        ColumnKind::Number => numbers::MAX_VALUE,
+        ColumnKind::Difference => numbers::MAX_CLOCK,
+        ColumnKind::Byte => 255,
+    }
+}
+
+// The key of a value behind another.
+#[inline(always)]
+#[tactic(auto, unfolding(runs::specs::Runs::coding))]
+fn key_of(column: ColumnKind, last: u64, v: u64) -> u64
+    requires { (last ≤ (coding column).most) × (v ≤ (coding column).most) }
+    ensures { result ≡ (coding column).key_of last v }
+{
+    match column {
+        ColumnKind::Number => v,
+        ColumnKind::Difference => runs::difference::key_between(last, v),
+        ColumnKind::Byte => v,
+    }
+}
+
+// A run; measured only where there is not plenty of room, for no run has more than 21 bytes.
+#[inline(always)]
+fn lay_run(out: &mut [u8], column: ColumnKind, at: usize, key: u64, n: u64) -> usize
+    requires { (at < brim) × (key ≤ key_most column) }
+    ensures { (result ≡ at + length ((coding column).spell key n))
+        × (out.new ≡ lay out.old at ((coding column).spell key n)) }
 {
     if crate::line::fits(out.len(), at, 21) {
-        return runs::number::put_run(out, at, key, n);
+        return runs::put_run(out, column, at, key, n);
     }
-    let size = runs::number::run_size(key, n);
+    let size = runs::run_size(column, key, n);
     if !crate::line::fits(out.len(), at, size) {
         return at + size;
     }
-    runs::number::put_run(out, at, key, n)
+    runs::put_run(out, column, at, key, n)
 }
 
-fn difference_run(out: &mut [u8], at: usize, key: u64, n: u64) -> usize
-    requires { (at < brim) × (key ≤ key_most Difference) }
-    ensures { (result ≡ at + length ((coding Difference).spell key n))
-        × (out.new ≡ lay out.old at ((coding Difference).spell key n)) }
-{
-    if crate::line::fits(out.len(), at, 21) {
-        return runs::difference::put_run(out, at, key, n);
-    }
-    let size = runs::difference::run_size(key, n);
-    if !crate::line::fits(out.len(), at, size) {
-        return at + size;
-    }
-    runs::difference::put_run(out, at, key, n)
-}
-
-fn byte_run(out: &mut [u8], at: usize, key: u64, n: u64) -> usize
-    requires { (at < brim) × (key ≤ key_most Byte) }
-    ensures { (result ≡ at + length ((coding Byte).spell key n)) × (out.new ≡ lay out.old at ((coding Byte).spell key n)) }
-{
-    if crate::line::fits(out.len(), at, 21) {
-        return runs::byte::put_run(out, at, key, n);
-    }
-    let size = runs::byte::run_size(key, n);
-    if !crate::line::fits(out.len(), at, size) {
-        return at + size;
-    }
-    runs::byte::put_run(out, at, key, n)
-}
-
-// ---- a value onto its column
-
-pub fn push_number(out: &mut [u8], lanes: &mut [u64], k: usize, v: u64)
-    requires { Tidy lanes.old × (k < 10) × (column_in k ≡ Number) }
-    ensures { Alone k (pushed_on (lane_in lanes.old k) v) lanes.old lanes.new
-        × (out.new ≡ laid_value out.old (lane_in lanes.old k) v) }
-{
-    let base = 5 * k;
-    let at = lanes[base] as usize;
-    let key = lanes[base + 2];
-    let count = lanes[base + 3];
-    if !is_open(at, count) {
-        return;
-    }
-    if numbers::MAX_VALUE < v {
-        return;
-    }
-    if count == 0 {
-        note(lanes, k, at, v, v, 1);
-        return;
-    }
-    if key == v {
-        note(lanes, k, at, v, v, count + 1);
-        return;
-    }
-    let next = number_run(out, at, key, count - 1);
-    note(lanes, k, next, v, v, 1);
-}
-
-// Whether a difference with this key cannot be spelled.
-fn is_far(key: u64) -> bool
-    ensures { result ≡ pick ((coding Difference).near key) false true }
-{
-    if key < 1073741824 {
-        return true;
-    }
-    3221225472 <= key
-}
-
-// Lane k remembers a difference that cannot be spelled.
-fn note_far(lanes: &mut [u64], k: usize, key: u64)
+// Lane k remembers a key that cannot be spelled.
+#[inline(always)]
+fn note_far(lanes: &mut [u64], k: usize, column: ColumnKind, key: u64)
     requires { Tidy lanes.old × (k < 10) }
     ensures { Alone k (record {
       lane = k;
       run = (lane_in lanes.old k).run;
-      far = pick ((coding Difference).near key) (lane_in lanes.old k).far true;
+      far = pick ((coding column).near key) (lane_in lanes.old k).far true;
     }) lanes.old lanes.new }
 {
-    if is_far(key) {
+    if runs::judge::far_with(column, false, key) {
         lanes[5 * k + 4] = 1;
     }
 }
 
-pub fn push_difference(out: &mut [u8], lanes: &mut [u64], k: usize, v: u64)
-    requires { Tidy lanes.old × (k < 10) × (column_in k ≡ Difference) }
+// ---- a value onto its column: once for all columns, and laid into each that names its own, so that no rule is looked up
+
+#[inline(always)]
+fn push(out: &mut [u8], lanes: &mut [u64], k: usize, column: ColumnKind, v: u64)
+    requires { Tidy lanes.old × (k < 10) × (column_in k ≡ column) }
     ensures { Alone k (pushed_on (lane_in lanes.old k) v) lanes.old lanes.new
         × (out.new ≡ laid_value out.old (lane_in lanes.old k) v) }
 {
@@ -171,11 +138,11 @@ pub fn push_difference(out: &mut [u8], lanes: &mut [u64], k: usize, v: u64)
     if !is_open(at, count) {
         return;
     }
-    if numbers::MAX_CLOCK < v {
+    if most(column) < v {
         return;
     }
-    let step = runs::difference::key_between(last, v);
-    note_far(lanes, k, step);
+    let step = key_of(column, last, v);
+    note_far(lanes, k, column, step);
     if count == 0 {
         note(lanes, k, at, v, step, 1);
         return;
@@ -184,8 +151,24 @@ pub fn push_difference(out: &mut [u8], lanes: &mut [u64], k: usize, v: u64)
         note(lanes, k, at, v, step, count + 1);
         return;
     }
-    let next = difference_run(out, at, key, count - 1);
+    let next = lay_run(out, column, at, key, count - 1);
     note(lanes, k, next, v, step, 1);
+}
+
+pub fn push_number(out: &mut [u8], lanes: &mut [u64], k: usize, v: u64)
+    requires { Tidy lanes.old × (k < 10) × (column_in k ≡ Number) }
+    ensures { Alone k (pushed_on (lane_in lanes.old k) v) lanes.old lanes.new
+        × (out.new ≡ laid_value out.old (lane_in lanes.old k) v) }
+{
+    push(out, lanes, k, ColumnKind::Number, v);
+}
+
+pub fn push_difference(out: &mut [u8], lanes: &mut [u64], k: usize, v: u64)
+    requires { Tidy lanes.old × (k < 10) × (column_in k ≡ Difference) }
+    ensures { Alone k (pushed_on (lane_in lanes.old k) v) lanes.old lanes.new
+        × (out.new ≡ laid_value out.old (lane_in lanes.old k) v) }
+{
+    push(out, lanes, k, ColumnKind::Difference, v);
 }
 
 pub fn push_byte(out: &mut [u8], lanes: &mut [u64], k: usize, v: u8)
@@ -193,30 +176,7 @@ pub fn push_byte(out: &mut [u8], lanes: &mut [u64], k: usize, v: u8)
     ensures { Alone k (pushed_on (lane_in lanes.old k) v) lanes.old lanes.new
         × (out.new ≡ laid_value out.old (lane_in lanes.old k) v) }
 {
-    let base = 5 * k;
-    let at = lanes[base] as usize;
-    let key = lanes[base + 2];
-    let count = lanes[base + 3];
-    let value = wide(v);
-    if !is_open(at, count) {
-        return;
-    }
-    if count == 0 {
-        note(lanes, k, at, value, value, 1);
-        return;
-    }
-    if key == value {
-        note(lanes, k, at, value, value, count + 1);
-        return;
-    }
-    let next = byte_run(out, at, key, count - 1);
-    note(lanes, k, next, value, value, 1);
-}
-
-fn wide(v: u8) -> u64
-    ensures { result ≡ v }
-{
-    v as u64
+    push(out, lanes, k, ColumnKind::Byte, v as u64);
 }
 
 // The bytes of a text.
@@ -232,34 +192,9 @@ pub fn put_text(out: &mut [u8], update: &[u8], lanes: &mut [u64], p: Part)
 
 // ---- the same measured and not written: most rows are measured so before they are written
 
-pub fn size_number(lanes: &mut [u64], k: usize, v: u64)
-    requires { Tidy lanes.old × (k < 10) × (column_in k ≡ Number) }
-    ensures { Alone k (pushed_on (lane_in lanes.old k) v) lanes.old lanes.new }
-{
-    let base = 5 * k;
-    let at = lanes[base] as usize;
-    let key = lanes[base + 2];
-    let count = lanes[base + 3];
-    if !is_open(at, count) {
-        return;
-    }
-    if numbers::MAX_VALUE < v {
-        return;
-    }
-    if count == 0 {
-        note(lanes, k, at, v, v, 1);
-        return;
-    }
-    if key == v {
-        note(lanes, k, at, v, v, count + 1);
-        return;
-    }
-    let end = at + runs::number::run_size(key, count - 1);
-    note(lanes, k, end, v, v, 1);
-}
-
-pub fn size_difference(lanes: &mut [u64], k: usize, v: u64)
-    requires { Tidy lanes.old × (k < 10) × (column_in k ≡ Difference) }
+#[inline(always)]
+fn size(lanes: &mut [u64], k: usize, column: ColumnKind, v: u64)
+    requires { Tidy lanes.old × (k < 10) × (column_in k ≡ column) }
     ensures { Alone k (pushed_on (lane_in lanes.old k) v) lanes.old lanes.new }
 {
     let base = 5 * k;
@@ -270,11 +205,11 @@ pub fn size_difference(lanes: &mut [u64], k: usize, v: u64)
     if !is_open(at, count) {
         return;
     }
-    if numbers::MAX_CLOCK < v {
+    if most(column) < v {
         return;
     }
-    let step = runs::difference::key_between(last, v);
-    note_far(lanes, k, step);
+    let step = key_of(column, last, v);
+    note_far(lanes, k, column, step);
     if count == 0 {
         note(lanes, k, at, v, step, 1);
         return;
@@ -283,32 +218,29 @@ pub fn size_difference(lanes: &mut [u64], k: usize, v: u64)
         note(lanes, k, at, v, step, count + 1);
         return;
     }
-    let end = at + runs::difference::run_size(key, count - 1);
+    let end = at + runs::run_size(column, key, count - 1);
     note(lanes, k, end, v, step, 1);
+}
+
+pub fn size_number(lanes: &mut [u64], k: usize, v: u64)
+    requires { Tidy lanes.old × (k < 10) × (column_in k ≡ Number) }
+    ensures { Alone k (pushed_on (lane_in lanes.old k) v) lanes.old lanes.new }
+{
+    size(lanes, k, ColumnKind::Number, v);
+}
+
+pub fn size_difference(lanes: &mut [u64], k: usize, v: u64)
+    requires { Tidy lanes.old × (k < 10) × (column_in k ≡ Difference) }
+    ensures { Alone k (pushed_on (lane_in lanes.old k) v) lanes.old lanes.new }
+{
+    size(lanes, k, ColumnKind::Difference, v);
 }
 
 pub fn size_byte(lanes: &mut [u64], k: usize, v: u8)
     requires { Tidy lanes.old × (k < 10) × (column_in k ≡ Byte) }
     ensures { Alone k (pushed_on (lane_in lanes.old k) v) lanes.old lanes.new }
 {
-    let base = 5 * k;
-    let at = lanes[base] as usize;
-    let key = lanes[base + 2];
-    let count = lanes[base + 3];
-    let value = wide(v);
-    if !is_open(at, count) {
-        return;
-    }
-    if count == 0 {
-        note(lanes, k, at, value, value, 1);
-        return;
-    }
-    if key == value {
-        note(lanes, k, at, value, value, count + 1);
-        return;
-    }
-    let end = at + runs::byte::run_size(key, count - 1);
-    note(lanes, k, end, value, value, 1);
+    size(lanes, k, ColumnKind::Byte, v as u64);
 }
 
 // The bytes of a text.
@@ -326,9 +258,9 @@ pub fn size_text(update: &[u8], lanes: &mut [u64], p: Part)
 
 // ---- the ends
 
-// The last run of a number column.
-fn close_number(out: &mut [u8], lanes: &mut [u64], k: usize)
-    requires { Tidy lanes.old × (k < 10) × (in_line k ≡ false) × (column_in k ≡ Number) }
+// The last run of a column.
+fn close_lane(out: &mut [u8], lanes: &mut [u64], k: usize, column: ColumnKind)
+    requires { Tidy lanes.old × (k < 10) × (in_line k ≡ false) × (column_in k ≡ column) }
     ensures { Alone k (closed (lane_in lanes.old k)) lanes.old lanes.new
         × (out.new ≡ laid_end out.old (lane_in lanes.old k)) }
 {
@@ -342,44 +274,13 @@ fn close_number(out: &mut [u8], lanes: &mut [u64], k: usize)
     if count == 0 {
         return;
     }
-    let next = number_run(out, at, key, count - 1);
+    let size = runs::last_size(column, key, count - 1);
+    let next = at + size;
     lanes[base] = next as u64;
-}
-
-fn close_difference(out: &mut [u8], lanes: &mut [u64], k: usize)
-    requires { Tidy lanes.old × (k < 10) × (in_line k ≡ false) × (column_in k ≡ Difference) }
-    ensures { Alone k (closed (lane_in lanes.old k)) lanes.old lanes.new
-        × (out.new ≡ laid_end out.old (lane_in lanes.old k)) }
-{
-    let base = 5 * k;
-    let at = lanes[base] as usize;
-    let key = lanes[base + 2];
-    let count = lanes[base + 3];
-    if parts::BRIM <= at {
+    if !crate::line::fits(out.len(), at, size) {
         return;
     }
-    if count == 0 {
-        return;
-    }
-    let next = difference_run(out, at, key, count - 1);
-    lanes[base] = next as u64;
-}
-
-// The byte column's last run has no count.
-fn close_byte(out: &mut [u8], lanes: &mut [u64], k: usize)
-    requires { Tidy lanes.old × (k < 10) × (in_line k ≡ false) × (column_in k ≡ Byte) }
-    ensures { Alone k (closed (lane_in lanes.old k)) lanes.old lanes.new
-        × (out.new ≡ laid_end out.old (lane_in lanes.old k)) }
-{
-    let base = 5 * k;
-    let at = lanes[base] as usize;
-    let key = lanes[base + 2];
-    let count = lanes[base + 3];
-    if count == 0 {
-        return;
-    }
-    let next = crate::line::byte(out, at, key as u8);
-    lanes[base] = next as u64;
+    runs::put_last(out, column, at, key, count - 1);
 }
 
 // The last runs of all columns; texts have none.
@@ -388,13 +289,13 @@ pub fn close(out: &mut [u8], lanes: &mut [u64])
     ensures { (lanes_in lanes.new ≡ closed_each (lanes_in lanes.old))
         × (out.new ≡ laid_ends out.old (lanes_in lanes.old)) × Tidy lanes.new }
 {
-    close_difference(out, lanes, KEYS);
-    close_number(out, lanes, CLIENTS);
-    close_difference(out, lanes, LEFTS);
-    close_difference(out, lanes, RIGHTS);
-    close_byte(out, lanes, INFOS);
-    close_number(out, lanes, UNITS);
-    close_byte(out, lanes, PARENTS);
-    close_number(out, lanes, TYPES);
-    close_number(out, lanes, LENS);
+    close_lane(out, lanes, KEYS, ColumnKind::Difference);
+    close_lane(out, lanes, CLIENTS, ColumnKind::Number);
+    close_lane(out, lanes, LEFTS, ColumnKind::Difference);
+    close_lane(out, lanes, RIGHTS, ColumnKind::Difference);
+    close_lane(out, lanes, INFOS, ColumnKind::Byte);
+    close_lane(out, lanes, UNITS, ColumnKind::Number);
+    close_lane(out, lanes, PARENTS, ColumnKind::Byte);
+    close_lane(out, lanes, TYPES, ColumnKind::Number);
+    close_lane(out, lanes, LENS, ColumnKind::Number);
 }

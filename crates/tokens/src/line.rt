@@ -69,33 +69,20 @@ pub fn byte(out: &mut [u8], at: usize, v: u8) -> usize
     next
 }
 
-// The bytes of a slice from `from` on, n of them, at a place.
-fn copy(out: &mut [u8], at: usize, update: &[u8], from: usize, n: usize)
-    requires { (at + n ≤ length out.old) × (n ≤ length update.now - from) }
-    ensures { out.new ≡ sets out.old at (slice from (from + n) update.now) }
-{
-    let mut i = 0;
-    while i < n {
-        out[at + i] = update[from + i];
-        i += 1;
-    }
-}
-
 // The bytes of a part.
 pub fn part(out: &mut [u8], update: &[u8], at: usize, p: Part) -> usize
     ensures { (result ≡ ahead at (bytes_in update.now p))
         × (out.new ≡ laid_at out.old at (bytes_in update.now p)) }
 {
-    let from = p.place;
     if parts::BRIM <= at {
         return at;
     }
-    let n = parts::bytes_inside(update, p);
-    let next = at + n;
-    if !fits(out.len(), at, n) {
+    let bytes = parts::bytes(update, p);
+    let next = at + bytes.len();
+    if !fits(out.len(), at, bytes.len()) {
         return next;
     }
-    copy(out, at, update, from, n);
+    out[at..next].copy_from_slice(bytes);
     next
 }
 
@@ -104,19 +91,17 @@ pub fn led_part(out: &mut [u8], update: &[u8], at: usize, p: Part) -> usize
     ensures { (result ≡ ahead at (led (bytes_in update.now p)))
         × (out.new ≡ laid_at out.old at (led (bytes_in update.now p))) }
 {
-    let from = p.place;
     if parts::BRIM <= at {
         return at;
     }
-    let n = parts::bytes_inside(update, p);
-    let count = n as u64;
-    let head = numbers::size_unsigned(count);
-    let size = head + n;
+    let bytes = parts::bytes(update, p);
+    let count = bytes.len() as u64;
+    let size = numbers::size_unsigned(count) + bytes.len();
     let next = at + size;
     if !fits(out.len(), at, size) {
         return next;
     }
     let mid = numbers::write_unsigned(out, at, count);
-    copy(out, mid, update, from, n);
+    out[mid..next].copy_from_slice(bytes);
     next
 }

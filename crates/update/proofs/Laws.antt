@@ -1,4 +1,6 @@
 -- One step of the grammar, with no machine: what is to come before a section's head, a block or the end is what reading it gives, and then what is to come.
+use Rattle.std.specs.Prelude.{Option, Some, None}
+use Rattle.std.specs.Prelude.{Result, Ok, Err}
 use Prim.Native.Nat.{ℕ, suc, ◌+◌, ◌-◌, ◌<◌, ◌≤◌}
 use native.Mathlib.Omega.{arith}
 use native.Mathlib.Numerals.{add-one}
@@ -28,27 +30,23 @@ use Rattle.decoder.specs.ColumnedInner.{fields}
 use Rattle.decoder.specs.Opening.{opened_of}
 use Rattle.decoder.specs.Update.{rest_places, in_columns, blocks_of}
 use Rattle.decoder.proofs.Laws.{placed-line, run-columned, fields-up-to}
-use Rattle.cells.specs.declared.Drawn as cells-drawn
-use Rattle.cells.specs.declared.Drawn.TheVariants as drawn
 use Rattle.cells.specs.Cells.{cell, at_in, place_in, why_in, state_in, Small, Enough, given, key_count}
 use Rattle.opening.specs.Opening.{opened_in}
 use Rattle.item.specs.Row.{row_in, Narrow, block_onto}
 use Rattle.update.specs.declared.Spot.{Spot}
-use Rattle.update.specs.declared.Begun.{Begun}
-use Rattle.update.specs.declared.Begun.TheVariants as begun
-use Rattle.update.specs.declared.Step.TheVariants.{Block, On, Done, Refused}
+use Rattle.update.specs.declared.Step.TheVariants.{Block, On, Done}
 use Rattle.update.specs.Steps.{to_come, reads, after, begins, Fine, left, Steady, Stepped, First, Counted, Starts}
 
 -- ---- a number drawn
 
 -- what is in line, as the form has it
-pub in-line : (form : ℕ) (u : List ℕ) (most : ℕ) (w v : List ℕ) (r : cells-drawn.Drawn) → given v r ≡ onto (state_in w) (up_to most u (at_in w))
+pub in-line : (form : ℕ) (u : List ℕ) (most : ℕ) (w v : List ℕ) (r : Option ℕ) → given v r ≡ onto (state_in w) (up_to most u (at_in w))
     → given v r ≡ fields form u (grammar.number (grammar.up_to most)) (state_in w)
 unfolding state_in
 in-line form u most w v r e = e ∙ sym (fields-up-to form u most (state_in w))
 
 -- and is no more than its limit
-pub within : (most : ℕ) (u : List ℕ) (at : ℕ) (s : State) (v : List ℕ) (x : ℕ) → given v (drawn.Number x) ≡ onto s (up_to most u at) → x ≤ most
+pub within : (most : ℕ) (u : List ℕ) (at : ℕ) (s : State) (v : List ℕ) (x : ℕ) → given v (Some x) ≡ onto s (up_to most u at) → x ≤ most
 unfolding up_to bounded given onto
 within most u at s v x e = go (var_at u at) e
   where
@@ -70,34 +68,34 @@ within most u at s v x e = go (var_at u at) e
 
 module _ {E A : Type 0} (form : ℕ) (u : List ℕ) (n : Number) (k : ℕ × ℕ → Grammar E A) (w v : List ℕ) where
   -- what comes of a number: the rest, read from the words that it leaves
-  pub asked : (x : ℕ) → given v (drawn.Number x) ≡ fields form u (grammar.number n) (state_in w)
+  pub asked : (x : ℕ) → given v (Some x) ≡ fields form u (grammar.number n) (state_in w)
       → run (fields form u) (ask (grammar.number n) k) (state_in w) ≡ run (fields form u) (k (x, place_in v)) (state_in v)
   unfolding run on_drawn given
   asked x e = rw (← e) refl
 
-  pub refused : given v drawn.Refused ≡ fields form u (grammar.number n) (state_in w) → run (fields form u) (ask (grammar.number n) k) (state_in w) ≡ stopped (why_in v)
+  pub refused : given v None ≡ fields form u (grammar.number n) (state_in w) → run (fields form u) (ask (grammar.number n) k) (state_in w) ≡ stopped (why_in v)
   unfolding run on_drawn given
   refused e = rw (← e) refl
 
 -- ---- ways out
 
 module _ (form : ℕ) (u m w r : List ℕ) (s : Spot) (m₁ w₁ r₁ : List ℕ) (small : Small w₁) (memory : length m₁ ≡ length m) (row-length : length r₁ ≡ length r) where
-  pub refuses : (why : Refusal) → reads form u m w s ≡ stopped why → Stepped form u m w r s m₁ w₁ r₁ (Refused why)
+  pub refuses : (why : Refusal) → reads form u m w s ≡ stopped why → Stepped form u m w r s m₁ w₁ r₁ (Err why)
   unfolding after Steady
   refuses why e = record { told = e; steady = tt; small = small; memory = memory; row = row-length }
 
-  pub goes_on : (t : Spot) → reads form u m w s ≡ reads form u m₁ w₁ t → Fine m₁ t → left t < left s → Stepped form u m w r s m₁ w₁ r₁ (On t)
+  pub goes_on : (t : Spot) → reads form u m w s ≡ reads form u m₁ w₁ t → Fine m₁ t → left t < left s → Stepped form u m w r s m₁ w₁ r₁ (Ok (On t))
   unfolding after Steady
   goes_on t e fine less = record { told = e; steady = (fine, less); small = small; memory = memory; row = row-length }
 
   pub keeps : (p : ℕ) (t : Spot) → reads form u m w s ≡ thing (row_in r₁) p (reads form u m₁ w₁ t) → Fine m₁ t → Narrow r₁ → left t < left s
-      → Stepped form u m w r s m₁ w₁ r₁ (Block p t)
+      → Stepped form u m w r s m₁ w₁ r₁ (Ok (Block p t))
   unfolding after Steady
   keeps p t e fine narrow less = record { told = e; steady = (fine, narrow, less); small = small; memory = memory; row = row-length }
 
 -- ---- the end
 
-pub ends : (form : ℕ) (u m w r : List ℕ) (s : Spot) → s.blocks ≡ 0 → s.sections ≡ 0 → Small w → Stepped form u m w r s m w r (Done (at_in w))
+pub ends : (form : ℕ) (u m w r : List ℕ) (s : Spot) → s.blocks ≡ 0 → s.sections ≡ 0 → Small w → Stepped form u m w r s m w r (Ok (Done (at_in w)))
 unfolding reads to_come after Steady run blocks sections ◌>>=◌ state_in
 ends form u m w r s b n small = record { told = rw (b, n) refl; steady = tt; small = small; memory = refl; row = refl }
 
@@ -125,17 +123,17 @@ module _ (form : ℕ) (u m w : List ℕ) (s : Spot) (none : s.blocks ≡ 0) (som
   unfolding reads
   from-here e = ap (λ (x : Grammar row.Block (Unit {0})). run (fields form u) x (state_in w)) at-section ∙ e
 
-  pub no-count : (v : List ℕ) → given v drawn.Refused ≡ fields form u (grammar.number (grammar.up_to s.room)) (state_in w) → reads form u m w s ≡ stopped (why_in v)
+  pub no-count : (v : List ℕ) → given v None ≡ fields form u (grammar.number (grammar.up_to s.room)) (state_in w) → reads form u m w s ≡ stopped (why_in v)
   no-count v e = from-here (refused form u _ _ w v e)
 
-  module _ (w₁ : List ℕ) (k : ℕ) (ek : given w₁ (drawn.Number k) ≡ fields form u (grammar.number (grammar.up_to s.room)) (state_in w)) where
+  module _ (w₁ : List ℕ) (k : ℕ) (ek : given w₁ (Some k) ≡ fields form u (grammar.number (grammar.up_to s.room)) (state_in w)) where
     counted : reads form u m w s ≡ run (fields form u) (ask (grammar.number grammar.client) (rest k)) (state_in w₁)
     counted = from-here (asked form u _ _ w w₁ k ek)
 
-    pub no-client : (v : List ℕ) → given v drawn.Refused ≡ fields form u (grammar.number grammar.client) (state_in w₁) → reads form u m w s ≡ stopped (why_in v)
+    pub no-client : (v : List ℕ) → given v None ≡ fields form u (grammar.number grammar.client) (state_in w₁) → reads form u m w s ≡ stopped (why_in v)
     no-client v e = counted ∙ refused form u _ _ w₁ v e
 
-    module _ (w₂ : List ℕ) (c : ℕ) (ec : given w₂ (drawn.Number c) ≡ fields form u (grammar.number grammar.client) (state_in w₁)) where
+    module _ (w₂ : List ℕ) (c : ℕ) (ec : given w₂ (Some c) ≡ fields form u (grammar.number grammar.client) (state_in w₁)) where
       named : reads form u m w s ≡ run (fields form u) (rest k (c, place_in w₂)) (state_in w₂)
       named = counted ∙ asked form u _ _ w₁ w₂ c ec
 
@@ -148,10 +146,10 @@ module _ (form : ℕ) (u m w : List ℕ) (s : Spot) (none : s.blocks ≡ 0) (som
         unfolding ◌>>=◌
         clocked = named ∙ rw new refl
 
-        pub no-clock : (v : List ℕ) → given v drawn.Refused ≡ fields form u (grammar.number (grammar.up_to max_clock)) (state_in w₂) → reads form u m w s ≡ stopped (why_in v)
+        pub no-clock : (v : List ℕ) → given v None ≡ fields form u (grammar.number (grammar.up_to max_clock)) (state_in w₂) → reads form u m w s ≡ stopped (why_in v)
         no-clock v e = clocked ∙ refused form u _ _ w₂ v e
 
-        module _ (w₃ : List ℕ) (clock : ℕ) (el : given w₃ (drawn.Number clock) ≡ fields form u (grammar.number (grammar.up_to max_clock)) (state_in w₂)) (fine : Fine m s) where
+        module _ (w₃ : List ℕ) (clock : ℕ) (el : given w₃ (Some clock) ≡ fields form u (grammar.number (grammar.up_to max_clock)) (state_in w₂)) (fine : Fine m s) where
           abbrev head : Spot
           head = record { sections = s.sections - 1; blocks = k; room = s.room - k; seen = s.seen + 1; client = c; clock = clock }
 
@@ -202,11 +200,11 @@ module _ (form : ℕ) (u m w : List ℕ) (s : Spot) (some : 1 ≤ s.blocks) wher
       one_more = omega (arith, some)
 
   module _ (v q : List ℕ) where
-    pub no_block : block_onto v q drawn.Refused ≡ run (fields form u) (block s.client s.clock) (state_in w) → reads form u m w s ≡ stopped (why_in v)
+    pub no_block : block_onto v q None ≡ run (fields form u) (block s.client s.clock) (state_in w) → reads form u m w s ≡ stopped (why_in v)
     unfolding block_onto and_then
     no_block e = at_block ∙ rw (← e) refl
 
-    module _ (p : ℕ) (e : block_onto v q (drawn.Number p) ≡ run (fields form u) (block s.client s.clock) (state_in w)) where
+    module _ (p : ℕ) (e : block_onto v q (Some p) ≡ run (fields form u) (block s.client s.clock) (state_in w)) where
       had : reads form u m w s ≡ and_then (run (fields form u) (next (row_in q, p)) (state_in v)) Behind
       unfolding block_onto and_then
       had = at_block ∙ rw (← e) refl
@@ -272,11 +270,11 @@ abbrev first : ℕ → Spot
 first n = record { sections = n; blocks = 0; room = max_blocks; seen = 0; client = 0; clock = 0 }
 
 module _ (form : ℕ) (u w v : List ℕ) (small : Small v) where
-  pub uncounted : given v drawn.Refused ≡ fields form u (grammar.number (grammar.up_to max_clients)) (state_in w) → Counted form u w v (begun.Refused (why_in v))
+  pub uncounted : given v None ≡ fields form u (grammar.number (grammar.up_to max_clients)) (state_in w) → Counted form u w v (Err (why_in v))
   unfolding begins First all_blocks ◌>>=◌
   uncounted e = record { told = λ m. refused form u _ _ w v e; first = λ m l. tt; small = small }
 
-  pub count : (n : ℕ) → n ≤ max_clients → given v (drawn.Number n) ≡ fields form u (grammar.number (grammar.up_to max_clients)) (state_in w) → Counted form u w v (begun.At (first n))
+  pub count : (n : ℕ) → n ≤ max_clients → given v (Some n) ≡ fields form u (grammar.number (grammar.up_to max_clients)) (state_in w) → Counted form u w v (Ok (first n))
   unfolding begins First reads to_come blocks all_blocks ◌>>=◌
   count n few e = record {
     told = λ m. asked form u _ _ w v n e;
@@ -285,7 +283,7 @@ module _ (form : ℕ) (u w v : List ℕ) (small : Small v) where
   }
 
 -- form 1 is read from its first byte on
-pub starts-line : (form : ℕ) (u w v : List ℕ) (x : Begun) → form ≡ 1 → at_in w ≡ 0 → Counted form u w v x → Starts form u v x
+pub starts-line : (form : ℕ) (u w v : List ℕ) (x : Result Spot Refusal) → form ≡ 1 → at_in w ≡ 0 → Counted form u w v x → Starts form u v x
 unfolding blocks_of state_in
 starts-line form u w v x f z c = record { told = λ m. first_byte ∙ ap rest_places (c.told m); columns = λ m other. absurd (other f); first = c.first; small = c.small }
   where
@@ -293,11 +291,11 @@ starts-line form u w v x f z c = record { told = λ m. first_byte ∙ ap rest_pl
     first_byte = rw (f) (sym (placed-line u all_blocks (state_in w) ∙ ap (λ (at : ℕ). run (line 1 u) all_blocks at) z))
 
 module _ (form : ℕ) (u v : List ℕ) (other : form ≢ 1) where
-  pub unopened : Small v → opened_in v drawn.Refused ≡ opened_of u → Starts form u v (begun.Refused (why_in v))
+  pub unopened : Small v → opened_in v None ≡ opened_of u → Starts form u v (Err (why_in v))
   unfolding blocks_of in_columns on_drawn rest_places opened_in begins First
   unopened small e = record { told = λ m. rw (ne_eqb form 1 other, ← e) refl; columns = λ m o. rw (← e) refl; first = λ m l. tt; small = small }
 
-  pub starts-columned : (n : ℕ) (w : List ℕ) (x : Begun) → opened_in v (drawn.Number n) ≡ opened_of u → Counted form u v w x → Starts form u w x
+  pub starts-columned : (n : ℕ) (w : List ℕ) (x : Result Spot Refusal) → opened_in v (Some n) ≡ opened_of u → Counted form u v w x → Starts form u w x
   unfolding blocks_of in_columns on_drawn opened_in
   starts-columned n w x e c =
       record {

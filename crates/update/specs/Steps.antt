@@ -1,5 +1,6 @@
 -- One step of reading an update's blocks: what is to come before it is what it gives, and then what is to come after it.
-use Rattle.std.specs.Prelude.{ℕ, ◌+◌, ◌*◌, ◌≤◌, ◌<◌, ◌≡◌, ◌≢◌, List, length, take}
+use Rattle.numbers.specs.declared.Refusal.{Refusal}
+use Rattle.std.specs.Prelude.{ℕ, ◌+◌, ◌*◌, ◌≤◌, ◌<◌, ◌≡◌, ◌≢◌, List, length, take, Result, Ok, Err}
 use Rattle.numbers.specs.Limits.{max_clock, max_blocks}
 use Rattle.block.specs.declared.Block as row
 use Rattle.grammar.specs.Grammar.{Grammar}
@@ -12,10 +13,8 @@ use Rattle.decoder.specs.Update.{rest_places, in_columns, blocks_of}
 use Rattle.cells.specs.Cells.{state_in, Small}
 use Rattle.item.specs.Row.{row_in, Narrow}
 use Rattle.update.specs.declared.Spot.{Spot}
-use Rattle.update.specs.declared.Begun.{Begun}
-use Rattle.update.specs.declared.Begun.TheVariants as begun
 use Rattle.update.specs.declared.Step.{Step}
-use Rattle.update.specs.declared.Step.TheVariants.{Block, On, Done, Refused}
+use Rattle.update.specs.declared.Step.TheVariants.{Block, On, Done}
 
 -- the blocks left of this section, and the sections left; m has the clients seen
 unfoldable pub to_come : List ℕ → Spot → Grammar row.Block (Unit {0})
@@ -30,15 +29,15 @@ comes form u m w s = rest_places (reads form u m w s)
 
 -- ---- what a step gives, with the memory m, the words w and the row r that it leaves
 
-unfoldable pub after : ℕ → List ℕ → List ℕ → List ℕ → List ℕ → Step → CourseTo State row.Block (Unit {0})
-after form u m w r (Block p t) = thing (row_in r) p (reads form u m w t)
-after form u m w r (On t) = reads form u m w t
-after form u m w r (Done at) = over tt (moved_to (state_in w) at)
-after form u m w r (Refused why) = stopped why
+unfoldable pub after : ℕ → List ℕ → List ℕ → List ℕ → List ℕ → Result Step Refusal → CourseTo State row.Block (Unit {0})
+after form u m w r (Ok (Block p t)) = thing (row_in r) p (reads form u m w t)
+after form u m w r (Ok (On t)) = reads form u m w t
+after form u m w r (Ok (Done at)) = over tt (moved_to (state_in w) at)
+after form u m w r (Err why) = stopped why
 
-unfoldable pub begins : ℕ → List ℕ → List ℕ → List ℕ → Begun → CourseTo State row.Block (Unit {0})
-begins form u m w (begun.At s) = reads form u m w s
-begins form u m w (begun.Refused why) = stopped why
+unfoldable pub begins : ℕ → List ℕ → List ℕ → List ℕ → Result Spot Refusal → CourseTo State row.Block (Unit {0})
+begins form u m w (Ok s) = reads form u m w s
+begins form u m w (Err why) = stopped why
 
 -- ---- what steps keep up
 
@@ -54,32 +53,32 @@ unfoldable pub left : Spot → ℕ
 left s = s.sections * 65536 + s.blocks
 
 -- and each leaves fewer
-unfoldable pub Steady : List ℕ → List ℕ → Spot → Step → Type 0
-Steady m r s (Block p t) = Fine m t × Narrow r × (left t < left s)
-Steady m r s (On t) = Fine m t × (left t < left s)
-Steady m r s (Done at) = Unit {0}
-Steady m r s (Refused why) = Unit {0}
+unfoldable pub Steady : List ℕ → List ℕ → Spot → Result Step Refusal → Type 0
+Steady m r s (Ok (Block p t)) = Fine m t × Narrow r × (left t < left s)
+Steady m r s (Ok (On t)) = Fine m t × (left t < left s)
+Steady m r s (Ok (Done at)) = Unit {0}
+Steady m r s (Err why) = Unit {0}
 
 -- a step from the memory m, the words w and the row r to those with ₁
-pub record Stepped (form : ℕ) (u m w r : List ℕ) (s : Spot) (m₁ w₁ r₁ : List ℕ) (x : Step) : Type 0 where
+pub record Stepped (form : ℕ) (u m w r : List ℕ) (s : Spot) (m₁ w₁ r₁ : List ℕ) (x : Result Step Refusal) : Type 0 where
   pub told : reads form u m w s ≡ after form u m₁ w₁ r₁ x
   pub steady : Steady m₁ r₁ s x
   pub small : Small w₁
   pub memory : length m₁ ≡ length m
   pub row : length r₁ ≡ length r
 
-unfoldable pub First : List ℕ → Begun → Type 0
-First m (begun.At s) = Fine m s
-First m (begun.Refused why) = Unit {0}
+unfoldable pub First : List ℕ → Result Spot Refusal → Type 0
+First m (Ok s) = Fine m s
+First m (Err why) = Unit {0}
 
 -- the section count: all blocks from the words w on, to the words v
-pub record Counted (form : ℕ) (u w v : List ℕ) (x : Begun) : Type 0 where
+pub record Counted (form : ℕ) (u w v : List ℕ) (x : Result Spot Refusal) : Type 0 where
   pub told : (m : List ℕ) → run (fields form u) all_blocks (state_in w) ≡ begins form u m v x
   pub first : (m : List ℕ) → 64 ≤ length m → First m x
   pub small : Small v
 
 -- the beginning, whatever the memory m of 64 words and the words were, to the words w; form 2 also with the state that it ends in
-pub record Starts (form : ℕ) (u w : List ℕ) (x : Begun) : Type 0 where
+pub record Starts (form : ℕ) (u w : List ℕ) (x : Result Spot Refusal) : Type 0 where
   pub told : (m : List ℕ) → blocks_of form u ≡ rest_places (begins form u m w x)
   pub columns : (m : List ℕ) → form ≢ 1 → in_columns u ≡ begins form u m w x
   pub first : (m : List ℕ) → 64 ≤ length m → First m x

@@ -6,7 +6,7 @@ ghost use Rattle.std.specs.Prelude.{◌≡◌, ◌≢◌, ◌≤◌, length};
 ghost use Rattle.cells.specs.Cells.{Small, Enough};
 ghost use Rattle.update.specs.Steps.{Fine, Stepped, Counted, Starts};
 
-use cells::{AT, Drawn, PLACE};
+use cells::{AT, PLACE};
 use numbers::Refusal;
 
 // What is still to come: sections, and blocks of this section; how many blocks may still be announced; how many clients were seen; the client
@@ -22,13 +22,12 @@ pub struct Spot {
 }
 
 // A step: the row's words hold a block to keep, whose info byte stands at the place; a section's head, or an item of length 0, which is dropped; the end of
-// all blocks, with the place after it; a refusal.
+// all blocks, with the place after it.
 #[derive(Clone, Copy)]
 pub enum Step {
     Block(usize, Spot),
     On(Spot),
     Done(usize),
-    Refused(Refusal),
 }
 
 // A section's head: block count, client, first clock. The client is remembered.
@@ -39,24 +38,24 @@ fn read_section(
     r: &mut [u64],
     memory: &mut [u64],
     s: Spot,
-) -> Step
+) -> Result<Step, Refusal>
     requires { Small w.old × Fine memory.old s × (1 ≤ s.sections) × (s.blocks ≡ 0) }
     ensures { Stepped form update.now memory.old w.old r.old s
         memory.new w.new r.new result }
 {
-    let Drawn::Number(count) = fields::read_var(update, w, s.room) else {
-        return Step::Refused(cells::why(w));
+    let Some(count) = fields::read_var(update, w, s.room) else {
+        return Err(cells::why(w));
     };
-    let Drawn::Number(client) = fields::read_client(form, update, w) else {
-        return Step::Refused(cells::why(w));
+    let Some(client) = fields::read_client(form, update, w) else {
+        return Err(cells::why(w));
     };
     let place = w[PLACE] as usize;
     let seen = s.seen;
     if numbers::words::is_among(memory, seen, client) {
-        return Step::Refused(Refusal { number: 4, place });
+        return Err(Refusal { number: 4, place });
     }
-    let Drawn::Number(clock) = fields::read_var(update, w, numbers::MAX_CLOCK) else {
-        return Step::Refused(cells::why(w));
+    let Some(clock) = fields::read_var(update, w, numbers::MAX_CLOCK) else {
+        return Err(cells::why(w));
     };
     memory[seen] = client;
     let head = Spot {
@@ -67,7 +66,7 @@ fn read_section(
         client,
         clock,
     };
-    Step::On(head)
+    Ok(Step::On(head))
 }
 
 fn read_block(
@@ -77,30 +76,30 @@ fn read_block(
     r: &mut [u64],
     memory: &mut [u64],
     s: Spot,
-) -> Step
+) -> Result<Step, Refusal>
     requires { Small w.old × (length r.old ≡ 24) × Fine memory.old s × (1 ≤ s.blocks) }
     ensures { Stepped form update.now memory.old w.old r.old s
         memory.new w.new r.new result }
 {
-    let Drawn::Number(at) = item::read_block(form, update, w, r, s.client, s.clock) else {
-        return Step::Refused(cells::why(w));
+    let Some(at) = item::read_block(form, update, w, r, s.client, s.clock) else {
+        return Err(cells::why(w));
     };
     let place = at as usize;
     let len = item::length_in(r);
     if numbers::MAX_CLOCK < len {
-        return Step::Refused(Refusal { number: 3, place });
+        return Err(Refusal { number: 3, place });
     }
     let end = s.clock + len;
     if numbers::MAX_CLOCK < end {
-        return Step::Refused(Refusal { number: 3, place });
+        return Err(Refusal { number: 3, place });
     }
     let mut t = s;
     t.blocks = s.blocks - 1;
     t.clock = end;
     if item::is_dropped(r) {
-        return Step::On(t);
+        return Ok(Step::On(t));
     }
-    Step::Block(place, t)
+    Ok(Step::Block(place, t))
 }
 
 // The next step; `memory` holds the clients seen.
@@ -111,7 +110,7 @@ pub fn next(
     r: &mut [u64],
     memory: &mut [u64],
     s: Spot,
-) -> Step
+) -> Result<Step, Refusal>
     requires { Small w.old × (length r.old ≡ 24) × Fine memory.old s }
     ensures { Stepped form update.now memory.old w.old r.old s
         memory.new w.new r.new result }
@@ -119,26 +118,20 @@ pub fn next(
     if s.blocks == 0 {
         if s.sections == 0 {
             let at = w[AT] as usize;
-            return Step::Done(at);
+            return Ok(Step::Done(at));
         }
         return read_section(form, update, w, r, memory, s);
     }
     read_block(form, update, w, r, memory, s)
 }
 
-#[derive(Clone, Copy)]
-pub enum Begun {
-    At(Spot),
-    Refused(Refusal),
-}
-
 // The section count, where the blocks begin.
-fn read_count(form: u8, update: &[u8], w: &mut [u64]) -> Begun
+fn read_count(form: u8, update: &[u8], w: &mut [u64]) -> Result<Spot, Refusal>
     requires { Small w.old }
     ensures { Counted form update.now w.old w.new result }
 {
-    let Drawn::Number(sections) = fields::read_var(update, w, numbers::MAX_CLIENTS) else {
-        return Begun::Refused(cells::why(w));
+    let Some(sections) = fields::read_var(update, w, numbers::MAX_CLIENTS) else {
+        return Err(cells::why(w));
     };
     let first = Spot {
         sections,
@@ -148,11 +141,11 @@ fn read_count(form: u8, update: &[u8], w: &mut [u64]) -> Begun
         client: 0,
         clock: 0,
     };
-    Begun::At(first)
+    Ok(first)
 }
 
 // Before the first section: the form opened, the section count read.
-pub fn begin(form: u8, update: &[u8], w: &mut [u64]) -> Begun
+pub fn begin(form: u8, update: &[u8], w: &mut [u64]) -> Result<Spot, Refusal>
     requires { Small w.old × (form ≢ 1 → Enough update.now w.old) }
     ensures { Starts form update.now w.new result }
 {
@@ -160,8 +153,8 @@ pub fn begin(form: u8, update: &[u8], w: &mut [u64]) -> Begun
         w[AT] = 0;
         return read_count(form, update, w);
     }
-    let Drawn::Number(_) = opening::open(update, w) else {
-        return Begun::Refused(cells::why(w));
+    let Some(_) = opening::open(update, w) else {
+        return Err(cells::why(w));
     };
     read_count(form, update, w)
 }

@@ -1,50 +1,154 @@
-// The lines of operations 14, 16 and 17: the rows of a table, seen one at a time by value, and what stands before and after them.
-use crate::lines;
-use crate::lines::Listed;
+// The rows of a table as a line shows them, and rows that hold no block.
+ghost use Rattle.std.specs.Prelude.{◌≡◌, ◌↔◌, IsTrue, false};
+ghost use Rattle.block.specs.Row.{left_id, no_block, no_id, no_part, parent_id, right_id};
+
 use block::Block;
-use std::io::Stdout;
-use stream::line;
+use std::fmt;
 use text::{Bytes, Part, Units};
-use updates::Update;
 
-// How much of the output's buffer is used, and whether all rows seen that hold no block are zero.
 #[derive(Clone, Copy)]
-pub struct Told {
-    pub used: usize,
-    pub zero: bool,
-}
+struct Id(u64, u32);
 
-// A row that is lent: no field is zero.
-pub fn full() -> Block {
-    let part = Part {
-        place: 0xA5A5,
-        bytes: Bytes(0xA5A5),
-    };
-    Block {
-        client: 0xA5A5,
-        clock: 0xA5A5,
-        length: Units(0xA5A5),
-        kind: 0xA5,
-        has_left: true,
-        left_client: 0xA5A5,
-        left_clock: 0xA5A5,
-        has_right: true,
-        right_client: 0xA5A5,
-        right_clock: 0xA5A5,
-        has_parent: true,
-        parent_client: 0xA5A5,
-        parent_clock: 0xA5A5,
-        has_name: true,
-        name: part,
-        has_key: true,
-        key: part,
-        part,
-        mark: part,
-        type_number: 0xA5A5,
+impl fmt::Display for Id {
+    fn fmt<W: fmt::Write>(&self, f: &mut fmt::Formatter<W>) -> fmt::Result {
+        write!(f, "{}:{}", self.0, self.1)
     }
 }
 
-fn has_no_id(b: Block) -> bool {
+// A part as its place and its bytes.
+#[derive(Clone, Copy)]
+struct Placed(Part);
+
+impl fmt::Display for Placed {
+    fn fmt<W: fmt::Write>(&self, f: &mut fmt::Formatter<W>) -> fmt::Result {
+        let Part { place, bytes } = self.0;
+        write!(f, "{place}+{}", bytes.0)
+    }
+}
+
+// What may be absent, and is `-` then.
+#[derive(Clone, Copy)]
+struct Maybe<T>(bool, T);
+
+impl<T: fmt::Display> fmt::Display for Maybe<T> {
+    fn fmt<W: fmt::Write>(&self, f: &mut fmt::Formatter<W>) -> fmt::Result {
+        if !self.0 {
+            return f.write_str("-");
+        }
+        self.1.fmt(f)
+    }
+}
+
+fn name(kind: u8) -> &'static str {
+    match kind {
+        block::GC => "gc",
+        block::SKIP => "skip",
+        block::DELETED => "deleted",
+        block::BINARY => "binary",
+        block::TEXT => "text",
+        block::FORMAT => "format",
+        block::TYPE => "type",
+        block::ANY => "any",
+        _ => "?",
+    }
+}
+
+// A row with the space before it.
+#[derive(Clone, Copy)]
+struct Row(Block);
+
+impl Row {
+    // Its id, how long it is, and its kind.
+    fn head<W: fmt::Write>(&self, f: &mut fmt::Formatter<W>) -> fmt::Result {
+        let b = self.0;
+        let length = b.length.0;
+        write!(f, " {}.{}.{length}.{}", b.client, b.clock, name(b.kind))
+    }
+
+    fn origins<W: fmt::Write>(&self, f: &mut fmt::Formatter<W>) -> fmt::Result {
+        let b = self.0;
+        let left = Maybe(b.has_left, Id(b.left_client, b.left_clock));
+        let right = Maybe(b.has_right, Id(b.right_client, b.right_clock));
+        write!(f, ".{left}.{right}")
+    }
+
+    fn place<W: fmt::Write>(&self, f: &mut fmt::Formatter<W>) -> fmt::Result {
+        let b = self.0;
+        let name = Maybe(b.has_name, Placed(b.name));
+        let parent = Maybe(b.has_parent, Id(b.parent_client, b.parent_clock));
+        let key = Maybe(b.has_key, Placed(b.key));
+        write!(f, ".{name}.{parent}.{key}")
+    }
+
+    // The type number is that of a type; any other kind has none.
+    fn contents<W: fmt::Write>(&self, f: &mut fmt::Formatter<W>) -> fmt::Result {
+        let b = self.0;
+        let stored = Maybe(block::has_part(b.kind), Placed(b.part));
+        let mark = Maybe(block::is_marked(b.kind, b.type_number), Placed(b.mark));
+        let number = Maybe(b.kind == block::TYPE, b.type_number);
+        write!(f, ".{stored}.{mark}.{number}")
+    }
+}
+
+impl fmt::Display for Row {
+    fn fmt<W: fmt::Write>(&self, f: &mut fmt::Formatter<W>) -> fmt::Result {
+        self.head(f)?;
+        self.origins(f)?;
+        self.place(f)?;
+        self.contents(f)
+    }
+}
+
+#[derive(Clone, Copy)]
+pub(crate) struct Rows<'a>(pub(crate) &'a [Block]);
+
+impl fmt::Display for Rows<'_> {
+    fn fmt<W: fmt::Write>(&self, f: &mut fmt::Formatter<W>) -> fmt::Result {
+        for b in self.0 {
+            write!(f, "{}", Row(*b))?;
+        }
+        Ok(())
+    }
+}
+
+const LENT_PART: Part = Part {
+    place: 0xA5A5,
+    bytes: Bytes(0xA5A5),
+};
+
+// A row that is lent: no field is zero.
+pub const LENT: Block = Block {
+    client: 0xA5A5,
+    clock: 0xA5A5,
+    length: Units(0xA5A5),
+    kind: 0xA5,
+    has_left: true,
+    left_client: 0xA5A5,
+    left_clock: 0xA5A5,
+    has_right: true,
+    right_client: 0xA5A5,
+    right_clock: 0xA5A5,
+    has_parent: true,
+    parent_client: 0xA5A5,
+    parent_clock: 0xA5A5,
+    has_name: true,
+    name: LENT_PART,
+    has_key: true,
+    key: LENT_PART,
+    part: LENT_PART,
+    mark: LENT_PART,
+    type_number: 0xA5A5,
+};
+
+fn is_no_part(it: Part) -> bool
+    ensures { IsTrue result ↔ (it ≡ no_part) }
+{
+    it.place == 0 && it.bytes.0 == 0
+}
+
+fn has_no_id(b: Block) -> bool
+    ensures { IsTrue result ↔ ((left_id b ≡ no_id) × (right_id b ≡ no_id) × (parent_id b ≡ no_id)) }
+{
     b.left_client == 0
         && b.left_clock == 0
         && b.right_client == 0
@@ -53,20 +157,19 @@ fn has_no_id(b: Block) -> bool {
         && b.parent_clock == 0
 }
 
-fn is_no_part(it: Part) -> bool {
-    let bytes = it.bytes;
-    it.place == 0 && bytes.0 == 0
-}
-
-fn has_none(b: Block) -> bool {
+fn has_none(b: Block) -> bool
+    ensures { IsTrue result ↔ ((b.has_left ≡ false) × (b.has_right ≡ false) × (b.has_parent ≡ false) × (b.has_name ≡ false) × (b.has_key ≡ false)) }
+{
     !b.has_left && !b.has_right && !b.has_parent && !b.has_name && !b.has_key
 }
 
-fn is_none(b: Block) -> bool {
-    let length = b.length;
+// Kept, point 4 (needed: the crates block and text derive no `PartialEq`, so that a row can't be held to `block::none()` by `==`).
+pub(crate) fn is_none(b: Block) -> bool
+    ensures { IsTrue result ↔ (b ≡ no_block) }
+{
     b.client == 0
         && b.clock == 0
-        && length.0 == 0
+        && b.length.0 == 0
         && b.kind == 0
         && has_none(b)
         && has_no_id(b)
@@ -75,66 +178,4 @@ fn is_none(b: Block) -> bool {
         && is_no_part(b.part)
         && is_no_part(b.mark)
         && b.type_number == 0
-}
-
-// Row i: one of the first n is printed, any other looked at.
-pub fn put_row(stdout: Stdout, sink: &mut [u8], told: Told, b: Block, i: usize, n: usize) -> Told {
-    if i < n {
-        let used = lines::row(stdout, sink, told.used, b);
-        return Told {
-            used,
-            zero: told.zero,
-        };
-    }
-    let zero = told.zero && is_none(b);
-    Told {
-        used: told.used,
-        zero,
-    }
-}
-
-// What stands before the rows of a table.
-pub fn blocks(stdout: Stdout, sink: &mut [u8], used: usize, count: usize) -> usize {
-    let named = line::text(stdout, sink, used, b" blocks");
-    line::number(stdout, sink, named, count as u64)
-}
-
-// The line up to the rows.
-pub fn begin(stdout: Stdout, sink: &mut [u8], used: usize, answer: Update) -> usize {
-    let why = answer.refusal;
-    let begun = line::verdict(stdout, sink, used, why.number, why.place);
-    if why.number != 0 {
-        return begun;
-    }
-    blocks(stdout, sink, begun, answer.blocks)
-}
-
-// So many ranges, three words each.
-pub fn ranges(stdout: Stdout, sink: &mut [u8], used: usize, count: usize, words: &[u64]) -> Listed {
-    let mut used = used;
-    let mut at = 0;
-    let mut left = count;
-    while 0 < left {
-        if words.len() - at < 3 {
-            return Listed { used, at };
-        }
-        used = lines::range(stdout, sink, used, words[at], words[at + 1], words[at + 2]);
-        at += 3;
-        left -= 1;
-    }
-    Listed { used, at }
-}
-
-// The line from the ranges on.
-pub fn end(stdout: Stdout, sink: &mut [u8], told: Told, answer: Update, words: &[u64]) -> usize {
-    let why = answer.refusal;
-    if why.number != 0 {
-        let zero = told.zero && lines::are_zero(words, 0);
-        return lines::last(stdout, sink, told.used, zero);
-    }
-    let named = line::text(stdout, sink, told.used, b" ranges");
-    let counted = line::number(stdout, sink, named, answer.ranges as u64);
-    let listed = ranges(stdout, sink, counted, answer.ranges, words);
-    let zero = told.zero && lines::are_zero(words, listed.at);
-    lines::last(stdout, sink, listed.used, zero)
 }

@@ -1,59 +1,69 @@
-// Operation 14: an update, read into tables.
+// Operation 14: an update, read into tables; and the lines of tables, which other operations share.
+ghost use Rattle.std.specs.Prelude.{◌≡◌, ◌*◌, ◌≤◌, IfSome, take, drop};
+
 use crate::rows;
-use crate::rows::Told;
+use crate::rows::Rows;
 use block::Block;
-use std::io::{Stdin, Stdout};
-use stream::input::Place;
-use stream::{Done, input};
+use std::fmt;
+use std::fmt::Write;
+use stream::shown;
+use stream::shown::{Last, Verdict};
+use stream::sink::Sink;
+use stream::source::Source;
+use updates::Update;
 
-// The first n rows printed, the others looked at.
-pub fn put_rows(rows: &[Block], n: usize, stdout: Stdout, sink: &mut [u8], used: usize) -> Told {
-    let mut told = Told { used, zero: true };
-    let mut i = 0;
-    while i < rows.len() {
-        let b = table::fetch(rows, i);
-        told = rows::put_row(stdout, sink, told, b, i, n);
-        i += 1;
+// A word that is lent.
+pub const LENT: u64 = 0xA5A5A5A5A5A5A5A5;
+
+// Delete ranges, three words each.
+#[derive(Clone, Copy)]
+pub struct Ranges<'a>(pub &'a [u64]);
+
+impl fmt::Display for Ranges<'_> {
+    fn fmt<W: fmt::Write>(&self, f: &mut fmt::Formatter<W>) -> fmt::Result {
+        for [client, clock, length] in self.0.as_chunks::<3>().0 {
+            write!(f, " {client}.{clock}.{length}")?;
+        }
+        Ok(())
     }
-    told
 }
 
-// The line of an update read with n rows lent; more than there are is not asked.
-pub fn ask(
-    form: u8,
-    update: &[u8],
-    n: usize,
-    words: &mut [u64],
-    stdout: Stdout,
-    sink: &mut [u8],
-    used: usize,
-) -> usize {
-    if 512 < n {
-        return used;
-    }
-    let row = rows::full();
-    let mut rows = [row; 512];
-    let answer = updates::read_update(form, update, &mut rows[..n], words);
-    let begun = rows::begin(stdout, sink, used, answer);
-    let told = put_rows(&rows[..n], answer.blocks, stdout, sink, begun);
-    rows::end(stdout, sink, told, answer, words)
+// The words of so many entries of so many words each, and those behind them.
+pub fn entries(lent: &[u64], count: usize, words: usize) -> (&[u64], &[u64])
+    ensures front { result.0.now ≡ take (count * words) lent.now }
+    ensures back { result.1.now ≡ drop (count * words) lent.now }
+{
+    shown::cut(lent, count.saturating_mul(words))
 }
 
-// The same with so many words lent for the ranges.
-fn lend(
-    form: u8,
-    update: &[u8],
-    n: usize,
-    lent: usize,
-    stdout: Stdout,
-    sink: &mut [u8],
-    used: usize,
-) -> usize {
-    if 3072 < lent {
-        return used;
+// The tables that an update was read into, as the end of a line: the last word is on all that was lent.
+#[derive(Clone, Copy)]
+pub struct Tables<'a> {
+    pub answer: Update,
+    pub rows: &'a [Block],
+    pub words: &'a [u64],
+    // whether all else that was lent and not filled is zero
+    pub clean: bool,
+}
+
+impl fmt::Display for Tables<'_> {
+    fn fmt<W: fmt::Write>(&self, f: &mut fmt::Formatter<W>) -> fmt::Result {
+        let Update {
+            refusal,
+            blocks,
+            ranges,
+        } = self.answer;
+        let (filled, no_rows) = shown::cut(self.rows, blocks);
+        let (words, no_words) = entries(self.words, ranges, 3);
+        if refusal.number == 0 {
+            write!(f, " blocks {blocks}{}", Rows(filled))?;
+            write!(f, " ranges {ranges}{}", Ranges(words))?;
+        }
+        let zero = self.clean
+            && no_rows.iter().all(|b| rows::is_none(*b))
+            && shown::is_zero(no_words);
+        write!(f, "{}", Last(zero))
     }
-    let mut words = [0xA5A5A5A5A5A5A5A5u64; 3072];
-    ask(form, update, n, &mut words[..lent], stdout, sink, used)
 }
 
 // What a case asks beside its update: the form, and how many rows and words are lent.
@@ -62,47 +72,46 @@ pub struct Asked {
     pub form: u8,
     pub rows: usize,
     pub words: usize,
-    pub place: Place,
 }
 
-pub fn arguments(stdin: Stdin, source: &mut [u8], place: Place) -> Asked {
-    let form = input::number(stdin, source, place, 255);
-    let rows = input::number(stdin, source, form.place, 512);
-    let ranges = input::number(stdin, source, rows.place, 1024);
-    let place = ranges.place;
-    Asked {
-        form: form.value as u8,
-        rows: rows.value as usize,
-        words: ranges.value as usize * 3,
-        place,
+impl Asked {
+    pub fn take(source: &mut Source) -> Option<Asked>
+        ensures { IfSome result (λ asked. (asked.rows ≤ 512) × (asked.words ≤ 3072)) }
+    {
+        let form = source.small()?;
+        let rows = source.count(512)?;
+        let words = source.count(1024)? * 3;
+        Some(Asked { form, rows, words })
     }
 }
 
-// 14: form, block rows, range rows, update.
-pub fn read(
-    stdin: Stdin,
-    source: &mut [u8],
-    place: Place,
+// An update's case, by a call that reads updates: form, block rows, range rows, update.
+// What it prints is held by the case program's stdout.
+pub fn read_by<F: FnOnce(u8, &[u8], &mut [Block], &mut [u64]) -> Update>(
+    call: F,
+    source: &mut Source,
     bytes: &mut [u8],
-    stdout: Stdout,
-    sink: &mut [u8],
-    used: usize,
-) -> Done {
-    let case = arguments(stdin, source, place);
-    let taken = input::bytes(stdin, source, case.place, bytes);
-    let place = taken.place;
-    if !place.good {
-        return Done { place, used };
-    }
-    let size = taken.count;
-    let used = lend(
-        case.form,
-        &bytes[..size],
-        case.rows,
-        case.words,
-        stdout,
-        sink,
-        used,
-    );
-    Done { place, used }
+    sink: &mut Sink,
+) -> Option<()>
+    requires { F.IsAlwaysCallable call }
+{
+    let asked = Asked::take(source)?;
+    let update = source.bytes(bytes)?;
+    let mut rows = [rows::LENT; 512];
+    let mut words = [LENT; 3072];
+    let rows = rows.get_mut(..asked.rows)?;
+    let words = words.get_mut(..asked.words)?;
+    let answer = call(asked.form, update, rows, words);
+    let tables = Tables {
+        answer,
+        rows,
+        words,
+        clean: true,
+    };
+    writeln!(sink, "{}{tables}", Verdict(answer.refusal)).ok()
+}
+
+// 14
+pub fn read(source: &mut Source, bytes: &mut [u8], sink: &mut Sink) -> Option<()> {
+    read_by(updates::read_update, source, bytes, sink)
 }

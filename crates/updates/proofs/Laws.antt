@@ -1,4 +1,5 @@
 -- The reader's laws, with no machine: what each way out says of the reading, and what is given and left there. Assumes nothing.
+use Rattle.std.specs.Prelude.{Result, Ok, Err}
 use Prim.Native.Nat.{ℕ, ◌-◌, ◌/◌}
 use mathlib.Core.Path.{◌≡◌, refl, sym, ap, ◌∙◌}
 use mathlib.Core.Bool.{Bool, true, false}
@@ -17,9 +18,7 @@ use Rattle.table.specs.Rows.{cleared_from, filled_from}
 use Rattle.grammar.specs.Course.{Course, thing, over, stopped, fit, things, ending}
 use Rattle.ranges.specs.Ranges.{Range, normal}
 use Rattle.ranges.specs.Table.{flat}
-use Rattle.deletes.specs.declared.Set.TheVariants as set
 use Rattle.deletes.specs.DeleteSet.{taken, set_of, words_of as set_words}
-use Rattle.reader.specs.declared.Filled.TheVariants as filled
 use Rattle.reader.specs.Reader.{filled_of, rows_of as filled_rows}
 use Rattle.decoder.specs.Update.{blocks_of, delete_set}
 use Rattle.updates.specs.declared.Update.{Update}
@@ -51,30 +50,22 @@ module _ (form : ℕ) (u : List ℕ) where
 
 -- ---- how a course ends, told by one answer, tells it of every other
 
+abbrev told_with : {A : Type 0} → ℕ → Course A → Result (ℕ × ℕ) Refusal
+told_with m c = ending c (λ s. Ok (m, s)) (λ why. Err why)
+
 module _ {A X : Type 0} (done : ℕ → X) (not : Refusal → X) (m : ℕ) where
-  filled_at : (c : Course A) (n : ℕ) (t : ℕ) → ending c (λ s. filled.Rows m s) (λ why. filled.Refused why) ≡ filled.Rows n t → (n ≡ m) × (ending c done not ≡ done t)
+  told_at : (c : Course A) (n : ℕ) (t : ℕ) → told_with m c ≡ Ok (n, t) → (n ≡ m) × (ending c done not ≡ done t)
   unfolding ending
-  filled_at (thing a p c) n t e = filled_at c n t e
-  filled_at (over x s) n t e = (cc, ap done (cc))
-  filled_at (stopped w) n t e = absurd (let z : ◌≡◌ {A = ℕ} 0 1 = cc in omega arith)
+  told_at (thing a p c) n t e = told_at c n t e
+  told_at (over x s) n t e =
+      let q : ◌≡◌ {A = ℕ × ℕ} (m, s) (n, t) = cc in (sym (ap (λ (p : ℕ × ℕ). p.0) q), ap done (ap (λ (p : ℕ × ℕ). p.1) q))
+  told_at (stopped w) n t e = absurd (let z : ◌≡◌ {A = ℕ} 0 1 = cc in omega arith)
 
-  filled-not : (c : Course A) (why : Refusal) → ending c (λ s. filled.Rows m s) (λ why. filled.Refused why) ≡ filled.Refused why → ending c done not ≡ not why
+  told-not : (c : Course A) (why : Refusal) → told_with m c ≡ Err why → ending c done not ≡ not why
   unfolding ending
-  filled-not (thing a p c) why e = filled-not c why e
-  filled-not (over x s) why e = absurd (let z : ◌≡◌ {A = ℕ} 0 1 = cc in omega arith)
-  filled-not (stopped w) why e = ap not (cc)
-
-  set_at : (c : Course A) (n : ℕ) (t : ℕ) → ending c (λ s. set.Ranges m s) set.Refused ≡ set.Ranges n t → (n ≡ m) × (ending c done not ≡ done t)
-  unfolding ending
-  set_at (thing a p c) n t e = set_at c n t e
-  set_at (over x s) n t e = (cc, ap done (cc))
-  set_at (stopped w) n t e = absurd (let z : ◌≡◌ {A = ℕ} 0 1 = cc in omega arith)
-
-  set-not : (c : Course A) (why : Refusal) → ending c (λ s. set.Ranges m s) set.Refused ≡ set.Refused why → ending c done not ≡ not why
-  unfolding ending
-  set-not (thing a p c) why e = set-not c why e
-  set-not (over x s) why e = absurd (let z : ◌≡◌ {A = ℕ} 0 1 = cc in omega arith)
-  set-not (stopped w) why e = ap not (cc)
+  told-not (thing a p c) why e = told-not c why e
+  told-not (over x s) why e = absurd (let z : ◌≡◌ {A = ℕ} 0 1 = cc in omega arith)
+  told-not (stopped w) why e = ap not (cc)
 
 -- ---- a refusal leaves rows without a block, and zeros
 
@@ -134,22 +125,22 @@ module _ (form : ℕ) (u : List ℕ) (rows : List Block) (words : List ℕ) wher
 
   module _ (y : eqb (early form u) 0 ≡ true) where
     -- the blocks are refused
-    pub on-blocks : (why : Refusal) → filled_of N (blocks_of form u) ≡ filled.Refused why
+    pub on-blocks : (why : Refusal) → filled_of N (blocks_of form u) ≡ Err why
         → Says here N M (answer (refused why)) (filled_rows N (blocks_of form u)) (take 0 words ++ replicate (M - 0) 0)
     unfolding filled_of filled_rows with_blocks
     on-blocks why e =
         says-by (refused why) here N M _ _ _
-        (tested true y ∙ filled-not (λ s. with_ranges bs (fit (M / 3) (delete_set form u s))) (λ why. refused why) (length bs) c₀ why e) (
+        (tested true y ∙ told-not (λ s. with_ranges bs (fit (M / 3) (delete_set form u s))) (λ why. refused why) (length bs) c₀ why e) (
           refl,
-          filled-not (λ s. bs ++ replicate (N - length bs) no_block) (λ why. replicate N no_block) (length bs) c₀ why e ∙ blocks-none N why,
+          told-not (λ s. bs ++ replicate (N - length bs) no_block) (λ why. replicate N no_block) (length bs) c₀ why e ∙ blocks-none N why,
           words-none words why,
         )
 
     -- they are in the rows, and then comes the delete set
-    module _ (n : ℕ) (s : ℕ) (e : filled_of N (blocks_of form u) ≡ filled.Rows n s) where
+    module _ (n : ℕ) (s : ℕ) (e : filled_of N (blocks_of form u) ≡ Ok (n, s)) where
       begun : (n ≡ length bs) × (with_blocks form u (M / 3) c₀ ≡ with_ranges bs (taken form u s M))
       unfolding filled_of with_blocks taken
-      begun = filled_at (λ s. with_ranges bs (fit (M / 3) (delete_set form u s))) (λ why. refused why) (length bs) c₀ n s e
+      begun = told_at (λ s. with_ranges bs (fit (M / 3) (delete_set form u s))) (λ why. refused why) (length bs) c₀ n s e
 
       abbrev c : Course Range
       c = taken form u s M
@@ -157,25 +148,25 @@ module _ (form : ℕ) (u : List ℕ) (rows : List Block) (words : List ℕ) wher
       abbrev whole : Reading
       whole = record { refusal = none; blocks = bs; ranges = normal (things c) }
 
-      pub on-set : (why : Refusal) → set_of form u s M ≡ set.Refused why → length (filled_rows N (blocks_of form u)) ≡ N
+      pub on-set : (why : Refusal) → set_of form u s M ≡ Err why → length (filled_rows N (blocks_of form u)) ≡ N
           → Says here N M (answer (refused why)) (cleared_from 0 (filled_rows N (blocks_of form u))) (set_words form u s M)
       unfolding set_of set_words with_ranges
       on-set why q size =
           says-by (refused why) here N M _ _ _
-          (tested true y ∙ begun.1 ∙ set-not (λ t. whole) (λ why. refused why) (length (normal (things c))) c why q) (
+          (tested true y ∙ begun.1 ∙ told-not (λ t. whole) (λ why. refused why) (length (normal (things c))) c why q) (
             refl,
             rows_none (filled_rows N (blocks_of form u)) N why size,
-            ap (padded M) (set-not (λ t. flat (normal (things c))) (λ why. []) (length (normal (things c))) c why q) ∙ zeros-none M why,
+            ap (padded M) (told-not (λ t. flat (normal (things c))) (λ why. []) (length (normal (things c))) c why q) ∙ zeros-none M why,
           )
 
-      pub on-ranges : (k : ℕ) (t : ℕ) → set_of form u s M ≡ set.Ranges k t
+      pub on-ranges : (k : ℕ) (t : ℕ) → set_of form u s M ≡ Ok (k, t)
           → Says here N M (record { refusal = none; blocks = n; ranges = k }) (filled_rows N (blocks_of form u)) (set_words form u s M)
       unfolding set_of set_words with_ranges filled_of filled_rows answer table_of range_words
       on-ranges k t q =
-          let z = set_at (λ t. whole) (λ why. refused why) (length (normal (things c))) c k t q in
+          let z = told_at (λ t. whole) (λ why. refused why) (length (normal (things c))) c k t q in
           says-by whole here N M _ _ _
           (tested true y ∙ begun.1 ∙ z.1) (
             rw (begun.0, z.0) refl,
-            (filled_at (λ s. bs ++ replicate (N - length bs) no_block) (λ why. replicate N no_block) (length bs) c₀ n s e).1,
-            ap (padded M) (set_at (λ t. flat (normal (things c))) (λ why. []) (length (normal (things c))) c k t q).1,
+            (told_at (λ s. bs ++ replicate (N - length bs) no_block) (λ why. replicate N no_block) (length bs) c₀ n s e).1,
+            ap (padded M) (told_at (λ t. flat (normal (things c))) (λ why. []) (length (normal (things c))) c k t q).1,
           )

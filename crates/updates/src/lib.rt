@@ -6,9 +6,7 @@ ghost use Rattle.std.specs.Prelude.{◌≡◌};
 ghost use Rattle.updates.specs.Promises.{early, refused, answer, ReadUpdate};
 
 use block::Block;
-use deletes::Set;
 use numbers::Refusal;
-use reader::Filled;
 
 // How many blocks and how many delete ranges were read.
 #[repr(C)]
@@ -59,8 +57,8 @@ pub fn read_update(form: u8, update: &[u8], rows: &mut [Block], ranges: &mut [u6
         });
     }
     match reader::read_blocks(form, update, rows) {
-        Filled::Rows(blocks, at) => match deletes::read_delete_set(form, update, at, ranges) {
-            Set::Ranges(count, _) => Update {
+        Ok((blocks, at)) => match deletes::read_delete_set(form, update, at, ranges) {
+            Ok((count, _)) => Update {
                 refusal: Refusal {
                     number: 0,
                     place: 0,
@@ -68,12 +66,12 @@ pub fn read_update(form: u8, update: &[u8], rows: &mut [Block], ranges: &mut [u6
                 blocks,
                 ranges: count,
             },
-            Set::Refused(why) => {
+            Err(why) => {
                 table::clear(rows, 0);
                 none(why)
             }
         },
-        Filled::Refused(why) => {
+        Err(why) => {
             numbers::words::clear(ranges, 0);
             none(why)
         }

@@ -1,5 +1,6 @@
 -- What the readers of a state vector keep: the entries seen so far, and what is still to come of the vector, make the same answer as at the
 -- start.
+use Rattle.std.specs.Prelude.{Result, Ok, Err}
 use Prim.Native.Nat.{ℕ, suc, ◌+◌, ◌-◌, ◌*◌, ◌≤◌, ◌<◌}
 use mathlib.Core.Path.{◌≡◌, refl, sym, ap, ◌∙◌}
 use mathlib.Core.List.{List, [], ◌∷◌, ◌++◌, append_assoc, append-nil}
@@ -24,8 +25,6 @@ use Rattle.grammar.specs.Grammar.{Grammar}
 use Rattle.grammar.specs.Grammar.{◌>>=◌}
 use Rattle.grammar.specs.Course.{Drawn, got, not, Course, thing, over, stopped, on_drawn, run, things, ending}
 use Rattle.decoder.specs.Line.{number_at, bounded, up_to, number_by, line}
-use Rattle.vector.specs.declared.Entries.{Entries}
-use Rattle.vector.specs.declared.Entries.TheVariants.{Read, Refused}
 use Rattle.vector.specs.Vector.{Entry, entry, clients_in, holds, entries, a_vector, vector_of, words_in, refused_vector, vector_answer, vector_words}
 use Rattle.vector.specs.VectorInner.{clocks_in, entries_of, kept, count_in, Filled, joined}
 
@@ -82,37 +81,37 @@ module _ (v : List ℕ) (n : ℕ) (seen : List Entry) (at : ℕ) where
 -- ---- what is read, where some are seen already: how many or why not, and all of them or none
 
 pub record Told : Type 0 where
-  pub answer : Entries
+  pub answer : Result ℕ Refusal
   pub all : List Entry
 
-abbrev telling : Entries → List Entry → Told
+abbrev telling : Result ℕ Refusal → List Entry → Told
 telling r es = record { answer = r; all = es }
 
 unfoldable pub told : List Entry → Course Entry → Told
-told seen c = ending c (λ s. telling (Read (length (seen ++ things c))) (seen ++ things c)) (λ why. telling (Refused why) [])
+told seen c = ending c (λ s. telling (Ok (length (seen ++ things c))) (seen ++ things c)) (λ why. telling (Err why) [])
 
 told-item : (seen : List Entry) (e : Entry) (p : ℕ) (c : Course Entry) → told seen (thing e p c) ≡ told (seen ++ (e ∷ [])) c
 unfolding told ending things
-told-item seen e p c = ap (λ (es : List Entry). ending c (λ s. telling (Read (length es)) es) (λ why. telling (Refused why) [])) (sym (append_assoc seen (e ∷ []) (things c)))
+told-item seen e p c = ap (λ (es : List Entry). ending c (λ s. telling (Ok (length es)) es) (λ why. telling (Err why) [])) (sym (append_assoc seen (e ∷ []) (things c)))
 
-told_over : (v : List ℕ) (seen : List Entry) (at : ℕ) → told seen (more v 0 seen at) ≡ telling (Read (length seen)) seen
+told_over : (v : List ℕ) (seen : List Entry) (at : ℕ) → told seen (more v 0 seen at) ≡ telling (Ok (length seen)) seen
 unfolding told entries run ending things
 told_over v seen at = rw append-nil
 
-told-apart : (r : Entries) (es : List Entry) (c : Course Entry)
-    → ending c (λ s. telling r es) (λ why. telling (Refused why) []) ≡ telling (ending c (λ s. r) (λ why. Refused why)) (ending c (λ s. es) (λ why. []))
+told-apart : (r : Result ℕ Refusal) (es : List Entry) (c : Course Entry)
+    → ending c (λ s. telling r es) (λ why. telling (Err why) []) ≡ telling (ending c (λ s. r) (λ why. Err why)) (ending c (λ s. es) (λ why. []))
 unfolding ending
 told-apart r es (thing e p c) = told-apart r es c
 told-apart r es (over a s) = refl
 told-apart r es (stopped why) = refl
 
 -- the words that hold what is read
-filled : (v : List ℕ) (r : Entries) (es : List Entry) (xs ys : List ℕ) → told [] (vector_of v) ≡ telling r es → count_in r ≤ max_clients
+filled : (v : List ℕ) (r : Result ℕ Refusal) (es : List Entry) (xs ys : List ℕ) → told [] (vector_of v) ≡ telling r es → count_in r ≤ max_clients
     → take (count_in r) xs ≡ clients_in es → take (count_in r) ys ≡ clocks_in es → Filled v r xs ys
 unfolding told entries_of kept
 filled v r es xs ys h few p q =
     let c = vector_of v in
-    let a : telling (entries_of c) (kept c) ≡ telling r es = sym (told-apart (Read (length (things c))) (things c) c) ∙ h in
+    let a : telling (entries_of c) (kept c) ≡ telling r es = sym (told-apart (Ok (length (things c))) (things c) c) ∙ h in
     let all : es ≡ kept c = sym (ap (λ (x : Told). x.all) a) in
     record { answer = sym (ap (λ (x : Told). x.answer) a); few = few; clients = p ∙ ap clients_in all; clocks = q ∙ ap clocks_in all }
 
@@ -127,9 +126,9 @@ clocks-more (x ∷ seen) e = ap (λ (ks : List ℕ). x.clock ∷ ks) (clocks-mor
 -- ---- the announced count
 
 module _ (v : List ℕ) where
-  pub none_read : (why : Refusal) (xs ys : List ℕ) → up_to max_clients v 0 ≡ not why → Filled v (Refused why) xs ys
+  pub none_read : (why : Refusal) (xs ys : List ℕ) → up_to max_clients v 0 ≡ not why → Filled v (Err why) xs ys
   unfolding told vector_of a_vector ◌>>=◌ run on_drawn line number_by ending
-  none_read why xs ys h = filled v (Refused why) [] xs ys (rw h refl) (omega arith) refl refl
+  none_read why xs ys h = filled v (Err why) [] xs ys (rw h refl) (omega arith) refl refl
 
   pub few : (n e : ℕ) → up_to max_clients v 0 ≡ got (n, 0) e → n ≤ max_clients
   unfolding up_to
@@ -165,15 +164,15 @@ module _ (v : List ℕ) (n i at : ℕ) (xs ys : List ℕ) (t : ReadTo v n i at x
     same = left h ∙ ap (told t.seen) q ∙ told-item t.seen (entry c k) p _;
   }
 
-  pub read-stop : (why : Refusal) → i < n → more v (suc (n - (i + 1))) t.seen at ≡ stopped why → Filled v (Refused why) xs ys
+  pub read-stop : (why : Refusal) → i < n → more v (suc (n - (i + 1))) t.seen at ≡ stopped why → Filled v (Err why) xs ys
   unfolding told ending
-  read-stop why h q = filled v (Refused why) [] xs ys (left h ∙ ap (told t.seen) q) (omega arith) refl refl
+  read-stop why h q = filled v (Err why) [] xs ys (left h ∙ ap (told t.seen) q) (omega arith) refl refl
 
-  pub read-over : n ≤ i → n ≤ max_clients → Filled v (Read i) xs ys
+  pub read-over : n ≤ i → n ≤ max_clients → Filled v (Ok i) xs ys
   read-over h l =
       let z : n - i ≡ 0 = omega arith in
       let e = t.same ∙ ap (λ (j : ℕ). told t.seen (more v j t.seen at)) z ∙ told_over v t.seen at in
-      filled v (Read i) t.seen xs ys (e ∙ ap (λ (j : ℕ). telling (Read j) t.seen) t.size) (omega (arith, t.here)) t.clients t.clocks
+      filled v (Ok i) t.seen xs ys (e ∙ ap (λ (j : ℕ). telling (Ok j) t.seen) t.size) (omega (arith, t.here)) t.clients t.clocks
 
 -- ---- the words
 
@@ -225,35 +224,35 @@ cleared e mid xs n m p h l t = rw p (padded-some mid m h ∙ rw (l, t))
 -- ---- what a course comes to, where the number of its entries is known
 
 module _ {X : Type 0} (x : X) (f : Refusal → X) (n : ℕ) where
-  ends-refused : (c : Course Entry) (why : Refusal) → ending c (λ s. Read n) (λ why. Refused why) ≡ Refused why → ending c (λ s. x) f ≡ f why
+  ends-refused : (c : Course Entry) (why : Refusal) → ending c (λ s. Ok n) (λ why. Err why) ≡ Err why → ending c (λ s. x) f ≡ f why
   unfolding ending
   ends-refused (thing e p c) why h = ends-refused c why h
   ends-refused (over a s) why h = absurd (let z : ◌≡◌ {A = ℕ} 0 1 = cc in omega arith)
   ends-refused (stopped w) why h = cc
 
-  ends_read : (c : Course Entry) (m : ℕ) → ending c (λ s. Read n) (λ why. Refused why) ≡ Read m → (m ≡ n) × (ending c (λ s. x) f ≡ x)
+  ends_read : (c : Course Entry) (m : ℕ) → ending c (λ s. Ok n) (λ why. Err why) ≡ Ok m → (m ≡ n) × (ending c (λ s. x) f ≡ x)
   unfolding ending
   ends_read (thing e p c) m h = ends_read c m h
   ends_read (over a s) m h = (cc, refl)
   ends_read (stopped w) m h = absurd (let z : ◌≡◌ {A = ℕ} 0 1 = cc in omega arith)
 
 module _ (c : Course Entry) where
-  pub refused-answer : (room : ℕ) (why : Refusal) → entries_of c ≡ Refused why → (vector_answer room c ≡ refused_vector why.number) × (vector_words room c ≡ padded room [])
+  pub refused-answer : (room : ℕ) (why : Refusal) → entries_of c ≡ Err why → (vector_answer room c ≡ refused_vector why.number) × (vector_words room c ≡ padded room [])
   unfolding entries_of vector_answer vector_words
   refused-answer room why h = (ends-refused _ _ (length (things c)) c why h, ap (padded room) (ends-refused _ _ (length (things c)) c why h))
 
-  pub read_count : (n : ℕ) → entries_of c ≡ Read n → (n ≡ length (things c)) × (kept c ≡ things c)
+  pub read_count : (n : ℕ) → entries_of c ≡ Ok n → (n ≡ length (things c)) × (kept c ≡ things c)
   unfolding entries_of kept
   read_count n h = ends_read (things c) (λ why. []) (length (things c)) c n h
 
-  pub read_short : (room n : ℕ) → entries_of c ≡ Read n → room < 2 * n → (vector_answer room c ≡ refused_vector 10) × (vector_words room c ≡ padded room [])
+  pub read_short : (room n : ℕ) → entries_of c ≡ Ok n → room < 2 * n → (vector_answer room c ≡ refused_vector 10) × (vector_words room c ≡ padded room [])
   unfolding entries_of vector_answer vector_words
   read_short room n h l =
       let m = (read_count n h).0 in
       let t = lt-ltb room (2 * length (things c)) (omega arith) in
       ((ends_read _ _ (length (things c)) c n h).1 ∙ rw t, ap (padded room) ((ends_read _ _ (length (things c)) c n h).1 ∙ rw t))
 
-  pub read_done : (room n : ℕ) → entries_of c ≡ Read n → 2 * n ≤ room → (vector_answer room c ≡ record { refusal = none; count = n }) × (vector_words room c ≡ padded room (words_in (kept c)))
+  pub read_done : (room n : ℕ) → entries_of c ≡ Ok n → 2 * n ≤ room → (vector_answer room c ≡ record { refusal = none; count = n }) × (vector_words room c ≡ padded room (words_in (kept c)))
   unfolding entries_of vector_answer vector_words
   read_done room n h l =
       let m = read_count n h in

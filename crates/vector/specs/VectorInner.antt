@@ -1,11 +1,8 @@
 -- Beside Vector: what inner functions say and proofs need. No promise comes to it.
-use Rattle.std.specs.Prelude.{ℕ, ◌≤◌, ◌≡◌, List, [], ◌∷◌, map, length, take}
+use Rattle.std.specs.Prelude.{ℕ, ◌≤◌, ◌≡◌, List, [], ◌∷◌, map, length, take, Result, Ok, Err}
 use Rattle.numbers.specs.declared.Refusal.{Refusal}
-use Rattle.numbers.specs.Number.{none}
 use Rattle.numbers.specs.Limits.{max_clients}
 use Rattle.grammar.specs.Course.{Course, things, ending}
-use Rattle.vector.specs.declared.Entries.{Entries}
-use Rattle.vector.specs.declared.Entries.TheVariants.{Read, Refused}
 use Rattle.vector.specs.Vector.{Entry, clients_in, vector_of}
 
 abbrev pub clocks_in : List Entry → List ℕ
@@ -13,22 +10,18 @@ clocks_in es = map (λ (e : Entry). e.clock) es
 
 -- ---- what is read of it: all entries or none
 
-unfoldable pub entries_of : Course Entry → Entries
-entries_of c = ending c (λ s. Read (length (things c))) (λ why. Refused why)
+unfoldable pub entries_of : Course Entry → Result ℕ Refusal
+entries_of c = ending c (λ s. Ok (length (things c))) (λ why. Err why)
 
 unfoldable pub kept : Course Entry → List Entry
 kept c = ending c (λ s. things c) (λ why. [])
 
-abbrev pub why_entries : Entries → Refusal
-why_entries (Read n) = none
-why_entries (Refused why) = why
-
-abbrev pub count_in : Entries → ℕ
-count_in (Read n) = n
-count_in (Refused why) = 0
+abbrev pub count_in : Result ℕ Refusal → ℕ
+count_in (Ok n) = n
+count_in (Err why) = 0
 
 -- read into words for clients and clocks, which are now xs and ys
-pub record Filled (v : List ℕ) (r : Entries) (xs ys : List ℕ) : Type 0 where
+pub record Filled (v : List ℕ) (r : Result ℕ Refusal) (xs ys : List ℕ) : Type 0 where
   pub answer : r ≡ entries_of (vector_of v)
   pub few : count_in r ≤ max_clients
   pub clients : take (count_in r) xs ≡ clients_in (kept (vector_of v))

@@ -7,16 +7,9 @@ ghost use Rattle.numbers.specs.Limits.{max_clients};
 ghost use Rattle.numbers.specs.Output.{padded};
 ghost use Rattle.decoder.specs.Line.{number_at, up_to};
 ghost use Rattle.vector.specs.Vector.{clients_in, vector_of, refused_vector, vector_answer, vector_words};
-ghost use Rattle.vector.specs.VectorInner.{clocks_in, entries_of, kept, Filled, why_entries, count_in, joined};
+ghost use Rattle.vector.specs.VectorInner.{clocks_in, entries_of, kept, Filled, count_in, joined};
 
 use numbers::{Read, Refusal, words};
-
-// How many entries were read.
-#[derive(Clone, Copy)]
-pub enum Entries {
-    Read(usize),
-    Refused(Refusal),
-}
 
 // What a caller outside is told: how many entries, or a refusal and none. It blames no byte: places are an update's.
 #[repr(C)]
@@ -45,52 +38,54 @@ fn read_up_to(vector: &[u8], at: usize, most: u64) -> Read
 
 // How many entries are announced, and then each of them: 3 of the client, 4, then 3 of the clock. What a refusal leaves in the words means
 // nothing.
-fn read_announced(vector: &[u8], clients: &mut [u64], clocks: &mut [u64]) -> Entries
+fn read_announced(vector: &[u8], clients: &mut [u64], clocks: &mut [u64]) -> Result<usize, Refusal>
     requires { (max_clients ≤ length clients.old) × (max_clients ≤ length clocks.old) }
     ensures { Filled vector.now result clients.new clocks.new }
 {
     let d = read_up_to(vector, 0, numbers::MAX_CLIENTS);
     let Read::Number(n, first) = d else {
-        return Entries::Refused(numbers::why_read(d));
+        return Err(numbers::why_read(d));
     };
     let count = n as usize;
     let mut at = first;
-    let mut i = 0;
-    while i < count {
+    for i in 0..count {
         let c = read_up_to(vector, at, numbers::MAX_VALUE);
         let Read::Number(client, t) = c else {
-            return Entries::Refused(numbers::why_read(c));
+            return Err(numbers::why_read(c));
         };
         let seen = words::is_among(clients, i, client);
         if seen {
-            return Entries::Refused(Refusal {
+            return Err(Refusal {
                 number: 4,
                 place: at,
             });
         }
         let k = read_up_to(vector, t, numbers::MAX_CLOCK);
         let Read::Number(clock, e) = k else {
-            return Entries::Refused(numbers::why_read(k));
+            return Err(numbers::why_read(k));
         };
         clients[i] = client;
         clocks[i] = clock;
         at = e;
-        i += 1;
     }
-    Entries::Read(i)
+    Ok(count)
 }
 
-fn count_of(r: Entries) -> usize
+fn count_of(r: Result<usize, Refusal>) -> usize
     ensures { result ≡ count_in r }
 {
     match r {
-        Entries::Read(n) => n,
-        Entries::Refused(_) => 0,
+        Ok(n) => n,
+        Err(_) => 0,
     }
 }
 
-// Every entry in reading order, its client and its clock at one index, and zeros after the last; on a refusal zeros only.
-pub fn read_entries(vector: &[u8], clients: &mut [u64], clocks: &mut [u64]) -> Entries
+// Every entry in reading order, its client and its clock at one index, and zeros after the last: how many there are. On a refusal zeros only.
+pub fn read_entries(
+    vector: &[u8],
+    clients: &mut [u64],
+    clocks: &mut [u64],
+) -> Result<usize, Refusal>
     requires { (max_clients ≤ length clients.old) × (max_clients ≤ length clocks.old) }
     ensures { (result ≡ entries_of (vector_of vector.now))
         × (clients.new ≡ padded (length clients.old) (clients_in (kept (vector_of vector.now))))
@@ -103,32 +98,16 @@ pub fn read_entries(vector: &[u8], clients: &mut [u64], clocks: &mut [u64]) -> E
     r
 }
 
-pub fn why_entries(r: Entries) -> Refusal
-    ensures { result ≡ why_entries r }
-{
-    match r {
-        Entries::Read(_) => Refusal {
-            number: 0,
-            place: 0,
-        },
-        Entries::Refused(w) => w,
-    }
-}
-
 // Each of n clients and its clock side by side, and zeros after the last.
 fn put_words(out: &mut [u64], clients: &[u64], clocks: &[u64], n: usize)
     requires { (2 * n ≤ length out.old) × (n ≤ length clients.now) × (n ≤ length clocks.now) }
     ensures { out.new ≡ padded (length out.old) (joined (take n clients.now) (take n clocks.now)) }
 {
-    let mut at = 0;
-    let mut i = 0;
-    while i < n {
-        out[at] = clients[i];
-        out[at + 1] = clocks[i];
-        at += 2;
-        i += 1;
+    for i in 0..n {
+        out[2 * i] = clients[i];
+        out[2 * i + 1] = clocks[i];
     }
-    words::clear(out, at);
+    words::clear(out, 2 * n);
 }
 
 // The answer to a caller outside that is refused: zeros everywhere.
@@ -150,10 +129,9 @@ pub fn read_state_vector(vector: &[u8], out: &mut [u64]) -> Vector
 {
     let mut clients = [0u64; 64];
     let mut clocks = [0u64; 64];
-    let r = read_entries(vector, &mut clients, &mut clocks);
-    let Entries::Read(n) = r else {
-        let why = why_entries(r);
-        return refuse(out, why.number);
+    let n = match read_entries(vector, &mut clients, &mut clocks) {
+        Ok(n) => n,
+        Err(why) => return refuse(out, why.number),
     };
     let words = 2 * n;
     if out.len() < words {

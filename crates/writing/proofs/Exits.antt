@@ -21,7 +21,7 @@ use Rattle.encoder.specs.Passes.{outcome_for}
 use Rattle.passes.specs.declared.Measured.{Measured}
 use Rattle.passes.specs.Forms.{end_for, out_for}
 use Rattle.passes.specs.Measures.{measured_for}
-use Rattle.writing.specs.Writing.{Job, planned_in, deletes_in, body_in, sizes_in, planned_answer, planned_out, no_plan, job_for, turned, why_for, kept_answer, kept_out}
+use Rattle.writing.specs.Writing.{Job, planned_in, deletes_in, body_in, sizes_in, planned_answer, planned_out, no_plan, job_for, why_for, kept_answer, kept_out}
 use Rattle.writing.specs.WritingInner.{measured_why, measured_answer, measured_out}
 
 -- ---- planned rows, the sizes of their lanes being z
@@ -63,35 +63,6 @@ module _ (j : Job) (form : ℕ) (out z : List ℕ) (sizes : z ≡ sizes_in j for
     told-done y =
         subst (λ (n : ℕ). Right (done n) (padded (length o) (take n o))) (sym e)
         (subst (λ (l : List ℕ). Right (done end) (padded (length l) (take end l))) (sym b) (exit-done long (tested-there false y)))
-
--- ---- why nothing is written, test by test
-
-module _ (from form : ℕ) (o : Outcome) (m : Measured) where
-  abbrev Why : ℕ → Type 0
-  Why n = n ≡ why_for from form o m
-
-  pub why-crowded : m.crowded ≡ true → Why 3
-  unfolding why_for
-  why-crowded a = rw a
-
-  module _ (a : m.crowded ≡ false) where
-    pub why-torn : o.torn ≡ true → Why 9
-    unfolding why_for
-    why-torn b = rw (a, b)
-
-    module _ (b : o.torn ≡ false) where
-      pub why-turned : turned from form o.formats ≡ true → Why 19
-      unfolding why_for
-      why-turned c = rw (a, b, c)
-
-      module _ (c : turned from form o.formats ≡ false) where
-        pub why-far : m.far ≡ true → Why 13
-        unfolding why_for
-        why-far d = rw (a, b, c, d)
-
-        pub why-none : m.far ≡ false → Why 0
-        unfolding why_for
-        why-none d = rw (a, b, c, d)
 
 -- ---- planned rows that are measured first
 

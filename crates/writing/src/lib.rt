@@ -14,7 +14,6 @@ use block::Block;
 use encoder::steps::Outcome;
 use numbers::Written;
 use passes::Measured;
-use vector::Entries;
 
 // Planned rows and the first n ranges, in a form, the sizes of its lanes being known: 10, or all of it.
 fn encode_planned(
@@ -47,17 +46,16 @@ fn encode_planned(
 }
 
 // Whether a format would change its form.
+#[tactic(auto, unfolding(crate::specs::Writing::turned))]
 fn is_turned(from: u8, form: u8, formats: bool) -> bool
     ensures { result ≡ turned from form formats }
 {
-    if from == form {
-        return false;
-    }
-    formats
+    from != form && formats
 }
 
 // Why nothing is written of what was planned and measured, or 0: too many keys, a cut inside a pair, a format that would change its form, a difference that
 // cannot be spelled.
+#[tactic(auto, unfolding(crate::specs::Writing::why_for))]
 fn why_not(from: u8, form: u8, planned: Outcome, measured: Measured) -> u8
     ensures { result ≡ why_for from form planned measured }
 {
@@ -181,9 +179,9 @@ pub fn encode_read(
     let mut second = [0u64; 64];
     let clocks = &mut second[..];
     match vector::read_entries(vector, clients, clocks) {
-        Entries::Read(m) => encode_kept(
+        Ok(m) => encode_kept(
             update, clients, clocks, m, from, form, rows, blocks, ranges, n, out,
         ),
-        Entries::Refused(why) => numbers::refuse(out, why.number),
+        Err(why) => numbers::refuse(out, why.number),
     }
 }

@@ -4,10 +4,10 @@ use borrow.Author.Tests.{eq-eqb, ne_eqb}
 use Rattle.awaited.specs.Awaited.{is_left}
 use Rattle.awaited.proofs.is_left.Goals as goal
 
-pub returns-then-f-eq0 : goal.returns-then-f-eq0
+pub returns-then-f-ne0 : goal.returns-then-f-ne0
 unfolding is_left
-returns-then-f-eq0 c = let a = c.args in rw (eq-eqb a.f.left 0 c.if-f-eq0.true) refl
+returns-then-f-ne0 c = let a = c.args in rw (ne_eqb a.f.left 0 c.if-f-ne0.true) refl
 
-pub returns : goal.returns
+pub returns-else-f-ne0 : goal.returns-else-f-ne0
 unfolding is_left
-returns c = let a = c.args in rw (ne_eqb a.f.left 0 c.if-f-eq0.false) refl
+returns-else-f-ne0 c = let a = c.args in rw (eq-eqb a.f.left 0 c.if-f-ne0.false) refl

@@ -9,9 +9,6 @@ use Rattle.awaited.proofs.put_waiting.Goals as goal
 
 pub returns : goal.returns
 unfolding waiting_words slot_at
-returns c = let third = c in
-    let second = c in
-    let first = c in
-    let a = first.args in
+returns c = let a = c.args in
     let two : a.at + 2 ≡ suc (suc a.at) = omega arith in
-    (refl, rw (third.put_word-3.ensures, second.put_word-2.ensures, first.put_word.ensures, two, add-one))
+    (refl, rw (c.put_word-3.ensures, c.put_word-2.ensures, c.put_word.ensures, c.from.ensures, two, add-one))

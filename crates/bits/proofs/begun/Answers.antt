@@ -17,6 +17,6 @@ unfolding highest
 returns c = let r = c.args.r in
     let small : r < 8 = search rules in
     let eight : 8 ≡ r + (8 - r) = omega arith in (
-      rw (ne_eqb r 0 c.if-r-eq0.false) (ap (λ (n : ℕ). n / 2 ^ (8 - r)) c.wide.ensures.0),
-      shr_lt r (8 - r) (subst (λ (n : ℕ). c.wide.result < 2 ^ n) eight c.wide.ensures.1),
+      rw (ne_eqb r 0 c.if-r-eq0.false) (ap (λ (n : ℕ). n / 2 ^ (8 - r)) c.from.ensures),
+      shr_lt r (8 - r) (subst (λ (n : ℕ). c.from.result < 2 ^ n) eight (rw c.from.ensures (c.type_inv.s c.args.at).fits)),
     )

@@ -1,23 +1,15 @@
 -- `bits::store` meets its contract: what is left to store, from here on, is the whole onto what was there.
-use Prim.Native.Nat.{◌*◌, ◌^◌}
-use mathlib.Core.Path.{refl}
-use native.Mathlib.Nat.{mod-lt}
+use Prim.Native.Nat.{suc, ◌+◌, ◌-◌}
+use mathlib.Core.Path.{◌≡◌}
 use native.Mathlib.Omega.{arith}
-use native.Mathlib.Numerals.{add-one}
-use lib.ListN.{length-set}
-use lib.Pow.{pow_pos, shr_lt}
-use borrow.Author.Rules.{rules}
 use Rattle.bits.proofs.Places.{top-more, top-none}
 use Rattle.bits.proofs.store.Goals as goal
 
-pub loop-left-init : goal.loop-left-init
-loop-left-init c = (refl, refl, refl, search rules)
-
-pub overflow_cast-out : goal.overflow_cast-out
-overflow_cast-out c = omega (arith, shr_lt {n = c.loop-left.rest} 8 56 c.loop-left.invariant.3)
-
-pub loop-left-preserved : goal.loop-left-preserved
-loop-left-preserved c = (rw (add-one c.loop-left.i) (rw (top-more c.loop-left.left c.loop-left.rest c.loop-left-test.true) at c.loop-left.invariant.0), omega arith, simp length-set c.loop-left.invariant.2, mod-lt (c.loop-left.rest * 2 ^ 8) (pow_pos 64))
+pub loop-i-preserved : goal.loop-i-preserved
+loop-i-preserved c = let l = c.loop-i in
+    let place : c.args.at + (l.i + 1) ≡ suc (c.args.at + l.i) = omega arith in
+    let fewer : c.args.n - (l.i + 1) ≡ c.args.n - l.i - 1 = omega arith in
+    rw (place, fewer) (rw (top-more (c.args.n - l.i) l.rest (omega arith)) at l.invariant)
 
 pub returns : goal.returns
-returns c = rw (top-none c.loop-left.left c.loop-left.rest c.loop-left-test.false) at c.loop-left.invariant.0
+returns c = rw (top-none (c.args.n - c.loop-i.i) c.loop-i.rest (omega arith)) at c.loop-i.invariant

@@ -1,13 +1,9 @@
 -- `bits::store` meets its contract: what is left to store, from here on, is the whole onto what was there.
-use Prim.Native.Nat.{◌+◌, ◌^◌, ◌<◌}
+use Prim.Native.Nat.{◌+◌, ◌-◌}
 use mathlib.Core.Path.{◌≡◌}
-use lib.ListN.{length}
 use lib.Seq.{sets}
 use Rattle.bits.specs.Places.{top}
 use Rattle.bits.proofs.store.Given as goal
 
-abbrev pub invariant-loop-left : goal.invariant-loop-left
-invariant-loop-left l = (sets l.out l.i (top l.left l.rest) ≡ sets l.initial.out l.at (top l.n l.w)) × (l.i + l.left ≡ l.at + l.n) × (length l.out ≡ length l.initial.out) × (l.rest < 2 ^ 64)
-
-abbrev pub decreases-loop-left : goal.decreases-loop-left
-decreases-loop-left l = l.left
+abbrev pub invariant-loop-i : goal.invariant-loop-i
+invariant-loop-i l = sets l.out (l.at + l.i) (top (l.n - l.i) l.rest) ≡ sets l.initial.out l.at (top l.n l.w)

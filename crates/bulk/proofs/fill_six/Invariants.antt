@@ -1,12 +1,6 @@
 -- `bulk::fill_six` meets its contract: i of them stand from `at` on.
-use Prim.Native.Nat.{◌+◌, ◌-◌, ◌≤◌}
-use mathlib.Core.Path.{◌≡◌}
-use mathlib.Core.List.{◌++◌}
-use lib.ListN.{length, take, replicate}
+use Rattle.std.proofs.Common.{◌≡◌, ◌+◌, ◌++◌, length, take, replicate}
 use Rattle.bulk.proofs.fill_six.Given as goal
 
 abbrev pub invariant-loop-i : goal.invariant-loop-i
-invariant-loop-i l = (take (l.at + l.i) l.out ≡ take l.at l.initial.out ++ replicate l.i l.v) × (length l.out ≡ length l.initial.out) × (l.i ≤ 6)
-
-abbrev pub decreases-loop-i : goal.decreases-loop-i
-decreases-loop-i l = 6 - l.i
+invariant-loop-i l = (take (l.at + l.i) l.out ≡ take l.at l.initial.out ++ replicate l.i l.v) × (length l.out ≡ length l.initial.out)

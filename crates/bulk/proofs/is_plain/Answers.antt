@@ -16,12 +16,3 @@ returns c z = let k = c in
     let p = c.plain_to.ensures in
     let e = eqb-true c.plain_to.result (k.args.at + k.args.u) z in
     (omega arith, plain-took 7 k.args.column.now k.args.at k.args.end k.args.u (omega arith) (omega arith) (rw e at p.2))
-
-pub returns-then-column-end : goal.returns-then-column-end
-returns-then-column-end c = never
-
-pub returns-then-end-at : goal.returns-then-end-at
-returns-then-end-at c = never
-
-pub returns-then-room-u : goal.returns-then-room-u
-returns-then-room-u c = never

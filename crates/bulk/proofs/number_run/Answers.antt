@@ -9,7 +9,3 @@ pub returns-in_default : goal.returns-in_default
 unfolding begun
 returns-in_default c = let told = c.in_default.is in
     rw (← c.read_number-r.ensures, told) (ap Bad (c.why_signed.ensures ∙ ap why_signed told))
-
-pub returns : goal.returns
-returns c = let m = c in
-    rw (← m.read_number-r.ensures, m.in-Value.is) c.run_of.ensures

@@ -4,18 +4,17 @@ use mathlib.Core.Path.{◌≡◌, refl, sym, ap, ◌∙◌}
 use mathlib.Core.List.{◌∷◌, []}
 use native.Mathlib.Omega.{arith}
 use lib.Dec.{eqb}
+use lib.ListN.{length}
 use Rattle.numbers.specs.declared.Refusal.{Refusal}
 use Rattle.numbers.specs.Number.{pick, none}
 use Rattle.columns.specs.declared.byte.Place.{Place}
 use Rattle.columns.specs.declared.byte.Answer.{Answer}
 use Rattle.columns.specs.declared.byte.Answer.TheVariants.{Next, Bad}
-use Rattle.columns.specs.Byte.{next_byte}
 use Rattle.columns.specs.ByteInner.{why_byte}
 use Rattle.bulk.specs.declared.BytesRead.{BytesRead}
 use Rattle.bulk.specs.Bulk.{drew, stop, byte_draw}
 use Rattle.bulk.specs.Promises.{bytes_answer}
-use Rattle.bulk.proofs.Drawing.{read-begin, read-on, read-stop, read-end, end-answer, end-words, end-full, none-either}
-use Rattle.bulk.proofs.read_bytes.Invariants.{itself}
+use Rattle.bulk.proofs.Drawing.{read-on, read-stop, read-end, end-answer, end-words, end-full, none-either}
 use Rattle.bulk.proofs.read_bytes.Goals as goal
 
 abbrev make : Refusal → ℕ → Place → BytesRead
@@ -29,12 +28,6 @@ drawn : (r : Answer) (v : ℕ) (d : Place) → r ≡ Next v d → byte_draw r �
 unfolding byte_draw
 drawn r v d e = rw e
 
-pub loop-i-init : goal.loop-i-init
-loop-i-init c = let a = c.args in read-begin (λ d. byte_draw (next_byte a.column.now d)) itself _ a.place a.out.now refl
-
-pub clear-requires : goal.clear-requires
-clear-requires c = let h = c.loop-i.invariant in omega (arith, h.fits, h.size)
-
 pub returns-in_default : goal.returns-in_default
 unfolding bytes_answer
 returns-in_default c = let n = c in
@@ -43,15 +36,6 @@ returns-in_default c = let n = c in
       c.clear.ensures ∙ end-words c.loop-i.invariant _ e,
     )
 
-pub bounds-out-i : goal.bounds-out-i
-bounds-out-i c = omega arith
-
-pub overflow_add-i : goal.overflow_add-i
-overflow_add-i c = omega arith
-
-pub loop-i-smaller : goal.loop-i-smaller
-loop-i-smaller c = omega (arith, c.loop-i.invariant.size)
-
 pub loop-i-preserved : goal.loop-i-preserved
 loop-i-preserved c = let n = c in
     read-on c.loop-i.invariant c.in-Next.v c.in-Next.d (c.in-Next.v ∷ []) (λ vs. refl) (ap byte_draw (sym n.next_byte-r.ensures) ∙ drawn _ _ _ c.in-Next.is) (omega (arith, c.loop-i.invariant.size)) (omega (arith, c.loop-i.invariant.size))
@@ -59,4 +43,5 @@ loop-i-preserved c = let n = c in
 pub returns : goal.returns
 unfolding bytes_answer
 returns c = let e = read-end c.loop-i.invariant (omega (arith, c.loop-i.invariant.size)) in
-    (ap (λ (w : Refusal). make w c.loop-i.i c.loop-i.c) (sym (none-either (eqb c.loop-i.i 0))) ∙ end-answer c.loop-i.invariant _ e make, end-full c.loop-i.invariant _ e (omega (arith, c.loop-i.invariant.size, c.loop-i.invariant.fits)))
+    let full : length c.loop-i.out ≡ c.loop-i.i = omega (arith, c.loop-i.invariant.size, c.loop-i.invariant.fits, c.loop-i-test.false) in
+    (ap (λ (k : ℕ). make none k c.loop-i.c) full ∙ ap (λ (w : Refusal). make w c.loop-i.i c.loop-i.c) (sym (none-either (eqb c.loop-i.i 0))) ∙ end-answer c.loop-i.invariant _ e make, end-full c.loop-i.invariant _ e (omega (arith, c.loop-i.invariant.size, c.loop-i.invariant.fits)))

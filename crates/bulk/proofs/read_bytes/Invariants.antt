@@ -1,5 +1,5 @@
 -- `bulk::read_bytes` meets its contract: the words before i are what i draws gave, and c is the place that they left.
-use Prim.Native.Nat.{ℕ, ◌-◌}
+use Prim.Native.Nat.{ℕ}
 use mathlib.Core.List.{List}
 use lib.ListN.{length}
 use Rattle.columns.specs.Byte.{next_byte}
@@ -12,6 +12,3 @@ itself vs = vs
 
 abbrev pub invariant-loop-i : goal.invariant-loop-i
 invariant-loop-i l = ReadTo (λ d. byte_draw (next_byte l.column d)) itself (length l.initial.out) (length l.initial.out) l.initial.c l.out l.i l.i l.c
-
-abbrev pub decreases-loop-i : goal.decreases-loop-i
-decreases-loop-i l = length l.initial.out - l.i

@@ -1,6 +1,5 @@
 -- `bulk::read_number` meets its contract: the sign is in the first byte, and `number_rest` goes on from its six bits.
 use mathlib.Core.Path.{sym, ap, ◌∙◌}
-use native.Mathlib.Omega.{arith}
 use lib.ListN.{drop_of_length-le}
 use Rattle.numbers.proofs.Laws.{signed-last, signed-more}
 use Rattle.numbers.specs.Number.{read_signed, spelt_signed, minus_of, with_sign, answer_at}
@@ -9,9 +8,6 @@ use Rattle.bulk.proofs.read_number.Goals as goal
 pub returns-then-s-at : goal.returns-then-s-at
 unfolding read_signed spelt_signed minus_of with_sign answer_at
 returns-then-s-at c = rw (drop_of_length-le _ c.if-s-at.true)
-
-pub overflow_cast-b : goal.overflow_cast-b
-overflow_cast-b c = omega (arith, c.type_inv.s c.args.at)
 
 pub returns-then-b-lt128 : goal.returns-then-b-lt128
 returns-then-b-lt128 c = sym (signed-last c.args.s.now _ c.if-s-at.false c.if-b-lt128.true)

@@ -1,6 +1,6 @@
 -- `bulk::read_numbers` meets its contract: the words before i are what i draws gave, and c is the place that they left.
 use Prim.Native.Nat.{ℕ}
-use mathlib.Core.Path.{◌≡◌, refl, sym, ap, ◌∙◌}
+use mathlib.Core.Path.{◌≡◌, sym, ap, ◌∙◌}
 use native.Mathlib.Omega.{arith}
 use lib.Dec.{eqb}
 use lib.ListN.{length}
@@ -9,13 +9,12 @@ use Rattle.numbers.specs.Number.{pick, none}
 use Rattle.columns.specs.declared.number.Place.{Place}
 use Rattle.columns.specs.declared.number.Answer.{Answer}
 use Rattle.columns.specs.declared.number.Answer.TheVariants.{Bad}
-use Rattle.columns.specs.Number.{next_number}
 use Rattle.columns.specs.NumberInner.{why_number}
 use Rattle.bulk.specs.declared.NumbersRead.{NumbersRead}
 use Rattle.bulk.specs.Bulk.{stop, number_draw}
 use Rattle.bulk.specs.Promises.{numbers_answer}
-use Rattle.bulk.proofs.Drawing.{read-begin, read-stop, read-end, end-answer, end-words, end-full, none-either}
-use Rattle.bulk.proofs.Spreading.{itself, read-run}
+use Rattle.bulk.proofs.Drawing.{read-stop, read-end, end-answer, end-words, end-full, none-either}
+use Rattle.bulk.proofs.Spreading.{read-run}
 use Rattle.bulk.proofs.read_numbers.Goals as goal
 
 abbrev make : Refusal → ℕ → Place → NumbersRead
@@ -25,12 +24,6 @@ refused : (r : Answer) (w : Refusal) → r ≡ Bad w → number_draw r ≡ stop 
 unfolding number_draw
 refused r w e = rw e
 
-pub loop-i-init : goal.loop-i-init
-loop-i-init c = let a = c.args in read-begin (λ d. number_draw (next_number a.column.now d)) itself _ a.place a.out.now refl
-
-pub clear-requires : goal.clear-requires
-clear-requires c = let h = c.loop-i.invariant in omega (arith, h.fits, h.size)
-
 pub returns-in_default : goal.returns-in_default
 unfolding numbers_answer
 returns-in_default c = let n = c in
@@ -38,24 +31,6 @@ returns-in_default c = let n = c in
       ap (λ (w : Refusal). make w c.loop-i.i c.loop-i.c) (c.told-refusal.ensures ∙ ap (λ (w : Refusal). pick (eqb c.loop-i.i 0) w none) c.why-why.ensures) ∙ end-answer c.loop-i.invariant _ e make,
       c.clear.ensures ∙ end-words c.loop-i.invariant _ e,
     )
-
-pub as_many-n-requires : goal.as_many-n-requires
-as_many-n-requires c = omega (arith, c.loop-i-test.true)
-
-pub spread-requires : goal.spread-requires
-spread-requires c = omega (arith, c.as_many-n.ensures.1, c.loop-i-test.true)
-
-pub overflow_add-i : goal.overflow_add-i
-overflow_add-i c = omega (arith, c.as_many-n.ensures.1, c.loop-i-test.true)
-
-pub overflow_sub-n : goal.overflow_sub-n
-overflow_sub-n c = c.as_many-n.ensures.0
-
-pub less_drawn-c-requires : goal.less_drawn-c-requires
-less_drawn-c-requires c = omega (arith, c.as_many-n.ensures.2)
-
-pub loop-i-smaller : goal.loop-i-smaller
-loop-i-smaller c = omega (arith, c.loop-i.invariant.size, c.as_many-n.ensures.0, c.loop-i-test.true)
 
 pub loop-i-preserved : goal.loop-i-preserved
 loop-i-preserved c = let a = c.args in

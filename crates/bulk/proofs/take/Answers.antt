@@ -9,9 +9,6 @@ use Rattle.string.specs.String.{text_ending, units_taken}
 use Rattle.string.specs.StringInner.{TookWithin}
 use Rattle.bulk.proofs.take.Goals as goal
 
-pub overflow_add-next : goal.overflow_add-next
-overflow_add-next c = omega (arith, (c.is_plain.ensures c.if-is_plain.true).0)
-
 pub returns-then-is_plain : goal.returns-then-is_plain
 unfolding units_taken text_ending
 returns-then-is_plain c = rw (c.is_plain.ensures c.if-is_plain.true).1

@@ -9,7 +9,3 @@ pub returns-in_default : goal.returns-in_default
 unfolding begun
 returns-in_default c = let told = c.in_default.is in
     rw (← c.read_signed-r.ensures, told) (ap Bad (c.why_signed.ensures ∙ ap why_signed told))
-
-pub returns : goal.returns
-returns c = let m = c in
-    rw (← m.read_signed-r.ensures, m.in-Value.is) c.long_run.ensures

@@ -1,4 +1,5 @@
 -- `cells::begin_differences` meets its contract: each return is an arm of `begun` or of `counted`, by what was read and tested on the way.
+use Rattle.std.specs.Prelude.{Option}
 use Prim.Native.Nat.{ℕ, ◌+◌, ◌*◌, ◌<◌}
 use mathlib.Core.Path.{◌≡◌, refl, sym, ◌∙◌}
 use mathlib.Core.Bool.{Bool}
@@ -9,14 +10,13 @@ use Rattle.numbers.specs.Number.{read_signed, read_unsigned}
 use Rattle.numbers.specs.declared.Signed.TheVariants.{Value}
 use Rattle.columns.specs.declared.difference.Answer.{Answer}
 use Rattle.columns.specs.Difference.{begun, counted}
-use Rattle.cells.specs.declared.Drawn.{Drawn}
 use Rattle.cells.specs.Cells.{cell, DifferencePut, DifferenceDrawn}
 use Rattle.cells.proofs.Numbers.{first_cell}
 use Rattle.cells.proofs.Differences.{difference-refused, difference-begins, starts-before, inside, begun-wrong, begun-outside, begun-even, begun-odd, counted-wrong, counted-many, counted-run}
 use Rattle.cells.proofs.begin_differences.Goals as goal
 use Rattle.cells.proofs.begin_differences.Goals.{After-upto-column, Then-x-eq1}
 
-begins : (c : After-upto-column) (v : List ℕ) (r : Drawn) (x : Answer)
+begins : (c : After-upto-column) (v : List ℕ) (r : Option ℕ) (x : Answer)
     → let a = c.args in
     let text = c.upto-column.result.now in let at = get_or a.w.now (7 * a.k) 0 in
     begun text at (cell a.w.now a.k 2) (read_signed text at) ≡ x → DifferencePut a.k a.w.now v r x → DifferenceDrawn a.update.now a.k a.w.now v r

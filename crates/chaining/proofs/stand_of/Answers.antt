@@ -24,8 +24,7 @@ span_at-s-requires c = let a = c.args in
     omega (arith, named-below a.slots.now a.n a.client c.rank_of-p.result c.rank_of-p.ensures.0 (sym c.is_at-named.ensures ∙ c.if-not-named.false))
 
 pub returns : goal.returns
-returns c = let d = c in
-    let a = d.args in
+returns c = let a = c.args in
     c.stand_in.ensures ∙ ap (λ (s : Span). stand_in s (get_or a.reach.now c.rank_of-p.result 0) (get_or a.chains.now (2 * c.rank_of-p.result) 0) (get_or a.chains.now (2 * c.rank_of-p.result + 1) 0)) c.span_at-s.ensures
     ∙ stand-found a.slots.now a.n a.client c.rank_of-p.result c.rank_of-p.ensures.0 a.chains.now a.reach.now
-    (sym c.is_at-named.ensures ∙ d.if-not-named.false) (omega arith) (omega arith)
+    (sym c.is_at-named.ensures ∙ c.if-not-named.false) (omega arith) (omega arith)

@@ -16,10 +16,10 @@ pub returns-then-update-gt-MAX_UPDATE : goal.returns-then-update-gt-MAX_UPDATE
 unfolding where_of where_found
 returns-then-update-gt-MAX_UPDATE c = rw (c.refused_where-then-update-gt-MAX_UPDATE.ensures, le-ltb _ 1 c.if-form-lt1.false, le-ltb 2 _ c.if-form-gt2.false, lt-ltb max_update _ c.if-update-gt-MAX_UPDATE.true)
 
-pub returns-in-Part : goal.returns-in-Part
+pub returns-in-Ok : goal.returns-in-Ok
 unfolding where_of where_found
-returns-in-Part c = rw (le-ltb _ 1 c.if-form-lt1.false, le-ltb 2 _ c.if-form-gt2.false, le-ltb max_update _ c.if-update-gt-MAX_UPDATE.false, ← c.find.ensures, c.in-Part.is)
+returns-in-Ok c = rw (le-ltb _ 1 c.if-form-lt1.false, le-ltb 2 _ c.if-form-gt2.false, le-ltb max_update _ c.if-update-gt-MAX_UPDATE.false, ← c.find.ensures, c.in-Ok.is)
 
-pub returns-in-Refused : goal.returns-in-Refused
+pub returns-in-Err : goal.returns-in-Err
 unfolding where_of where_found
-returns-in-Refused c = rw (c.refused_where-in-Refused.ensures, le-ltb _ 1 c.if-form-lt1.false, le-ltb 2 _ c.if-form-gt2.false, le-ltb max_update _ c.if-update-gt-MAX_UPDATE.false, ← c.find.ensures, c.in-Refused.is)
+returns-in-Err c = rw (c.refused_where-in-Err.ensures, le-ltb _ 1 c.if-form-lt1.false, le-ltb 2 _ c.if-form-gt2.false, le-ltb max_update _ c.if-update-gt-MAX_UPDATE.false, ← c.find.ensures, c.in-Err.is)

@@ -1,4 +1,6 @@
 -- `deletes::check_delete_set` meets its contract: what follows the last range, from here, is what follows it from the start.
+use Rattle.std.specs.Prelude.{Ok}
+use Rattle.std.proofs.lemmas.Result.{err_from_is_err_and}
 use mathlib.Core.Path.{sym, ap, subst, ◌∙◌}
 use Rattle.numbers.specs.Limits.{max_clients}
 use Rattle.grammar.specs.Course.{ending}
@@ -18,24 +20,26 @@ loop-t-init c = let a = c.args in let u = a.update.now in
 
 pub loop-t-smaller-in-Range : goal.loop-t-smaller-in-Range
 unfolding Keeps
-loop-t-smaller-in-Range c = (subst (Keeps c.loop-t.p) c.in-Range.is c.move_on-x.ensures.1).0
+loop-t-smaller-in-Range c = (subst (Keeps c.loop-t.p) (c.in_ok-t.was ∙ ap Ok c.in-Range.is) c.move_on.ensures.1).0
 
 pub loop-t-preserved-in-Range : goal.loop-t-preserved-in-Range
 unfolding after ending
-loop-t-preserved-in-Range c = let a = c.args in sym (ap ends (c.move_on-x.ensures.0 ∙ ap (after a.form a.update.now) c.in-Range.is)) ∙ c.loop-t.invariant
+loop-t-preserved-in-Range c = let a = c.args in sym (ap ends (c.move_on.ensures.0 ∙ ap (after a.form a.update.now) (c.in_ok-t.was ∙ ap Ok c.in-Range.is))) ∙ c.loop-t.invariant
 
 pub loop-t-smaller : goal.loop-t-smaller
 unfolding Keeps
-loop-t-smaller c = (subst (Keeps c.loop-t.p) c.in-On.is c.move_on-x.ensures.1).0
+loop-t-smaller c = (subst (Keeps c.loop-t.p) (c.in_ok-t.was ∙ ap Ok c.in-On.is) c.move_on.ensures.1).0
 
 pub loop-t-preserved : goal.loop-t-preserved
 unfolding after
-loop-t-preserved c = let a = c.args in sym (ap ends (c.move_on-x.ensures.0 ∙ ap (after a.form a.update.now) c.in-On.is)) ∙ c.loop-t.invariant
+loop-t-preserved c = let a = c.args in sym (ap ends (c.move_on.ensures.0 ∙ ap (after a.form a.update.now) (c.in_ok-t.was ∙ ap Ok c.in-On.is))) ∙ c.loop-t.invariant
 
 pub returns-in-Done : goal.returns-in-Done
 unfolding after ending
-returns-in-Done c = let a = c.args in sym (ap ends (c.move_on-x.ensures.0 ∙ ap (after a.form a.update.now) c.in-Done.is)) ∙ c.loop-t.invariant
+returns-in-Done c = let a = c.args in sym (ap ends (c.move_on.ensures.0 ∙ ap (after a.form a.update.now) (c.in_ok-t.was ∙ ap Ok c.in-Done.is))) ∙ c.loop-t.invariant
 
-pub returns-in-Refused : goal.returns-in-Refused
+pub returns-in_err-t : goal.returns-in_err-t
 unfolding after ending
-returns-in-Refused c = let a = c.args in sym (ap ends (c.move_on-x.ensures.0 ∙ ap (after a.form a.update.now) c.in-Refused.is)) ∙ c.loop-t.invariant
+returns-in_err-t c = let a = c.args in
+    let p = err_from_is_err_and c.from_residual.result c.from_residual.ensures.1 in
+    rw (p.1, p.2) (sym (ap ends (c.move_on.ensures.0 ∙ ap (after a.form a.update.now) c.in_err-t.was)) ∙ c.loop-t.invariant)

@@ -6,16 +6,16 @@ use Rattle.deletes.proofs.read_delete_set.Goals as goal
 
 pub normalize-m-requires : goal.normalize-m-requires
 unfolding taken
-normalize-m-requires c = let a = c.args in rows-ready a.form a.update.now a.at a.words.now _ _ c.collect-c.ensures _ _ c.in-Rows.is
+normalize-m-requires c = let a = c.args in rows-ready a.form a.update.now a.at a.words.now _ _ c.collect.ensures _ _ c.in-Ok.is
 
-pub returns-in-Rows : goal.returns-in-Rows
+pub returns-in-Ok : goal.returns-in-Ok
 unfolding taken
-returns-in-Rows c = let a = c.args in
-    let o = set-rows a.form a.update.now a.at a.words.now _ _ c.collect-c.ensures _ _ c.in-Rows.is in
+returns-in-Ok c = let a = c.args in
+    let o = set-rows a.form a.update.now a.at a.words.now _ _ c.collect.ensures _ _ c.in-Ok.is in
     (rw c.normalize-m.ensures.0 o.0, c.normalize-m.ensures.1 ∙ o.1)
 
-pub returns-in-Refused : goal.returns-in-Refused
+pub returns-in-Err : goal.returns-in-Err
 unfolding taken
-returns-in-Refused c = let a = c.args in
-    let o = set-refused a.form a.update.now a.at a.words.now _ _ c.collect-c.ensures _ c.in-Refused.is in
+returns-in-Err c = let a = c.args in
+    let o = set-refused a.form a.update.now a.at a.words.now _ _ c.collect.ensures _ c.in-Err.is in
     (o.0, c.clear.ensures ∙ o.1)

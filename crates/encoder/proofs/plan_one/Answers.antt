@@ -1,12 +1,14 @@
 -- `plan_one` meets its contract.
-use Rattle.encoder.proofs.Alone.{one-plan, a-head, no-head}
+use Rattle.std.proofs.Common.{◌≡◌, ◌∙◌, ℕ, zero, suc, min, eqb, refl, arith}
+use borrow.Author.Tests.{ne_eqb}
+use Rattle.numbers.specs.Number.{pick}
+use Rattle.encoder.proofs.Alone.{one-plan}
 use Rattle.encoder.proofs.plan_one.Goals as goal
-use Rattle.encoder.proofs.plan_one.Goals.{then-c-ne0, else-c-ne0}
+
+-- a head counts one piece
+one_piece : (n : ℕ) → min n 1 ≡ pick (eqb n 0) 0 1
+one_piece zero = refl
+one_piece (suc n) = rw (ne_eqb (suc n) 0 (λ e. omega arith)) (omega arith)
 
 pub returns : goal.returns
-returns c = let a = c.args in
-    one-plan a.plan.now a.c c.if-c-ne0.head c.requires
-    (elim c.if-c-ne0.branch [
-      | then-c-ne0 w ↦ a-head a.c c.if-c-ne0.head w.if-c-ne0.true w.head-is
-      | else-c-ne0 w ↦ no-head a.c c.if-c-ne0.head w.if-c-ne0.false w.head-is
-    ])
+returns c = let a = c.args in one-plan a.plan.now a.c c.min.result c.requires (c.min.ensures ∙ one_piece a.c.head)

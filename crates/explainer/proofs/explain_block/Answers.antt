@@ -27,9 +27,9 @@ pub follow-requires-2 : goal.follow-requires-2
 follow-requires-2 c = let a = c.args in
     let p = c.requires in
     let o = c.open.ensures in
-    (o.0, p.0, column-reads a.form a.update.now _ c.if-form-eq1.false _ (opened-as _ _ _ _ o.1 c.in-Number.is) p.1)
+    (o.0, p.0, column-reads a.form a.update.now _ c.if-form-eq1.false _ (opened-as _ _ _ _ o.1 c.in-Some.is) p.1)
 
 pub returns : goal.returns
 returns c = let a = c.args in
     let f = c.follow-2.ensures in
-    (f.0 ∙ column-explains a.form a.update.now _ c.if-form-eq1.false _ (opened-as _ _ _ _ c.open.ensures.1 c.in-Number.is) a.n, f.1)
+    (f.0 ∙ column-explains a.form a.update.now _ c.if-form-eq1.false _ (opened-as _ _ _ _ c.open.ensures.1 c.in-Some.is) a.n, f.1)

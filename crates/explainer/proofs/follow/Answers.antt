@@ -57,17 +57,17 @@ pub overflow_add-own : goal.overflow_add-own
 overflow_add-own c = let a = c.args in
     let e = sym c.is_ended.ensures ∙ c.if-is_ended.false in
     let o = sym c.is_over.ensures ∙ c.if-is_over.false in
-    let h = own-fits a.form a.update.now _ c.loop-part.w c.loop-part.sheet c.loop-part.q c.loop-part.ahead c.loop-part.own c.loop-part.invariant.0 e o _ _ _ _ c.place-i.ensures _ c.tell.ensures.0 _ _ _ c.in-Lines.is in
+    let h = own-fits a.form a.update.now _ c.loop-part.w c.loop-part.sheet c.loop-part.q c.loop-part.ahead c.loop-part.own c.loop-part.invariant.0 e o _ _ _ _ c.place-i.ensures _ c.tell.ensures.0 _ _ _ c.in-Some.is in
     omega (arith, h)
 
 pub loop-part-smaller : goal.loop-part-smaller
 loop-part-smaller c = let a = c.args in
     let e = sym c.is_ended.ensures ∙ c.if-is_ended.false in
     let o = sym c.is_over.ensures ∙ c.if-is_over.false in
-    rw c.after-q.ensures (drawn-less a.form a.update.now _ c.loop-part.w c.loop-part.sheet c.loop-part.q c.loop-part.ahead c.loop-part.own c.loop-part.invariant.0 e o _ _ _ _ c.place-i.ensures _ c.tell.ensures.0 _ _ _ c.in-Lines.is)
+    rw c.after-q.ensures (drawn-less a.form a.update.now _ c.loop-part.w c.loop-part.sheet c.loop-part.q c.loop-part.ahead c.loop-part.own c.loop-part.invariant.0 e o _ _ _ _ c.place-i.ensures _ c.tell.ensures.0 _ _ _ c.in-Some.is)
 
 pub loop-part-preserved : goal.loop-part-preserved
 loop-part-preserved c = let a = c.args in
     let e = sym c.is_ended.ensures ∙ c.if-is_ended.false in
     let o = sym c.is_over.ensures ∙ c.if-is_over.false in
-    (rw c.after-q.ensures (drawn-follows a.form a.update.now _ c.loop-part.w c.loop-part.sheet c.loop-part.q c.loop-part.ahead c.loop-part.own c.loop-part.invariant.0 e o _ _ _ _ c.place-i.ensures _ c.tell.ensures.0 _ _ _ c.in-Lines.is), c.tell.ensures.1, c.tell.auto.w ∙ c.loop-part.invariant.2)
+    (rw c.after-q.ensures (drawn-follows a.form a.update.now _ c.loop-part.w c.loop-part.sheet c.loop-part.q c.loop-part.ahead c.loop-part.own c.loop-part.invariant.0 e o _ _ _ _ c.place-i.ensures _ c.tell.ensures.0 _ _ _ c.in-Some.is), c.tell.ensures.1, c.tell.auto.w ∙ c.loop-part.invariant.2)

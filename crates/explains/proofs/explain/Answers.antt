@@ -21,14 +21,14 @@ returns-then-update-gt-MAX_UPDATE c = let a = c.args in
 
 pub explain_block-lines-requires : goal.explain_block-lines-requires
 explain_block-lines-requires c = let a = c.args in
-    (omega arith, readable a.form a.update.now (sym c.in-Reads.is ∙ c.read_whole.ensures))
+    (omega arith, readable a.form a.update.now (sym c.in-Ok.is ∙ c.read_whole.ensures))
 
-pub returns-in-Reads : goal.returns-in-Reads
-returns-in-Reads c = let a = c.args in
-    let e = is_read a.form a.update.now a.n (length a.out.now) c.if-form-lt1.false c.if-form-gt2.false c.if-update-gt-MAX_UPDATE.false (sym c.in-Reads.is ∙ c.read_whole.ensures) in
+pub returns-in-Ok : goal.returns-in-Ok
+returns-in-Ok c = let a = c.args in
+    let e = is_read a.form a.update.now a.n (length a.out.now) c.if-form-lt1.false c.if-form-gt2.false c.if-update-gt-MAX_UPDATE.false (sym c.in-Ok.is ∙ c.read_whole.ensures) in
     gives-by _ _ a.out.now _ _ (e ∙ ap (fitting (length a.out.now)) (sym c.explain_block-lines.ensures.0)) c.told.ensures
 
-pub returns-in-Refused : goal.returns-in-Refused
-returns-in-Refused c = let a = c.args in
-    let e = not-read a.form a.update.now a.n (length a.out.now) c.if-form-lt1.false c.if-form-gt2.false c.if-update-gt-MAX_UPDATE.false _ (sym c.in-Refused.is ∙ c.read_whole.ensures) in
-    gives-by _ _ a.out.now _ _ e c.refuse-in-Refused.ensures
+pub returns-in-Err : goal.returns-in-Err
+returns-in-Err c = let a = c.args in
+    let e = not-read a.form a.update.now a.n (length a.out.now) c.if-form-lt1.false c.if-form-gt2.false c.if-update-gt-MAX_UPDATE.false _ (sym c.in-Err.is ∙ c.read_whole.ensures) in
+    gives-by _ _ a.out.now _ _ e c.refuse-in-Err.ensures

@@ -7,10 +7,10 @@ use mathlib.Core.Logic.{⊎_elim}
 use mathlib.Core.Path.{refl, subst}
 use Rattle.fields.proofs.draw_text.Goals as goal
 
-pub returns-in_default : goal.returns-in_default
-returns-in_default c = let b = c in
+pub returns-in_err-units : goal.returns-in_err-units
+returns-in_err-units c = let b = c in
     let a = b.args in
-    text-none a.update.now a.w.now _ a.k a.r.now _ c.in_default.is c.draw_units-d.ensures
+    text-none a.update.now a.w.now _ a.k a.r.now _ c.from_residual.ensures (rw (c.from_residual.ensures, ← c.in_err-units.was) c.draw_units.ensures)
 
 pub overflow_add-next : goal.overflow_add-next
 unfolding TookWithin
@@ -20,12 +20,12 @@ pub returns-in-Took : goal.returns-in-Took
 unfolding cell
 returns-in-Took c = let b = c in
     let a = b.args in
-    text-took a.update.now a.w.now _ c.in-Number.units (subst (NumberDrawn a.update.now 5 a.w.now _) c.in-Number.is c.draw_units-d.ensures)
+    text-took a.update.now a.w.now _ c.in_ok-units.units (subst (NumberDrawn a.update.now 5 a.w.now _) c.in_ok-units.was c.draw_units.ensures)
     a.r.now _ a.k _ _ _ b.requires.1 refl c.in-Took.is c.upto.ensures c.take_text.ensures.0
 
 pub returns-in-Refused : goal.returns-in-Refused
 unfolding cell
 returns-in-Refused c = let b = c in
     let a = b.args in
-    text-refused a.update.now a.w.now _ c.in-Number.units (subst (NumberDrawn a.update.now 5 a.w.now _) c.in-Number.is c.draw_units-d.ensures)
+    text-refused a.update.now a.w.now _ c.in_ok-units.units (subst (NumberDrawn a.update.now 5 a.w.now _) c.in_ok-units.was c.draw_units.ensures)
     _ a.r.now _ _ a.k _ _ _ refl c.in-Refused.is c.upto.ensures c.take_text.ensures.0 c.refuse.ensures

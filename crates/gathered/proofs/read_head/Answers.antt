@@ -7,20 +7,7 @@ use Rattle.cells.specs.Cells.{place_in, state_in, given}
 use Rattle.update.proofs.Laws.{in-line, within}
 use Rattle.gathered.specs.Gathered.{Headed}
 use Rattle.gathered.proofs.Heads.{client-within, no-count, no-client, again, no-clock, headed, was-there, is-new}
-use borrow.Author.Rules.{rules}
 use Rattle.gathered.proofs.read_head.Goals as goal
-
-pub read_var-requires : goal.read_var-requires
-read_var-requires c = search rules
-
-pub enum_known-count : goal.enum_known-count
-enum_known-count c = search rules
-
-pub enum_told-1 : goal.enum_told-1
-enum_told-1 c = search rules
-
-pub why-requires : goal.why-requires
-why-requires c = search rules
 
 pub returns-in_default : goal.returns-in_default
 unfolding Headed
@@ -33,18 +20,6 @@ returns-in_default c = let a = c.args in
     let none = ap (given w₁) (sym c.in_default.is) ∙ k in
     (c.read_var.ensures.0, refl, rw c.why.ensures (λ n cs same. no-count a.form u w n cs a.room w₁ none))
 
-pub read_client-requires : goal.read_client-requires
-read_client-requires c = search rules
-
-pub enum_known-client : goal.enum_known-client
-enum_known-client c = search rules
-
-pub enum_told-in_default-read_client : goal.enum_told-in_default-read_client
-enum_told-in_default-read_client c = search rules
-
-pub why-requires-in_default-read_client : goal.why-requires-in_default-read_client
-why-requires-in_default-read_client c = search rules
-
 pub returns-in_default-read_client : goal.returns-in_default-read_client
 unfolding Headed
 returns-in_default-read_client c = let a = c.args in
@@ -53,18 +28,15 @@ returns-in_default-read_client c = let a = c.args in
     let w = a.w.now in
     let w₁ = c.read_var.new.w in
     let k : given w₁ c.read_var.result ≡ fields a.form u (grammar.number (grammar.up_to a.room)) (state_in w) = in-line a.form u a.room w w₁ c.read_var.result c.read_var.ensures.1 in
-    let k₁ = ap (given w₁) (sym c.in-Number.is) ∙ k in
+    let k₁ = ap (given w₁) (sym c.in-Some.is) ∙ k in
     let w₂ = c.read_client.new.w in
     let none = ap (given w₂) (sym c.in_default-read_client.is) ∙ c.read_client.ensures.1 in
     (c.read_client.ensures.0, refl, rw c.why-in_default-read_client.ensures (λ n cs same. no-client a.form u w n cs a.room w₁ _ k₁ w₂ none))
 
-pub bounds-w-64 : goal.bounds-w-64
-bounds-w-64 c = search rules
-
 pub insert-new-requires : goal.insert-new-requires
 insert-new-requires c = let a = c.args in
     let p = c.requires in
-    (p.1, p.2, client-within a.form a.update.now _ c.read_client.new.w _ (ap (given c.read_client.new.w) (sym c.in-Number-read_client.is) ∙ c.read_client.ensures.1), p.3)
+    (p.1, p.2, client-within a.form a.update.now _ c.read_client.new.w _ (ap (given c.read_client.new.w) (sym c.in-Some-read_client.is) ∙ c.read_client.ensures.1), p.3)
 
 pub returns-then-not-new : goal.returns-then-not-new
 unfolding Headed place_in
@@ -74,23 +46,11 @@ returns-then-not-new c = let a = c.args in
     let w = a.w.now in
     let w₁ = c.read_var.new.w in
     let k : given w₁ c.read_var.result ≡ fields a.form u (grammar.number (grammar.up_to a.room)) (state_in w) = in-line a.form u a.room w w₁ c.read_var.result c.read_var.ensures.1 in
-    let k₁ = ap (given w₁) (sym c.in-Number.is) ∙ k in
+    let k₁ = ap (given w₁) (sym c.in-Some.is) ∙ k in
     let w₂ = c.read_client.new.w in
-    let c₁ = ap (given w₂) (sym c.in-Number-read_client.is) ∙ c.read_client.ensures.1 in
+    let c₁ = ap (given w₂) (sym c.in-Some-read_client.is) ∙ c.read_client.ensures.1 in
     let there = was-there _ a.seen a.order.now c.insert-new.new.order c.insert-new.result c.insert-new.ensures.1 (c.if-not-new.true) in
     (c.read_client.ensures.0, c.insert-new.ensures.0, λ n cs same. again a.form u w n cs a.room w₁ _ k₁ w₂ _ c₁ (same _ ∙ there))
-
-pub read_var-requires-2 : goal.read_var-requires-2
-read_var-requires-2 c = search rules
-
-pub enum_known-clock : goal.enum_known-clock
-enum_known-clock c = search rules
-
-pub enum_told-in_default-read_var : goal.enum_told-in_default-read_var
-enum_told-in_default-read_var c = search rules
-
-pub why-requires-in_default-read_var : goal.why-requires-in_default-read_var
-why-requires-in_default-read_var c = search rules
 
 pub returns-in_default-read_var : goal.returns-in_default-read_var
 unfolding Headed
@@ -100,9 +60,9 @@ returns-in_default-read_var c = let a = c.args in
     let w = a.w.now in
     let w₁ = c.read_var.new.w in
     let k : given w₁ c.read_var.result ≡ fields a.form u (grammar.number (grammar.up_to a.room)) (state_in w) = in-line a.form u a.room w w₁ c.read_var.result c.read_var.ensures.1 in
-    let k₁ = ap (given w₁) (sym c.in-Number.is) ∙ k in
+    let k₁ = ap (given w₁) (sym c.in-Some.is) ∙ k in
     let w₂ = c.read_client.new.w in
-    let c₁ = ap (given w₂) (sym c.in-Number-read_client.is) ∙ c.read_client.ensures.1 in
+    let c₁ = ap (given w₂) (sym c.in-Some-read_client.is) ∙ c.read_client.ensures.1 in
     let new = is-new _ a.seen a.order.now c.insert-new.new.order c.insert-new.result c.insert-new.ensures.1 (c.if-not-new.false) in
     let w₃ = c.read_var-2.new.w in
     let l : given w₃ c.read_var-2.result ≡ fields a.form u (grammar.number (grammar.up_to max_clock)) (state_in w₂) = in-line a.form u max_clock w₂ w₃ c.read_var-2.result c.read_var-2.ensures.1 in
@@ -117,19 +77,19 @@ returns c = let a = c.args in
     let w = a.w.now in
     let w₁ = c.read_var.new.w in
     let k : given w₁ c.read_var.result ≡ fields a.form u (grammar.number (grammar.up_to a.room)) (state_in w) = in-line a.form u a.room w w₁ c.read_var.result c.read_var.ensures.1 in
-    let k₁ = ap (given w₁) (sym c.in-Number.is) ∙ k in
+    let k₁ = ap (given w₁) (sym c.in-Some.is) ∙ k in
     let w₂ = c.read_client.new.w in
-    let c₁ = ap (given w₂) (sym c.in-Number-read_client.is) ∙ c.read_client.ensures.1 in
+    let c₁ = ap (given w₂) (sym c.in-Some-read_client.is) ∙ c.read_client.ensures.1 in
     let new = is-new _ a.seen a.order.now c.insert-new.new.order c.insert-new.result c.insert-new.ensures.1 (c.if-not-new.false) in
     let w₃ = c.read_var-2.new.w in
     let l : given w₃ c.read_var-2.result ≡ fields a.form u (grammar.number (grammar.up_to max_clock)) (state_in w₂) = in-line a.form u max_clock w₂ w₃ c.read_var-2.result c.read_var-2.ensures.1 in
-    let l₁ = ap (given w₃) (sym c.in-Number-read_var.is) ∙ l in (
+    let l₁ = ap (given w₃) (sym c.in-Some-read_var.is) ∙ l in (
       c.read_var-2.ensures.0,
       c.insert-new.ensures.0,
       record {
         told = λ n cs same. headed a.form u w n cs a.room w₁ _ k₁ w₂ _ c₁ (same _ ∙ new.0) w₃ _ l₁;
-        few = within a.room u _ _ w₁ _ (ap (given w₁) (sym c.in-Number.is) ∙ c.read_var.ensures.1);
-        low = within max_clock u _ _ w₃ _ (ap (given w₃) (sym c.in-Number-read_var.is) ∙ c.read_var-2.ensures.1);
+        few = within a.room u _ _ w₁ _ (ap (given w₁) (sym c.in-Some.is) ∙ c.read_var.ensures.1);
+        low = within max_clock u _ _ w₃ _ (ap (given w₃) (sym c.in-Some-read_var.is) ∙ c.read_var-2.ensures.1);
         new = new.0;
         order = new.1;
       },

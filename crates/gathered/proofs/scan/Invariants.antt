@@ -1,4 +1,5 @@
 -- `gathered::scan` meets its contract: each way out is a law of the walk down the sections.
+use Prim.Native.Nat.{◌-◌}
 use mathlib.Core.Path.{◌≡◌}
 use mathlib.Core.List.{[]}
 use lib.ListN.{length}
@@ -7,9 +8,6 @@ use Rattle.gathered.specs.Gathered.{sections_from}
 use Rattle.gathered.proofs.Sections.{Walked}
 use Rattle.gathered.proofs.scan.Given as goal
 
-abbrev pub invariant-loop-left : goal.invariant-loop-left
-invariant-loop-left l =
-    Walked l.form l.update (sections_from l.form l.update l.sections [] max_blocks l.initial.w) l.w l.rows l.order l.left l.room l.seen × (length l.fields ≡ 24) × (length l.w ≡ length l.initial.w)
-
-abbrev pub decreases-loop-left : goal.decreases-loop-left
-decreases-loop-left l = l.left
+abbrev pub invariant-loop-seen : goal.invariant-loop-seen
+invariant-loop-seen l =
+    Walked l.form l.update (sections_from l.form l.update l.sections [] max_blocks l.initial.w) l.w l.rows l.order (l.n - l.seen) l.room l.seen × (length l.fields ≡ 24) × (length l.w ≡ length l.initial.w)

@@ -14,9 +14,9 @@ use Rattle.held.proofs.Laws.{row_done, field-then, field-stopped}
 use lib.ListN.{length-set}
 use Rattle.held.proofs.read_binary.Goals as goal
 
-pub returns-in_default : goal.returns-in_default
+pub returns-in_err-read_buf : goal.returns-in_err-read_buf
 unfolding binary onto state_in part_given
-returns-in_default c = let b = c in
+returns-in_err-read_buf c = rw c.from_residual.ensures (let b = c in
     let form = b.args.form in
     let u = b.args.update.now in
     let w = b.args.w.now in
@@ -24,7 +24,7 @@ returns-in_default c = let b = c in
     let v = c.read_buf.new.w in
     let q = c.read_buf.new.r in
     let k = c.read_buf.ensures in
-    (k.0, part-narrow r q b.requires.1 k.1, field-stopped form u w v bytes _ (ap (part_given 19 v q) (sym c.in_default.is) ∙ k.2 ∙ sym (fields-bytes form u (state_in w))))
+    (k.0, part-narrow r q b.requires.1 k.1, field-stopped form u w v bytes _ (ap (part_given 19 v q) (sym c.in_err-read_buf.was) ∙ k.2 ∙ sym (fields-bytes form u (state_in w)))))
 
 pub bounds-r-3 : goal.bounds-r-3
 bounds-r-3 c = simp length-set (omega arith)
@@ -43,5 +43,5 @@ returns c = let b = c in
       k.0,
       p.0,
       row_done form u v _ _ p.1
-          ∙ field-then form u w v bytes (λ a. done (with_content BINARY (record { 0 = 1 }) a (row_in r))) (part_in q 19) (ap (part_given 19 v q) (sym c.in-Done.is) ∙ k.2 ∙ sym (fields-bytes form u (state_in w))),
+          ∙ field-then form u w v bytes (λ a. done (with_content BINARY (record { 0 = 1 }) a (row_in r))) (part_in q 19) (ap (part_given 19 v q) (sym c.in_ok-read_buf.was) ∙ k.2 ∙ sym (fields-bytes form u (state_in w))),
     )

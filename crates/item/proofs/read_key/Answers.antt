@@ -20,9 +20,9 @@ returns-then-info-lt32 c = let b = c in
     let r = b.args.r.now in
     (b.requires.0, b.requires.1, rw (lt-ltb b.args.info 32 c.if-info-lt32.true) (row_done form u w r (row_in r) refl))
 
-pub returns-in_default : goal.returns-in_default
+pub returns-in_err-read_text : goal.returns-in_err-read_text
 unfolding key onto
-returns-in_default c = let b = c in
+returns-in_err-read_text c = rw c.from_residual.ensures (let b = c in
     let form = b.args.form in
     let u = b.args.update.now in
     let w = b.args.w.now in
@@ -30,7 +30,7 @@ returns-in_default c = let b = c in
     let v = c.read_text.new.w in
     let q = c.read_text.new.r in
     let k = c.read_text.ensures in
-    (k.0, (key-put r q b.requires.1 k.1).0, rw (le-ltb b.args.info 32 c.if-info-lt32.false) (text-stopped form u w v 17 q _ (ap (text_given 17 v q) (sym c.in_default.is) ∙ k.2)))
+    (k.0, (key-put r q b.requires.1 k.1).0, rw (le-ltb b.args.info 32 c.if-info-lt32.false) (text-stopped form u w v 17 q _ (ap (text_given 17 v q) (sym c.in_err-read_text.was) ∙ k.2))))
 
 pub returns : goal.returns
 unfolding key
@@ -46,5 +46,5 @@ returns c = let b = c in
       k.0,
       p.1,
       rw (le-ltb b.args.info 32 c.if-info-lt32.false)
-          (row_done form u v (set q 16 1) _ p.2 ∙ text-then form u w v 17 q (λ a. done (with_key a.0 (row_in r))) _ (ap (text_given 17 v q) (sym c.in-Number.is) ∙ k.2)),
+          (row_done form u v (set q 16 1) _ p.2 ∙ text-then form u w v 17 q (λ a. done (with_key a.0 (row_in r))) _ (ap (text_given 17 v q) (sym c.in_ok-read_text.was) ∙ k.2)),
     )

@@ -21,9 +21,9 @@ returns-then-info-lt128 c = let b = c in
     let r = b.args.r.now in
     (b.requires.0, b.requires.1, rw (lt-ltb b.args.info 128 c.if-info-lt128.true) (row_done form u w r (row_in r) refl))
 
-pub returns-in_default : goal.returns-in_default
+pub returns-in_err-read_id : goal.returns-in_err-read_id
 unfolding left clock_at onto
-returns-in_default c = let b = c in
+returns-in_err-read_id c = rw c.from_residual.ensures (let b = c in
     let form = b.args.form in
     let u = b.args.update.now in
     let w = b.args.w.now in
@@ -34,8 +34,8 @@ returns-in_default c = let b = c in
     let p = left-put r q b.requires.1 k.1 k.2 in (
       k.0,
       p.0,
-      rw (le-ltb b.args.info 128 c.if-info-lt128.false) (id-stopped form u w v 5 q (an_id left_clock) _ (ap (id_onto 5 v q) (sym c.in_default.is) ∙ k.3)),
-    )
+      rw (le-ltb b.args.info 128 c.if-info-lt128.false) (id-stopped form u w v 5 q (an_id left_clock) _ (ap (id_onto 5 v q) (sym c.in_err-read_id.was) ∙ k.3)),
+    ))
 
 pub returns : goal.returns
 unfolding left clock_at
@@ -52,5 +52,5 @@ returns c = let b = c in
       p.1,
       rw (le-ltb b.args.info 128 c.if-info-lt128.false)
           (row_done form u v (set q 4 1) _ p.2
-          ∙ id-then form u w v 5 q (an_id left_clock) (λ id. done (with_left id (row_in r))) (ap (id_onto 5 v q) (sym c.in-Done.is) ∙ k.3)),
+          ∙ id-then form u w v 5 q (an_id left_clock) (λ id. done (with_left id (row_in r))) (ap (id_onto 5 v q) (sym c.in_ok-read_id.was) ∙ k.3)),
     )

@@ -12,9 +12,9 @@ use Rattle.held.proofs.Laws.{row_done, text-then, text-stopped}
 use Rattle.item.proofs.Laws.{id-then, id-stopped}
 use Rattle.item.proofs.read_parent_after.Goals as goal
 
-pub returns-in_default : goal.returns-in_default
+pub returns-in_err-read_text : goal.returns-in_err-read_text
 unfolding parent_after onto
-returns-in_default c = let b = c in
+returns-in_err-read_text c = rw c.from_residual.ensures (let b = c in
     let form = b.args.form in
     let u = b.args.update.now in
     let w = b.args.w.now in
@@ -22,7 +22,7 @@ returns-in_default c = let b = c in
     let v = c.read_text.new.w in
     let q = c.read_text.new.r in
     let k = c.read_text.ensures in
-    (k.0, (name-put r q b.requires.1 k.1).0, rw (eq-eqb b.args.v 1 c.if-v-eq1.true) (text-stopped form u w v 14 q _ (ap (text_given 14 v q) (sym c.in_default.is) ∙ k.2)))
+    (k.0, (name-put r q b.requires.1 k.1).0, rw (eq-eqb b.args.v 1 c.if-v-eq1.true) (text-stopped form u w v 14 q _ (ap (text_given 14 v q) (sym c.in_err-read_text.was) ∙ k.2))))
 
 pub returns-then-v-eq1 : goal.returns-then-v-eq1
 unfolding parent_after
@@ -38,12 +38,12 @@ returns-then-v-eq1 c = let b = c in
       k.0,
       p.1,
       rw (eq-eqb b.args.v 1 c.if-v-eq1.true)
-          (row_done form u v (set q 13 1) _ p.2 ∙ text-then form u w v 14 q (λ a. done (with_name a.0 (row_in r))) _ (ap (text_given 14 v q) (sym c.in-Number.is) ∙ k.2)),
+          (row_done form u v (set q 13 1) _ p.2 ∙ text-then form u w v 14 q (λ a. done (with_name a.0 (row_in r))) _ (ap (text_given 14 v q) (sym c.in_ok-read_text.was) ∙ k.2)),
     )
 
-pub returns-in_default-read_id : goal.returns-in_default-read_id
+pub returns-in_err-read_id : goal.returns-in_err-read_id
 unfolding parent_after clock_at onto
-returns-in_default-read_id c = let b = c in
+returns-in_err-read_id c = rw c.from_residual-in_err-read_id.ensures (let b = c in
     let form = b.args.form in
     let u = b.args.update.now in
     let w = b.args.w.now in
@@ -54,8 +54,8 @@ returns-in_default-read_id c = let b = c in
     let p = parent-put r q b.requires.1 k.1 k.2 in (
       k.0,
       p.0,
-      rw (ne_eqb b.args.v 1 c.if-v-eq1.false) (id-stopped form u w v 11 q (an_id left_clock) _ (ap (id_onto 11 v q) (sym c.in_default-read_id.is) ∙ k.3)),
-    )
+      rw (ne_eqb b.args.v 1 c.if-v-eq1.false) (id-stopped form u w v 11 q (an_id left_clock) _ (ap (id_onto 11 v q) (sym c.in_err-read_id.was) ∙ k.3)),
+    ))
 
 pub returns : goal.returns
 unfolding parent_after clock_at
@@ -71,5 +71,5 @@ returns c = let b = c in
       k.0,
       p.1,
       rw (ne_eqb b.args.v 1 c.if-v-eq1.false)
-          (row_done form u v (set q 10 1) _ p.2 ∙ id-then form u w v 11 q (an_id left_clock) (λ id. done (with_parent id (row_in r))) (ap (id_onto 11 v q) (sym c.in-Done.is) ∙ k.3)),
+          (row_done form u v (set q 10 1) _ p.2 ∙ id-then form u w v 11 q (an_id left_clock) (λ id. done (with_parent id (row_in r))) (ap (id_onto 11 v q) (sym c.in_ok-read_id.was) ∙ k.3)),
     )

@@ -22,9 +22,9 @@ returns-then-info-lt64 c = let b = c in
     let r = b.args.r.now in
     (b.requires.0, b.requires.1, rw (lt-ltb (b.args.info % 128) 64 c.if-info-lt64.true) (row_done form u w r (row_in r) refl))
 
-pub returns-in_default : goal.returns-in_default
+pub returns-in_err-read_id : goal.returns-in_err-read_id
 unfolding right clock_at onto
-returns-in_default c = let b = c in
+returns-in_err-read_id c = rw c.from_residual.ensures (let b = c in
     let form = b.args.form in
     let u = b.args.update.now in
     let w = b.args.w.now in
@@ -35,8 +35,8 @@ returns-in_default c = let b = c in
     let p = right-put r q b.requires.1 k.1 k.2 in (
       k.0,
       p.0,
-      rw (le-ltb (b.args.info % 128) 64 c.if-info-lt64.false) (id-stopped form u w v 8 q (an_id right_clock) _ (ap (id_onto 8 v q) (sym c.in_default.is) ∙ k.3)),
-    )
+      rw (le-ltb (b.args.info % 128) 64 c.if-info-lt64.false) (id-stopped form u w v 8 q (an_id right_clock) _ (ap (id_onto 8 v q) (sym c.in_err-read_id.was) ∙ k.3)),
+    ))
 
 pub returns : goal.returns
 unfolding right clock_at
@@ -53,5 +53,5 @@ returns c = let b = c in
       p.1,
       rw (le-ltb (b.args.info % 128) 64 c.if-info-lt64.false)
           (row_done form u v (set q 7 1) _ p.2
-          ∙ id-then form u w v 8 q (an_id right_clock) (λ id. done (with_right id (row_in r))) (ap (id_onto 8 v q) (sym c.in-Done.is) ∙ k.3)),
+          ∙ id-then form u w v 8 q (an_id right_clock) (λ id. done (with_right id (row_in r))) (ap (id_onto 8 v q) (sym c.in_ok-read_id.was) ∙ k.3)),
     )

@@ -14,16 +14,16 @@ use Rattle.decoder.proofs.Laws.{fields-up-to}
 use lib.ListN.{length-set}
 use Rattle.item.proofs.read_skip.Goals as goal
 
-pub returns-in_default : goal.returns-in_default
+pub returns-in_err-v : goal.returns-in_err-v
 unfolding bare onto state_in
-returns-in_default c = let b = c in
+returns-in_err-v c = rw c.from_residual.ensures (let b = c in
     let form = b.args.form in
     let u = b.args.update.now in
     let w = b.args.w.now in
     let r = b.args.r.now in
     let v = c.read_var.new.w in
     let k = c.read_var.ensures in
-    (k.0, b.requires.1, number-stopped form u w v (up_to max_clock) _ (ap (given v) (sym c.in_default.is) ∙ k.1 ∙ sym (fields-up-to form u max_clock (state_in w))))
+    (k.0, b.requires.1, number-stopped form u w v (up_to max_clock) _ (ap (given v) (sym c.in_err-v.was) ∙ k.1 ∙ sym (fields-up-to form u max_clock (state_in w)))))
 
 pub bounds-r-3 : goal.bounds-r-3
 bounds-r-3 c = simp length-set (omega arith)
@@ -37,10 +37,10 @@ returns c = let b = c in
     let r = b.args.r.now in
     let v = c.read_var.new.w in
     let k = c.read_var.ensures in
-    let x = c.in-Number.v in
+    let x = c.in_ok-v.v in
     let p = bare-put r b.requires.1 x SKIP (omega arith) b.requires.2 in (
       k.0,
       p.0,
       row_done form u v _ _ p.1
-          ∙ number-then form u w v (up_to max_clock) (λ a. done (plain (row_in r).client (row_in r).clock a.0 SKIP)) x (ap (given v) (sym c.in-Number.is) ∙ k.1 ∙ sym (fields-up-to form u max_clock (state_in w))),
+          ∙ number-then form u w v (up_to max_clock) (λ a. done (plain (row_in r).client (row_in r).clock a.0 SKIP)) x (ap (given v) (sym c.in_ok-v.was) ∙ k.1 ∙ sym (fields-up-to form u max_clock (state_in w))),
     )

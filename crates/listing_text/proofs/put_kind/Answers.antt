@@ -1,43 +1,44 @@
--- `listing_text::put_kind` meets its contract: each kind has its test.
+-- `listing_text::put_kind` meets its contract: each kind has its word.
 use native.Mathlib.Omega.{arith}
 use mathlib.Core.Path.{sym}
-use borrow.Author.Tests.{eq-eqb, ne_eqb}
+use borrow.Author.Tests.{ne_eqb}
 use Rattle.lines.proofs.Laws.{overlay-nil}
 use Rattle.listing_text.specs.Listing.{kind_name}
 use Rattle.listing_text.proofs.put_kind.Goals as goal
 
-pub returns-then-kind-eq-GC : goal.returns-then-kind-eq-GC
+pub returns-in-1 : goal.returns-in-1
 unfolding kind_name
-returns-then-kind-eq-GC c = rw (eq-eqb c.args.kind 1 c.if-kind-eq-GC.true) c.put_text.ensures
+returns-in-1 c = rw c.in-1.is c.put_text.ensures
 
-pub returns-then-kind-eq-SKIP : goal.returns-then-kind-eq-SKIP
+pub returns-in-2 : goal.returns-in-2
 unfolding kind_name
-returns-then-kind-eq-SKIP c = rw (ne_eqb c.args.kind 1 c.if-kind-eq-GC.false, eq-eqb c.args.kind 2 c.if-kind-eq-SKIP.true) c.put_text-then-kind-eq-SKIP.ensures
+returns-in-2 c = rw c.in-2.is c.put_text-in-2.ensures
 
-pub returns-then-kind-eq-DELETED : goal.returns-then-kind-eq-DELETED
+pub returns-in-3 : goal.returns-in-3
 unfolding kind_name
-returns-then-kind-eq-DELETED c = rw (ne_eqb c.args.kind 1 c.if-kind-eq-GC.false, ne_eqb c.args.kind 2 c.if-kind-eq-SKIP.false, eq-eqb c.args.kind 3 c.if-kind-eq-DELETED.true) c.put_text-then-kind-eq-DELETED.ensures
+returns-in-3 c = rw c.in-3.is c.put_text-in-3.ensures
 
-pub returns-then-kind-eq-BINARY : goal.returns-then-kind-eq-BINARY
+pub returns-in-4 : goal.returns-in-4
 unfolding kind_name
-returns-then-kind-eq-BINARY c = rw (ne_eqb c.args.kind 1 c.if-kind-eq-GC.false, ne_eqb c.args.kind 2 c.if-kind-eq-SKIP.false, ne_eqb c.args.kind 3 c.if-kind-eq-DELETED.false, eq-eqb c.args.kind 4 c.if-kind-eq-BINARY.true) c.put_text-then-kind-eq-BINARY.ensures
+returns-in-4 c = rw c.in-4.is c.put_text-in-4.ensures
 
-pub returns-then-kind-eq-TEXT : goal.returns-then-kind-eq-TEXT
+pub returns-in-5 : goal.returns-in-5
 unfolding kind_name
-returns-then-kind-eq-TEXT c = rw (ne_eqb c.args.kind 1 c.if-kind-eq-GC.false, ne_eqb c.args.kind 2 c.if-kind-eq-SKIP.false, ne_eqb c.args.kind 3 c.if-kind-eq-DELETED.false, ne_eqb c.args.kind 4 c.if-kind-eq-BINARY.false, eq-eqb c.args.kind 5 c.if-kind-eq-TEXT.true) c.put_text-then-kind-eq-TEXT.ensures
+returns-in-5 c = rw c.in-5.is c.put_text-in-5.ensures
 
-pub returns-then-kind-eq-FORMAT : goal.returns-then-kind-eq-FORMAT
+pub returns-in-6 : goal.returns-in-6
 unfolding kind_name
-returns-then-kind-eq-FORMAT c = rw (ne_eqb c.args.kind 1 c.if-kind-eq-GC.false, ne_eqb c.args.kind 2 c.if-kind-eq-SKIP.false, ne_eqb c.args.kind 3 c.if-kind-eq-DELETED.false, ne_eqb c.args.kind 4 c.if-kind-eq-BINARY.false, ne_eqb c.args.kind 5 c.if-kind-eq-TEXT.false, eq-eqb c.args.kind 6 c.if-kind-eq-FORMAT.true) c.put_text-then-kind-eq-FORMAT.ensures
+returns-in-6 c = rw c.in-6.is c.put_text-in-6.ensures
 
-pub returns-then-kind-eq-TYPE : goal.returns-then-kind-eq-TYPE
+pub returns-in-7 : goal.returns-in-7
 unfolding kind_name
-returns-then-kind-eq-TYPE c = rw (ne_eqb c.args.kind 1 c.if-kind-eq-GC.false, ne_eqb c.args.kind 2 c.if-kind-eq-SKIP.false, ne_eqb c.args.kind 3 c.if-kind-eq-DELETED.false, ne_eqb c.args.kind 4 c.if-kind-eq-BINARY.false, ne_eqb c.args.kind 5 c.if-kind-eq-TEXT.false, ne_eqb c.args.kind 6 c.if-kind-eq-FORMAT.false, eq-eqb c.args.kind 7 c.if-kind-eq-TYPE.true) c.put_text-then-kind-eq-TYPE.ensures
+returns-in-7 c = rw c.in-7.is c.put_text-in-7.ensures
 
-pub returns-then-kind-eq-ANY : goal.returns-then-kind-eq-ANY
+pub returns-in-8 : goal.returns-in-8
 unfolding kind_name
-returns-then-kind-eq-ANY c = rw (ne_eqb c.args.kind 1 c.if-kind-eq-GC.false, ne_eqb c.args.kind 2 c.if-kind-eq-SKIP.false, ne_eqb c.args.kind 3 c.if-kind-eq-DELETED.false, ne_eqb c.args.kind 4 c.if-kind-eq-BINARY.false, ne_eqb c.args.kind 5 c.if-kind-eq-TEXT.false, ne_eqb c.args.kind 6 c.if-kind-eq-FORMAT.false, ne_eqb c.args.kind 7 c.if-kind-eq-TYPE.false, eq-eqb c.args.kind 8 c.if-kind-eq-ANY.true) c.put_text-then-kind-eq-ANY.ensures
+returns-in-8 c = rw c.in-8.is c.put_text-in-8.ensures
 
-pub returns : goal.returns
+pub returns-in_default : goal.returns-in_default
 unfolding kind_name
-returns c = rw (ne_eqb c.args.kind 1 c.if-kind-eq-GC.false, ne_eqb c.args.kind 2 c.if-kind-eq-SKIP.false, ne_eqb c.args.kind 3 c.if-kind-eq-DELETED.false, ne_eqb c.args.kind 4 c.if-kind-eq-BINARY.false, ne_eqb c.args.kind 5 c.if-kind-eq-TEXT.false, ne_eqb c.args.kind 6 c.if-kind-eq-FORMAT.false, ne_eqb c.args.kind 7 c.if-kind-eq-TYPE.false, ne_eqb c.args.kind 8 c.if-kind-eq-ANY.false) (omega arith, sym (overlay-nil c.args.out.now c.args.used))
+returns-in_default c =
+    rw (ne_eqb c.args.kind 1 (λ e. omega arith), ne_eqb c.args.kind 2 (λ e. omega arith), ne_eqb c.args.kind 3 (λ e. omega arith), ne_eqb c.args.kind 4 (λ e. omega arith), ne_eqb c.args.kind 5 (λ e. omega arith), ne_eqb c.args.kind 6 (λ e. omega arith), ne_eqb c.args.kind 7 (λ e. omega arith), ne_eqb c.args.kind 8 (λ e. omega arith)) (omega arith, sym (overlay-nil c.args.out.now c.args.used))

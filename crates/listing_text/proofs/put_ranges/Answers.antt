@@ -14,7 +14,7 @@ use Rattle.listing_text.proofs.put_ranges.Goals as goal
 pub loop-i-init : goal.loop-i-init
 loop-i-init c = let a = c.args in
     let e : a.n - 0 ≡ a.n = omega arith in
-    (omega arith, omega arith, rw e, rw e, refl)
+    (omega arith, rw e, rw e, refl)
 
 pub loop-i-preserved : goal.loop-i-preserved
 unfolding row
@@ -24,9 +24,9 @@ loop-i-preserved c = let t = c in
     let line = range_line (row s c.loop-i.i) in
     let rest = range_lines (rows_from s (c.loop-i.i + 1) (a.n - (c.loop-i.i + 1))) in
     let more : range_lines (rows_from s c.loop-i.i (a.n - c.loop-i.i)) ≡ line ++ rest = rest_more s c.loop-i.i a.n t.loop-i-test.true in
-    (omega arith, omega (arith, c.put_range-at.ensures.0, range-short (row s c.loop-i.i), c.loop-i.invariant.1), omega (arith, c.put_range-at.ensures.0, simp length-append at (ap length more), c.loop-i.invariant.2), ap (λ (o : List ℕ). overlay o c.put_range-at.result rest) c.put_range-at.ensures.1 ∙ overlay-on c.loop-i.out c.loop-i.at c.put_range-at.result line rest c.put_range-at.ensures.0 ∙ ap (overlay c.loop-i.out c.loop-i.at) (sym more) ∙ c.loop-i.invariant.3, c.put_range-at.auto.out ∙ c.loop-i.invariant.4)
+    (omega (arith, c.put_range-at.ensures.0, range-short (row s c.loop-i.i)), omega (arith, c.put_range-at.ensures.0, simp length-append at (ap length more), c.loop-i.invariant.1), ap (λ (o : List ℕ). overlay o c.put_range-at.result rest) c.put_range-at.ensures.1 ∙ overlay-on c.loop-i.out c.loop-i.at c.put_range-at.result line rest c.put_range-at.ensures.0 ∙ ap (overlay c.loop-i.out c.loop-i.at) (sym more) ∙ c.loop-i.invariant.2, c.put_range-at.auto.out ∙ c.loop-i.invariant.3)
 
 pub returns : goal.returns
 returns c = let a = c.args in
     let e = rest-none a.words.now c.loop-i.i a.n c.loop-i-test.false in
-    (omega (arith, ap length e, c.loop-i.invariant.2), sym (ap (overlay c.loop-i.out c.loop-i.at) e ∙ overlay-nil c.loop-i.out c.loop-i.at) ∙ c.loop-i.invariant.3)
+    (omega (arith, ap length e, c.loop-i.invariant.1), sym (ap (overlay c.loop-i.out c.loop-i.at) e ∙ overlay-nil c.loop-i.out c.loop-i.at) ∙ c.loop-i.invariant.2)

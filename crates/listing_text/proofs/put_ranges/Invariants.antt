@@ -9,10 +9,7 @@ use Rattle.listing_text.proofs.put_ranges.Given as goal
 
 abbrev pub invariant-loop-i : goal.invariant-loop-i
 invariant-loop-i l =
-    (l.i ≤ l.n) × (l.at ≤ l.used + 63 * l.i)
+    (l.at ≤ l.used + 63 * l.i)
     × (l.at + length (range_lines (rows_from l.words l.i (l.n - l.i))) ≡ l.used + length (range_lines (rows_from l.words 0 l.n)))
     × (overlay l.out l.at (range_lines (rows_from l.words l.i (l.n - l.i))) ≡ overlay l.initial.out l.used (range_lines (rows_from l.words 0 l.n)))
     × (length l.out ≡ length l.initial.out)
-
-abbrev pub decreases-loop-i : goal.decreases-loop-i
-decreases-loop-i l = l.n - l.i

@@ -1,10 +1,6 @@
 -- `nearby::chain_rows`: what is left to link makes the chain of the span, all of whose rows are there.
-use Rattle.std.proofs.Common.{◌-◌}
 use Rattle.nearby.proofs.Ways.{Linking}
 use Rattle.nearby.proofs.chain_rows.Given as goal
 
 abbrev pub invariant-loop-i : goal.invariant-loop-i
-invariant-loop-i l = Linking l.initial.rows l.initial.s l.chain l.i
-
-abbrev pub decreases-loop-i : goal.decreases-loop-i
-decreases-loop-i l = l.initial.s.hi - l.i
+invariant-loop-i l = Linking l.initial.rows l.fn.s l.chain l.i

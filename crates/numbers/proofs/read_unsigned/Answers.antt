@@ -28,14 +28,14 @@ pub overflow_mul-whole : goal.overflow_mul-whole
 overflow_mul-whole c = omega (arith, c.if-c-lt128.true)
 
 pub overflow_add-whole : goal.overflow_add-whole
-overflow_add-whole c = omega (arith, c.if-c-lt128.true, c.shared_slice_known-2-1.given c.args.at)
+overflow_add-whole c = omega (arith, c.if-c-lt128.true, c.type_inv.s c.args.at)
 
 pub returns-then-c-lt128 : goal.returns-then-c-lt128
 unfolding read_unsigned answer_at low_part
 returns-then-c-lt128 c = rw (at_more _ 9 _ (lit< tt) c.if-s-at.false c.if-b-lt128.false, at_last _ 8 _ (lit< tt) c.if-s-next.false c.if-c-lt128.true)
 
 pub rest-requires : goal.rest-requires
-rest-requires c = (omega arith, omega (arith, c.shared_slice_known-2-1.given c.args.at))
+rest-requires c = (omega arith, omega arith, omega (arith, c.type_inv.s c.args.at))
 
 pub returns : goal.returns
 unfolding read_unsigned

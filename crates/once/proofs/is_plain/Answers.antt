@@ -23,6 +23,3 @@ returns c z = let k = c in
       ap (λ (t : List ℕ). take_units 7 k.args.u (drop k.args.at t)) (sym (take-length s))
           ∙ plain-took 7 s k.args.at (length s) k.args.u (omega arith) (omega arith) (rw e at c.plain_to.ensures.2),
     )
-
-pub returns-then-room-u : goal.returns-then-room-u
-returns-then-room-u c = never

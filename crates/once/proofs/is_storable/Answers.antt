@@ -5,9 +5,6 @@ use Rattle.runs.specs.Runs.{coding, fits_less_two, fits_less_one}
 use Rattle.once.proofs.Laws.{ends-count}
 use Rattle.once.proofs.is_storable.Goals as goal
 
-pub returns-then-not-is_ended : goal.returns-then-not-is_ended
-returns-then-not-is_ended c = rw (sym c.is_ended.ensures ∙ c.if-not-is_ended.true)
-
 pub overflow_sub-n : goal.overflow_sub-n
 overflow_sub-n c = let a = c.args in
     omega (arith, ends-count a.key a.count a.k (sym c.is_ended.ensures ∙ c.if-not-is_ended.false))

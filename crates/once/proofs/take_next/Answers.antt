@@ -13,9 +13,6 @@ pub returns-then-not-t : goal.returns-then-not-t
 unfolding take_next
 returns-then-not-t c = (rw (not-true c.args.t.found c.if-not-t.true), c.requires)
 
-pub overflow_add-stop : goal.overflow_add-stop
-overflow_add-stop c = omega (arith, (c.is_plain.ensures c.if-is_plain.true).0)
-
 pub returns-then-is_plain : goal.returns-then-is_plain
 unfolding take_next took_text
 returns-then-is_plain c = let p = c.is_plain.ensures c.if-is_plain.true in

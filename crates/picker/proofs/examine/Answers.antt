@@ -25,9 +25,6 @@ returns-then-parent-ne0 c =
     let past-2 = look-on a.rule ss a.reach.now a.f a.b 1 c.at-second.result c.consider-right.result c.at-second.ensures c.consider-right.ensures c.if-right-ne0.false past-1 in
     look-waits a.rule ss a.reach.now a.f a.b 2 c.at-third.result c.consider-parent.result c.at-third.ensures c.consider-parent.ensures c.if-parent-ne0.true past-2
 
-pub consider-requires : goal.consider-requires
-consider-requires c = c.requires
-
 pub returns : goal.returns
 returns c =
     let a = c.args in

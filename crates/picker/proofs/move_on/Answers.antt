@@ -10,7 +10,7 @@ use Rattle.picker.proofs.move_on.Goals as goal
 pub returns-then-f-le1 : goal.returns-then-f-le1
 unfolding moved
 returns-then-f-le1 c = let a = c.args in
-    rw (le-leb a.f.left 1 c.if-f-le1.true, ← c.one_more-next.ensures, c.none-last.ensures) refl
+    rw (le-leb a.f.left 1 c.if-f-le1.true, ← c.one_more-next.ensures, c.none.ensures) refl
 
 pub returns : goal.returns
 unfolding moved fresh

@@ -1,8 +1,5 @@
--- `picker::raise` meets its contract: nothing is lifted, or a reach that is below the end.
-use mathlib.Core.Path.{◌≡◌, refl, sym}
-use Prim.Native.Nat.{◌+◌, max}
-use native.Mathlib.Nat.{max-eq_left, max-eq_right}
-use native.Mathlib.Omega.{arith}
+-- `picker::raise` meets its contract: nothing is lifted, or a reach, to the end if that is above it.
+use mathlib.Core.Path.{refl, sym}
 use lib.ListN.{get_or}
 use lib.Seq.{set_out, set-get_or}
 use borrow.Author.Tests.{eq-eqb, ne_eqb, lt-ltb, le-ltb}
@@ -25,18 +22,7 @@ unfolding lift
 returns-then-reach-p c = let a = c.args in
     sym (set_out a.reach.now a.p (lifted (get_or a.reach.now a.p 0) a.b) c.if-reach-p.true)
 
-pub returns-then-reach-p-2 : goal.returns-then-reach-p-2
+pub returns : goal.returns
 unfolding lift lifted
-returns-then-reach-p-2 c = let a = c.args in
-    let r = get_or a.reach.now a.p 0 in
-    let top : max r (a.b.clock + a.b.length.0) ≡ a.b.clock + a.b.length.0 = max-eq_right (omega arith) in
-    let s = c in
-    rw (ne_eqb a.b.kind 2 s.if-kind-eq-SKIP.false, le-ltb max_clock a.b.length.0 s.if-length-gt-MAX_CLOCK.false, top) refl
-
-pub returns-else-reach-p-2 : goal.returns-else-reach-p-2
-unfolding lift lifted
-returns-else-reach-p-2 c = let a = c.args in
-    let r = get_or a.reach.now a.p 0 in
-    let top : max r (a.b.clock + a.b.length.0) ≡ r = max-eq_left (omega arith) in
-    let s = c in
-    sym (rw (ne_eqb a.b.kind 2 s.if-kind-eq-SKIP.false, le-ltb max_clock a.b.length.0 s.if-length-gt-MAX_CLOCK.false, top) (set-get_or a.reach.now a.p 0))
+returns c = let a = c.args in
+    rw (ne_eqb a.b.kind 2 c.if-kind-eq-SKIP.false, le-ltb max_clock a.b.length.0 c.if-length-gt-MAX_CLOCK.false, c.max.ensures, c.from.ensures) refl

@@ -5,8 +5,8 @@ use Rattle.picker.proofs.wait_for.Goals as goal
 
 pub returns-then-named : goal.returns-then-named
 unfolding awaiting_at
-returns-then-named c = rw c.if-named.true refl
+returns-then-named c = rw (c.if-named.true, c.from.ensures) refl
 
-pub returns : goal.returns
+pub returns-else-named : goal.returns-else-named
 unfolding awaiting_at
-returns c = rw c.if-named.false refl
+returns-else-named c = rw c.if-named.false refl

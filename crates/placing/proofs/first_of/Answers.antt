@@ -3,8 +3,6 @@ use mathlib.Core.Path.{sym}
 use Rattle.placing.proofs.Places.{first_out, first-in}
 use Rattle.placing.proofs.first_of.Goals as goal
 
--- src/lib.rt:208:9
-
 pub returns-then-n-p : goal.returns-then-n-p
 returns-then-n-p c = let a = c.args in sym (first_out a.slots.now a.n a.client c.rank_near-p.result c.rank_near-p.ensures c.if-n-p.true)
 

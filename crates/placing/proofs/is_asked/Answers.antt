@@ -2,16 +2,14 @@
 use mathlib.Core.Path.{refl, ap, ◌∙◌}
 use mathlib.Core.Bool.{Bool, true, false}
 use Rattle.numbers.specs.Number.{pick}
-use borrow.Author.Tests.{not-true, not-false}
 use Rattle.placing.specs.Placing.{is_asked}
 use Rattle.placing.proofs.Places.{not-pick}
 use Rattle.placing.proofs.is_asked.Goals as goal
 
-pub returns-then-not-a : goal.returns-then-not-a
+pub returns-then-a : goal.returns-then-a
 unfolding is_asked
-returns-then-not-a c = let a = c.args in rw (not-true a.a.there c.if-not-a.true) refl
+returns-then-a c = rw c.if-a.true (not-pick c.is_held.result ∙ ap (λ (x : Bool). pick x false true) c.is_held.ensures)
 
-pub returns : goal.returns
+pub returns-else-a : goal.returns-else-a
 unfolding is_asked
-returns c = let a = c.args in
-    rw (not-false a.a.there c.if-not-a.false) (not-pick c.is_held-held.result ∙ ap (λ (x : Bool). pick x false true) c.is_held-held.ensures)
+returns-else-a c = rw c.if-a.false refl

@@ -1,23 +1,21 @@
--- `placing::is_before` meets its contract: of a higher client, of a lower one, or of the same and then by clocks.
-use mathlib.Core.Path.{sym}
-use Rattle.placing.proofs.Places.{before-higher, before-lower, before-not, before-by}
+-- `placing::is_before` meets its contract: of another client, or of the same and then by clocks.
+use mathlib.Core.Path.{sym, ◌∙◌}
+use native.Mathlib.Omega.{arith}
+use borrow.Author.Tests.{lt-leb}
+use Rattle.placing.proofs.Places.{before-other, before-not, before-by}
 use Rattle.ranges.specs.TableInner.{row}
 use Rattle.placing.proofs.is_before.Goals as goal
 
--- src/lib.rt:63:14
-
 pub returns-then-id-client : goal.returns-then-id-client
 unfolding row
-returns-then-id-client c = let a = c.args in sym (before-higher (row a.words.now a.i) a.id c.if-id-client.true)
+returns-then-id-client c = let a = c.args in before-other (row a.words.now a.i) a.id c.if-id-client.true
 
-pub returns-then-client-id : goal.returns-then-client-id
+pub returns-then-clock-k : goal.returns-then-clock-k
 unfolding row
-returns-then-client-id c = let a = c.args in sym (before-lower (row a.words.now a.i) a.id c.if-client-id.true)
+returns-then-clock-k c = let a = c.args in
+    rw c.from-k.ensures (before-by (row a.words.now a.i) a.id c.if-id-client.false (omega arith))
 
-pub returns-then-k-clock : goal.returns-then-k-clock
+pub returns-else-clock-k : goal.returns-else-clock-k
 unfolding row
-returns-then-k-clock c = let a = c.args in sym (before-not (row a.words.now a.i) a.id c.if-id-client.false c.if-client-id.false c.if-k-clock.true)
-
-pub returns : goal.returns
-unfolding row
-returns c = let a = c.args in before-by (row a.words.now a.i) a.id c.if-id-client.false c.if-client-id.false c.if-k-clock.false
+returns-else-clock-k c = let a = c.args in
+    lt-leb _ _ c.if-clock-k.false ∙ sym (before-not (row a.words.now a.i) a.id c.if-id-client.false (omega arith))

@@ -5,15 +5,14 @@ use Rattle.placing.specs.Placing.{begins}
 use Rattle.ranges.specs.TableInner.{row}
 use Rattle.placing.proofs.is_begun.Goals as goal
 
--- src/lib.rt:100:9
 pub returns-then-n-i : goal.returns-then-n-i
 unfolding begins
 returns-then-n-i c = let a = c.args in rw (le-ltb a.i a.n c.if-n-i.true) refl
 
 pub returns-then-words-i : goal.returns-then-words-i
 unfolding begins row
-returns-then-words-i c = let a = c.args in rw (lt-ltb a.i a.n c.if-n-i.false, ne_eqb _ _ c.if-words-i.true) refl
+returns-then-words-i c = let a = c.args in rw (lt-ltb a.i a.n c.if-n-i.false, eq-eqb _ _ c.if-words-i.true, c.from.ensures) refl
 
-pub returns : goal.returns
+pub returns-else-words-i : goal.returns-else-words-i
 unfolding begins row
-returns c = let a = c.args in rw (lt-ltb a.i a.n c.if-n-i.false, eq-eqb _ _ c.if-words-i.false) refl
+returns-else-words-i c = let a = c.args in rw (lt-ltb a.i a.n c.if-n-i.false, ne_eqb _ _ c.if-words-i.false) refl

@@ -4,8 +4,6 @@ use Prim.Native.Nat.{ℕ}
 use Rattle.placing.specs.Placing.{begins, is_held}
 use Rattle.placing.proofs.is_held.Goals as goal
 
--- src/lib.rt:113:9
-
 pub returns : goal.returns
 unfolding is_held
 returns c = let a = c.args in

@@ -3,12 +3,10 @@ use mathlib.Core.Path.{refl}
 use Rattle.placing.specs.Halving.{narrowed}
 use Rattle.placing.proofs.narrow.Goals as goal
 
--- src/lib.rt:39:17
-
 pub returns-then-past : goal.returns-then-past
 unfolding narrowed
 returns-then-past c = rw c.if-past.true refl
 
-pub returns : goal.returns
+pub returns-else-past : goal.returns-else-past
 unfolding narrowed
-returns c = rw c.if-past.false refl
+returns-else-past c = rw c.if-past.false refl

@@ -4,7 +4,6 @@ use borrow.Author.Tests.{lt-ltb, le-ltb, eq-eqb, ne_eqb}
 use Rattle.placing.specs.Placing.{number_at, capped}
 use Rattle.placing.proofs.number_of.Goals as goal
 
--- src/lib.rt:181:9
 pub returns-then-s-i : goal.returns-then-s-i
 unfolding number_at
 returns-then-s-i c = let a = c.args in rw (le-ltb a.i a.s.hi c.if-s-i.true) refl
@@ -19,4 +18,4 @@ returns-then-clock-from c = let a = c.args in rw (lt-ltb a.i a.s.hi c.if-s-i.fal
 
 pub returns : goal.returns
 unfolding number_at
-returns c = let a = c.args in c.cap.ensures ∙ ap capped c.less-k.ensures ∙ rw (lt-ltb a.i a.s.hi c.if-s-i.false, ne_eqb a.b.kind 2 c.if-kind-eq-SKIP.false, le-ltb a.clock a.b.clock c.if-clock-from.false) refl
+returns c = let a = c.args in c.cap.ensures ∙ ap capped c.saturating_sub.ensures ∙ rw (lt-ltb a.i a.s.hi c.if-s-i.false, ne_eqb a.b.kind 2 c.if-kind-eq-SKIP.false, le-ltb a.clock a.b.clock c.if-clock-from.false) refl

@@ -1,18 +1,12 @@
 -- `placing::seek_range` meets its contract: what is sought lies in the span that is left.
 use mathlib.Core.Bool.{Bool}
-use mathlib.Core.Path.{refl, sym, ap, ◌∙◌}
+use mathlib.Core.Path.{sym, ap, ◌∙◌}
 use Prim.Native.Nat.{ℕ, ◌<◌}
 use native.Mathlib.Omega.{arith}
 use Rattle.ranges.specs.TableInner.{row}
 use Rattle.placing.specs.Placing.{is_before}
 use Rattle.placing.proofs.Halved.{found-done, turn-found, turn-less, turn_below}
 use Rattle.placing.proofs.seek_range.Goals as goal
-
-pub loop-s-init : goal.loop-s-init
-loop-s-init c = (refl, omega arith)
-
-pub is_before-past-requires : goal.is_before-past-requires
-is_before-past-requires c = omega (arith, c.middle-mid.ensures)
 
 pub loop-s-smaller : goal.loop-s-smaller
 loop-s-smaller c = let s = c.loop-s.s in

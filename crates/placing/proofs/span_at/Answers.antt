@@ -8,8 +8,6 @@ use Rattle.slots.specs.Slots.{slot_at}
 use Rattle.placing.specs.Placing.{span_at}
 use Rattle.placing.proofs.span_at.Goals as goal
 
--- src/lib.rt:124:23
-
 pub returns-then-first-gt-MAX_CLOCK : goal.returns-then-first-gt-MAX_CLOCK
 unfolding span_at slot_at
 returns-then-first-gt-MAX_CLOCK c = let a = c.args in rw (lt-ltb max_clock (get_or a.slots.now (3 * a.p + 1) 0) c.if-first-gt-MAX_CLOCK.true) refl

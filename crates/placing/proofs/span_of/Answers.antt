@@ -4,8 +4,6 @@ use native.Mathlib.Omega.{arith}
 use Rattle.placing.proofs.Places.{named-below, span-some, span_none}
 use Rattle.placing.proofs.span_of.Goals as goal
 
--- src/lib.rt:143:9
-
 pub span_at-requires : goal.span_at-requires
 span_at-requires c = let a = c.args in
     omega (arith, named-below a.slots.now a.n a.client c.rank_of-p.result c.rank_of-p.ensures.0 (sym c.is_at-named.ensures ∙ c.if-named.true))

@@ -12,13 +12,10 @@ returns-then-count-eq0 c = let a = c.args in
     rw (count_none a.slots.now a.i (front_at a.fronts.now a.i) c.if-count-eq0.true) (sym (add-zero a.at), omega arith, refl)
 
 pub returns : goal.returns
-returns c = let second = c in
-    let first = c in
-    let front = c in
-    let a = front.args in
-    let e = count-some a.slots.now a.i front.front_at-f.result front.if-count-eq0.false in
-    rw (← front.front_at-f.ensures, e) (
+returns c = let a = c.args in
+    let e = count-some a.slots.now a.i c.front_at-f.result c.if-count-eq0.false in
+    rw (← c.front_at-f.ensures, e) (
       refl,
       omega arith,
-      rw (second.put_word-2.ensures, first.put_word.ensures, first.less-taken.ensures, add-one),
+      rw (c.put_word-2.ensures, c.put_word.ensures, c.saturating_sub-taken.ensures, add-one),
     )

@@ -3,28 +3,19 @@ use Prim.Native.Nat.{suc, ◌+◌, ◌*◌}
 use mathlib.Core.Path.{◌≡◌, ◌∙◌}
 use native.Mathlib.Omega.{arith}
 use Rattle.reports.proofs.Words.{reach-words}
-use Rattle.reports.proofs.Turns.{reaches, begun, turn, ended-place, ended-words}
+use Rattle.reports.proofs.Turns.{reaches, turn, ended-place, ended-words}
 use Rattle.reports.proofs.report_reaches.Goals as goal
 
-pub loop-i-init : goal.loop-i-init
-loop-i-init c = let a = c.args in
-    (begun (reaches a.reach.now) a.slots.now a.n a.out.now, omega arith)
-
 pub loop-i-preserved : goal.loop-i-preserved
-loop-i-preserved c = let second = c in
-    let first = c in
-    let reached = c in
-    let at = c in
-    let a = at.args in
-    let next = turn (reaches a.reach.now) c.loop-i.invariant.0 (omega arith) in
+loop-i-preserved c = let a = c.args in
+    let next = turn (reaches a.reach.now) c.loop-i.invariant c.loop-i-test.true in
     let e : 2 * (c.loop-i.i + 1) ≡ 2 * c.loop-i.i + 2 = omega arith in
     let behind : 2 * c.loop-i.i + 1 ≡ suc (2 * c.loop-i.i) = omega arith in
     let words = reach-words a.slots.now a.reach.now c.loop-i.i in
-    (rw (second.put_word-in-loop-i.ensures, first.put_word.ensures, reached.reach_at-clock.ensures, e, behind) (rw words at next), omega arith)
+    rw (c.put_word-in-loop-i.ensures, c.put_word.ensures, c.reach_at-clock.ensures, e, behind) (rw words at next)
 
 pub returns : goal.returns
-returns c = let at = c in
-    let a = at.args in
+returns c = let a = c.args in
     let e : c.loop-i.i ≡ a.n = omega arith in
     let place : 2 * a.n ≡ 2 * c.loop-i.i = omega arith in
-    (place ∙ ended-place (reaches a.reach.now) c.loop-i.invariant.0 e, c.clear_after.ensures ∙ rw place (ended-words (reaches a.reach.now) c.loop-i.invariant.0 e))
+    (place ∙ ended-place (reaches a.reach.now) c.loop-i.invariant e, c.clear_after.ensures ∙ rw place (ended-words (reaches a.reach.now) c.loop-i.invariant e))

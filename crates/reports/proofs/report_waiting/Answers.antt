@@ -8,22 +8,16 @@ use Rattle.reports.proofs.Words.{pending-none, pending-some}
 use Rattle.reports.proofs.report_waiting.Goals as goal
 
 pub returns-then-f-eq0 : goal.returns-then-f-eq0
-returns-then-f-eq0 c = let front = c in
-    let a = front.args in
-    let e = pending-none a.slots.now a.i front.front_at-f.result a.reach.now c.if-f-eq0.true in
-    rw (← front.front_at-f.ensures, e) (sym (add-zero a.at), omega arith, refl)
+returns-then-f-eq0 c = let a = c.args in
+    let e = pending-none a.slots.now a.i c.front_at-f.result a.reach.now c.if-f-eq0.true in
+    rw (← c.front_at-f.ensures, e) (sym (add-zero a.at), omega arith, refl)
 
 pub returns : goal.returns
-returns c = let third = c in
-    let second = c in
-    let first = c in
-    let awaited = c in
-    let front = c in
-    let a = front.args in
-    let e = pending-some a.slots.now a.i front.front_at-f.result a.reach.now awaited.if-f-eq0.false in
+returns c = let a = c.args in
+    let e = pending-some a.slots.now a.i c.front_at-f.result a.reach.now c.if-f-eq0.false in
     let two : a.at + 2 ≡ suc (suc a.at) = omega arith in
-    rw (← front.front_at-f.ensures, e) (
+    rw (← c.front_at-f.ensures, e) (
       refl,
       omega arith,
-      rw (third.put_word-3.ensures, second.put_word-2.ensures, first.put_word.ensures, awaited.awaited_reach-clock.ensures, two, add-one),
+      rw (c.put_word-3.ensures, c.put_word-2.ensures, c.put_word.ensures, c.awaited_reach-clock.ensures, two, add-one),
     )

@@ -5,9 +5,10 @@ use Rattle.seeker.proofs.Seeking.{place-asked, place_none}
 use Rattle.seeker.proofs.place.Goals as goal
 
 pub returns-then-asked : goal.returns-then-asked
-returns-then-asked c = c.on_number.ensures ∙ rw (c.number-k.ensures, c.span_for-s.ensures, c.clock_of-clock.ensures)
-    (place-asked c.args.held.now c.args.ranges (slots_from c.args.slots.now 0 c.args.n) c.args.rows.now c.args.a (sym c.is_asked-asked.ensures ∙ c.if-asked.true))
+returns-then-asked c = let l = c.args.l.now in
+    c.on_number.ensures ∙ rw (c.number-k.ensures, c.span_for-s.ensures, c.clock_of-clock.ensures)
+    (place-asked l.held.now l.ranges (slots_from l.slots.now 0 l.n) l.rows.now c.args.a (sym c.is_asked-asked.ensures ∙ c.if-asked.true))
 
 pub returns : goal.returns
-returns c = c.none.ensures
-    ∙ place_none c.args.held.now c.args.ranges (slots_from c.args.slots.now 0 c.args.n) c.args.rows.now c.args.a (sym c.is_asked-asked.ensures ∙ c.if-asked.false)
+returns c = let l = c.args.l.now in
+    c.none.ensures ∙ place_none l.held.now l.ranges (slots_from l.slots.now 0 l.n) l.rows.now c.args.a (sym c.is_asked-asked.ensures ∙ c.if-asked.false)

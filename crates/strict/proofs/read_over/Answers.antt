@@ -15,8 +15,8 @@ unread p = record { number = 15; place = p }
 pub returns-then-place-update : goal.returns-then-place-update
 returns-then-place-update c =
     let e = c.lowest-place.ensures in
-    let h = left_out c.args.form c.args.update.now c.args.rows.now c.args.ranges.now c.requires.2 c.in-Rows.blocks c.in-Rows.at (sym c.read_blocks_over.ensures.0 ∙ c.in-Rows.is) c.in-Ranges.count c.in-Ranges.end
-    (sym c.read_delete_set.ensures.0 ∙ c.in-Ranges.is) c.read_blocks_over.new.w c.read_blocks_over.ensures.2 (ap (λ (p : ℕ). ltb p (length c.args.update.now)) (sym e) ∙ lt-ltb _ _ c.if-place-update.true) _ _ c.read_blocks_over.auto.rows c.read_delete_set.auto.words in (
+    let h = left_out c.args.form c.args.update.now c.args.rows.now c.args.ranges.now c.requires.2 c.in-Ok.blocks c.in-Ok.at (sym c.read_blocks_over.ensures.0 ∙ c.in-Ok.is) _ _
+    (sym c.read_delete_set.ensures.0 ∙ c.in-Ok-read_delete_set.is) c.read_blocks_over.new.w c.read_blocks_over.ensures.2 (ap (λ (p : ℕ). ltb p (length c.args.update.now)) (sym e) ∙ lt-ltb _ _ c.if-place-update.true) _ _ c.read_blocks_over.auto.rows c.read_delete_set.auto.words in (
       c.refuse.ensures.0 ∙ ap (λ (p : ℕ). answer (refused (unread p))) e ∙ h.0,
       c.refuse.ensures.1 ∙ ap (λ (p : ℕ). table_of (length c.read_blocks_over.new.rows) (refused (unread p))) e ∙ h.1,
       c.refuse.ensures.2 ∙ ap (λ (p : ℕ). range_words (length c.read_delete_set.new.words) (refused (unread p))) e ∙ h.2,
@@ -25,17 +25,17 @@ returns-then-place-update c =
 pub returns-else-place-update : goal.returns-else-place-update
 returns-else-place-update c =
     let e = c.lowest-place.ensures in
-    let h = done c.args.form c.args.update.now c.args.rows.now c.args.ranges.now c.requires.2 c.in-Rows.blocks c.in-Rows.at (sym c.read_blocks_over.ensures.0 ∙ c.in-Rows.is) c.in-Ranges.count c.in-Ranges.end
-    (sym c.read_delete_set.ensures.0 ∙ c.in-Ranges.is) c.read_blocks_over.new.w c.read_blocks_over.ensures.2 (ap (λ (p : ℕ). ltb p (length c.args.update.now)) (sym e) ∙ le-ltb _ _ c.if-place-update.false) in
+    let h = done c.args.form c.args.update.now c.args.rows.now c.args.ranges.now c.requires.2 c.in-Ok.blocks c.in-Ok.at (sym c.read_blocks_over.ensures.0 ∙ c.in-Ok.is) _ _
+    (sym c.read_delete_set.ensures.0 ∙ c.in-Ok-read_delete_set.is) c.read_blocks_over.new.w c.read_blocks_over.ensures.2 (ap (λ (p : ℕ). ltb p (length c.args.update.now)) (sym e) ∙ le-ltb _ _ c.if-place-update.false) in
     (h.0, c.read_blocks_over.ensures.1 ∙ h.1, c.read_delete_set.ensures.1 ∙ h.2)
 
-pub returns-in-Refused-read_delete_set : goal.returns-in-Refused-read_delete_set
-returns-in-Refused-read_delete_set c =
+pub returns-in-Err-read_delete_set : goal.returns-in-Err-read_delete_set
+returns-in-Err-read_delete_set c =
     let size = sym (ap (λ (bs : List Block). length bs) c.read_blocks_over.ensures.1) ∙ c.read_blocks_over.auto.rows in
-    let h = set_out c.args.form c.args.update.now c.args.rows.now c.args.ranges.now c.requires.2 c.in-Rows.blocks c.in-Rows.at (sym c.read_blocks_over.ensures.0 ∙ c.in-Rows.is) c.in-Refused-read_delete_set.why (sym c.read_delete_set.ensures.0 ∙ c.in-Refused-read_delete_set.is) size in
+    let h = set_out c.args.form c.args.update.now c.args.rows.now c.args.ranges.now c.requires.2 c.in-Ok.blocks c.in-Ok.at (sym c.read_blocks_over.ensures.0 ∙ c.in-Ok.is) c.in-Err-read_delete_set.why (sym c.read_delete_set.ensures.0 ∙ c.in-Err-read_delete_set.is) size in
     (c.none.ensures ∙ h.0, c.clear.ensures ∙ ap (cleared_from 0) c.read_blocks_over.ensures.1 ∙ h.1, c.read_delete_set.ensures.1 ∙ h.2)
 
-pub returns-in-Refused : goal.returns-in-Refused
-returns-in-Refused c =
-    let h = blocks-out c.args.form c.args.update.now c.args.rows.now c.args.ranges.now c.requires.2 c.in-Refused.why (sym c.read_blocks_over.ensures.0 ∙ c.in-Refused.is) in
-    (c.none-in-Refused.ensures ∙ h.0, c.read_blocks_over.ensures.1 ∙ h.1, c.clear-in-Refused.ensures ∙ h.2)
+pub returns-in-Err : goal.returns-in-Err
+returns-in-Err c =
+    let h = blocks-out c.args.form c.args.update.now c.args.rows.now c.args.ranges.now c.requires.2 c.in-Err.why (sym c.read_blocks_over.ensures.0 ∙ c.in-Err.is) in
+    (c.none-in-Err.ensures ∙ h.0, c.read_blocks_over.ensures.1 ∙ h.1, c.clear-in-Err.ensures ∙ h.2)

@@ -21,15 +21,15 @@ returns-then-update-gt-MAX_UPDATE c = let a = c.args in
 
 pub write_rows-requires : goal.write_rows-requires
 write_rows-requires c = let a = c.args in
-    let says = says-rows (told_of a.form a.update.now) _ c.gather.result _ c.gather.ensures c.in-Rows.is in
+    let says = says-rows (told_of a.form a.update.now) _ c.gather.result _ c.gather.ensures c.in-Ok.is in
     (omega (arith, says.few), says.few)
 
-pub returns-in-Rows : goal.returns-in-Rows
-returns-in-Rows c = let a = c.args in
-    let says = says-rows (told_of a.form a.update.now) _ c.gather.result _ c.gather.ensures c.in-Rows.is in
+pub returns-in-Ok : goal.returns-in-Ok
+returns-in-Ok c = let a = c.args in
+    let says = says-rows (told_of a.form a.update.now) _ c.gather.result _ c.gather.ensures c.in-Ok.is in
     makes-by _ _ a.out.now _ _ (is-told a.form a.update.now (length a.out.now) c.if-form-lt1.false c.if-form-gt2.false c.if-update-gt-MAX_UPDATE.false _ says.are ∙ ap (fitted (length a.out.now)) (of-rows _)) c.write_rows.ensures
 
-pub returns-in-Refused : goal.returns-in-Refused
-returns-in-Refused c = let a = c.args in
-    let says = says-refused (told_of a.form a.update.now) _ c.gather.result _ c.gather.ensures c.in-Refused.is in
-    makes-by _ _ a.out.now _ _ (is-told a.form a.update.now (length a.out.now) c.if-form-lt1.false c.if-form-gt2.false c.if-update-gt-MAX_UPDATE.false _ says ∙ of-refused _ _) c.refuse-in-Refused.ensures
+pub returns-in-Err : goal.returns-in-Err
+returns-in-Err c = let a = c.args in
+    let says = says-refused (told_of a.form a.update.now) _ c.gather.result _ c.gather.ensures c.in-Err.is in
+    makes-by _ _ a.out.now _ _ (is-told a.form a.update.now (length a.out.now) c.if-form-lt1.false c.if-form-gt2.false c.if-update-gt-MAX_UPDATE.false _ says ∙ of-refused _ _) c.refuse-in-Err.ensures

@@ -7,17 +7,15 @@ use Rattle.sweep_reports.proofs.report_counts.Goals as goal
 
 pub loop-i-init : goal.loop-i-init
 loop-i-init c = let a = c.args in
-    (begun (counts a.taken.now) a.slots.now a.n a.out.now, omega arith, omega arith)
+    (begun (counts a.taken.now) a.slots.now a.n a.out.now, omega arith)
 
 pub loop-i-preserved : goal.loop-i-preserved
-loop-i-preserved c = let at = c in
-    let a = at.args in
+loop-i-preserved c = let a = c.args in
     let next = turn (counts a.taken.now) c.loop-i.invariant.0 (omega arith) in
-    (rw (c.report_count-at.ensures.2, c.report_count-at.ensures.0) next, omega arith, omega (arith, c.report_count-at.ensures.1))
+    (rw (c.report_count-at.ensures.2, c.report_count-at.ensures.0) next, omega (arith, c.report_count-at.ensures.1, c.loop-i.invariant.1))
 
 pub returns : goal.returns
-returns c = let at = c in
-    let a = at.args in
+returns c = let a = c.args in
     let u = c.loop-i.invariant.0 in
     let e : c.loop-i.i ≡ a.n = omega arith in (
       ended-place (counts a.taken.now) u e,

@@ -10,12 +10,12 @@ use Rattle.sweep_reports.proofs.report_pending.Goals as goal
 
 pub loop-i-init : goal.loop-i-init
 loop-i-init c = let a = c.args in
-    (begun (waits a.rule (slots_from a.slots.now 0 a.n) a.rows.now a.reach.now a.taken.now) a.slots.now a.n a.out.now, omega arith, omega arith)
+    (begun (waits a.rule (slots_from a.slots.now 0 a.n) a.rows.now a.reach.now a.taken.now) a.slots.now a.n a.out.now, omega arith)
 
 pub loop-i-preserved : goal.loop-i-preserved
 loop-i-preserved c = let a = c.args in
     let next = turn (waits a.rule (slots_from a.slots.now 0 a.n) a.rows.now a.reach.now a.taken.now) c.loop-i.invariant.0 (omega arith) in
-    (rw (c.report_front-at.ensures.1, c.report_front-at.ensures.0) next, omega arith, rw c.report_front-at.ensures.0 (omega (arith, c.loop-i.invariant.2, waits-most a.rule (slots_from a.slots.now 0 a.n) a.reach.now a.rows.now (slot_at a.slots.now c.loop-i.i) (get_or a.taken.now c.loop-i.i 0))))
+    (rw (c.report_front-at.ensures.1, c.report_front-at.ensures.0) next, rw c.report_front-at.ensures.0 (omega (arith, c.loop-i.invariant.1, waits-most a.rule (slots_from a.slots.now 0 a.n) a.reach.now a.rows.now (slot_at a.slots.now c.loop-i.i) (get_or a.taken.now c.loop-i.i 0))))
 
 pub returns : goal.returns
 returns c = let a = c.args in

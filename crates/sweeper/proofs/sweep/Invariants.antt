@@ -8,6 +8,3 @@ abbrev pub invariant-loop-i : goal.invariant-loop-i
 invariant-loop-i l =
     Sweeping l.fn.rule (slots_from l.fn.slots 0 l.fn.n) (seen_by l.fn.numbered l.fn.held l.fn.ranges (slots_from l.fn.slots 0 l.fn.n) l.fn.rows)
     (board l.fn.reach l.fn.taken l.fn.order l.fn.steps) l.i (board l.reach l.taken l.order l.steps)
-
-abbrev pub decreases-loop-i : goal.decreases-loop-i
-decreases-loop-i l = l.i

@@ -1,6 +1,6 @@
 -- `sweeper::unmet` meets its contract: what was asked for before stage k does not hold the block.
 use Prim.Native.Nat.{◌≤◌}
-use mathlib.Core.Path.{refl, sym, ap, ◌∙◌}
+use mathlib.Core.Path.{sym, ap, ◌∙◌}
 use native.Mathlib.Omega.{arith}
 use native.Mathlib.Numerals.{add-one}
 use lib.ListN.{length}
@@ -12,19 +12,13 @@ use Rattle.sweeper.specs.Sweeper.{unmet_by}
 use Rattle.sweeper.proofs.Fronts.{held_at, free-at, held_none}
 use Rattle.sweeper.proofs.unmet.Goals as goal
 
-pub loop-k-init : goal.loop-k-init
-loop-k-init c = (refl, omega arith)
-
-pub loop-k-smaller : goal.loop-k-smaller
-loop-k-smaller c = omega (arith, c.loop-k-test.true, c.count.ensures)
-
 pub loop-k-preserved : goal.loop-k-preserved
 unfolding stage_at
 loop-k-preserved c = let a = c.args in
     let ss = slots_from a.slots.now 0 a.n in
     let ds = stages a.rule a.b in
     let free = sym (c.is_held.ensures ∙ ap (holds ss a.reach.now) c.at-a.ensures) ∙ c.if-is_held.false in
-    (rw add-one (free-at ss a.reach.now ds c.loop-k.k free ∙ c.loop-k.invariant.0), omega (arith, c.loop-k-test.true, c.count.ensures))
+    rw add-one (free-at ss a.reach.now ds c.loop-k.k free ∙ c.loop-k.invariant)
 
 pub returns-then-is_held : goal.returns-then-is_held
 unfolding stage_at unmet_by
@@ -32,12 +26,12 @@ returns-then-is_held c = let a = c.args in
     let ss = slots_from a.slots.now 0 a.n in
     let ds = stages a.rule a.b in
     let held = sym (c.is_held.ensures ∙ ap (holds ss a.reach.now) c.at-a.ensures) ∙ c.if-is_held.true in
-    c.at-a.ensures ∙ sym (held_at ss a.reach.now ds c.loop-k.k held) ∙ c.loop-k.invariant.0
+    c.at-a.ensures ∙ sym (held_at ss a.reach.now ds c.loop-k.k held) ∙ c.loop-k.invariant
 
 pub returns : goal.returns
 unfolding unmet_by
 returns c = let a = c.args in
     let ss = slots_from a.slots.now 0 a.n in
     let ds = stages a.rule a.b in
-    let all : length ds ≤ c.loop-k.k = omega (arith, c.loop-k-test.false, c.count.ensures, stages-most a.rule a.b) in
-    c.none.ensures ∙ sym (held_none ss a.reach.now ds c.loop-k.k all) ∙ c.loop-k.invariant.0
+    let all : length ds ≤ c.loop-k.k = omega (arith, c.loop-k-test.false, c.count-k-end.ensures, stages-most a.rule a.b) in
+    c.none.ensures ∙ sym (held_none ss a.reach.now ds c.loop-k.k all) ∙ c.loop-k.invariant

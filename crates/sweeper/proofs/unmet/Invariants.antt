@@ -1,5 +1,4 @@
 -- `sweeper::unmet` meets its contract: what was asked for before stage k does not hold the block.
-use Prim.Native.Nat.{◌-◌, ◌≤◌}
 use mathlib.Core.Path.{◌≡◌}
 use lib.ListN.{drop}
 use Rattle.slots.specs.Slots.{slots_from}
@@ -9,7 +8,4 @@ use Rattle.sweeper.proofs.unmet.Given as goal
 
 abbrev pub invariant-loop-k : goal.invariant-loop-k
 invariant-loop-k l =
-    (first_held (slots_from l.slots 0 l.n) l.reach (drop l.k (stages l.rule l.b)) ≡ first_held (slots_from l.slots 0 l.n) l.reach (stages l.rule l.b)) × (l.k ≤ 4)
-
-abbrev pub decreases-loop-k : goal.decreases-loop-k
-decreases-loop-k l = 4 - l.k
+    first_held (slots_from l.slots 0 l.n) l.reach (drop l.k (stages l.rule l.b)) ≡ first_held (slots_from l.slots 0 l.n) l.reach (stages l.rule l.b)

@@ -1,5 +1,4 @@
 -- `text::feed` meets its contract: what the rest leads to from the state here is what all of it leads to from the start.
-use Prim.Native.Nat.{◌-◌}
 use mathlib.Core.Path.{refl, sym, ◌∙◌}
 use native.Mathlib.Omega.{arith}
 use Rattle.text.proofs.Laws.{legal-next, turn-after, end_after}

@@ -9,6 +9,3 @@ use Rattle.text.proofs.take_units.Given as goal
 abbrev pub invariant-loop-i : goal.invariant-loop-i
 invariant-loop-i l =
     (l.from ≤ l.i) × (l.i ≤ l.to) × (take_from l.pair l.st l.left (l.i - l.from) (slice l.i l.to l.s) ≡ take_units l.pair l.asked (slice l.from l.to l.s)) × Legal l.st
-
-abbrev pub decreases-loop-i : goal.decreases-loop-i
-decreases-loop-i l = l.to - l.i

@@ -1,9 +1,7 @@
 -- `text::units_by_rule` meets its contract: the units so far and those that the rule gives the rest are those that it gives the whole.
-use Prim.Native.Nat.{◌+◌, ◌-◌}
+use Prim.Native.Nat.{◌+◌}
 use mathlib.Core.Path.{◌≡◌}
-use mathlib.Core.Logic.{⊎_elim}
 use native.Mathlib.Omega.{arith}
-use borrow.Author.Tests.{leb-true, leb-false}
 use lib.ListN.{get_or}
 use Rattle.text.specs.Rule.{worth}
 use Rattle.text.proofs.Rule.{once, once-plain, once-later, once-long, once-le, worth-one, worth-pair, worth-le, turn-rule, end-rule}

@@ -24,4 +24,4 @@ returns-in_default c = let a = c.args in
 pub returns : goal.returns
 returns c = let a = c.args in
     let v = c.open.new.w in
-    starts-columned a.form a.update.now v c.if-form-eq1.false _ _ _ (ap (opened_in v) (sym c.in-Number.is) ∙ c.open.ensures.1) c.read_count-2.ensures
+    starts-columned a.form a.update.now v c.if-form-eq1.false _ _ _ (ap (opened_in v) (sym c.in-Some.is) ∙ c.open.ensures.1) c.read_count-2.ensures

@@ -26,7 +26,7 @@ returns-then-len-gt-MAX_CLOCK c = let a = c.args in
     let s = a.s in
     let v = c.read_block.new.w in
     let q = c.read_block.new.r in
-    let b = ap (block_onto v q) (sym c.in-Number.is) ∙ c.read_block.ensures.2 in
+    let b = ap (block_onto v q) (sym c.in-Some.is) ∙ c.read_block.ensures.2 in
     let law = too_far a.form u m a.w.now s p.3 v q _ b (omega (arith, c.if-len-gt-MAX_CLOCK.true, c.length_in-len.ensures)) in
     refuses a.form u m a.w.now a.r.now s m v q c.read_block.ensures.0 refl (c.read_block.ensures.1.size ∙ sym p.1) _ law
 
@@ -41,7 +41,7 @@ returns-then-end-gt-MAX_CLOCK c = let a = c.args in
     let s = a.s in
     let v = c.read_block.new.w in
     let q = c.read_block.new.r in
-    let b = ap (block_onto v q) (sym c.in-Number.is) ∙ c.read_block.ensures.2 in
+    let b = ap (block_onto v q) (sym c.in-Some.is) ∙ c.read_block.ensures.2 in
     let law = too_far a.form u m a.w.now s p.3 v q _ b (omega (arith, c.if-end-gt-MAX_CLOCK.true, c.length_in-len.ensures)) in
     refuses a.form u m a.w.now a.r.now s m v q c.read_block.ensures.0 refl (c.read_block.ensures.1.size ∙ sym p.1) _ law
 
@@ -53,7 +53,7 @@ returns-then-is_dropped c = let a = c.args in
     let s = a.s in
     let v = c.read_block.new.w in
     let q = c.read_block.new.r in
-    let b = ap (block_onto v q) (sym c.in-Number.is) ∙ c.read_block.ensures.2 in
+    let b = ap (block_onto v q) (sym c.in-Some.is) ∙ c.read_block.ensures.2 in
     let near : s.clock + (row_in q).length.0 ≤ max_clock = omega (arith, c.if-end-gt-MAX_CLOCK.false, c.length_in-len.ensures) in
     rw c.length_in-len.ensures
     (goes_on a.form u m a.w.now a.r.now s m v q c.read_block.ensures.0 refl (c.read_block.ensures.1.size ∙ sym p.1) _
@@ -68,7 +68,7 @@ returns c = let a = c.args in
     let s = a.s in
     let v = c.read_block.new.w in
     let q = c.read_block.new.r in
-    let b = ap (block_onto v q) (sym c.in-Number.is) ∙ c.read_block.ensures.2 in
+    let b = ap (block_onto v q) (sym c.in-Some.is) ∙ c.read_block.ensures.2 in
     let near : s.clock + (row_in q).length.0 ≤ max_clock = omega (arith, c.if-end-gt-MAX_CLOCK.false, c.length_in-len.ensures) in
     rw c.length_in-len.ensures
     (keeps a.form u m a.w.now a.r.now s m v q c.read_block.ensures.0 refl (c.read_block.ensures.1.size ∙ sym p.1) _ _

@@ -14,5 +14,5 @@ returns-in_default c = let a = c.args in
 pub returns : goal.returns
 returns c = let a = c.args in
     let v = c.read_var.new.w in
-    let n = ap (given v) (sym c.in-Number.is) ∙ c.read_var.ensures.1 in
+    let n = ap (given v) (sym c.in-Some.is) ∙ c.read_var.ensures.1 in
     count a.form a.update.now a.w.now v c.read_var.ensures.0 _ (within max_clients a.update.now _ _ v _ n) (in-line a.form a.update.now max_clients a.w.now v _ n)

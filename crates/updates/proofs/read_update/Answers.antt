@@ -15,21 +15,21 @@ returns-then-early-ne0 c =
     let h = on-early c.args.form c.args.update.now c.args.rows.now c.args.ranges.now (ap (λ (k : ℕ). eqb k 0) (sym e) ∙ ne_eqb _ 0 c.if-early-ne0.true) in
     (c.none.ensures ∙ ap (λ (k : ℕ). answer (refused (record { number = k; place = 0 }))) e ∙ h.0, c.clear.ensures ∙ h.1, c.clear-then-early-ne0.ensures ∙ h.2)
 
-pub returns-in-Ranges : goal.returns-in-Ranges
-returns-in-Ranges c =
+pub returns-in-Ok-read_delete_set : goal.returns-in-Ok-read_delete_set
+returns-in-Ok-read_delete_set c =
     let y = ap (λ (k : ℕ). eqb k 0) (sym c.refused_early-early.ensures) ∙ eq-eqb _ 0 c.if-early-ne0.false in
-    let h = on-ranges c.args.form c.args.update.now c.args.rows.now c.args.ranges.now y c.in-Rows.blocks c.in-Rows.at (sym c.read_blocks.ensures.0 ∙ c.in-Rows.is) c.in-Ranges.count c.in-Ranges.field-1 (sym c.read_delete_set.ensures.0 ∙ c.in-Ranges.is) in
+    let h = on-ranges c.args.form c.args.update.now c.args.rows.now c.args.ranges.now y c.in-Ok.blocks c.in-Ok.at (sym c.read_blocks.ensures.0 ∙ c.in-Ok.is) _ _ (sym c.read_delete_set.ensures.0 ∙ c.in-Ok-read_delete_set.is) in
     (h.0, c.read_blocks.ensures.1 ∙ h.1, c.read_delete_set.ensures.1 ∙ h.2)
 
-pub returns-in-Refused-read_delete_set : goal.returns-in-Refused-read_delete_set
-returns-in-Refused-read_delete_set c =
+pub returns-in-Err-read_delete_set : goal.returns-in-Err-read_delete_set
+returns-in-Err-read_delete_set c =
     let y = ap (λ (k : ℕ). eqb k 0) (sym c.refused_early-early.ensures) ∙ eq-eqb _ 0 c.if-early-ne0.false in
     let size = sym (ap (λ (bs : List Block). length bs) c.read_blocks.ensures.1) ∙ c.read_blocks.auto.rows in
-    let h = on-set c.args.form c.args.update.now c.args.rows.now c.args.ranges.now y c.in-Rows.blocks c.in-Rows.at (sym c.read_blocks.ensures.0 ∙ c.in-Rows.is) c.in-Refused-read_delete_set.why (sym c.read_delete_set.ensures.0 ∙ c.in-Refused-read_delete_set.is) size in
-    (c.none-in-Refused-read_delete_set.ensures ∙ h.0, c.clear-in-Refused-read_delete_set.ensures ∙ ap (cleared_from 0) c.read_blocks.ensures.1 ∙ h.1, c.read_delete_set.ensures.1 ∙ h.2)
+    let h = on-set c.args.form c.args.update.now c.args.rows.now c.args.ranges.now y c.in-Ok.blocks c.in-Ok.at (sym c.read_blocks.ensures.0 ∙ c.in-Ok.is) c.in-Err-read_delete_set.why (sym c.read_delete_set.ensures.0 ∙ c.in-Err-read_delete_set.is) size in
+    (c.none-in-Err-read_delete_set.ensures ∙ h.0, c.clear-in-Err-read_delete_set.ensures ∙ ap (cleared_from 0) c.read_blocks.ensures.1 ∙ h.1, c.read_delete_set.ensures.1 ∙ h.2)
 
-pub returns-in-Refused : goal.returns-in-Refused
-returns-in-Refused c =
+pub returns-in-Err : goal.returns-in-Err
+returns-in-Err c =
     let y = ap (λ (k : ℕ). eqb k 0) (sym c.refused_early-early.ensures) ∙ eq-eqb _ 0 c.if-early-ne0.false in
-    let h = on-blocks c.args.form c.args.update.now c.args.rows.now c.args.ranges.now y c.in-Refused.why (sym c.read_blocks.ensures.0 ∙ c.in-Refused.is) in
-    (c.none-in-Refused.ensures ∙ h.0, c.read_blocks.ensures.1 ∙ h.1, c.clear-in-Refused.ensures ∙ h.2)
+    let h = on-blocks c.args.form c.args.update.now c.args.rows.now c.args.ranges.now y c.in-Err.why (sym c.read_blocks.ensures.0 ∙ c.in-Err.is) in
+    (c.none-in-Err.ensures ∙ h.0, c.read_blocks.ensures.1 ∙ h.1, c.clear-in-Err.ensures ∙ h.2)

@@ -1,6 +1,6 @@
 -- `vector::read_announced` meets its contract: what is seen and what is to come make the answer that they made at the start.
 use Prim.Native.Nat.{◌-◌, ◌+◌}
-use mathlib.Core.Path.{refl}
+use mathlib.Core.Path.{◌≡◌, refl}
 use native.Mathlib.Omega.{arith}
 use lib.ListN.{length-set}
 use Rattle.vector.proofs.Laws.{drew, drew-not, none_read, few, read-begin, read-on, read-stop, read-over, no-client, twice, no-clock, one_more}
@@ -44,4 +44,5 @@ loop-i-preserved c = let v = c.args.vector.now in let n = c.in-Number.n in
     )
 
 pub returns : goal.returns
-returns c = read-over c.args.vector.now _ c.loop-i.i c.loop-i.at _ _ c.loop-i.invariant.0 (omega arith) c.loop-i.invariant.3
+returns c = let e : c.in-Number.n ≡ c.loop-i.i = omega (arith, c.loop-i-test.false, c.loop-i.auto.i-end) in
+    rw e (read-over c.args.vector.now _ c.loop-i.i c.loop-i.at _ _ c.loop-i.invariant.0 (omega arith) c.loop-i.invariant.3)

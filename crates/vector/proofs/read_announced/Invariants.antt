@@ -9,6 +9,3 @@ use Rattle.vector.proofs.read_announced.Given as goal
 abbrev pub invariant-loop-i : goal.invariant-loop-i
 invariant-loop-i l =
     ReadTo l.vector l.count l.i l.at l.clients l.clocks × (length l.clients ≡ length l.initial.clients) × (length l.clocks ≡ length l.initial.clocks) × (l.count ≤ max_clients)
-
-abbrev pub decreases-loop-i : goal.decreases-loop-i
-decreases-loop-i l = l.count - l.i

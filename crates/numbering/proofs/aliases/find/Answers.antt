@@ -14,10 +14,6 @@ returns-then-is_part c = let p = c in
     let a = p.args in
     λ l. same-part (alias_at a.lanes.now p.loop-i.i) a.part (sym p.is_part.ensures ∙ c.if-is_part.true)
 
-pub overflow_add-i : goal.overflow_add-i
-unfolding alias_count
-overflow_add-i c = omega (arith, c.requires.2)
-
 pub returns : goal.returns
 unfolding alias_count
 returns c = λ l. absurd (omega (arith, l))

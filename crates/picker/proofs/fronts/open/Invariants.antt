@@ -1,14 +1,9 @@
 -- `picker::open` meets its contract: the fronts of the slots from `i` on make those of all.
-use Prim.Native.Nat.{◌-◌, ◌≤◌}
+use Prim.Native.Nat.{◌-◌}
 use mathlib.Core.Path.{◌≡◌}
-use lib.ListN.{length}
 use Rattle.slots.specs.Slots.{slots_from}
 use Rattle.picker.specs.Fronts.{opened_from}
 use Rattle.picker.proofs.fronts.open.Given as goal
 
 abbrev pub invariant-loop-i : goal.invariant-loop-i
-invariant-loop-i l =
-    (l.i ≤ l.n) × (opened_from l.i (slots_from l.slots l.i (l.n - l.i)) l.fronts ≡ opened_from 0 (slots_from l.slots 0 l.n) l.initial.fronts) × (length l.fronts ≡ length l.initial.fronts)
-
-abbrev pub decreases-loop-i : goal.decreases-loop-i
-decreases-loop-i l = l.n - l.i
+invariant-loop-i l = opened_from l.i (slots_from l.slots l.i (l.n - l.i)) l.fronts ≡ opened_from 0 (slots_from l.slots 0 l.n) l.initial.fronts

@@ -2,7 +2,7 @@
 use mathlib.Core.Path.{refl, sym}
 use Prim.Native.Nat.{◌/◌}
 use native.Mathlib.Omega.{arith}
-use lib.ListN.{length, length-set}
+use lib.ListN.{length}
 use borrow.Author.Tests.{lt-ltb}
 use Rattle.picker.specs.Fronts.{put_front}
 use Rattle.picker.proofs.FrontLaws.{put-nowhere}
@@ -11,21 +11,6 @@ use Rattle.picker.proofs.fronts.put_front.Goals as goal
 pub returns-then-fronts-i : goal.returns-then-fronts-i
 returns-then-fronts-i c = let a = c.args in
     sym (put-nowhere a.fronts.now a.i c.if-fronts-i.true a.f)
-
-pub bounds-fronts-at-2 : goal.bounds-fronts-at-2
-bounds-fronts-at-2 c = simp length-set (omega arith)
-
-pub bounds-fronts-at-3 : goal.bounds-fronts-at-3
-bounds-fronts-at-3 c = simp length-set (omega arith)
-
-pub bounds-fronts-at-4 : goal.bounds-fronts-at-4
-bounds-fronts-at-4 c = simp length-set (omega arith)
-
-pub bounds-fronts-at-5 : goal.bounds-fronts-at-5
-bounds-fronts-at-5 c = simp length-set (omega arith)
-
-pub bounds-fronts-at-6 : goal.bounds-fronts-at-6
-bounds-fronts-at-6 c = simp length-set (omega arith)
 
 pub returns : goal.returns
 unfolding put_front

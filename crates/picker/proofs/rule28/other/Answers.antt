@@ -1,13 +1,23 @@
--- `picker::rule28::other` meets its contract: the own client, or another.
-use mathlib.Core.Path.{refl}
-use borrow.Author.Tests.{eq-eqb, ne_eqb}
+-- `picker::rule28::other` meets its contract: a dependency that is there, of the own client or another, and one that is not.
+use mathlib.Core.Path.{◌≡◌, refl}
+use mathlib.Core.Bool.{Bool, true, false, not}
+use lib.Dec.{eqb}
+use Rattle.numbers.specs.Number.{pick}
 use Rattle.picker.specs.Rule28.{other}
 use Rattle.picker.proofs.rule28.other.Goals as goal
 
-pub returns-then-id-client : goal.returns-then-id-client
-unfolding other
-returns-then-id-client c = let a = c.args in rw (eq-eqb a.id.client a.client c.if-id-client.true) refl
+on : (x : Bool) → not x ≡ pick x false true
+on true = refl
+on false = refl
 
-pub returns : goal.returns
+off : (x : Bool) → false ≡ pick x false false
+off true = refl
+off false = refl
+
+pub returns-then-there : goal.returns-then-there
 unfolding other
-returns c = let a = c.args in rw (ne_eqb a.id.client a.client c.if-id-client.false) refl
+returns-then-there c = let a = c.args in rw (c.if-there.true, on (eqb a.id.client a.client)) refl
+
+pub returns-else-there : goal.returns-else-there
+unfolding other
+returns-else-there c = let a = c.args in rw (c.if-there.false, ← off (eqb a.id.client a.client)) refl

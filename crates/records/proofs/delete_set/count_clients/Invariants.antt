@@ -5,7 +5,4 @@ use Rattle.records.proofs.DeleteRows.{firsts}
 use Rattle.records.proofs.delete_set.count_clients.Given as goal
 
 abbrev pub invariant-loop-i : goal.invariant-loop-i
-invariant-loop-i l = (l.count + firsts l.ranges l.i (l.n - l.i) ≡ firsts l.ranges 0 l.n) × (l.i ≤ l.n) × (l.count ≤ l.i)
-
-abbrev pub decreases-loop-i : goal.decreases-loop-i
-decreases-loop-i l = l.n - l.i
+invariant-loop-i l = (l.count + firsts l.ranges l.i (l.n - l.i) ≡ firsts l.ranges 0 l.n) × (l.count ≤ l.i)

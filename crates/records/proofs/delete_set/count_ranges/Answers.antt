@@ -7,23 +7,15 @@ use Rattle.records.proofs.delete_set.count_ranges.Goals as goal
 
 pub loop-j-init : goal.loop-j-init
 loop-j-init c = let a = c.args in
-    (siblings-begin a.ranges.now a.i (a.n - (a.i + 1)) c.client_at-client.result c.client_at-client.ensures, omega arith, omega arith)
+    siblings-begin a.ranges.now a.i (a.n - (a.i + 1)) c.client_at-client.result c.client_at-client.ensures
 
 pub returns-then-client_at-client : goal.returns-then-client_at-client
-returns-then-client_at-client c = let p1 = c in
-    let p3 = c in
-    let p4 = c in
-    let p6 = c in
-    let a = p6.args in
-    omega (arith, leading-other a.ranges.now a.n c.loop-j.j (omega arith) p4.client_at-client.result (λ e. c.if-client_at-client.true (p1.client_at.ensures ∙ e)))
+returns-then-client_at-client c = let a = c.args in
+    omega (arith, leading-other a.ranges.now a.n c.loop-j.j (omega arith) c.client_at-client.result (λ e. c.if-client_at-client.true (c.client_at.ensures ∙ e)))
 
 pub loop-j-preserved : goal.loop-j-preserved
-loop-j-preserved c = let p1 = c in
-    let p3 = c in
-    let p4 = c in
-    let p6 = c in
-    let a = p6.args in
-    (omega (arith, leading-same a.ranges.now a.n c.loop-j.j (omega arith) p4.client_at-client.result (sym p1.client_at.ensures ∙ c.if-client_at-client.false)), omega arith, omega arith)
+loop-j-preserved c = let a = c.args in
+    omega (arith, leading-same a.ranges.now a.n c.loop-j.j (omega arith) c.client_at-client.result (sym c.client_at.ensures ∙ c.if-client_at-client.false))
 
 pub returns : goal.returns
 returns c = let a = c.args in

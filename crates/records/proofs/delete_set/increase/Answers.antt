@@ -25,6 +25,6 @@ returns c = let p1 = c in
     let p6 = c in
     let p8 = c in
     let a = p8.args in
-    c.less.ensures
-    ∙ rw (p2.less-since.ensures, p6.clock_at-clock.ensures, p3.clock_at.ensures, p1.length_at.ensures)
+    c.saturating_sub.ensures
+    ∙ rw (p2.saturating_sub-since.ensures, p6.clock_at-clock.ensures, p3.clock_at.ensures, p1.length_at.ensures)
     (increase-later a.ranges.now a.i (sym p5.is_first.ensures ∙ p4.if-is_first.false))

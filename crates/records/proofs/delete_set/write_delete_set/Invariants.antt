@@ -1,5 +1,4 @@
 -- `write_delete_set` meets its contract: at each turn the rows so far are written.
-use Prim.Native.Nat.{◌-◌, ◌≤◌}
 use mathlib.Core.Path.{◌≡◌}
 use lib.ListN.{length}
 use Rattle.records.specs.DeleteRows.{InLine}
@@ -7,7 +6,4 @@ use Rattle.records.proofs.Deletes.{so_far}
 use Rattle.records.proofs.delete_set.write_delete_set.Given as goal
 
 abbrev pub invariant-loop-i : goal.invariant-loop-i
-invariant-loop-i l = InLine (so_far l.form l.ranges l.n l.i) l.initial.out l.initial.end l.out l.end × (l.i ≤ l.n) × (length l.out ≡ length l.initial.out)
-
-abbrev pub decreases-loop-i : goal.decreases-loop-i
-decreases-loop-i l = l.n - l.i
+invariant-loop-i l = InLine (so_far l.form l.ranges l.n l.i) l.initial.out l.initial.end l.out l.end × (length l.out ≡ length l.initial.out)

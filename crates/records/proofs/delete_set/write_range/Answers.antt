@@ -35,4 +35,4 @@ returns c = let p2 = c in
     line-is (range-less a.ranges.now a.i (a.n - (a.i + 1)) a.form p10.if-form-eq1.false)
     (line-then p13.write_owner-owned.ensures
     (line-then (line-var (r.clock - end_before a.ranges.now a.i) (rw p9.increase-clock.ensures at p7.number-begun-2.ensures))
-    (line-var (r.len - 1) (rw (p3.less.ensures, p15.length_at-len.ensures) at p2.number-2.ensures))))
+    (line-var (r.len - 1) (rw (p3.saturating_sub.ensures, p15.length_at-len.ensures) at p2.number-2.ensures))))

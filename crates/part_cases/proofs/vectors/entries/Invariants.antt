@@ -1,9 +1,0 @@
--- `part_cases::vectors::entries` is safe and ends: `at` stays within the words, and the entries still to print fall.
-use Rattle.std.proofs.Common.{length, ◌≡◌, ◌≤◌}
-use Rattle.part_cases.proofs.vectors.entries.Given as goal
-
-abbrev pub invariant-loop-left : goal.invariant-loop-left
-invariant-loop-left l = (length l.sink ≡ length l.initial.sink) × (l.at ≤ length l.words)
-
-abbrev pub decreases-loop-left : goal.decreases-loop-left
-decreases-loop-left l = l.left

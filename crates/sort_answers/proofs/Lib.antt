@@ -1,2 +1,0 @@
--- How a sorting is judged.
-pub mod Judged

@@ -1,0 +1,2 @@
+-- What a line says of lent words.
+pub mod Entries
