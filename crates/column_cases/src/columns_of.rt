@@ -1,39 +1,28 @@
 // Operations 5 to 12: the four columns, read by column readers, and written.
+ghost use Rattle.std.specs.Prelude.{◌≤◌, length};
+
 use crate::lent;
 use numbers::{Refusal, Written};
-use readers::{Answer, Column, Kind};
+use readers::{Column, Kind};
 use std::fmt;
 use std::fmt::Write;
 use stream::shown;
-use stream::shown::{Hex, Verdict};
+use stream::shown::{Hex, Numbers, Verdict};
 use stream::sink::Sink;
 use stream::source::Source;
-use text::{Bytes, Part};
 
-// Values that were drawn, each with the space before it.
-#[derive(Clone, Copy)]
-struct Values<'a>(&'a [Answer]);
-
-impl fmt::Display for Values<'_> {
-    fn fmt<W: fmt::Write>(&self, f: &mut fmt::Formatter<W>) -> fmt::Result {
-        for answer in self.0 {
-            write!(f, " {}", answer.value)?;
-        }
-        Ok(())
-    }
-}
-
-// Texts that were drawn from a column, each with the space before it.
+// The first texts of a text column, each with the space before it: drawn as they are shown, so that none of them is kept.
 #[derive(Clone, Copy)]
 struct Texts<'a> {
     column: &'a [u8],
-    drawn: &'a [Answer],
+    count: usize,
 }
 
 impl fmt::Display for Texts<'_> {
     fn fmt<W: fmt::Write>(&self, f: &mut fmt::Formatter<W>) -> fmt::Result {
-        for answer in self.drawn {
-            let part = answer.part;
+        let mut column = readers::open(self.column, Kind::Text).column;
+        for _ in 0..self.count {
+            let part = readers::next(&mut column).part;
             let (_, from) = shown::cut(self.column, part.place);
             let (text, _) = shown::cut(from, part.bytes.0);
             write!(f, " {}", Hex(text))?;
@@ -47,51 +36,66 @@ const NO_REFUSAL: Refusal = Refusal {
     place: 0,
 };
 
-const NO_ANSWER: Answer = Answer {
-    refusal: NO_REFUSAL,
-    value: 0,
-    part: Part {
-        place: 0,
-        bytes: Bytes(0),
-    },
-};
-
 // Draws from a column into what is lent, until it is full or a draw is refused: how many were drawn, and the refusal, zeros for none.
-fn draw(column: &mut Column, lent: &mut [Answer]) -> (usize, Refusal) {
+fn draw(column: &mut Column, lent: &mut [u64]) -> (usize, Refusal)
+    ensures { result.0 ≤ length lent.new }
+{
     for (count, drawn) in lent.iter_mut().enumerate() {
         let answer = readers::next(column);
         if answer.refusal.number != 0 {
             return (count, answer.refusal);
         }
-        *drawn = answer;
+        *drawn = answer.value;
     }
     (lent.len(), NO_REFUSAL)
 }
 
-// The same for a column that is not opened yet.
-fn read_into(bytes: &[u8], kind: Kind, lent: &mut [Answer]) -> (usize, Refusal) {
-    let opened = readers::open(bytes, kind);
-    if opened.refusal.number != 0 {
-        return (0, opened.refusal);
+// The same for texts, which are counted alone.
+fn count(column: &mut Column, times: usize) -> (usize, Refusal)
+    ensures { result.0 ≤ times }
+{
+    for drawn in 0..times {
+        let answer = readers::next(column);
+        if answer.refusal.number != 0 {
+            return (drawn, answer.refusal);
+        }
     }
-    let mut column = opened.column;
-    draw(&mut column, lent)
+    (times, NO_REFUSAL)
 }
 
 // 5 to 8: column, times. The line has what came before the refusal.
 pub fn read(kind: Kind, source: &mut Source, sink: &mut Sink) -> Option<()> {
+    match kind {
+        Kind::Text => read_texts(source, sink),
+        _ => read_values(kind, source, sink),
+    }
+}
+
+fn read_values(kind: Kind, source: &mut Source, sink: &mut Sink) -> Option<()> {
     let mut bytes = [0u8; 65536];
     let column = source.bytes(&mut bytes)?;
     let times = source.count(4096)?;
-    let mut answers = [NO_ANSWER; 4096];
-    let lent = answers.get_mut(..times)?;
-    let (count, refusal) = read_into(column, kind, lent);
-    let (drawn, _) = shown::cut(lent, count);
-    let verdict = Verdict(refusal);
-    if let Kind::Text = kind {
-        return writeln!(sink, "{verdict}{}", Texts { column, drawn }).ok();
+    let mut values = [0u64; 4096];
+    let lent = values.get_mut(..times)?;
+    let mut opened = readers::open(column, kind);
+    if opened.refusal.number != 0 {
+        return writeln!(sink, "{}", Verdict(opened.refusal)).ok();
     }
-    writeln!(sink, "{verdict}{}", Values(drawn)).ok()
+    let (count, refusal) = draw(&mut opened.column, lent);
+    let (drawn, _) = shown::cut(lent, count);
+    writeln!(sink, "{}{}", Verdict(refusal), Numbers(drawn)).ok()
+}
+
+pub fn read_texts(source: &mut Source, sink: &mut Sink) -> Option<()> {
+    let mut bytes = [0u8; 65536];
+    let column = source.bytes(&mut bytes)?;
+    let times = source.count(4096)?;
+    let mut opened = readers::open(column, Kind::Text);
+    if opened.refusal.number != 0 {
+        return writeln!(sink, "{}", Verdict(opened.refusal)).ok();
+    }
+    let (count, refusal) = count(&mut opened.column, times);
+    writeln!(sink, "{}{}", Verdict(refusal), Texts { column, count }).ok()
 }
 
 // 9 and 10: list, room.

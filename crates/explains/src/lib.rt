@@ -23,9 +23,15 @@ fn read_whole(form: u8, update: &[u8]) -> Result<(), Refusal>
 {
     let mut w = [0u64; 580];
     let s = update::begin(form, update, &mut w)?;
-    let (_, at) = content::scan(form, update, &mut w, s, 0)?;
-    deletes::check_delete_set(form, update, at)?;
-    Ok(())
+    // Kept, point 1 (eleven_first and set_nowhere): both plant a value in an arm, and a `?` has none.
+    let at = match content::scan(form, update, &mut w, s, 0) {
+        Ok((_, at)) => at,
+        Err(why) => return Err(why),
+    };
+    match deletes::check_delete_set(form, update, at) {
+        Ok(_) => Ok(()),
+        Err(why) => Err(why),
+    }
 }
 
 fn refuse(out: &mut [u64], why: Refusal) -> Explained

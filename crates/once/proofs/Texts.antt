@@ -8,8 +8,8 @@ use native.Mathlib.Nat.{zero-add}
 use native.Mathlib.Numerals.{add-one}
 use native.Mathlib.Omega.{arith}
 use lib.Dec.{eqb}
-use lib.ListN.{length, take, drop, get_or, length-append, length-drop, drop_of_length-le}
-use lib.Seq.{sets, length-sets, drop-cons, drop-drop}
+use lib.ListN.{length, take, drop, get_or, set, length-append, length-drop, drop_of_length-le}
+use lib.Seq.{sets, length-sets, take-suc, drop-cons, drop-drop, length-take-le}
 use borrow.Author.Tests.{eqb-true}
 use borrow.Rule.Slice.PartMut.{put_mid, Post-is}
 use Rattle.std.proofs.Common.{append_assoc}
@@ -75,6 +75,10 @@ module _ (s us : List ℕ) (i : ℕ) (t : Taking) (h : TakenTo s us i t) where
       found false = refl
 
 -- ---- the text's bytes behind its length
+
+-- one more
+pub bytes_on : (e t : List ℕ) (at i : ℕ) → i < length t → set (sets e at (take i t)) (at + i) (get_or t i 0) ≡ sets e at (take (i + 1) t)
+bytes_on e t at i l = rw (add-one, take-suc t i 0 l, sets-append, length-take-le i t (omega arith))
 
 -- a part that was written, as stores
 pub put-sets : (out : List ℕ) (at end : ℕ) (b p : List ℕ) → p ≡ b → end ≡ at + length b → end ≤ length out → put_mid at (end - at) out p ≡ sets out at b

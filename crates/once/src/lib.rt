@@ -259,9 +259,11 @@ fn put_text(out: &mut [u8], text: &[u8]) -> usize
     ensures { (result ≡ length (text_head text.now)) × (out.new ≡ sets out.old 0 (text_head text.now)) }
 {
     let at = numbers::write_unsigned(out, 0, text.len() as u64);
-    let end = at + text.len();
-    out[at..end].copy_from_slice(text);
-    end
+    // Kept, point 3 (the C interface): std's copy calls memmove, a name that the archive needs for nothing else.
+    for i in 0..text.len() {
+        out[at + i] = text[i];
+    }
+    at + text.len()
 }
 
 // The same, if there is room: the place after them, or the one past the end.

@@ -4,7 +4,7 @@ use mathlib.Core.List.{List, [], ◌∷◌, ◌++◌}
 use Prim.Native.Nat.{ℕ, suc, ◌+◌, ◌-◌, ◌*◌, ◌≤◌}
 use native.Mathlib.Omega.{arith}
 use native.Mathlib.Numerals.{add-one}
-use lib.ListN.{length, take, replicate}
+use lib.ListN.{length, take, replicate, length-append, length-replicate}
 use lib.Seq.{sets}
 use Rattle.numbers.proofs.Output.{take-sets}
 use Rattle.numbers.proofs.Rows.{Rows, first-words, next-first, next_word}
@@ -12,6 +12,7 @@ use Rattle.numbers.proofs.Rows as rows
 use Rattle.ranges.specs.Ranges.{Range, normal}
 use Rattle.ranges.specs.Table.{range, flat}
 use Rattle.ranges.specs.TableInner.{row, put, rows_from, normal_count, normalized}
+use Rattle.ranges.proofs.Theory.{normal-length}
 
 abbrev words : Range → List ℕ
 words r = r.client ∷ r.clock ∷ r.len ∷ []
@@ -65,3 +66,20 @@ module _ (s u : List ℕ) (n m : ℕ) (told : rows_from u 0 m ≡ normal (rows_f
   pub normal-words : 3 * m ≤ length u → length u ≡ length s → take (3 * m) u ++ replicate (length u - 3 * m) 0 ≡ normalized s n
   unfolding normalized
   normal-words h e = rw (take-flat u m h, told, e, ← normal-count) refl
+
+-- ---- what a caller of `normalize` needs
+
+module _ (s : List ℕ) (n : ℕ) where
+  pub count-le : normal_count s n ≤ n
+  unfolding normal_count
+  count-le = omega (arith, normal-length (rows_from s 0 n), length-rows s 0 n)
+
+  pub normalized-rows : rows_from (normalized s n) 0 (normal_count s n) ≡ normal (rows_from s 0 n)
+  unfolding normalized normal_count
+  normalized-rows = rows-flat (normal (rows_from s 0 n)) (replicate (length s - 3 * normal_count s n) 0)
+
+  pub length-normalized : 3 * n ≤ length s → length (normalized s n) ≡ length s
+  unfolding normalized normal_count
+  length-normalized h =
+      length-append (flat (normal (rows_from s 0 n))) (replicate (length s - 3 * normal_count s n) 0)
+      ∙ rw (length-flat (normal (rows_from s 0 n)), length-replicate) (omega (arith, count-le))

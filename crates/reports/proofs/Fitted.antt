@@ -1,7 +1,7 @@
 -- As many words as fit: all of them and zeros where there is room, never more or fewer than the words lent; and how a report comes to them.
 use Prim.Native.Nat.{ℕ, suc, ◌-◌, ◌≤◌}
 use mathlib.Core.Path.{◌≡◌, refl, ap, ◌∙◌}
-use mathlib.Core.List.{List, [], ◌∷◌, ◌++◌}
+use mathlib.Core.List.{List, [], ◌∷◌, ◌++◌, append-nil}
 use native.Mathlib.Omega.{arith}
 use lib.ListN.{length, take, set, replicate, length-append, length-replicate, length-take}
 use lib.Seq.{sets, length-sets, take_all, take-nil}
@@ -39,3 +39,7 @@ unfolding fitted
 stored-fitted e ws = rw (stored-front e ws, length-sets e 0 ws)
 
 -- there is no word to clear
+pub cleared-none : (e : List ℕ) (n : ℕ) → length e ≤ n → e ≡ take n e ++ replicate (length e - n) 0
+cleared-none e n h =
+    let z : length e - n ≡ 0 = omega arith in
+    rw (take_all n e h, z, append-nil)

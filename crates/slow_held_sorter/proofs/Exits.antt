@@ -14,6 +14,7 @@ use Rattle.block.specs.declared.Block.{Block}
 use Rattle.block.specs.Row.{no_block}
 use Rattle.slots.specs.Slots.{Slot, slots_from, Falling, stored, noted_all, named_all}
 use Rattle.slots.proofs.Words.{slots_length}
+use Rattle.picker.specs.Picker.{nowhere}
 use Rattle.reports.specs.Reports.{fitted}
 use Rattle.reports.proofs.Turns.{Report}
 use Rattle.placing.specs.Placing.{row_by, rows_by}
@@ -22,8 +23,10 @@ use Rattle.sorter.specs.declared.Sorting.{Sorting}
 use Rattle.sorter.specs.Sorter.{max_reaches, slot_words, cleared, noted_by, slots_for}
 use Rattle.sorter.proofs.Exits.{here, open-asks, held_fits}
 use Rattle.sweeper.specs.Sweeper.{front_row, Board, board, seen_by, swept_all}
+use Rattle.sweeper.proofs.Seen.{seen-length}
 use Rattle.sweep_reports.specs.Reports.{taken_from}
 use Rattle.slow_sorter.specs.Slowly.{sorting_by}
+use Rattle.slow_sorter.proofs.Exits.{all_room}
 use Rattle.held_sorter.proofs.Exits.{row-at, found-is}
 use Rattle.slow_held_sorter.specs.SlowHeld.{awaited_at, awaited_from, board_by, counts_by, pending_by, order_by, sorting_at}
 
@@ -82,6 +85,15 @@ module _ (w : List ℕ) (h : ℕ) (ss : List Slot) (rows : List Block) where
         × (fitted (length pending) (awaited_from ss d.reach rows numbered d.taken 0 ss) ≡ fitted (length pending) (pending_by w h ss rows order))
     unfolding sorting_at order_by cleared counts_by pending_by board_by
     exit-slots = (refl, refl, refl, refl)
+
+    -- there is a count for each slot
+    pub few : (n : ℕ) → n ≤ max_reaches → length rows ≤ nowhere → n ≤ length d.taken
+    few n l short =
+        omega (
+          arith,
+          length-replicate {A = ℕ} max_reaches 0,
+          all_room 28 ss (seen_by true w h ss rows) (omega (arith, short, seen-length w h ss rows true)) (board (replicate max_reaches 0) (replicate max_reaches 0) order 0),
+        )
 
 -- ---- the words of slots
 

@@ -1,11 +1,14 @@
 -- What the slow sorter's functions come to: slots in words, and the same against a vector that was read.
 use Rattle.std.specs.Prelude.{Ok, Err}
-use Prim.Native.Nat.{ℕ, ◌-◌, ◌*◌, ◌/◌, ◌≤◌}
-use mathlib.Core.Path.{◌≡◌, refl, sym, ap}
+use Prim.Native.Nat.{ℕ, zero, suc, ◌-◌, ◌*◌, ◌/◌, ◌≤◌}
+use mathlib.Core.Path.{◌≡◌, refl, sym, ap, ◌∙◌}
+use mathlib.Core.Bool.{Bool, true, false}
 use mathlib.Core.List.{List, ◌++◌}
 use native.Mathlib.Omega.{arith}
+use lib.Dec.{ltb}
 use lib.ListN.{length, take, replicate, length-replicate}
 use Rattle.numbers.specs.declared.Refusal.{Refusal}
+use Rattle.numbers.specs.Number.{pick}
 use Rattle.numbers.specs.Output.{padded}
 use Rattle.block.specs.declared.Block.{Block}
 use Rattle.grammar.specs.Course.{Course}
@@ -16,10 +19,12 @@ use Rattle.kept.specs.Plan.{entries_of}
 use Rattle.kept.proofs.VectorRead.{was-refused}
 use Rattle.slots.specs.Slots.{Slot, slots_from, stored, Falling}
 use Rattle.picker.specs.Fronts.{filled_from}
+use Rattle.picker.specs.Picker.{nowhere}
 use Rattle.reports.specs.Reports.{reaches_from, fitted}
 use Rattle.sorter.specs.Sorter.{slots_for, max_reaches, slot_words, reaches_at, cleared, no_sorting}
 use Rattle.sorter.proofs.Exits.{held_asks, held_fits, held-is, by_read}
-use Rattle.sweeper.specs.Sweeper.{Board, board, swept_all}
+use Rattle.sweeper.specs.Sweeper.{Board, board, swept, swept_by, left_below, swept_all}
+use Rattle.sweeper.proofs.Sweeps.{sweep-room}
 use Rattle.sweep_reports.specs.Reports.{taken_from, waits_from}
 use Rattle.slow_sorter.specs.Slowly.{sorting_by, Left, Leaves, board_on, reports_on, swept_on, unswept, swept_read}
 
@@ -34,6 +39,23 @@ leaves l k e = (
 )
 
 -- ---- all sweeps, and the reports
+
+-- the counts are as many as they were
+module _ (rule : ℕ) (ss : List Slot) (rows : List Block) (short : length rows ≤ nowhere) where
+  by-room : (k : ℕ) (d : Board) → length (swept_by k rule ss rows d).taken ≡ length d.taken
+  unfolding swept_by
+  by-room zero d = refl
+  by-room (suc k) d = go (ltb d.steps (swept rule ss rows d).steps) (by-room k (swept rule ss rows d)) (sweep-room rule ss rows short d)
+    where
+      go : (x : Bool) → length (swept_by k rule ss rows (swept rule ss rows d)).taken ≡ length (swept rule ss rows d).taken
+          → length (swept rule ss rows d).taken ≡ length d.taken
+          → length (pick x (swept_by k rule ss rows (swept rule ss rows d)) (swept rule ss rows d)).taken ≡ length d.taken
+      go true e f = e ∙ f
+      go false e f = f
+
+  pub all_room : (d : Board) → length (swept_all rule ss rows d).taken ≡ length d.taken
+  unfolding swept_all
+  all_room d = by-room (suc (left_below ss d.taken (length ss))) d
 
 module _ (rule : ℕ) (ss : List Slot) (rows : List Block) (v : List Entry) (order counts reaches pending : List ℕ) where
   abbrev d : Board

@@ -52,6 +52,15 @@ impl fmt::Display for Pairs<'_> {
     }
 }
 
+// A digit of hex.
+fn digit(value: u8) -> u8 {
+    match value {
+        0..=9 => b'0' + value,
+        10..=15 => b'a' + (value - 10),
+        _ => b'?',
+    }
+}
+
 // The hex of bytes, `-` for none.
 #[derive(Clone, Copy)]
 pub struct Hex<'a>(pub &'a [u8]);
@@ -61,8 +70,13 @@ impl fmt::Display for Hex<'_> {
         if self.0.is_empty() {
             return f.write_str("-");
         }
-        for byte in self.0 {
-            write!(f, "{byte:02x}")?;
+        for bytes in self.0.chunks(32) {
+            let mut digits = [b'0'; 64];
+            for (two, byte) in digits.as_chunks_mut::<2>().0.iter_mut().zip(bytes) {
+                *two = [digit(byte / 16), digit(byte % 16)];
+            }
+            let (filled, _) = cut(&digits, 2 * bytes.len());
+            f.write_str(std::str::from_utf8(filled).map_err(|_| fmt::Error)?)?;
         }
         Ok(())
     }

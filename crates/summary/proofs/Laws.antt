@@ -102,18 +102,22 @@ pub rows_are : (n : ℕ) (w : List ℕ) (rs : List Row) → length rs ≡ n → 
 rows_are n w rs e h = ap₂ rows_in (sym e) (sym (take-append-drop (4 * n) w) ∙ ap (λ (l : List ℕ). l ++ drop (4 * n) w) h) ∙ rows_words rs (drop (4 * n) w)
 
 -- the first of the rows left, and then the others
-pub rows-added : (i n : ℕ) (w s t u : List ℕ) → i < n → Adds (11 + 131 * i) (row_bits (row_in (drop (4 * i) w))) s t
+pub rows-added : (o left k : ℕ) (w s t u : List ℕ) → 0 < left → Adds o (row_bits (row_in (drop k w))) s t → Adds (o + 131) (rows_bits (rows_in (left - 1) (drop (k + 4) w))) t u
+    → Adds o (rows_bits (rows_in left (drop k w))) s u
+unfolding rows_bits
+rows-added o left k w s t u h a b =
+    rw (rows_more left (drop k w) h, drop-drop 4 k w)
+    (adds-adds o (o + 131) (row_bits (row_in (drop k w))) (rows_bits (rows_in (left - 1) (drop (k + 4) w))) s t u (rw length-row-bits refl) a b)
+
+-- the same of row i of n
+pub rows-added-at : (i n : ℕ) (w s t u : List ℕ) → i < n → Adds (11 + 131 * i) (row_bits (row_in (drop (4 * i) w))) s t
     → Adds (11 + 131 * (i + 1)) (rows_bits (rows_in (n - (i + 1)) (drop (4 * (i + 1)) w))) t u
     → Adds (11 + 131 * i) (rows_bits (rows_in (n - i) (drop (4 * i) w))) s u
-unfolding rows_bits
-rows-added i n w s t u h a b =
-    let o = 11 + 131 * i in
+rows-added-at i n w s t u h a b =
     let left : n - (i + 1) ≡ n - i - 1 = omega arith in
     let behind : 4 * (i + 1) ≡ 4 * i + 4 = omega arith in
-    let at : 11 + 131 * (i + 1) ≡ o + 131 = omega arith in
-    let rest : Adds (o + 131) (rows_bits (rows_in (n - i - 1) (drop (4 * i + 4) w))) t u = rw (left, behind, at) at b in
-    rw (rows_more (n - i) (drop (4 * i) w) (omega arith), drop-drop 4 (4 * i) w)
-    (adds-adds o (o + 131) (row_bits (row_in (drop (4 * i) w))) (rows_bits (rows_in (n - i - 1) (drop (4 * i + 4) w))) s t u (rw length-row-bits refl) a rest)
+    let at : 11 + 131 * (i + 1) ≡ 11 + 131 * i + 131 = omega arith in
+    rows-added (11 + 131 * i) (n - i) (4 * i) w s t u (omega arith) a (rw (left, behind, at) at b)
 
 pub nothing-added : (o : ℕ) (s : List ℕ) → Adds o (rows_bits []) s s
 unfolding rows_bits

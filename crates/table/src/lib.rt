@@ -23,12 +23,13 @@ pub fn fill(rows: &mut [Block], i: usize, b: Block)
     rows[i] = b;
 }
 
-// The rows from `from` on have no block from now on. No byte of a row is padding, so this is compiled to a memset, and the last row.
+// The rows from `from` on have no block from now on. No byte of a row is padding, so this is compiled to one memset.
+// Kept, point 3 (docs/BENCHMARK.md, "by one `memset`"): std's fill is compiled to a memset of all rows but the last, and then the last.
 pub fn clear(rows: &mut [Block], from: usize)
     ensures { rows.new ≡ cleared_from from rows.old }
 {
-    let n = rows.len();
-    if from < n {
-        rows[from..].fill(block::none());
+    let none = block::none();
+    for i in from..rows.len() {
+        fill(rows, i, none);
     }
 }

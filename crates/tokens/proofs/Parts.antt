@@ -1,11 +1,12 @@
 -- The bytes of a part of an update: how many they are, and how they are copied.
-use Prim.Native.Nat.{ℕ, zero, suc, ◌+◌, ◌-◌, ◌≤◌}
+use Prim.Native.Nat.{ℕ, zero, suc, ◌+◌, ◌-◌, ◌≤◌, ◌<◌}
 use mathlib.Core.Path.{◌≡◌, refl, sym, ap, ◌∙◌}
 use mathlib.Core.List.{List, [], ◌∷◌}
 use native.Mathlib.Nat.{suc-add, zero-add}
+use native.Mathlib.Numerals.{add-one}
 use native.Mathlib.Omega.{arith}
-use lib.ListN.{length, take, drop, length-append}
-use lib.Seq.{sets, slice, take-nil}
+use lib.ListN.{length, take, drop, set, get_or, length-append}
+use lib.Seq.{sets, slice, take-suc, take-nil, length-take-le}
 use borrow.Rule.Slice.PartMut.{put_mid, Post-is}
 use Rattle.std.proofs.Common.{append_assoc}
 use Rattle.std.proofs.lemmas.List.Edits.{sets-eq}
@@ -42,6 +43,10 @@ module _ (u : List ℕ) (p : Part) where
 pub put-sets : (out : List ℕ) (at end : ℕ) (b p : List ℕ) → p ≡ b → end ≡ at + length b → end ≤ length out → put_mid at (end - at) out p ≡ sets out at b
 put-sets out at end b p e m l =
     rw (Post-is at end out (omega arith), e, m) (sym (append_assoc (take at out) b (drop (at + length b) out)) ∙ sym (sets-eq b out at (omega arith)))
+
+-- one byte more
+pub copy-on : (out : List ℕ) (at : ℕ) (b : List ℕ) (i : ℕ) → i < length b → set (sets out at (take i b)) (at + i) (get_or b i 0) ≡ sets out at (take (i + 1) b)
+copy-on out at b i l = rw (add-one, take-suc b i 0 l, sets-append, length-take-le i b (omega arith))
 
 -- ---- bytes led by their length
 

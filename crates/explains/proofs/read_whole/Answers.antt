@@ -21,19 +21,17 @@ scan-requires c = let a = c.args in
     let h = begun-at a.form a.update.now _ c.begin.result c.begin.ensures (replicate 64 0) (omega arith) _ c.in_ok-s.was in
     (c.begin.ensures.small, h.1)
 
-pub returns-in_err-at : goal.returns-in_err-at
-returns-in_err-at c = let a = c.args in
+pub returns-in-Err : goal.returns-in-Err
+returns-in-Err c = let a = c.args in
     let h = begun-at a.form a.update.now _ c.begin.result c.begin.ensures (replicate 64 0) (omega arith) _ c.in_ok-s.was in
-    let p = err_from_is_err_and c.from_residual-in_err-at.result c.from_residual-in_err-at.ensures.1 in
-    rw (p.1, p.2) (not-scanned a.form a.update.now 0 _ h.0 _ (sym c.scan.ensures ∙ c.in_err-at.was))
+    not-scanned a.form a.update.now 0 _ h.0 _ (sym c.scan.ensures ∙ c.in-Err.is)
 
-pub returns-in_err-check_delete_set : goal.returns-in_err-check_delete_set
-returns-in_err-check_delete_set c = let a = c.args in
+pub returns-in-Err-check_delete_set : goal.returns-in-Err-check_delete_set
+returns-in-Err-check_delete_set c = let a = c.args in
     let h = begun-at a.form a.update.now _ c.begin.result c.begin.ensures (replicate 64 0) (omega arith) _ c.in_ok-s.was in
-    let p = err_from_is_err_and c.from_residual-in_err-check_delete_set.result c.from_residual-in_err-check_delete_set.ensures.1 in
-    rw (p.1, p.2) (not-checked a.form a.update.now 0 _ h.0 _ _ (sym c.scan.ensures ∙ c.in_ok-at.was) c.check_delete_set.result (sym c.check_delete_set.ensures) _ c.in_err-check_delete_set.was)
+    not-checked a.form a.update.now 0 _ h.0 _ _ (sym c.scan.ensures ∙ c.in-Ok.is) c.check_delete_set.result (sym c.check_delete_set.ensures) _ c.in-Err-check_delete_set.is
 
-pub returns : goal.returns
-returns c = let a = c.args in
+pub returns-in-Ok-check_delete_set : goal.returns-in-Ok-check_delete_set
+returns-in-Ok-check_delete_set c = let a = c.args in
     let h = begun-at a.form a.update.now _ c.begin.result c.begin.ensures (replicate 64 0) (omega arith) _ c.in_ok-s.was in
-    reads a.form a.update.now 0 _ h.0 _ _ (sym c.scan.ensures ∙ c.in_ok-at.was) c.check_delete_set.result (sym c.check_delete_set.ensures) _ c.in_ok-check_delete_set.was
+    reads a.form a.update.now 0 _ h.0 _ _ (sym c.scan.ensures ∙ c.in-Ok.is) c.check_delete_set.result (sym c.check_delete_set.ensures) _ c.in-Ok-check_delete_set.is

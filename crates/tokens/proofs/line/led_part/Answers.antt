@@ -10,7 +10,7 @@ use Rattle.numbers.specs.Number.{unsigned}
 use Rattle.readings.specs.Sound.{bytes_in}
 use Rattle.tokens.specs.Tokens.{led}
 use Rattle.tokens.proofs.Places.{place-brim, place-on, place_short, place-laid}
-use Rattle.tokens.proofs.Parts.{put-sets, led-length, led-sets}
+use Rattle.tokens.proofs.Parts.{led-length, led-sets}
 use Rattle.tokens.proofs.line.led_part.Goals as goal
 use Rattle.tokens.proofs.line.led_part.Goals.{After-size_unsigned, Else-not-fits, Start}
 
@@ -40,20 +40,19 @@ returns-then-not-fits c = let a = c.args in
       place_short a.out.now a.at b s same (sym c.fits.ensures ∙ c.if-not-fits.true),
     )
 
+pub copy-requires : goal.copy-requires
+copy-requires c = omega (arith, c.write_unsigned-mid.ensures.0, c.write_unsigned-mid.auto.out, c.size_unsigned.ensures.0, fit (goal.at.copy-requires c).Else-not-fits)
+
 pub returns : goal.returns
 returns c = let a = c.args in
     let o = a.out.now in
     let b = bytes_in a.update.now a.p in
     let bytes = c.bytes-bytes.ensures in
-    let n = ap length bytes in
     let w = c.write_unsigned-mid.ensures in
-    let mid = c.write_unsigned-mid.result in
-    let put = c.write_unsigned-mid.new.out in
     let s = c.size_unsigned.result + length c.bytes-bytes.result.now in
     let same = size (goal.at.returns c).After-size_unsigned in
-    let low = c.if-at-ge-BRIM.false in
-    let wide : a.at + s ≤ length put = omega (arith, fit (goal.at.returns c).Else-not-fits, c.write_unsigned-mid.auto.out) in (
+    let low = c.if-at-ge-BRIM.false in (
       place-on o a.at (led b) (a.at + s) low (ap (λ (k : ℕ). a.at + k) same),
-      put-sets put mid (a.at + s) b _ (c.copy_from_slice.ensures.after ∙ bytes) (omega (arith, w.0, c.size_unsigned.ensures.0, n)) wide
+      c.copy.ensures
           ∙ rw (w.1, w.0, bytes) (sym (led-sets o a.at b) ∙ place-laid o a.at (led b) s low same (room (goal.at.returns c).Else-not-fits)),
     )

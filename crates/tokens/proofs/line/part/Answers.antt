@@ -6,9 +6,9 @@ use mathlib.Core.Bool.{true}
 use borrow.Author.Tests.{leb-true}
 use lib.Dec.{leb}
 use lib.ListN.{length}
+use lib.Seq.{sets}
 use Rattle.readings.specs.Sound.{bytes_in}
 use Rattle.tokens.proofs.Places.{place-brim, place-on, place_short, place-laid}
-use Rattle.tokens.proofs.Parts.{put-sets}
 use Rattle.tokens.proofs.line.part.Goals as goal
 
 pub returns-then-at-ge-BRIM : goal.returns-then-at-ge-BRIM
@@ -23,6 +23,11 @@ returns-then-not-fits c = let a = c.args in
       place_short a.out.now a.at b n size (sym c.fits.ensures ∙ c.if-not-fits.true),
     )
 
+pub copy-requires : goal.copy-requires
+copy-requires c = let a = c.args in
+    let n = length c.bytes-bytes.result.now in
+    let room : leb (a.at + n) (length a.out.now) ≡ true = sym c.fits.ensures ∙ c.if-not-fits.false in leb-true (a.at + n) (length a.out.now) room
+
 pub returns : goal.returns
 returns c = let a = c.args in
     let o = a.out.now in
@@ -32,6 +37,5 @@ returns c = let a = c.args in
     let low = c.if-at-ge-BRIM.false in
     let room : leb (a.at + n) (length o) ≡ true = sym c.fits.ensures ∙ c.if-not-fits.false in (
       place-on o a.at b (a.at + n) low (omega (arith, size)),
-      put-sets o a.at (a.at + n) b _ (c.copy_from_slice.ensures.after ∙ c.bytes-bytes.ensures) (omega (arith, size)) (leb-true (a.at + n) (length o) room)
-          ∙ place-laid o a.at b n low size room,
+      c.copy.ensures ∙ ap (sets o a.at) c.bytes-bytes.ensures ∙ place-laid o a.at b n low size room,
     )
