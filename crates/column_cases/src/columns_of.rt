@@ -5,9 +5,8 @@ use crate::lent;
 use numbers::{Refusal, Written};
 use readers::{Column, Kind};
 use std::fmt;
-use std::fmt::Write;
 use stream::shown;
-use stream::shown::{Hex, Numbers, Verdict};
+use stream::shown::{After, Hex, Numbers, Shown, Verdict};
 use stream::sink::Sink;
 use stream::source::Source;
 
@@ -18,14 +17,14 @@ struct Texts<'a> {
     count: usize,
 }
 
-impl fmt::Display for Texts<'_> {
-    fn fmt<W: fmt::Write>(&self, f: &mut fmt::Formatter<W>) -> fmt::Result {
+impl Shown for Texts<'_> {
+    fn show<W: fmt::Write>(&self, out: &mut W) -> fmt::Result {
         let mut column = readers::open(self.column, Kind::Text).column;
         for _ in 0..self.count {
             let part = readers::next(&mut column).part;
             let (_, from) = shown::cut(self.column, part.place);
             let (text, _) = shown::cut(from, part.bytes.0);
-            write!(f, " {}", Hex(text))?;
+            After(" ", Hex(text)).show(out)?;
         }
         Ok(())
     }
@@ -79,11 +78,11 @@ fn read_values(kind: Kind, source: &mut Source, sink: &mut Sink) -> Option<()> {
     let lent = values.get_mut(..times)?;
     let mut opened = readers::open(column, kind);
     if opened.refusal.number != 0 {
-        return writeln!(sink, "{}", Verdict(opened.refusal)).ok();
+        return Verdict(opened.refusal).show_line(sink).ok();
     }
     let (count, refusal) = draw(&mut opened.column, lent);
     let (drawn, _) = shown::cut(lent, count);
-    writeln!(sink, "{}{}", Verdict(refusal), Numbers(drawn)).ok()
+    (Verdict(refusal), Numbers(drawn)).show_line(sink).ok()
 }
 
 pub fn read_texts(source: &mut Source, sink: &mut Sink) -> Option<()> {
@@ -92,10 +91,11 @@ pub fn read_texts(source: &mut Source, sink: &mut Sink) -> Option<()> {
     let times = source.count(4096)?;
     let mut opened = readers::open(column, Kind::Text);
     if opened.refusal.number != 0 {
-        return writeln!(sink, "{}", Verdict(opened.refusal)).ok();
+        return Verdict(opened.refusal).show_line(sink).ok();
     }
     let (count, refusal) = count(&mut opened.column, times);
-    writeln!(sink, "{}{}", Verdict(refusal), Texts { column, count }).ok()
+    let line = (Verdict(refusal), Texts { column, count });
+    line.show_line(sink).ok()
 }
 
 // 9 and 10: list, room.

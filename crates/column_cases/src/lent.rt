@@ -1,8 +1,7 @@
 // What is lent to a writer: filled with something before the call, looked at after it. The last argument of every writer is how much.
 use numbers::Written;
-use std::fmt::Write;
 use stream::shown;
-use stream::shown::Wrote;
+use stream::shown::{Shown, Wrote};
 use stream::sink::Sink;
 use stream::source::Source;
 
@@ -23,5 +22,5 @@ pub fn write<F: FnOnce(&mut [u8]) -> Written>(
         bytes: answer.bytes,
         lent,
     };
-    writeln!(sink, "{wrote}").ok()
+    wrote.show_line(sink).ok()
 }

@@ -1,7 +1,6 @@
 // Operations 1 to 4: numbers on the line, read and written.
 use crate::lent;
-use std::fmt::Write;
-use stream::shown::Verdict;
+use stream::shown::{After, Shown, Verdict};
 use stream::sink::Sink;
 use stream::source::Source;
 
@@ -13,9 +12,11 @@ pub fn read_unsigned(source: &mut Source, bytes: &mut [u8], sink: &mut Sink) -> 
     let answer = wairokabi::read_unsigned(line, at);
     let verdict = Verdict(answer.refusal);
     if answer.refusal.number != 0 {
-        return writeln!(sink, "{verdict}").ok();
+        return verdict.show_line(sink).ok();
     }
-    writeln!(sink, "{verdict} {} {}", answer.value, answer.next).ok()
+    let value = After(" ", answer.value);
+    let next = After(" ", answer.next);
+    (verdict, value, next).show_line(sink).ok()
 }
 
 // 2: bytes, at.
@@ -26,15 +27,12 @@ pub fn read_signed(source: &mut Source, bytes: &mut [u8], sink: &mut Sink) -> Op
     let answer = wairokabi::read_signed(line, at);
     let verdict = Verdict(answer.refusal);
     if answer.refusal.number != 0 {
-        return writeln!(sink, "{verdict}").ok();
+        return verdict.show_line(sink).ok();
     }
     let minus = u8::from(answer.minus);
-    writeln!(
-        sink,
-        "{verdict} {minus} {} {}",
-        answer.magnitude, answer.next
-    )
-    .ok()
+    let value = (After(" ", minus), After(" ", answer.magnitude));
+    let next = After(" ", answer.next);
+    (verdict, value, next).show_line(sink).ok()
 }
 
 // 3: value, room.

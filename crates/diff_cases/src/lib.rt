@@ -4,9 +4,8 @@
 use block::Block;
 use diffs::Diff;
 use std::fmt;
-use std::fmt::Write;
 use stream::shown;
-use stream::shown::{Hex, Verdict};
+use stream::shown::{After, Hex, Shown, Verdict};
 use stream::sink::Sink;
 use stream::source::Source;
 use update_cases::tables::Tables;
@@ -48,10 +47,10 @@ fn tell(answer: Diff, out: &[u8], rows: &[Block], words: &[u64], sink: &mut Sink
         blocks,
         ranges,
     } = answer;
-    write!(sink, "{}", Verdict(refusal))?;
+    Verdict(refusal).show(sink)?;
     let (diff, rest) = shown::cut(out, bytes);
     if refusal.number == 0 {
-        write!(sink, " {} ;", Hex(diff))?;
+        (After(" ", Hex(diff)), " ;").show(sink)?;
     }
     let tables = Tables {
         answer: Update {
@@ -63,7 +62,7 @@ fn tell(answer: Diff, out: &[u8], rows: &[Block], words: &[u64], sink: &mut Sink
         words,
         clean: shown::is_zero(rest),
     };
-    writeln!(sink, "{tables}")
+    tables.show_line(sink)
 }
 
 // 16: form, form written, block rows, range rows, room, update, vector.

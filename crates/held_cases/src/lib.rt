@@ -5,7 +5,7 @@ use block::Block;
 use held_answers::SortedHeld;
 use held_lines::Reports;
 use std::fmt;
-use std::fmt::Write;
+use stream::shown::Shown;
 use stream::sink::Sink;
 use stream::source::Source;
 use update_cases::tables::{Asked, Tables};
@@ -33,7 +33,7 @@ fn tell(reports: Reports, rows: &[Block], words: &[u64], sink: &mut Sink) -> fmt
         words,
         clean: reports.is_clean(),
     };
-    writeln!(sink, "{reports}{tables}")
+    (reports, tables).show_line(sink)
 }
 
 // The case of a sorter. For the reports as many words are lent as any update can need.

@@ -8,7 +8,7 @@ use held_answers::SortedHeld;
 use sort_lines::Waits;
 use std::fmt;
 use stream::shown;
-use stream::shown::{Numbers, Pairs, Verdict};
+use stream::shown::{After, Numbers, Pairs, Shown, Verdict};
 use update_cases::tables;
 use update_cases::tables::Ranges;
 
@@ -43,10 +43,10 @@ impl Reports<'_> {
 }
 
 // The line up to the tables.
-impl fmt::Display for Reports<'_> {
-    fn fmt<W: fmt::Write>(&self, f: &mut fmt::Formatter<W>) -> fmt::Result {
+impl Shown for Reports<'_> {
+    fn show<W: fmt::Write>(&self, out: &mut W) -> fmt::Result {
         let answer = self.answer;
-        write!(f, "{}", Verdict(answer.refusal))?;
+        Verdict(answer.refusal).show(out)?;
         if answer.refusal.number != 0 {
             return Ok(());
         }
@@ -54,8 +54,8 @@ impl fmt::Display for Reports<'_> {
         let (order, _) = shown::cut(self.order, answer.steps);
         let (counts, _) = tables::entries(self.counts, answer.counts, 2);
         let (pending, _) = tables::entries(self.pending, answer.pending, 3);
-        write!(f, "{} ;{} ;", Numbers(order), Pairs(counts))?;
-        let held = answer.held;
-        write!(f, "{} ; held {held}{} ;", Waits(pending), Ranges(given))
+        (Numbers(order), " ;", Pairs(counts), " ;").show(out)?;
+        let held = After(" ; held ", answer.held);
+        (Waits(pending), held, Ranges(given), " ;").show(out)
     }
 }

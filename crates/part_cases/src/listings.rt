@@ -1,7 +1,6 @@
 // Operation 18: the listing of an input.
-use std::fmt::Write;
 use stream::shown;
-use stream::shown::Wrote;
+use stream::shown::{Shown, Wrote};
 use stream::sink::Sink;
 use stream::source::Source;
 
@@ -15,5 +14,5 @@ pub fn read(source: &mut Source, bytes: &mut [u8], sink: &mut Sink) -> Option<()
         bytes: answer.bytes,
         lent: &out,
     };
-    writeln!(sink, "{wrote}").ok()
+    wrote.show_line(sink).ok()
 }

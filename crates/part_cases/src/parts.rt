@@ -1,6 +1,5 @@
 // Operation 15: the content of a block.
-use std::fmt::Write;
-use stream::shown::{Hex, Verdict};
+use stream::shown::{After, Hex, Shown, Verdict};
 use stream::sink::Sink;
 use stream::source::Source;
 
@@ -12,7 +11,8 @@ pub fn read(source: &mut Source, bytes: &mut [u8], sink: &mut Sink) -> Option<()
     let answer = contents::content(form, update, n);
     let verdict = Verdict(answer.refusal);
     if answer.refusal.number != 0 {
-        return writeln!(sink, "{verdict}").ok();
+        return verdict.show_line(sink).ok();
     }
-    writeln!(sink, "{verdict} {}", Hex(answer.part)).ok()
+    let part = After(" ", Hex(answer.part));
+    (verdict, part).show_line(sink).ok()
 }

@@ -1,7 +1,6 @@
 // Operation 13: a state vector, read.
-use std::fmt::Write;
 use stream::shown;
-use stream::shown::{Last, Pairs, Verdict};
+use stream::shown::{Last, Pairs, Shown, Verdict};
 use stream::sink::Sink;
 use stream::source::Source;
 use update_cases::tables;
@@ -14,5 +13,6 @@ pub fn read(source: &mut Source, sink: &mut Sink) -> Option<()> {
     let answer = vector::read_state_vector(vector, &mut words);
     let (entries, rest) = tables::entries(&words, answer.count, 2);
     let last = Last(shown::is_zero(rest));
-    writeln!(sink, "{}{}{last}", Verdict(answer.refusal), Pairs(entries)).ok()
+    let line = (Verdict(answer.refusal), Pairs(entries), last);
+    line.show_line(sink).ok()
 }

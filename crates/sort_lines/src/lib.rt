@@ -7,17 +7,18 @@ ghost use Rattle.update_cases.specs.Entries.{are_zero_behind};
 use sort_answers::Sorted;
 use std::fmt;
 use stream::shown;
-use stream::shown::{Numbers, Pairs, Verdict};
+use stream::shown::{After, Numbers, Pairs, Shown, Verdict};
 use update_cases::tables;
 
 // Clients that wait, the client that each waits for, and how far that reaches, or the clock that is missing of it.
 #[derive(Clone, Copy)]
 pub struct Waits<'a>(pub &'a [u64]);
 
-impl fmt::Display for Waits<'_> {
-    fn fmt<W: fmt::Write>(&self, f: &mut fmt::Formatter<W>) -> fmt::Result {
+impl Shown for Waits<'_> {
+    fn show<W: fmt::Write>(&self, out: &mut W) -> fmt::Result {
         for [client, missing, clock] in self.0.as_chunks::<3>().0 {
-            write!(f, " {client}>{missing}:{clock}")?;
+            let far = After(":", *clock);
+            (After(" ", *client), After(">", *missing), far).show(out)?;
         }
         Ok(())
     }
@@ -54,10 +55,10 @@ impl Reports<'_> {
 }
 
 // The line up to the tables.
-impl fmt::Display for Reports<'_> {
-    fn fmt<W: fmt::Write>(&self, f: &mut fmt::Formatter<W>) -> fmt::Result {
+impl Shown for Reports<'_> {
+    fn show<W: fmt::Write>(&self, out: &mut W) -> fmt::Result {
         let answer = self.answer;
-        write!(f, "{}", Verdict(answer.refusal))?;
+        Verdict(answer.refusal).show(out)?;
         if answer.refusal.number != 0 {
             return Ok(());
         }
@@ -65,7 +66,7 @@ impl fmt::Display for Reports<'_> {
         let (counts, _) = tables::entries(self.counts, answer.counts, 2);
         let (reaches, _) = tables::entries(self.reaches, answer.reaches, 2);
         let (pending, _) = tables::entries(self.pending, answer.pending, 3);
-        write!(f, "{} ;{} ;", Numbers(order), Pairs(counts))?;
-        write!(f, "{} ;{} ;", Pairs(reaches), Waits(pending))
+        (Numbers(order), " ;", Pairs(counts), " ;").show(out)?;
+        (Pairs(reaches), " ;", Waits(pending), " ;").show(out)
     }
 }

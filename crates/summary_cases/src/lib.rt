@@ -2,9 +2,8 @@
 #![tactic(auto)]
 
 use std::fmt;
-use std::fmt::Write;
 use stream::shown;
-use stream::shown::{Last, Verdict, Wrote};
+use stream::shown::{After, Last, Shown, Verdict, Wrote};
 use stream::sink::Sink;
 use stream::source::Source;
 use update_cases::tables;
@@ -22,17 +21,18 @@ pub fn write(source: &mut Source, bytes: &mut [u8], sink: &mut Sink) -> Option<(
         bytes: answer.bytes,
         lent,
     };
-    writeln!(sink, "{wrote}").ok()
+    wrote.show_line(sink).ok()
 }
 
 // A summary's rows, four words each.
 #[derive(Clone, Copy)]
 struct Rows<'a>(&'a [u64]);
 
-impl fmt::Display for Rows<'_> {
-    fn fmt<W: fmt::Write>(&self, f: &mut fmt::Formatter<W>) -> fmt::Result {
+impl Shown for Rows<'_> {
+    fn show<W: fmt::Write>(&self, out: &mut W) -> fmt::Result {
         for [client, first, end, blocks] in self.0.as_chunks::<4>().0 {
-            write!(f, " {client}:{first}:{end}:{blocks}")?;
+            (After(" ", *client), After(":", *first)).show(out)?;
+            (After(":", *end), After(":", *blocks)).show(out)?;
         }
         Ok(())
     }
@@ -47,5 +47,6 @@ pub fn read(source: &mut Source, bytes: &mut [u8], sink: &mut Sink) -> Option<()
     let answer = summaries::read_summary(summary, words);
     let (rows, rest) = tables::entries(words, answer.count, 4);
     let last = Last(shown::is_zero(rest));
-    writeln!(sink, "{}{}{last}", Verdict(answer.refusal), Rows(rows)).ok()
+    let line = (Verdict(answer.refusal), Rows(rows), last);
+    line.show_line(sink).ok()
 }

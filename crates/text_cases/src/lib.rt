@@ -1,8 +1,8 @@
 // Operations 30 to 32 of the case program: the units of a text counted, a text taken by its units, a text cut.
 #![tactic(auto)]
 
-use std::fmt::Write;
 use stream::shown;
+use stream::shown::{After, Shown};
 use stream::sink::Sink;
 use stream::source::Source;
 use text::Units;
@@ -13,9 +13,9 @@ pub fn count(source: &mut Source, bytes: &mut [u8], sink: &mut Sink) -> Option<(
     let answer = wairokabi::count_units(text);
     let verdict = shown::unplaced(answer.number);
     if answer.number != 0 {
-        return writeln!(sink, "{verdict}").ok();
+        return verdict.show_line(sink).ok();
     }
-    writeln!(sink, "{verdict} {}", answer.units.0).ok()
+    (verdict, After(" ", answer.units.0)).show_line(sink).ok()
 }
 
 // 31: text, at, units. A part is told as its place and its bytes.
@@ -26,9 +26,10 @@ pub fn take(source: &mut Source, bytes: &mut [u8], sink: &mut Sink) -> Option<()
     let answer = wairokabi::take_text(text, at, units);
     let verdict = shown::unplaced(answer.number);
     if answer.number != 0 {
-        return writeln!(sink, "{verdict}").ok();
+        return verdict.show_line(sink).ok();
     }
-    writeln!(sink, "{verdict} {at}+{}", answer.bytes.0).ok()
+    let part = (After(" ", at), After("+", answer.bytes.0));
+    (verdict, part).show_line(sink).ok()
 }
 
 // 32: text, units.
@@ -38,7 +39,7 @@ pub fn cut(source: &mut Source, bytes: &mut [u8], sink: &mut Sink) -> Option<()>
     let answer = wairokabi::cut_text(text, units);
     let verdict = shown::unplaced(answer.number);
     if answer.number != 0 {
-        return writeln!(sink, "{verdict}").ok();
+        return verdict.show_line(sink).ok();
     }
-    writeln!(sink, "{verdict} {}", answer.bytes.0).ok()
+    (verdict, After(" ", answer.bytes.0)).show_line(sink).ok()
 }

@@ -4,14 +4,16 @@ ghost use Rattle.block.specs.Row.{left_id, no_block, no_id, no_part, parent_id, 
 
 use block::Block;
 use std::fmt;
+use stream::shown::{After, Shown};
 use text::{Bytes, Part, Units};
 
 #[derive(Clone, Copy)]
 struct Id(u64, u32);
 
-impl fmt::Display for Id {
-    fn fmt<W: fmt::Write>(&self, f: &mut fmt::Formatter<W>) -> fmt::Result {
-        write!(f, "{}:{}", self.0, self.1)
+impl Shown for Id {
+    #[inline(always)]
+    fn show<W: fmt::Write>(&self, out: &mut W) -> fmt::Result {
+        (self.0, After(":", self.1)).show(out)
     }
 }
 
@@ -19,10 +21,11 @@ impl fmt::Display for Id {
 #[derive(Clone, Copy)]
 struct Placed(Part);
 
-impl fmt::Display for Placed {
-    fn fmt<W: fmt::Write>(&self, f: &mut fmt::Formatter<W>) -> fmt::Result {
+impl Shown for Placed {
+    #[inline(always)]
+    fn show<W: fmt::Write>(&self, out: &mut W) -> fmt::Result {
         let Part { place, bytes } = self.0;
-        write!(f, "{place}+{}", bytes.0)
+        (place, After("+", bytes.0)).show(out)
     }
 }
 
@@ -30,12 +33,13 @@ impl fmt::Display for Placed {
 #[derive(Clone, Copy)]
 struct Maybe<T>(bool, T);
 
-impl<T: fmt::Display> fmt::Display for Maybe<T> {
-    fn fmt<W: fmt::Write>(&self, f: &mut fmt::Formatter<W>) -> fmt::Result {
+impl<T: Shown> Shown for Maybe<T> {
+    #[inline(always)]
+    fn show<W: fmt::Write>(&self, out: &mut W) -> fmt::Result {
         if !self.0 {
-            return f.write_str("-");
+            return out.write_str("-");
         }
-        self.1.fmt(f)
+        self.1.show(out)
     }
 }
 
@@ -59,53 +63,53 @@ struct Row(Block);
 
 impl Row {
     // Its id, how long it is, and its kind.
-    fn head<W: fmt::Write>(&self, f: &mut fmt::Formatter<W>) -> fmt::Result {
+    fn head<W: fmt::Write>(&self, out: &mut W) -> fmt::Result {
         let b = self.0;
-        let length = b.length.0;
-        write!(f, " {}.{}.{length}.{}", b.client, b.clock, name(b.kind))
+        let id = (After(" ", b.client), After(".", b.clock));
+        (id, After(".", b.length.0), After(".", name(b.kind))).show(out)
     }
 
-    fn origins<W: fmt::Write>(&self, f: &mut fmt::Formatter<W>) -> fmt::Result {
+    fn origins<W: fmt::Write>(&self, out: &mut W) -> fmt::Result {
         let b = self.0;
         let left = Maybe(b.has_left, Id(b.left_client, b.left_clock));
         let right = Maybe(b.has_right, Id(b.right_client, b.right_clock));
-        write!(f, ".{left}.{right}")
+        (After(".", left), After(".", right)).show(out)
     }
 
-    fn place<W: fmt::Write>(&self, f: &mut fmt::Formatter<W>) -> fmt::Result {
+    fn place<W: fmt::Write>(&self, out: &mut W) -> fmt::Result {
         let b = self.0;
         let name = Maybe(b.has_name, Placed(b.name));
         let parent = Maybe(b.has_parent, Id(b.parent_client, b.parent_clock));
         let key = Maybe(b.has_key, Placed(b.key));
-        write!(f, ".{name}.{parent}.{key}")
+        (After(".", name), After(".", parent), After(".", key)).show(out)
     }
 
     // The type number is that of a type; any other kind has none.
-    fn contents<W: fmt::Write>(&self, f: &mut fmt::Formatter<W>) -> fmt::Result {
+    fn contents<W: fmt::Write>(&self, out: &mut W) -> fmt::Result {
         let b = self.0;
         let stored = Maybe(block::has_part(b.kind), Placed(b.part));
         let mark = Maybe(block::is_marked(b.kind, b.type_number), Placed(b.mark));
         let number = Maybe(b.kind == block::TYPE, b.type_number);
-        write!(f, ".{stored}.{mark}.{number}")
+        (After(".", stored), After(".", mark), After(".", number)).show(out)
     }
 }
 
-impl fmt::Display for Row {
-    fn fmt<W: fmt::Write>(&self, f: &mut fmt::Formatter<W>) -> fmt::Result {
-        self.head(f)?;
-        self.origins(f)?;
-        self.place(f)?;
-        self.contents(f)
+impl Shown for Row {
+    fn show<W: fmt::Write>(&self, out: &mut W) -> fmt::Result {
+        self.head(out)?;
+        self.origins(out)?;
+        self.place(out)?;
+        self.contents(out)
     }
 }
 
 #[derive(Clone, Copy)]
 pub(crate) struct Rows<'a>(pub(crate) &'a [Block]);
 
-impl fmt::Display for Rows<'_> {
-    fn fmt<W: fmt::Write>(&self, f: &mut fmt::Formatter<W>) -> fmt::Result {
+impl Shown for Rows<'_> {
+    fn show<W: fmt::Write>(&self, out: &mut W) -> fmt::Result {
         for b in self.0 {
-            write!(f, "{}", Row(*b))?;
+            Row(*b).show(out)?;
         }
         Ok(())
     }

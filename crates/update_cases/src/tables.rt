@@ -5,9 +5,8 @@ use crate::rows;
 use crate::rows::Rows;
 use block::Block;
 use std::fmt;
-use std::fmt::Write;
 use stream::shown;
-use stream::shown::{Last, Verdict};
+use stream::shown::{After, Last, Shown, Verdict};
 use stream::sink::Sink;
 use stream::source::Source;
 use updates::Update;
@@ -19,10 +18,11 @@ pub const LENT: u64 = 0xA5A5A5A5A5A5A5A5;
 #[derive(Clone, Copy)]
 pub struct Ranges<'a>(pub &'a [u64]);
 
-impl fmt::Display for Ranges<'_> {
-    fn fmt<W: fmt::Write>(&self, f: &mut fmt::Formatter<W>) -> fmt::Result {
+impl Shown for Ranges<'_> {
+    fn show<W: fmt::Write>(&self, out: &mut W) -> fmt::Result {
         for [client, clock, length] in self.0.as_chunks::<3>().0 {
-            write!(f, " {client}.{clock}.{length}")?;
+            let end = After(".", *length);
+            (After(" ", *client), After(".", *clock), end).show(out)?;
         }
         Ok(())
     }
@@ -46,8 +46,8 @@ pub struct Tables<'a> {
     pub clean: bool,
 }
 
-impl fmt::Display for Tables<'_> {
-    fn fmt<W: fmt::Write>(&self, f: &mut fmt::Formatter<W>) -> fmt::Result {
+impl Shown for Tables<'_> {
+    fn show<W: fmt::Write>(&self, out: &mut W) -> fmt::Result {
         let Update {
             refusal,
             blocks,
@@ -56,13 +56,13 @@ impl fmt::Display for Tables<'_> {
         let (filled, no_rows) = shown::cut(self.rows, blocks);
         let (words, no_words) = entries(self.words, ranges, 3);
         if refusal.number == 0 {
-            write!(f, " blocks {blocks}{}", Rows(filled))?;
-            write!(f, " ranges {ranges}{}", Ranges(words))?;
+            (After(" blocks ", blocks), Rows(filled)).show(out)?;
+            (After(" ranges ", ranges), Ranges(words)).show(out)?;
         }
         let zero = self.clean
             && no_rows.iter().all(|b| rows::is_none(*b))
             && shown::is_zero(no_words);
-        write!(f, "{}", Last(zero))
+        Last(zero).show(out)
     }
 }
 
@@ -108,7 +108,7 @@ pub fn read_by<F: FnOnce(u8, &[u8], &mut [Block], &mut [u64]) -> Update>(
         words,
         clean: true,
     };
-    writeln!(sink, "{}{tables}", Verdict(answer.refusal)).ok()
+    (Verdict(answer.refusal), tables).show_line(sink).ok()
 }
 
 // 14
