@@ -39,9 +39,29 @@ impl<'a> Source<'a> {
         self.buffer.get(at).copied()
     }
 
-    fn fill(&mut self, lent: &mut [u8]) -> Option<()> {
+    fn one_by_one(&mut self, lent: &mut [u8]) -> Option<()> {
         for byte in lent.iter_mut() {
             *byte = self.byte()?;
+        }
+        Some(())
+    }
+
+    // Bytes that lie ready in the buffer are taken at once (speed).
+    fn part(&mut self, lent: &mut [u8]) -> Option<()> {
+        let at = self.at;
+        let end = self.end;
+        let not_taken = self.buffer.get(at..end)?;
+        let Some(ready) = not_taken.get(..lent.len()) else {
+            return self.one_by_one(lent);
+        };
+        lent.copy_from_slice(ready);
+        self.at = at + lent.len();
+        Some(())
+    }
+
+    fn fill(&mut self, lent: &mut [u8]) -> Option<()> {
+        for part in lent.chunks_mut(512) {
+            self.part(part)?;
         }
         Some(())
     }
