@@ -82,11 +82,12 @@ where
 
 // A sort: form, block rows, range rows, order rows, update, vector. 17: by rule 28. 25: the rule comes first. 26: the same by the slow plain sorter.
 pub fn case(operation: u8, source: &mut Source, bytes: &mut [u8], sink: &mut Sink) -> Option<()> {
+    // Made before anything is read: later it would be filled with zeros twice (speed).
+    let mut vector = [0u8; 65536];
     let rule = if operation == 17 { 28 } else { source.small()? };
     let asked = Asked::take(source)?;
     let steps = source.count(512)?;
     let update = source.bytes(bytes)?;
-    let mut vector = [0u8; 65536];
     let vector = source.bytes(&mut vector)?;
     let case = Sorting { rule, asked, steps };
     if operation == 26 {
