@@ -1,5 +1,5 @@
 // What lines are made of, as it is shown.
-ghost use Rattle.std.specs.Prelude.{◌≡◌, take, drop, OnOk};
+ghost use Rattle.std.specs.Prelude.{◌≡◌, ◌∷◌, [], take, drop, OnOk};
 ghost use Rattle.std.specs.Fmt.{decimal};
 ghost use Rattle.std.specs.List.{list_all};
 
@@ -11,7 +11,9 @@ pub trait Shown {
     fn show<W: fmt::Write>(&self, out: &mut W) -> fmt::Result;
 
     // As a line of its own.
-    final fn show_line<W: fmt::Write>(&self, out: &mut W) -> fmt::Result {
+    final fn show_line<W: fmt::Write>(&self, out: &mut W) -> fmt::Result
+        ensures { OnOk result ((shown : W) × W.write_str_gives shown (10 ∷ []) out.new) }
+    {
         self.show(out)?;
         out.write_str("\n")
     }
@@ -72,13 +74,15 @@ impl Shown for &str {
     }
 }
 
-// What stands behind a mark.
+// What stands behind a mark, which is shown first.
 #[derive(Clone, Copy)]
 pub struct After<'a, T>(pub &'a str, pub T);
 
 impl<T: Shown> Shown for After<'_, T> {
     #[inline(always)]
-    fn show<W: fmt::Write>(&self, out: &mut W) -> fmt::Result {
+    fn show<W: fmt::Write>(&self, out: &mut W) -> fmt::Result
+        ensures { OnOk result ((marked : W) × W.write_str_gives out.old self.now.0.now marked) }
+    {
         out.write_str(self.0)?;
         self.1.show(out)
     }

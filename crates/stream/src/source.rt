@@ -47,7 +47,7 @@ impl<'a> Source<'a> {
     }
 
     // Bytes that lie ready in the buffer are taken at once (speed).
-    fn part(&mut self, lent: &mut [u8]) -> Option<()> {
+    fn chunk(&mut self, lent: &mut [u8]) -> Option<()> {
         let at = self.at;
         let end = self.end;
         let not_taken = self.buffer.get(at..end)?;
@@ -60,8 +60,8 @@ impl<'a> Source<'a> {
     }
 
     fn fill(&mut self, lent: &mut [u8]) -> Option<()> {
-        for part in lent.chunks_mut(512) {
-            self.part(part)?;
+        for chunk in lent.chunks_mut(512) {
+            self.chunk(chunk)?;
         }
         Some(())
     }
